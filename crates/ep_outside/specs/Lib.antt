@@ -1,2 +1,5 @@
 pub mod Answers
+pub mod FileTables
 pub mod Known
+pub mod Remainders
+pub mod Schedules

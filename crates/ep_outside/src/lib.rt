@@ -6,7 +6,17 @@
 #![tactic(auto)]
 
 mod answers;
+mod mem_files;
+mod mem_sink;
+mod mem_source;
+mod schedule;
 mod traits;
 
 pub use answers::{LoadAnswer, ReadAnswer, WriteAnswer};
+pub use mem_files::{MemFiles, SureFiles};
+pub use mem_sink::{MemSink, SureSink};
+pub use mem_source::{MemSource, SureSource};
 pub use traits::{Files, Sink, Source};
+
+#[cfg(test)]
+mod tests;

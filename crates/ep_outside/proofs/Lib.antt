@@ -1,0 +1,3 @@
+pub mod Fronts
+pub mod Taken
+pub mod Updates
