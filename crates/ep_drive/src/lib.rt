@@ -1,0 +1,21 @@
+//! The top call.
+//!
+//! `epc` carries out a command over files, an input, an output and a report, and its contract is the theorem
+//! of the whole program: each answer by its cause, and what was done to the outside. specs/Calls.antt says
+//! what its clauses mean.
+#![tactic(auto)]
+
+mod first_text;
+mod go;
+mod pieces;
+mod report;
+mod run;
+mod status;
+#[cfg(test)]
+mod tests;
+mod top;
+mod word_symbols;
+mod words;
+
+pub use status::Status;
+pub use top::epc;
