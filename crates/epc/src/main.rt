@@ -7,6 +7,8 @@ mod real_files;
 mod real_sink;
 mod real_source;
 mod system;
+#[cfg(test)]
+mod tests;
 
 use crate::real_files::RealFiles;
 use crate::real_sink::RealSink;

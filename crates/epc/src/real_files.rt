@@ -1,7 +1,8 @@
 //! The file system as files.
 
-ghost use Rattle.std.specs.Prelude.{◌≡◌, ◌+◌, ◌<◌, ◌≤◌, IfOk, vec_len};
-ghost use Rattle.ep_outside.specs.Answers.{write_faults, load_faults};
+ghost use Rattle.std.specs.Prelude.{◌≡◌, ◌+◌, ◌<◌, ◌≤◌, ℕ, List, [], Option, IfOk, vec_len};
+ghost use Rattle.ep_outside.specs.Answers.{write_faults, load_faults, Loads};
+ghost use Rattle.ep_outside.specs.Known.{Directory};
 
 use crate::faults::FaultCount;
 use crate::system::{read_some, write_whole};
@@ -81,7 +82,8 @@ impl<'a, S: rt::Files> RealFiles<'a, S> {
 
     /// Counts a fault of a load, as `answer` does.
     fn load_fault(&mut self) -> LoadAnswer
-        ensures { faults_of self.old.faults + load_faults result ≤ faults_of self.new.faults }
+        ensures nothing { (files : Option Directory) (name into : List ℕ) (limit : ℕ) → into ≡ [] → Loads result files name limit into }
+        ensures faults { faults_of self.old.faults + load_faults result ≤ faults_of self.new.faults }
     {
         if self.faults.rise() {
             LoadAnswer::Failed
