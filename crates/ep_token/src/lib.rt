@@ -1,8 +1,16 @@
 //! The tokens of source texts.
 #![tactic(auto)]
 
+mod character_string;
+mod comment;
+mod identifier;
+mod number;
+mod piece;
+mod refusal;
+mod spelling;
 pub mod symbol;
 mod token;
 pub mod word;
 
+pub use refusal::TokenRefusal;
 pub use token::{Token, TokenKind};

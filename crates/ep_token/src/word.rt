@@ -1,5 +1,11 @@
 //! The word symbols (ISO 10206, 6.1.2), by their places in the list of all of them.
 
+ghost use Rattle.std.specs.Prelude.{◌≡◌};
+ghost use Rattle.ep_token.specs.Spellings.{place_of};
+ghost use Rattle.ep_token.specs.Words.{word_symbols};
+
+use crate::spelling::place_of;
+
 /// `and`
 pub const AND: u8 = 0;
 
@@ -143,3 +149,65 @@ pub const WHILE: u8 = 46;
 
 /// `with`
 pub const WITH: u8 = 47;
+
+/// The word symbols themselves, in their order.
+const SPELLINGS: [&[u8]; 48] = [
+    b"and",
+    b"and_then",
+    b"array",
+    b"begin",
+    b"bindable",
+    b"case",
+    b"const",
+    b"div",
+    b"do",
+    b"downto",
+    b"else",
+    b"end",
+    b"export",
+    b"file",
+    b"for",
+    b"function",
+    b"goto",
+    b"if",
+    b"import",
+    b"in",
+    b"label",
+    b"mod",
+    b"module",
+    b"nil",
+    b"not",
+    b"of",
+    b"only",
+    b"or",
+    b"or_else",
+    b"otherwise",
+    b"packed",
+    b"pow",
+    b"procedure",
+    b"program",
+    b"protected",
+    b"qualified",
+    b"record",
+    b"repeat",
+    b"restricted",
+    b"set",
+    b"then",
+    b"to",
+    b"type",
+    b"until",
+    b"value",
+    b"var",
+    b"while",
+    b"with",
+];
+
+/// The place of the word symbol that is spelled so, in lower case.
+pub(crate) fn word_of(text: &[u8]) -> Option<u8>
+    ensures { result ≡ place_of word_symbols text.now }
+{
+    match place_of(&SPELLINGS, text) {
+        None => None,
+        Some(place) => Some(place as u8),
+    }
+}

@@ -1,0 +1,7 @@
+pub mod Comments
+pub mod NameLaws
+pub mod Names
+pub mod Numerals
+pub mod Steps
+pub mod Strings
+pub mod SymbolLaws
