@@ -9,3 +9,4 @@ pub mod Steps
 pub mod StringLaws
 pub mod Strings
 pub mod SymbolLaws
+pub mod TokenLaws

@@ -203,3 +203,340 @@ number_at-greatest line bytes n v within is stop =
       ap is_ascii_digit (sym (first-take bytes n first.1)) ∙ first.0,
       ap (λ k. number_found line k (number_value (take k bytes))) end ∙ ap (number_found line n) (number_value-of (take n bytes) v is),
     )
+
+-- ---- names
+
+identifier-first : (text : List ℕ) → is_identifier text ≡ true → (is_ascii_alphabetic (get_or text 0 0) ≡ true) × (0 < length text)
+identifier-first [] h = let e : false ≡ true = h in absurd cc
+identifier-first (b ∷ bs) h = ((and-parts (is_ascii_alphabetic b) (is_identifier_rest bs) h).0, omega arith)
+
+name_kind-spelled : (text : List ℕ) (o : Option ℕ) → is_identifier text ≡ true → length text ≤ 255 → place_of word_symbols (lower_case text) ≡ o → IsSpelled text (Some (name_kind o (lower_case text)))
+name_kind-spelled text None i short e = (i, short, e, refl)
+name_kind-spelled text (Some w) i short e = (i, e)
+
+name_kind-ends : (text name rest : List ℕ) (o : Option ℕ) → IsLongestName text rest → MayPrecede text (Some (name_kind o name)) rest
+name_kind-ends text name rest None h = h
+name_kind-ends text name rest (Some w) h = h
+
+long-test : (n : ℕ) → nat_lt 255 n ≡ true → 255 < n
+long-test n h = grind (arith, nat_tests)
+
+short-test : (n : ℕ) → nat_lt 255 n ≡ false → n ≤ 255
+short-test n h = grind (arith, nat_tests)
+
+test-short : (n : ℕ) → n ≤ 255 → nat_lt 255 n ≡ false
+test-short n h = grind (arith, nat_tests)
+
+name_found-sound : (line : ℕ) (bytes : List ℕ) (n : ℕ) → IsNameEnd bytes n → Sound line bytes (name_found line n (take n bytes))
+name_found-sound line bytes n name =
+    elim (truth (nat_lt 255 n)) [
+      | inl p ↦ rw p (refl, (n, long-test n p, name.within, name.identifier))
+      | inr p ↦ rw p (
+        name.some,
+        record {
+          within = name.within;
+          spelled = name_kind-spelled (take n bytes) (place_of word_symbols (lower_case (take n bytes))) name.identifier (omega (arith, short-test n p, length-take-le n bytes name.within)) refl;
+          ends = name_kind-ends (take n bytes) (lower_case (take n bytes)) (drop n bytes) (place_of word_symbols (lower_case (take n bytes))) (name_end-longest bytes n name);
+        },
+      )
+    ]
+
+name_at-sound : (line : ℕ) (bytes : List ℕ) → 0 < length bytes → is_ascii_alphabetic (get_or bytes 0 0) ≡ true → Sound line bytes (name_at line bytes)
+unfolding name_at
+name_at-sound line bytes some letter = name_found-sound line bytes (name_end true 0 0 bytes) (name_end-is bytes some letter)
+
+-- an identifier where no longer one begins is what is read
+name_at-only : (line : ℕ) (bytes : List ℕ) (n : ℕ) → n ≤ length bytes → is_identifier (take n bytes) ≡ true → IsLongestName (take n bytes) (drop n bytes) → n ≤ 255
+    → (is_ascii_alphabetic (get_or bytes 0 0) ≡ true) × (name_at line bytes ≡ Ok (n, Some (name_kind (place_of word_symbols (lower_case (take n bytes))) (lower_case (take n bytes)))))
+unfolding name_at
+name_at-only line bytes n within i longest short =
+    let first = identifier-first (take n bytes) i in
+    let letter : is_ascii_alphabetic (get_or bytes 0 0) ≡ true = ap is_ascii_alphabetic (sym (first-take bytes n first.1)) ∙ first.0 in
+    let some : 0 < length bytes = omega (arith, first.1, length-take-le n bytes within) in
+    let end : n ≡ name_end true 0 0 bytes = name_end-only bytes (name_end true 0 0 bytes) n (name_end-is bytes some letter) within i longest in
+    (letter, ap (λ k. name_found line k (take k bytes)) (sym end) ∙ rw (test-short n short) refl)
+
+all_short : list_all (λ t. nat_le (length t) 255) word_symbols ≡ true
+unfolding word_symbols
+all_short = refl
+
+le-test : (a b : ℕ) → nat_le a b ≡ true → a ≤ b
+le-test a b h = grind (arith, nat_tests)
+
+length-lower : (text : List ℕ) → length (lower_case text) ≡ length text
+length-lower text = grind (arith, common_steps)
+
+word-short : (text : List ℕ) (w : ℕ) → place_of word_symbols (lower_case text) ≡ Some w → length text ≤ 255
+word-short text w e = omega (arith, le-test _ _ (place-test (λ t. nat_le (length t) 255) word_symbols 0 w (lower_case text) all_short e), length-lower text)
+
+-- ---- symbols
+
+short_symbol-sound : (line : ℕ) (bytes : List ℕ) (o : Option ℕ) → 0 < length bytes → BeginsSymbol bytes → symbol_of (take 1 bytes) ≡ o → Sound line bytes (short_symbol line o)
+short_symbol-sound line bytes None some is e =
+    (refl, is.comment, begins-first (λ b. b == 39) bytes some ∙ is.quote, begins-first is_ascii_digit bytes some ∙ is.digit, no_long_name)
+  where
+    no_long_name : BeginsLongName bytes → ⊥
+    no_long_name long =
+        let first = identifier-first (take long.0 bytes) long.3 in
+        let letter : is_ascii_alphabetic (get_or bytes 0 0) ≡ true = ap is_ascii_alphabetic (sym (first-take bytes long.0 first.1)) ∙ first.0 in
+        let not = is.letter in
+        absurd cc
+short_symbol-sound line [] (Some s) some is e = absurd (omega arith)
+short_symbol-sound line (c ∷ cs) (Some s) some is e = (omega arith, record { within = omega arith; spelled = e; ends = λ at. no_star cs (opened (ap (λ l. get_or l 0 0) at) is.comment) })
+  where
+    opened : c ≡ 40 → opens_comment (c ∷ cs) ≡ false → (get_or cs 0 0 == 42) ≡ false
+    opened at h = rw at at h
+
+    no_star : (l : List ℕ) → (get_or l 0 0 == 42) ≡ false → begins (λ b. b == 42) l ≡ false
+    no_star [] h = refl
+    no_star (d ∷ ds) h = h
+
+long_symbol-sound : (line : ℕ) (bytes : List ℕ) (o : Option ℕ) → 2 ≤ length bytes → BeginsSymbol bytes → symbol_of (take 2 bytes) ≡ o → Sound line bytes (long_symbol line bytes o)
+long_symbol-sound line bytes None two is e = short_symbol-sound line bytes (symbol_of (take 1 bytes)) (omega arith) is refl
+long_symbol-sound line bytes (Some s) two is e =
+    (omega arith, record { within = two; spelled = e; ends = λ at. absurd (omega (arith, ap length at, length-take-le 2 bytes two)) })
+
+symbol_at-sound : (line : ℕ) (bytes : List ℕ) → 0 < length bytes → BeginsSymbol bytes → Sound line bytes (symbol_at line bytes)
+unfolding symbol_at
+symbol_at-sound line bytes some is =
+    elim (truth (nat_le 2 (length bytes))) [
+      | inl p ↦ rw p (long_symbol-sound line bytes (symbol_of (take 2 bytes)) (le-test _ _ p) is refl)
+      | inr p ↦ rw p (short_symbol-sound line bytes (symbol_of (take 1 bytes)) some is refl)
+    ]
+
+short_symbol-one : (line s : ℕ) (o : Option ℕ) → o ≡ Some s → Covers 1 (Some (Sym s)) (short_symbol line o)
+short_symbol-one line s o e = subst (λ p. Covers 1 (Some (Sym s)) (short_symbol line p)) (sym e) (omega arith, λ _. refl)
+
+long_symbol-one : (line s : ℕ) (bytes : List ℕ) (o : Option ℕ) → symbol_of (take 1 bytes) ≡ Some s → Covers 1 (Some (Sym s)) (long_symbol line bytes o)
+long_symbol-one line s bytes None e = short_symbol-one line s (symbol_of (take 1 bytes)) e
+long_symbol-one line s bytes (Some t) e = (omega arith, λ (l : 2 ≡ 1). absurd (omega (arith, l)))
+
+symbol_at-one : (line s : ℕ) (bytes : List ℕ) → symbol_of (take 1 bytes) ≡ Some s → Covers 1 (Some (Sym s)) (symbol_at line bytes)
+unfolding symbol_at
+symbol_at-one line s bytes e =
+    elim (truth (nat_le 2 (length bytes))) [
+      | inl p ↦ rw p (long_symbol-one line s bytes (symbol_of (take 2 bytes)) e)
+      | inr p ↦ rw p (short_symbol-one line s (symbol_of (take 1 bytes)) e)
+    ]
+
+symbol_at-two : (line s : ℕ) (bytes : List ℕ) → 2 ≤ length bytes → symbol_of (take 2 bytes) ≡ Some s → Covers 2 (Some (Sym s)) (symbol_at line bytes)
+unfolding symbol_at
+symbol_at-two line s bytes two e =
+    let t : nat_le 2 (length bytes) ≡ true = grind (arith, nat_tests) in
+    rw t (subst (λ o. Covers 2 (Some (Sym s)) (long_symbol line bytes o)) (sym e) (omega arith, λ _. refl))
+
+symbol_at-greatest : (line s n : ℕ) (bytes : List ℕ) → n ≤ length bytes → symbol_of (take n bytes) ≡ Some s → (take n bytes ≡ 40 ∷ [] → begins (λ b. b == 42) (drop n bytes) ≡ false) → BeginsSymbol bytes × Covers n (Some (Sym s)) (symbol_at line bytes)
+symbol_at-greatest line s n bytes within e ends = (subst BeginsSymbol (take-append-drop n bytes) r.0, covers n within e (omega (arith, r.1, len)) (omega (arith, r.2, len)))
+  where
+    r : BeginsSymbol (take n bytes ++ drop n bytes) × (length (take n bytes) ≤ 2) × (0 < length (take n bytes))
+    r = symbol-begins (take n bytes) (drop n bytes) s e ends
+
+    len : length (take n bytes) ≡ n
+    len = length-take-le n bytes within
+
+    covers : (k : ℕ) → k ≤ length bytes → symbol_of (take k bytes) ≡ Some s → k ≤ 2 → 0 < k → Covers k (Some (Sym s)) (symbol_at line bytes)
+    covers zero l f g h = absurd (omega arith)
+    covers (suc zero) l f g h = symbol_at-one line s bytes f
+    covers (suc (suc zero)) l f g h = symbol_at-two line s bytes l f
+    covers (suc (suc (suc k))) l f g h = absurd (omega arith)
+
+-- ---- what begins what
+
+opens-separator : (bytes : List ℕ) → opens_comment bytes ≡ true → is_separator (get_or bytes 0 0) ≡ false
+unfolding is_separator
+opens-separator bytes h = grind (arith, nat_tests)
+
+quote-others : (bytes : List ℕ) → (get_or bytes 0 0 == 39) ≡ true → (is_separator (get_or bytes 0 0) ≡ false) × (opens_comment bytes ≡ false)
+unfolding is_separator
+quote-others bytes h = (grind (arith, nat_tests), grind (arith, nat_tests))
+
+digit-others : (bytes : List ℕ) → is_ascii_digit (get_or bytes 0 0) ≡ true → (is_separator (get_or bytes 0 0) ≡ false) × (opens_comment bytes ≡ false) × ((get_or bytes 0 0 == 39) ≡ false)
+unfolding is_separator
+digit-others bytes h = (grind (arith, nat_tests), grind (arith, nat_tests), grind (arith, nat_tests))
+
+letter-others : (bytes : List ℕ) → is_ascii_alphabetic (get_or bytes 0 0) ≡ true → (is_separator (get_or bytes 0 0) ≡ false) × (opens_comment bytes ≡ false) × ((get_or bytes 0 0 == 39) ≡ false) × (is_ascii_digit (get_or bytes 0 0) ≡ false)
+unfolding is_separator
+letter-others bytes h = (grind (arith, nat_tests), grind (arith, nat_tests), grind (arith, nat_tests), grind (arith, nat_tests))
+
+piece_at-separator : (line : ℕ) (bytes : List ℕ) → is_separator (get_or bytes 0 0) ≡ true → piece_at line bytes ≡ Ok (1, None)
+unfolding piece_at
+piece_at-separator line bytes s = rw s refl
+
+piece_at-comment : (line : ℕ) (bytes : List ℕ) → is_separator (get_or bytes 0 0) ≡ false → opens_comment bytes ≡ true → piece_at line bytes ≡ comment_at line bytes
+unfolding piece_at
+piece_at-comment line bytes s c = rw (s, c) refl
+
+piece_at-string : (line : ℕ) (bytes : List ℕ) → is_separator (get_or bytes 0 0) ≡ false → opens_comment bytes ≡ false → (get_or bytes 0 0 == 39) ≡ true → piece_at line bytes ≡ string_at line bytes
+unfolding piece_at
+piece_at-string line bytes s c q = rw (s, c, q) refl
+
+piece_at-number : (line : ℕ) (bytes : List ℕ) → is_separator (get_or bytes 0 0) ≡ false → opens_comment bytes ≡ false → (get_or bytes 0 0 == 39) ≡ false → is_ascii_digit (get_or bytes 0 0) ≡ true → piece_at line bytes ≡ number_at line bytes
+unfolding piece_at
+piece_at-number line bytes s c q d = rw (s, c, q, d) refl
+
+piece_at-name : (line : ℕ) (bytes : List ℕ) → is_separator (get_or bytes 0 0) ≡ false → opens_comment bytes ≡ false → (get_or bytes 0 0 == 39) ≡ false → is_ascii_digit (get_or bytes 0 0) ≡ false → is_ascii_alphabetic (get_or bytes 0 0) ≡ true → piece_at line bytes ≡ name_at line bytes
+unfolding piece_at
+piece_at-name line bytes s c q d l = rw (s, c, q, d, l) refl
+
+piece_at-symbol : (line : ℕ) (bytes : List ℕ) → BeginsSymbol bytes → piece_at line bytes ≡ symbol_at line bytes
+unfolding piece_at
+piece_at-symbol line bytes is = let s = is.separator in let c = is.comment in let q = is.quote in let d = is.digit in let l = is.letter in rw (s, c, q, d, l) refl
+
+-- ---- the whole piece
+
+one-first : (bytes : List ℕ) → 0 < length bytes → take 1 bytes ≡ get_or bytes 0 0 ∷ []
+one-first [] h = absurd (omega arith)
+one-first (b ∷ bs) h = refl
+
+-- what is read can be taken, or has its cause
+pub piece_at-sound : (line : ℕ) (bytes : List ℕ) → 0 < length bytes → Sound line bytes (piece_at line bytes)
+piece_at-sound line bytes some =
+    elim (truth (is_separator (get_or bytes 0 0))) [
+      | inl s ↦ subst (Sound line bytes) (sym (piece_at-separator line bytes s)) (omega arith, record { within = omega arith; spelled = inl (get_or bytes 0 0, one-first bytes some, s); ends = tt })
+      | inr s ↦ elim (truth (opens_comment bytes)) [
+        | inl c ↦ subst (Sound line bytes) (sym (piece_at-comment line bytes s c)) (comment_at-sound line bytes c)
+        | inr c ↦ elim (truth (get_or bytes 0 0 == 39)) [
+          | inl q ↦ subst (Sound line bytes) (sym (piece_at-string line bytes s c q)) (string_at-sound line bytes q)
+          | inr q ↦ elim (truth (is_ascii_digit (get_or bytes 0 0))) [
+            | inl d ↦ subst (Sound line bytes) (sym (piece_at-number line bytes s c q d)) (number_at-sound line bytes d)
+            | inr d ↦ elim (truth (is_ascii_alphabetic (get_or bytes 0 0))) [
+              | inl l ↦ subst (Sound line bytes) (sym (piece_at-name line bytes s c q d l)) (name_at-sound line bytes some l)
+              | inr l ↦
+                  let is : BeginsSymbol bytes = record { separator = s; comment = c; quote = q; digit = d; letter = l } in
+                  subst (Sound line bytes) (sym (piece_at-symbol line bytes is)) (symbol_at-sound line bytes some is)
+            ]
+          ]
+        ]
+      ]
+    ]
+
+name-covers : (line : ℕ) (bytes : List ℕ) (n : ℕ) (kind : TokenKind) → n ≤ length bytes → is_identifier (take n bytes) ≡ true → IsLongestName (take n bytes) (drop n bytes) → n ≤ 255
+    → name_kind (place_of word_symbols (lower_case (take n bytes))) (lower_case (take n bytes)) ≡ kind → Covers n (Some kind) (piece_at line bytes)
+name-covers line bytes n kind within i longest short e =
+    let read = name_at-only line bytes n within i longest short in
+    let others = letter-others bytes read.0 in
+    covers-same n (Some kind) (piece_at line bytes) (piece_at-name line bytes others.0 others.1 others.2 others.3 read.0 ∙ read.1 ∙ ap (λ k. Ok (n, Some k)) e)
+
+-- whatever can be taken is read, or something longer
+pub piece_at-greatest : (line : ℕ) (bytes : List ℕ) (n : ℕ) (kind : Option TokenKind) → n ≤ length bytes → IsSpelled (take n bytes) kind → MayPrecede (take n bytes) kind (drop n bytes) → Covers n kind (piece_at line bytes)
+piece_at-greatest line bytes n None within (inl s) ends =
+    let len = text-length bytes (s.0 ∷ []) n within s.1 in
+    let first : get_or bytes 0 0 ≡ s.0 = sym (first-take bytes n (omega (arith, ap length s.1))) ∙ ap (λ l. get_or l 0 0) s.1 in
+    covers-same n None (piece_at line bytes) (piece_at-separator line bytes (ap is_separator first ∙ s.2) ∙ ap (λ k. Ok (k, None)) (sym len))
+piece_at-greatest line bytes n None within (inr c) ends =
+    let read = comment_at-greatest line bytes n within c in
+    covers-same n None (piece_at line bytes) (piece_at-comment line bytes (opens-separator bytes read.0) read.0 ∙ read.1)
+piece_at-greatest line bytes n (Some (Word w)) within s ends =
+    name-covers line bytes n (Word w) within s.0 ends (omega (arith, word-short (take n bytes) w s.1, length-take-le n bytes within)) (ap (λ o. name_kind o (lower_case (take n bytes))) s.1)
+piece_at-greatest line bytes n (Some (Id name)) within s ends =
+    name-covers line bytes n (Id name) within s.0 ends (omega (arith, s.1, length-take-le n bytes within)) (ap (λ o. name_kind o (lower_case (take n bytes))) s.2 ∙ ap Id (sym s.3))
+piece_at-greatest line bytes n (Some (Number z)) within s ends =
+    let read = number_at-greatest line bytes n s.0 within s.1 ends in
+    let others = digit-others bytes read.0 in
+    covers-same n (Some (Number z)) (piece_at line bytes) (piece_at-number line bytes others.0 others.1 others.2 read.0 ∙ read.1 ∙ ap (λ v. Ok (n, Some (Number v))) (sym s.2))
+piece_at-greatest line bytes n (Some (Str b)) within s ends =
+    let read = string_at-greatest line bytes n b within s in
+    let others = quote-others bytes read.0 in
+    subst (Covers n (Some (Str b))) (sym (piece_at-string line bytes others.0 others.1 read.0)) read.1
+piece_at-greatest line bytes n (Some (Sym s)) within e ends =
+    let read = symbol_at-greatest line s n bytes within e ends in
+    subst (Covers n (Some (Sym s))) (sym (piece_at-symbol line bytes read.0)) read.1
+
+-- ---- one cause
+
+abbrev failed : TokenRefusal → Result Piece TokenRefusal
+failed e = Err e
+
+err_is : (e f : TokenRefusal) → failed e ≡ failed f → e ≡ f
+err_is e f h = cc
+
+ok_err : (p : Piece) (f : TokenRefusal) → Ok p ≡ Err f → ⊥
+ok_err p f h = cc
+
+comment_found-err : (line opener : ℕ) (o : Option ℕ) (f : TokenRefusal) → comment_found line opener o ≡ Err f → OpenComment line ≡ f
+comment_found-err line opener None f h = err_is _ _ h
+comment_found-err line opener (Some n) f h = absurd (ok_err _ f h)
+
+comment_at-err : (line : ℕ) (bytes : List ℕ) (f : TokenRefusal) → comment_at line bytes ≡ Err f → OpenComment line ≡ f
+unfolding comment_at
+comment_at-err line bytes f h =
+    elim (truth (get_or bytes 0 0 == 123)) [
+      | inl p ↦ comment_found-err line 1 (comment_end false 0 (drop 1 bytes)) f (rw p at h)
+      | inr p ↦ comment_found-err line 2 (comment_end false 0 (drop 2 bytes)) f (rw p at h)
+    ]
+
+string_found-err : (line : ℕ) (text : List ℕ) (o : Option ℕ) (f : TokenRefusal) → string_found line text o ≡ Err f → OpenString line ≡ f
+string_found-err line text None f h = err_is _ _ h
+string_found-err line text (Some n) f h = absurd (ok_err _ f h)
+
+string_at-err : (line : ℕ) (bytes : List ℕ) (f : TokenRefusal) → string_at line bytes ≡ Err f → OpenString line ≡ f
+unfolding string_at
+string_at-err line bytes f h = string_found-err line (drop 1 bytes) (string_end true None 0 (drop 1 bytes)) f h
+
+number_found-err : (line n : ℕ) (o : Option ℕ) (f : TokenRefusal) → number_found line n o ≡ Err f → BadNumber line ≡ f
+number_found-err line n None f h = err_is _ _ h
+number_found-err line n (Some v) f h = absurd (ok_err _ f h)
+
+number_at-err : (line : ℕ) (bytes : List ℕ) (f : TokenRefusal) → number_at line bytes ≡ Err f → BadNumber line ≡ f
+unfolding number_at
+number_at-err line bytes f h = number_found-err line (prefix_len continues_number bytes) (number_value (take (prefix_len continues_number bytes) bytes)) f h
+
+name_at-err : (line : ℕ) (bytes : List ℕ) (f : TokenRefusal) → name_at line bytes ≡ Err f → LongName line ≡ f
+unfolding name_at
+name_at-err line bytes f h =
+    elim (truth (nat_lt 255 (name_end true 0 0 bytes))) [
+      | inl p ↦ err_is _ _ (rw p at h)
+      | inr p ↦ absurd (ok_err _ f (rw p at h))
+    ]
+
+short_symbol-err : (line : ℕ) (o : Option ℕ) (f : TokenRefusal) → short_symbol line o ≡ Err f → NoToken line ≡ f
+short_symbol-err line None f h = err_is _ _ h
+short_symbol-err line (Some s) f h = absurd (ok_err _ f h)
+
+long_symbol-err : (line : ℕ) (bytes : List ℕ) (o : Option ℕ) (f : TokenRefusal) → long_symbol line bytes o ≡ Err f → NoToken line ≡ f
+long_symbol-err line bytes None f h = short_symbol-err line (symbol_of (take 1 bytes)) f h
+long_symbol-err line bytes (Some s) f h = absurd (ok_err _ f h)
+
+symbol_at-err : (line : ℕ) (bytes : List ℕ) (f : TokenRefusal) → symbol_at line bytes ≡ Err f → NoToken line ≡ f
+unfolding symbol_at
+symbol_at-err line bytes f h =
+    elim (truth (nat_le 2 (length bytes))) [
+      | inl p ↦ long_symbol-err line bytes (symbol_of (take 2 bytes)) f (rw p at h)
+      | inr p ↦ short_symbol-err line (symbol_of (take 1 bytes)) f (rw p at h)
+    ]
+
+long-letter : (bytes : List ℕ) → BeginsLongName bytes → is_ascii_alphabetic (get_or bytes 0 0) ≡ true
+long-letter bytes long =
+    let first = identifier-first (take long.0 bytes) long.3 in
+    ap is_ascii_alphabetic (sym (first-take bytes long.0 first.1)) ∙ first.0
+
+-- a cause at a place where nothing is read is what is answered
+pub cause-read : (line : ℕ) (bytes : List ℕ) (e f : TokenRefusal) → 0 < length bytes → HasCause bytes line e → piece_at line bytes ≡ Err f → e ≡ f
+cause-read line bytes (OpenComment at) f some h r =
+    ap OpenComment h.0 ∙ comment_at-err line bytes f (sym (piece_at-comment line bytes (opens-separator bytes h.1) h.1) ∙ r)
+cause-read line bytes (OpenString at) f some h r =
+    let q : (get_or bytes 0 0 == 39) ≡ true = sym (begins-first (λ b. b == 39) bytes some) ∙ h.1 in
+    let others = quote-others bytes q in
+    ap OpenString h.0 ∙ string_at-err line bytes f (sym (piece_at-string line bytes others.0 others.1 q) ∙ r)
+cause-read line bytes (BadNumber at) f some h r =
+    let d : is_ascii_digit (get_or bytes 0 0) ≡ true = sym (begins-first is_ascii_digit bytes some) ∙ h.1 in
+    let others = digit-others bytes d in
+    ap BadNumber h.0 ∙ number_at-err line bytes f (sym (piece_at-number line bytes others.0 others.1 others.2 d) ∙ r)
+cause-read line bytes (LongName at) f some h r =
+    let l = long-letter bytes h.1 in
+    let others = letter-others bytes l in
+    ap LongName h.0 ∙ name_at-err line bytes f (sym (piece_at-name line bytes others.0 others.1 others.2 others.3 l) ∙ r)
+cause-read line bytes (NoToken at) f some h r =
+    let q : (get_or bytes 0 0 == 39) ≡ false = sym (begins-first (λ b. b == 39) bytes some) ∙ h.2 in
+    let d : is_ascii_digit (get_or bytes 0 0) ≡ false = sym (begins-first is_ascii_digit bytes some) ∙ h.3 in
+    elim (truth (is_separator (get_or bytes 0 0))) [
+      | inl s ↦ absurd (ok_err _ f (sym (piece_at-separator line bytes s) ∙ r))
+      | inr s ↦ elim (truth (is_ascii_alphabetic (get_or bytes 0 0))) [
+        | inl l ↦
+            let named = sym (piece_at-name line bytes s h.1 q d l) ∙ r in
+            let sound : HasCause bytes line (LongName line) = subst (Sound line bytes) (named ∙ ap (λ g. Err g) (sym (name_at-err line bytes f named))) (name_at-sound line bytes some l) in
+            absurd (h.4 sound.1)
+        | inr l ↦ ap NoToken h.0 ∙ symbol_at-err line bytes f (sym (piece_at-symbol line bytes (record { separator = s; comment = h.1; quote = q; digit = d; letter = l })) ∙ r)
+      ]
+    ]
+cause-read line bytes NoMemory f some h r = absurd h

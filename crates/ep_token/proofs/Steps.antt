@@ -1,5 +1,5 @@
 -- One byte of a list behind another.
-use Rattle.std.proofs.Common.{◌≡◌, ℕ, ◌+◌, ◌<◌, ◌≤◌, Bool, true, false, ◌&&◌, ◌||◌, ◌⊎◌, inl, inr, List, [], ◌∷◌, length, drop, get_or, refl, add-one, drop-cons, arith}
+use Rattle.std.proofs.Common.{◌≡◌, ℕ, ◌+◌, ◌<◌, ◌≤◌, Bool, true, false, ◌&&◌, ◌||◌, ◌⊎◌, inl, inr, List, [], ◌∷◌, length, take, drop, get_or, refl, add-one, drop-cons, arith}
 use Rattle.std.proofs.lemmas.Grind.{common_steps}
 
 pub drop-at : (s : List ℕ) (i : ℕ) → i < length s → drop i s ≡ get_or s i 0 ∷ drop (i + 1) s
@@ -24,3 +24,9 @@ or-true false = refl
 pub and-parts : (a b : Bool) → (a && b) ≡ true → (a ≡ true) × (b ≡ true)
 and-parts true b h = (refl, h)
 and-parts false b h = absurd cc
+
+pub drop-add : (n m : ℕ) (l : List ℕ) → drop m (drop n l) ≡ drop (n + m) l
+drop-add n m l = grind (arith, common_steps)
+
+pub length-take-most : (n : ℕ) (l : List ℕ) → length (take n l) ≤ length l
+length-take-most n l = grind (arith, common_steps)
