@@ -187,7 +187,7 @@ number_value-of text n (inr r, h) =
     let mark : position is_mark text ≡ Some (length r.front) = ap (position is_mark) r.split ∙ position-some r.front r.digits (digits-no_mark r.front r.radix_is.each) in
     let front : take (length r.front) text ≡ r.front = ap (take (length r.front)) r.split ∙ take_at r.front (35 ∷ r.digits) (length r.front) refl in
     let digits : drop (length r.front + 1) text ≡ r.digits =
-        ap (drop (length r.front + 1)) (r.split ∙ sym (append_assoc r.front (35 ∷ []) r.digits)) ∙ drop_at (r.front ++ 35 ∷ []) r.digits (length r.front + 1) (omega (arith, length-append r.front (35 ∷ []))) in
+    ap (drop (length r.front + 1)) (r.split ∙ sym (append_assoc r.front (35 ∷ []) r.digits)) ∙ drop_at (r.front ++ 35 ∷ []) r.digits (length r.front + 1) (omega (arith, length-append r.front (35 ∷ []))) in
     let radix : numeral 10 (take (length r.front) text) ≡ Some r.radix = ap (numeral 10) front ∙ numeral-of 10 r.front r.radix r.radix_is (omega (arith, r.greatest, fits-maxint)) in
     let value : numeral r.radix (drop (length r.front + 1) text) ≡ Some n = ap (numeral r.radix) digits ∙ numeral-of r.radix r.digits n r.value_is h in
     ap (λ o. split_number o text) mark ∙ in_radix-of (numeral 10 (take (length r.front) text)) (drop (length r.front + 1) text) r.radix n radix r.least r.greatest value

@@ -66,9 +66,8 @@ comment_found-sound line bytes opener cs None opens e split is some = (refl, ope
 comment_found-sound line bytes opener cs (Some m) opens e split is some =
     let r = comment_end-body m cs e in
     let whole : bytes ≡ (opener ++ (r.body ++ r.closer)) ++ r.more =
-        split ∙ ap (λ (l : List ℕ). opener ++ l) (r.split ∙ sym (append_assoc r.body r.closer r.more)) ∙ sym (append_assoc opener (r.body ++ r.closer) r.more) in
-    let len : length opener + m ≡ length (opener ++ (r.body ++ r.closer)) = omega (arith, r.end, length-append opener (r.body ++ r.closer), length-append r.body r.closer) in
-    (
+    split ∙ ap (λ (l : List ℕ). opener ++ l) (r.split ∙ sym (append_assoc r.body r.closer r.more)) ∙ sym (append_assoc opener (r.body ++ r.closer) r.more) in
+    let len : length opener + m ≡ length (opener ++ (r.body ++ r.closer)) = omega (arith, r.end, length-append opener (r.body ++ r.closer), length-append r.body r.closer) in (
       omega arith,
       record {
         within = omega (arith, len, ap length whole, length-append (opener ++ (r.body ++ r.closer)) r.more);
@@ -108,23 +107,21 @@ comment_at-sound line (c ∷ d ∷ cs) opens =
     ]
 
 comment_at-read : (line n : ℕ) (opener rest : List ℕ) (k : ℕ) → IsOpener opener → comment_end false 0 rest ≡ Some k → n ≡ length opener + k → (opens_comment (opener ++ rest) ≡ true) × (comment_at line (opener ++ rest) ≡ Ok (n, None))
-comment_at-read line n opener rest k (inl at) end len =
-    (
-      ap (λ (o : List ℕ). opens_comment (o ++ rest)) at,
-      ap (λ (o : List ℕ). comment_at line (o ++ rest)) at ∙ comment_at-brace line 123 rest refl ∙ ap (comment_found line 1) end ∙ ap (λ m. Ok (m, None)) (let m : 1 + k ≡ n = omega (arith, len, ap length at) in m),
-    )
-comment_at-read line n opener rest k (inr at) end len =
-    (
-      ap (λ (o : List ℕ). opens_comment (o ++ rest)) at,
-      ap (λ (o : List ℕ). comment_at line (o ++ rest)) at ∙ comment_at-mark line 40 42 rest refl ∙ ap (comment_found line 2) end ∙ ap (λ m. Ok (m, None)) (let m : 2 + k ≡ n = omega (arith, len, ap length at) in m),
-    )
+comment_at-read line n opener rest k (inl at) end len = (
+  ap (λ (o : List ℕ). opens_comment (o ++ rest)) at,
+  ap (λ (o : List ℕ). comment_at line (o ++ rest)) at ∙ comment_at-brace line 123 rest refl ∙ ap (comment_found line 1) end ∙ ap (λ m. Ok (m, None)) (let m : 1 + k ≡ n = omega (arith, len, ap length at) in m),
+)
+comment_at-read line n opener rest k (inr at) end len = (
+  ap (λ (o : List ℕ). opens_comment (o ++ rest)) at,
+  ap (λ (o : List ℕ). comment_at line (o ++ rest)) at ∙ comment_at-mark line 40 42 rest refl ∙ ap (comment_found line 2) end ∙ ap (λ m. Ok (m, None)) (let m : 2 + k ≡ n = omega (arith, len, ap length at) in m),
+)
 
 -- a comment is read, and begins as one
 comment_at-greatest : (line : ℕ) (bytes : List ℕ) (n : ℕ) → n ≤ length bytes → IsComment (take n bytes) → (opens_comment bytes ≡ true) × (comment_at line bytes ≡ Ok (n, None))
 comment_at-greatest line bytes n within c =
     let rest = c.body ++ (c.closer ++ drop n bytes) in
     let whole : bytes ≡ c.opener ++ rest =
-        parts bytes (c.opener ++ (c.body ++ c.closer)) n c.text_is ∙ append_assoc c.opener (c.body ++ c.closer) (drop n bytes) ∙ ap (λ (l : List ℕ). c.opener ++ l) (append_assoc c.body c.closer (drop n bytes)) in
+    parts bytes (c.opener ++ (c.body ++ c.closer)) n c.text_is ∙ append_assoc c.opener (c.body ++ c.closer) (drop n bytes) ∙ ap (λ (l : List ℕ). c.opener ++ l) (append_assoc c.body c.closer (drop n bytes)) in
     let len = text-length bytes (c.opener ++ (c.body ++ c.closer)) n within c.text_is in
     let read = comment_at-read line n c.opener rest (0 + length c.body + length c.closer) c.opens (comment_end-whole false 0 c.body c.closer (drop n bytes) c.closes c.first (λ (h : false ≡ true). absurd cc)) (omega (arith, len, length-append c.opener (c.body ++ c.closer), length-append c.body c.closer)) in
     (ap opens_comment whole ∙ read.0, ap (comment_at line) whole ∙ read.1)
@@ -152,9 +149,8 @@ string_at-read line n cs bytes more e one_line len =
 string_at-greatest : (line : ℕ) (bytes : List ℕ) (n : ℕ) (s : List ℕ) → n ≤ length bytes → IsString (take n bytes) s → ((get_or bytes 0 0 == 39) ≡ true) × Covers n (Some (Str s)) (string_at line bytes)
 string_at-greatest line bytes n s within is =
     let whole : bytes ≡ 39 ∷ (doubled s ++ 39 ∷ drop n bytes) =
-        parts bytes (39 ∷ (doubled s ++ 39 ∷ [])) n is.text_is ∙ ap (λ l. 39 ∷ l) (append_assoc (doubled s) (39 ∷ []) (drop n bytes)) in
-    let len = text-length bytes (39 ∷ (doubled s ++ 39 ∷ [])) n within is.text_is in
-    (
+    parts bytes (39 ∷ (doubled s ++ 39 ∷ [])) n is.text_is ∙ ap (λ l. 39 ∷ l) (append_assoc (doubled s) (39 ∷ []) (drop n bytes)) in
+    let len = text-length bytes (39 ∷ (doubled s ++ 39 ∷ [])) n within is.text_is in (
       ap (λ (l : List ℕ). get_or l 0 0 == 39) whole,
       subst (λ l. Covers n (Some (Str s)) (string_at line l)) (sym whole) (string_at-read line n (doubled s ++ 39 ∷ drop n bytes) s (drop n bytes) refl is.one_line (omega (arith, len, length-append (doubled s) (39 ∷ [])))),
     )
@@ -198,8 +194,7 @@ unfolding number_at
 number_at-greatest line bytes n v within is stop =
     let first = number-first (take n bytes) v is in
     let end : prefix_len continues_number bytes ≡ n =
-        ap (prefix_len continues_number) (sym (take-append-drop n bytes)) ∙ prefix_len-all continues_number (take n bytes) (drop n bytes) (number-continues (take n bytes) v is) stop ∙ length-take-le n bytes within in
-    (
+    ap (prefix_len continues_number) (sym (take-append-drop n bytes)) ∙ prefix_len-all continues_number (take n bytes) (drop n bytes) (number-continues (take n bytes) v is) stop ∙ length-take-le n bytes within in (
       ap is_ascii_digit (sym (first-take bytes n first.1)) ∙ first.0,
       ap (λ k. number_found line k (number_value (take k bytes))) end ∙ ap (number_found line n) (number_value-of (take n bytes) v is),
     )

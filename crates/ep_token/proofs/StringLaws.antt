@@ -179,8 +179,7 @@ string_end-string c cs m at h =
           let bytes_are : undoubled false (take (m - 1) cs) ≡ r.bytes = undoubled-front cs r.bytes r.more (m - 1) r.split (omega (arith, r.end)) in
           let whole : cs ≡ (doubled r.bytes ++ 39 ∷ []) ++ r.more = r.split ∙ sym (append_assoc (doubled r.bytes) (39 ∷ []) r.more) in
           let len : m ≡ length (doubled r.bytes ++ 39 ∷ []) = omega (arith, r.end, length-append (doubled r.bytes) (39 ∷ [])) in
-          let text : take (suc m) (c ∷ cs) ≡ 39 ∷ (doubled r.bytes ++ 39 ∷ []) = ap (λ x. x ∷ take m cs) at ∙ ap (λ l. 39 ∷ take m l) whole ∙ ap (λ l. 39 ∷ l) (take_front (doubled r.bytes ++ 39 ∷ []) r.more m len) in
-          (
+          let text : take (suc m) (c ∷ cs) ≡ 39 ∷ (doubled r.bytes ++ 39 ∷ []) = ap (λ x. x ∷ take m cs) at ∙ ap (λ l. 39 ∷ take m l) whole ∙ ap (λ l. 39 ∷ l) (take_front (doubled r.bytes ++ 39 ∷ []) r.more m len) in (
             record {
               text_is = ap (λ k. take k (c ∷ cs)) (let k : m + 1 ≡ suc m = omega arith in k) ∙ text ∙ ap (λ b. 39 ∷ (doubled b ++ 39 ∷ [])) (sym bytes_are);
               one_line = subst IsOneLine (sym bytes_are) r.one_line;

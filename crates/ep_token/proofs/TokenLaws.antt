@@ -3,14 +3,15 @@ use Rattle.std.proofs.Common.{◌≡◌, ◌≢◌, ℕ, zero, suc, ◌+◌, ◌
 use Rattle.std.specs.Prelude.{count_by}
 use Rattle.std.specs.Option.{option_to_list}
 use Rattle.std.proofs.Math.Seq.{take-add}
+use Rattle.std.proofs.lemmas.Grind.{common_steps}
 use Rattle.std.proofs.lemmas.List.Sums.{sum_by-append, count_by-le-length}
 use Rattle.ep_token.specs.declared.token.Token.{Token}
 use Rattle.ep_token.specs.declared.token.TokenKind.{TokenKind}
 use Rattle.ep_token.specs.declared.refusal.TokenRefusal.{TokenRefusal}
-use Rattle.ep_token.specs.Tokens.{Piece, CanBeTaken, IsTaken, AreTaken, line_at, token_at, tokens_of, Tokens, Stuck, HasCause, AreInOrder, is_separator}
-use Rattle.ep_token.specs.declared.refusal.TokenRefusal.TheVariants.{NoToken}
+use Rattle.ep_token.specs.Tokens.{Piece, CanBeTaken, IsTaken, AreTaken, line_at, token_of, token_at, tokens_of, Tokens, Stuck, HasCause, AreInOrder, is_separator}
+use Rattle.ep_token.specs.declared.refusal.TokenRefusal.TheVariants.{NoToken, OpenComment, OpenString, BadNumber, LongName, NoMemory}
 use Rattle.ep_token.specs.Symbols.{special_symbols, reference_spelling}
-use Rattle.ep_token.specs.Reading.{piece_at, symbol_at}
+use Rattle.ep_token.specs.Reading.{Fails, piece_at, symbol_at}
 use Rattle.ep_token.proofs.PieceLaws.{Sound, Covers, piece_at-sound, piece_at-greatest, cause-read}
 use Rattle.ep_token.proofs.Steps.{drop-end, drop-add, length-take-most}
 
@@ -213,3 +214,48 @@ tokens-order bytes list t =
     let row = order-row bytes bytes 0 t.pieces [] t.taken in
     let end : 0 + span t.pieces ≡ length bytes = omega (arith, length-taken bytes t.pieces [] t.taken) in
     subst (λ k. AreInOrder 0 list k) end (subst (λ l. AreInOrder 0 l (0 + span t.pieces)) (sym t.list_is) row)
+
+-- ---- the rest of a text as a slice has it
+
+abbrev rest_of : List ℕ → ℕ → List ℕ
+rest_of source place = take (length source - place) (drop place source)
+
+pub rest_of-drop : (source : List ℕ) (place : ℕ) → rest_of source place ≡ drop place source
+rest_of-drop source place = grind (arith, common_steps)
+
+-- a piece of the rest lies within the text
+pub piece-within : (source : List ℕ) (place line n : ℕ) (kind : Option TokenKind) → place < length source → piece_at line (rest_of source place) ≡ Ok (n, kind) → (place + n ≤ length source) × (0 < n)
+piece-within source place line n kind h e =
+    let at = ap (piece_at line) (sym (rest_of-drop source place)) ∙ e in
+    let taken = piece-taken line (drop place source) n kind (omega (arith, length-drop place source)) at in
+    (omega (arith, taken.0.can.within, length-drop place source), taken.1)
+
+pub piece-slice : (source : List ℕ) (place line n : ℕ) (kind : Option TokenKind) → place < length source → piece_at line (rest_of source place) ≡ Ok (n, kind) → n ≡ length (take n (rest_of source place))
+piece-slice source place line n kind h e =
+    let within = (piece-within source place line n kind h e).0 in
+    sym (length-take-le n (rest_of source place) (omega (arith, within, length-drop place source, ap length (rest_of-drop source place))))
+
+pub line-least : (source : List ℕ) (found : List Token) (place line : ℕ) → Reached source found place line → line ≤ suc (length source)
+line-least source found place line r = omega (arith, r.line_is, line_at-least source place)
+
+pub count-least : (source : List ℕ) (place n : ℕ) → count_by (λ b. b == 10) (take n (rest_of source place)) ≤ length source
+count-least source place n = omega (arith, count_by-le-length (λ b. b == 10) (take n (rest_of source place)), length-take-most n (rest_of source place), ap length (rest_of-drop source place), length-drop place source)
+
+pub step-found : (source : List ℕ) (found next : List Token) (place line n : ℕ) (kind : Option TokenKind) → Reached source found place line → place < length source → piece_at line (rest_of source place) ≡ Ok (n, kind)
+    → next ≡ found ++ map (token_of line place (place + n)) (option_to_list kind)
+    → Reached source next (place + n) (line + count_by (λ b. b == 10) (take n (rest_of source place)))
+step-found source found next place line n kind r h e is =
+    let at = ap (piece_at line) (sym (rest_of-drop source place)) ∙ e in
+    let step = reached-step source found place line n kind r h at in
+    let tokens : next ≡ found ++ new_tokens source place (n, kind) = is ∙ ap (λ k. found ++ map (token_of k place (place + n)) (option_to_list kind)) r.line_is in
+    subst (λ l. Reached source next (place + n) (line + count_by (λ b. b == 10) (take n l))) (sym (rest_of-drop source place))
+    (subst (λ l. Reached source l (place + n) (line + count_by (λ b. b == 10) (take n (drop place source)))) (sym tokens) step)
+
+-- a refusal at the place that was reached
+pub step-stuck : (source : List ℕ) (found : List Token) (place line : ℕ) (e : TokenRefusal) → Reached source found place line → place < length source → Fails e (piece_at line (rest_of source place)) → (e ≡ NoMemory) ⊎ ((at : ℕ) × Stuck source at e)
+step-stuck source found place line NoMemory r h f = inl refl
+step-stuck source found place line (NoToken l) r h f = inr (place, reached-stuck source found place line (NoToken l) r h (ap (piece_at line) (sym (rest_of-drop source place)) ∙ f))
+step-stuck source found place line (OpenComment l) r h f = inr (place, reached-stuck source found place line (OpenComment l) r h (ap (piece_at line) (sym (rest_of-drop source place)) ∙ f))
+step-stuck source found place line (OpenString l) r h f = inr (place, reached-stuck source found place line (OpenString l) r h (ap (piece_at line) (sym (rest_of-drop source place)) ∙ f))
+step-stuck source found place line (BadNumber l) r h f = inr (place, reached-stuck source found place line (BadNumber l) r h (ap (piece_at line) (sym (rest_of-drop source place)) ∙ f))
+step-stuck source found place line (LongName l) r h f = inr (place, reached-stuck source found place line (LongName l) r h (ap (piece_at line) (sym (rest_of-drop source place)) ∙ f))

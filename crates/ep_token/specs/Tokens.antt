@@ -73,8 +73,12 @@ AreTaken bytes (piece ∷ pieces) rest = IsTaken bytes piece.0 piece.1 × AreTak
 abbrev pub line_at : List ℕ → ℕ → ℕ
 line_at bytes place = suc (count_by (λ b. b == 10) (take place bytes))
 
+abbrev pub token_of : ℕ → ℕ → ℕ → TokenKind → Token
+token_of line start end kind = record { kind = kind; line = line; start = start; end = end }
+
+-- the token of the n bytes from a place on
 abbrev pub token_at : List ℕ → ℕ → ℕ → TokenKind → Token
-token_at bytes start n kind = record { kind = kind; line = line_at bytes start; start = start; end = start + n }
+token_at bytes start n kind = token_of (line_at bytes start) start (start + n) kind
 
 -- the tokens among pieces, of which the first begins at a place
 abbrev pub tokens_of : List ℕ → ℕ → List Piece → List Token

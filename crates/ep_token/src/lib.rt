@@ -7,10 +7,12 @@ mod identifier;
 mod number;
 mod piece;
 mod refusal;
+mod source;
 mod spelling;
 pub mod symbol;
 mod token;
 pub mod word;
 
 pub use refusal::TokenRefusal;
+pub use source::{MAX_SOURCE, one_reading, tokens};
 pub use token::{Token, TokenKind};
