@@ -1,12 +1,12 @@
 -- The walk over an identifier finds the longest one.
-use Rattle.std.proofs.Common.{◌≡◌, ◌≢◌, ℕ, zero, suc, ◌+◌, ◌-◌, ◌<◌, ◌≤◌, Bool, true, false, ◌==◌, ◌&&◌, ◌⊎◌, inl, inr, List, [], ◌∷◌, ◌++◌, length, take, drop, get_or, refl, sym, ap, subst, ◌∙◌, add-one, arith, length-append, length-take-le, take-append-drop, length-drop, append_assoc}
+use Rattle.std.proofs.Common.{◌≡◌, ℕ, zero, suc, ◌+◌, ◌-◌, ◌<◌, ◌≤◌, Bool, true, false, ◌==◌, ◌&&◌, ◌⊎◌, inl, inr, List, [], ◌∷◌, ◌++◌, length, take, drop, get_or, refl, sym, ap, ◌∙◌, arith, length-append, length-take-le, take-append-drop, length-drop, append_assoc}
 use Rattle.std.proofs.lemmas.List.{take_at}
 use Rattle.std.proofs.lemmas.Bool.Decides.{nat_tests}
 use Rattle.std.specs.Char.{is_ascii_alphabetic, is_ascii_alphanumeric}
 use Rattle.ep_base.specs.Identifiers.{is_identifier, is_identifier_rest}
 use Rattle.ep_token.specs.Reading.{name_end}
 use Rattle.ep_token.specs.Tokens.{IsLongestName}
-use Rattle.ep_token.proofs.Names.{name_end-letter, name_end-underscore, name_end-other, name_end-second, name_at-end}
+use Rattle.ep_token.proofs.Names.{name_end-letter, name_end-underscore, name_end-other, name_end-second}
 use Rattle.ep_token.proofs.Steps.{truth, and-parts}
 
 name_end-nil : (u : Bool) (e i : ℕ) → name_end u e i [] ≡ e

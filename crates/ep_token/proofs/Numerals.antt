@@ -1,10 +1,10 @@
 -- The value of digits, digit by digit.
-use Rattle.std.proofs.Common.{◌≡◌, ◌≢◌, ℕ, ◌+◌, ◌*◌, ◌<◌, ◌≤◌, Bool, true, false, cond, ◌==◌, nat_lt, nat_le, ◌&&◌, List, [], ◌∷◌, length, drop, get_or, Option, Some, None, refl, arith}
+use Rattle.std.proofs.Common.{◌≡◌, ℕ, ◌+◌, ◌*◌, ◌<◌, ◌≤◌, true, false, cond, nat_lt, nat_le, ◌&&◌, List, [], ◌∷◌, length, drop, get_or, Option, Some, None, refl, arith}
 use Rattle.std.proofs.Math.Nat.{mul-le-mul_left}
 use Rattle.std.specs.Prelude.{fold}
 use Rattle.std.specs.List.{list_all}
 use Rattle.std.proofs.lemmas.Bool.Decides.{nat_tests}
-use Rattle.ep_token.specs.Numbers.{maxint, digit_value, is_digit_of, value_of}
+use Rattle.ep_token.specs.Numbers.{maxint, digit_value, is_digit_of}
 use Rattle.ep_token.specs.Reading.{numeral, appended}
 use Rattle.ep_token.proofs.Steps.{drop-at, drop-end, and-false}
 

@@ -1,9 +1,9 @@
 -- What is read at a place can be taken there, and nothing longer can; where nothing is read, the cause is right.
-use Rattle.std.proofs.Common.{◌≡◌, ◌≢◌, ℕ, zero, suc, ◌+◌, ◌-◌, ◌<◌, ◌≤◌, ℤ, pos, Bool, true, false, not, ◌&&◌, ◌||◌, ◌==◌, nat_lt, nat_le, ◌⊎◌, inl, inr, List, [], ◌∷◌, ◌++◌, length, take, drop, get_or, Option, Some, None, Result, Ok, Err, refl, sym, ap, subst, ◌∙◌, arith, length-append, append_assoc, take-append-drop, length-take-le, length-drop}
+use Rattle.std.proofs.Common.{◌≡◌, ◌≢◌, ℕ, zero, suc, ◌+◌, ◌<◌, ◌≤◌, pos, Bool, true, false, ◌&&◌, ◌==◌, nat_lt, nat_le, inl, inr, List, [], ◌∷◌, ◌++◌, length, take, drop, get_or, Option, Some, None, Result, Ok, Err, refl, sym, ap, subst, ◌∙◌, arith, length-append, append_assoc, take-append-drop, length-take-le}
 use Rattle.std.specs.Prelude.{All}
 use Rattle.std.specs.List.{list_all, prefix_len}
-use Rattle.std.specs.Char.{is_ascii_alphabetic, is_ascii_alphanumeric, is_ascii_digit}
-use Rattle.std.proofs.lemmas.List.{take_at, drop_at}
+use Rattle.std.specs.Char.{is_ascii_alphabetic, is_ascii_digit}
+use Rattle.std.proofs.lemmas.List.{take_at}
 use Rattle.std.proofs.lemmas.List.Sums.{prefix_len-le-length}
 use Rattle.std.proofs.lemmas.Bool.Decides.{nat_tests}
 use Rattle.std.proofs.lemmas.Grind.{common_steps}
@@ -14,12 +14,12 @@ use Rattle.ep_token.specs.declared.refusal.TokenRefusal.{TokenRefusal}
 use Rattle.ep_token.specs.declared.refusal.TokenRefusal.TheVariants.{NoToken, OpenComment, OpenString, BadNumber, LongName, NoMemory}
 use Rattle.ep_token.specs.Spellings.{place_of}
 use Rattle.ep_token.specs.Words.{word_symbols}
-use Rattle.ep_token.specs.Numbers.{digit_value, is_digit_of, IsNumeral, IsInRadix, IsNumber, continues_number}
+use Rattle.ep_token.specs.Numbers.{digit_value, is_digit_of, IsNumeral, IsNumber, continues_number}
 use Rattle.ep_token.specs.Strings.{IsString}
 use Rattle.ep_token.specs.Comments.{IsComment, IsOpener, opens_comment}
-use Rattle.ep_token.specs.Tokens.{Piece, IsSeparator, IsSpelled, MayPrecede, IsLongestName, CanBeTaken, HasCause, BeginsLongName, begins, is_separator}
-use Rattle.ep_token.specs.Reading.{comment_at, comment_found, comment_end, string_at, string_found, string_end, undoubled, number_at, number_found, number_value, name_at, name_found, name_kind, name_end, symbol_at, symbol_of, short_symbol, long_symbol, piece_at}
-use Rattle.ep_token.proofs.CommentLaws.{IsBody, comment_end-whole, comment_end-body}
+use Rattle.ep_token.specs.Tokens.{Piece, IsSpelled, MayPrecede, IsLongestName, CanBeTaken, HasCause, BeginsLongName, begins, is_separator}
+use Rattle.ep_token.specs.Reading.{comment_at, comment_found, comment_end, string_at, string_found, string_end, number_at, number_found, number_value, name_at, name_found, name_kind, name_end, symbol_at, symbol_of, short_symbol, long_symbol, piece_at}
+use Rattle.ep_token.proofs.CommentLaws.{comment_end-whole, comment_end-body}
 use Rattle.ep_token.proofs.NameLaws.{IsNameEnd, name_end-is, name_end-longest, name_end-only}
 use Rattle.ep_token.proofs.NumberLaws.{prefix_len-all, prefix_len-stop, number-continues, number_value-is, number_value-of}
 use Rattle.ep_token.proofs.StringLaws.{doubled, string_end-string, string_end-greatest}

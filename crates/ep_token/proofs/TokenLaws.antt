@@ -1,10 +1,10 @@
 -- A text has one row of longest pieces: so it has one list of tokens, or one place where nothing can be taken.
-use Rattle.std.proofs.Common.{◌≡◌, ◌≢◌, ℕ, zero, suc, ◌+◌, ◌-◌, ◌<◌, ◌≤◌, cond, ◌==◌, ◌⊎◌, inl, inr, List, [], ◌∷◌, ◌++◌, length, take, drop, Option, Some, None, Result, Ok, Err, refl, sym, ap, subst, ◌∙◌, arith, length-append, append_assoc, append-nil, length-take-le, length-drop, map}
+use Rattle.std.proofs.Common.{◌≡◌, ℕ, suc, ◌+◌, ◌-◌, ◌<◌, ◌≤◌, cond, ◌==◌, ◌⊎◌, inl, inr, List, [], ◌∷◌, ◌++◌, length, take, drop, Option, Some, None, Result, Ok, Err, refl, sym, ap, subst, ◌∙◌, arith, append_assoc, append-nil, length-take-le, length-drop, map}
 use Rattle.std.specs.Prelude.{count_by}
 use Rattle.std.specs.Option.{option_to_list}
 use Rattle.std.proofs.Math.Seq.{take-add}
 use Rattle.std.proofs.lemmas.Grind.{common_steps}
-use Rattle.std.proofs.lemmas.List.Sums.{sum_by-append, count_by-le-length}
+use Rattle.std.proofs.lemmas.List.Sums.{sum_by-append}
 use Rattle.ep_token.specs.declared.token.Token.{Token}
 use Rattle.ep_token.specs.declared.token.TokenKind.{TokenKind}
 use Rattle.ep_token.specs.declared.refusal.TokenRefusal.{TokenRefusal}
@@ -13,7 +13,7 @@ use Rattle.ep_token.specs.declared.refusal.TokenRefusal.TheVariants.{NoToken, Op
 use Rattle.ep_token.specs.Symbols.{special_symbols, reference_spelling}
 use Rattle.ep_token.specs.Reading.{Fails, piece_at, symbol_at}
 use Rattle.ep_token.proofs.PieceLaws.{Sound, Covers, piece_at-sound, piece_at-greatest, cause-read}
-use Rattle.ep_token.proofs.Steps.{drop-end, drop-add, length-take-most}
+use Rattle.ep_token.proofs.Steps.{drop-end, drop-add}
 
 -- ---- one piece
 
@@ -153,9 +153,6 @@ line_at-add bytes place n =
     ap (λ l. suc (count_by (λ b. b == 10) l)) (take-add place n bytes)
     ∙ (let e = sum_by-append (λ b. cond (b == 10) 1 0) (take place bytes) (take n (drop place bytes)) in omega (arith, e))
 
-pub line_at-least : (bytes : List ℕ) (place : ℕ) → line_at bytes place ≤ suc (length bytes)
-line_at-least bytes place = omega (arith, count_by-le-length (λ b. b == 10) (take place bytes), length-take-most place bytes)
-
 -- the text before a place is read
 pub record Reached (source : List ℕ) (found : List Token) (place line : ℕ) : Type 0 where
   pub pieces : List Piece
@@ -234,12 +231,6 @@ pub piece-slice : (source : List ℕ) (place line n : ℕ) (kind : Option TokenK
 piece-slice source place line n kind h e =
     let within = (piece-within source place line n kind h e).0 in
     sym (length-take-le n (rest_of source place) (omega (arith, within, length-drop place source, ap length (rest_of-drop source place))))
-
-pub line-least : (source : List ℕ) (found : List Token) (place line : ℕ) → Reached source found place line → line ≤ suc (length source)
-line-least source found place line r = omega (arith, r.line_is, line_at-least source place)
-
-pub count-least : (source : List ℕ) (place n : ℕ) → count_by (λ b. b == 10) (take n (rest_of source place)) ≤ length source
-count-least source place n = omega (arith, count_by-le-length (λ b. b == 10) (take n (rest_of source place)), length-take-most n (rest_of source place), ap length (rest_of-drop source place), length-drop place source)
 
 pub step-found : (source : List ℕ) (found next : List Token) (place line n : ℕ) (kind : Option TokenKind) → Reached source found place line → place < length source → piece_at line (rest_of source place) ≡ Ok (n, kind)
     → next ≡ found ++ map (token_of line place (place + n)) (option_to_list kind)

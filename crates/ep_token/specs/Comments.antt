@@ -1,5 +1,5 @@
 -- Comments.
-use Rattle.std.specs.Prelude.{◌≡◌, ℕ, ◌&&◌, ◌||◌, ◌==◌, Bool, List, [], ◌∷◌, ◌++◌, codes, slice_index, ◌⊎◌}
+use Rattle.std.specs.Prelude.{◌≡◌, ℕ, ◌&&◌, ◌||◌, ◌==◌, Bool, List, ◌++◌, codes, slice_index, ◌⊎◌}
 
 -- whether bytes begin with `{` or `(*`
 abbrev pub opens_comment : List ℕ → Bool

@@ -1,6 +1,5 @@
 -- The table of the code is the list of the special symbols.
-use Rattle.std.proofs.Common.{◌≡◌, Some, None, ap, sym, ◌∙◌}
-use Rattle.ep_token.specs.Reading.{symbol_of}
+use Rattle.std.proofs.Common.{◌≡◌, Some, None, ap, ◌∙◌}
 use Rattle.ep_token.specs.Spellings.{place_of}
 use Rattle.ep_token.specs.Symbols.{special_symbols}
 use Rattle.ep_token.proofs.symbol.symbol_of.Goals as goal
