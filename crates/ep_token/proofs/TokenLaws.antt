@@ -1,8 +1,9 @@
 -- A text has one row of longest pieces: so it has one list of tokens, or one place where nothing can be taken.
-use Rattle.std.proofs.Common.{◌≡◌, ℕ, suc, ◌+◌, ◌-◌, ◌<◌, ◌≤◌, cond, ◌==◌, ◌⊎◌, inl, inr, List, [], ◌∷◌, ◌++◌, length, take, drop, Option, Some, None, Result, Ok, Err, refl, sym, ap, subst, ◌∙◌, arith, append_assoc, append-nil, length-take-le, length-drop, map}
+use Rattle.std.proofs.Common.{◌≡◌, ℕ, zero, suc, ◌+◌, ◌-◌, ◌<◌, ◌≤◌, cond, ◌==◌, ◌⊎◌, inl, inr, List, [], ◌∷◌, ◌++◌, length, take, drop, Option, Some, None, Result, Ok, Err, refl, sym, ap, subst, ◌∙◌, arith, append_assoc, append-nil, length-take-le, length-drop, map}
 use Rattle.std.specs.Prelude.{count_by}
 use Rattle.std.specs.Option.{option_to_list}
 use Rattle.std.proofs.Math.Seq.{take-add}
+use Rattle.std.proofs.lemmas.Bool.{cases_lt}
 use Rattle.std.proofs.lemmas.Grind.{common_steps}
 use Rattle.std.proofs.lemmas.List.Sums.{sum_by-append}
 use Rattle.ep_token.specs.declared.token.Token.{Token}
@@ -250,3 +251,29 @@ step-stuck source found place line (OpenComment l) r h f = inr (place, reached-s
 step-stuck source found place line (OpenString l) r h f = inr (place, reached-stuck source found place line (OpenString l) r h (ap (piece_at line) (sym (rest_of-drop source place)) ∙ f))
 step-stuck source found place line (BadNumber l) r h f = inr (place, reached-stuck source found place line (BadNumber l) r h (ap (piece_at line) (sym (rest_of-drop source place)) ∙ f))
 step-stuck source found place line (LongName l) r h f = inr (place, reached-stuck source found place line (LongName l) r h (ap (piece_at line) (sym (rest_of-drop source place)) ∙ f))
+
+-- ---- each text has an answer
+
+abbrev pub HasAnswer : List ℕ → Type 0
+HasAnswer source = ((list : List Token) × Tokens source list) ⊎ ((place : ℕ) × (refusal : TokenRefusal) × Stuck source place refusal)
+
+-- an answer from a place on, if there are at most so many bytes
+abbrev Answered : List ℕ → ℕ → Type 0
+Answered source fuel = (found : List Token) (place line : ℕ) → Reached source found place line → length source ≤ place + fuel → HasAnswer source
+
+answered-piece : (source : List ℕ) (fuel : ℕ) (found : List Token) (place line : ℕ) (r : Result Piece TokenRefusal) → Answered source fuel → Reached source found place line → place < length source → length source ≤ place + suc fuel → piece_at line (drop place source) ≡ r → HasAnswer source
+answered-piece source fuel found place line (Ok p) more r h most e =
+    let taken = piece-taken line (drop place source) p.0 p.1 (omega (arith, length-drop place source)) e in
+    more (found ++ new_tokens source place p) (place + p.0) (line + count_by (λ b. b == 10) (take p.0 (drop place source))) (reached-step source found place line p.0 p.1 r h e) (omega (arith, taken.1))
+answered-piece source fuel found place line (Err f) more r h most e = inr (place, f, reached-stuck source found place line f r h e)
+
+answered : (source : List ℕ) (fuel : ℕ) → Answered source fuel
+answered source zero found place line r most = inl (found, reached-end source found place line r (omega arith))
+answered source (suc fuel) found place line r most =
+    elim (cases_lt place (length source)) [
+      | inl h ↦ answered-piece source fuel found place line (piece_at line (drop place source)) (answered source fuel) r h most refl
+      | inr h ↦ inl (found, reached-end source found place line r h)
+    ]
+
+pub text-answer : (source : List ℕ) → HasAnswer source
+text-answer source = answered source (length source) [] 0 1 (reached-start source) (omega arith)

@@ -34,8 +34,9 @@ pub fn tokens(alloc: Global, source: &[u8]) -> Result<Vec<Token>, TokenRefusal>
     scan(alloc, source)
 }
 
-/// A text has at most one list of tokens, or one place where it is stuck, and not both.
+/// A text has one list of tokens or one place where it is stuck, and not both.
 pub fn one_reading()
+    ensures some { (bytes : List ℕ) → ((list : List Token) × Tokens bytes list) ⊎ ((place : ℕ) × (refusal : TokenRefusal) × Stuck bytes place refusal) }
     ensures list { (bytes : List ℕ) (list other : List Token) → Tokens bytes list → Tokens bytes other → list ≡ other }
     ensures apart { (bytes : List ℕ) (list : List Token) (place : ℕ) (refusal : TokenRefusal) → Tokens bytes list → Stuck bytes place refusal → ⊥ }
     ensures place { (bytes : List ℕ) (place other : ℕ) (refusal cause : TokenRefusal) → Stuck bytes place refusal → Stuck bytes other cause → (place ≡ other) × (refusal ≡ cause) }

@@ -206,3 +206,109 @@ fn tokens_have_lines_and_places(rt: HostRuntime) -> Result<(), Fail> {
     assert_eq!(rt; places.as_slice(), want.as_slice());
     Ok(())
 }
+
+/// The words and symbols of a text, by their places.
+fn places(alloc: Global, source: &[u8]) -> Result<Vec<u8>, Fail> {
+    let mut out = Vec::new(alloc);
+    if source.len() <= MAX_SOURCE {
+        if let Ok(found) = tokens(alloc, source) {
+            for token in &found {
+                match &token.kind {
+                    TokenKind::Word(place) => out.push(*place)?,
+                    TokenKind::Sym(place) => out.push(*place)?,
+                    _ => {}
+                }
+            }
+        }
+    }
+    Ok(out)
+}
+
+#[test]
+fn constants_name_their_words(rt: HostRuntime) -> Result<(), Fail> {
+    let source =
+        b"and and_then array begin bindable case const div do downto else end export file for function goto if import in label mod module nil not of only or or_else otherwise packed pow procedure program protected qualified record repeat restricted set then to type until value var while with";
+    let want = [
+        word::AND,
+        word::AND_THEN,
+        word::ARRAY,
+        word::BEGIN,
+        word::BINDABLE,
+        word::CASE,
+        word::CONST,
+        word::DIV,
+        word::DO,
+        word::DOWNTO,
+        word::ELSE,
+        word::END,
+        word::EXPORT,
+        word::FILE,
+        word::FOR,
+        word::FUNCTION,
+        word::GOTO,
+        word::IF,
+        word::IMPORT,
+        word::IN,
+        word::LABEL,
+        word::MOD,
+        word::MODULE,
+        word::NIL,
+        word::NOT,
+        word::OF,
+        word::ONLY,
+        word::OR,
+        word::OR_ELSE,
+        word::OTHERWISE,
+        word::PACKED,
+        word::POW,
+        word::PROCEDURE,
+        word::PROGRAM,
+        word::PROTECTED,
+        word::QUALIFIED,
+        word::RECORD,
+        word::REPEAT,
+        word::RESTRICTED,
+        word::SET,
+        word::THEN,
+        word::TO,
+        word::TYPE,
+        word::UNTIL,
+        word::VALUE,
+        word::VAR,
+        word::WHILE,
+        word::WITH,
+    ];
+    assert_eq!(rt; places(rt.alloc(), source)?.as_slice(), want.as_slice());
+    Ok(())
+}
+
+#[test]
+fn constants_name_their_symbols(rt: HostRuntime) -> Result<(), Fail> {
+    let source = b"+ - * = < > ( ) [ ] . , : ; ^ <> <= >= := .. => ><";
+    let want = [
+        symbol::PLUS,
+        symbol::MINUS,
+        symbol::STAR,
+        symbol::EQUAL,
+        symbol::LESS,
+        symbol::GREATER,
+        symbol::LEFT_PARENTHESIS,
+        symbol::RIGHT_PARENTHESIS,
+        symbol::LEFT_BRACKET,
+        symbol::RIGHT_BRACKET,
+        symbol::PERIOD,
+        symbol::COMMA,
+        symbol::COLON,
+        symbol::SEMICOLON,
+        symbol::CARET,
+        symbol::NOT_EQUAL,
+        symbol::AT_MOST,
+        symbol::AT_LEAST,
+        symbol::ASSIGN,
+        symbol::RANGE,
+        symbol::EXPORTED_AS,
+        symbol::SYMMETRIC_DIFFERENCE,
+    ];
+    assert_eq!(rt; places(rt.alloc(), source)?.as_slice(), want.as_slice());
+    Ok(())
+}
