@@ -1,13 +1,15 @@
--- Comments.
+-- What a comment is.
 use Rattle.std.specs.Prelude.{◌≡◌, ℕ, ◌&&◌, ◌||◌, ◌==◌, Bool, List, ◌++◌, codes, slice_index, ◌⊎◌}
 
 -- whether bytes begin with `{` or `(*`
 abbrev pub opens_comment : List ℕ → Bool
 opens_comment bytes = slice_index bytes 0 == 123 || (slice_index bytes 0 == 40 && slice_index bytes 1 == 42)
 
+-- a text that opens a comment
 abbrev pub IsOpener : List ℕ → Type 0
 IsOpener text = (text ≡ codes "{") ⊎ (text ≡ codes "(*")
 
+-- a text that closes a comment, whichever opened it
 abbrev pub IsCloser : List ℕ → Type 0
 IsCloser text = (text ≡ codes "}") ⊎ (text ≡ codes "*)")
 

@@ -1,4 +1,4 @@
--- Unsigned numbers.
+-- What an unsigned number is, and its value.
 use Rattle.std.specs.Prelude.{◌≡◌, ◌≢◌, ℕ, ◌+◌, ◌-◌, ◌*◌, ◌≤◌, Bool, true, ◌||◌, ◌==◌, nat_lt, if◌then◌else◌, List, [], ◌∷◌, ◌++◌, fold, ◌⊎◌}
 use Rattle.std.specs.List.{list_all}
 use Rattle.std.specs.Char.{is_ascii_alphabetic, is_ascii_alphanumeric, is_ascii_digit, to_ascii_lowercase}
@@ -11,6 +11,7 @@ maxint = 9223372036854775807
 unfoldable pub digit_value : ℕ → ℕ
 digit_value b = if is_ascii_digit b then b - 48 else if is_ascii_alphabetic b then to_ascii_lowercase b - 87 else 36
 
+-- whether a byte is a digit of a radix
 abbrev pub is_digit_of : ℕ → ℕ → Bool
 is_digit_of radix b = nat_lt (digit_value b) radix
 

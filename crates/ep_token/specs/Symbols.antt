@@ -1,4 +1,4 @@
--- The special symbols.
+-- The special symbols, and their other spellings.
 use Rattle.std.specs.Prelude.{ℕ, List, [], ◌∷◌, codes, if◌then◌else◌}
 use Rattle.std.specs.Str.{bytes_eq}
 

@@ -19,6 +19,7 @@ use Rattle.ep_token.specs.Comments.{IsComment, opens_comment}
 unfoldable pub is_separator : ℕ → Bool
 is_separator b = (b == 9 || b == 10) || (b == 13 || b == 32)
 
+-- one separating byte
 abbrev pub IsSeparator : List ℕ → Type 0
 IsSeparator text = (b : ℕ) × (text ≡ b ∷ []) × (is_separator b ≡ true)
 
@@ -73,6 +74,7 @@ AreTaken bytes (piece ∷ pieces) rest = IsTaken bytes piece.0 piece.1 × AreTak
 abbrev pub line_at : List ℕ → ℕ → ℕ
 line_at bytes place = suc (count_by (λ b. b == 10) (take place bytes))
 
+-- a token as the code has it
 abbrev pub token_of : ℕ → ℕ → ℕ → TokenKind → Token
 token_of line start end kind = record { kind = kind; line = line; start = start; end = end }
 

@@ -48,6 +48,7 @@ fn name_end(bytes: &[u8]) -> usize
     ensures within { result ≤ length bytes.now }
 {
     let mut end = 0;
+    // No identifier begins with an underscore, as none has two in a row.
     let mut underscore = true;
     for (i, byte) in bytes.iter().enumerate() {
         if byte.is_ascii_alphanumeric() {

@@ -26,7 +26,8 @@ pub(crate) fn number_at(line: Line, bytes: &[u8]) -> Result<Piece, TokenRefusal>
     }
 }
 
-/// The end of the bytes at the front that may not follow a number: with fewer of them there is none.
+/// The end of the letters, digits, underscores and `#` at the front. A number may not be followed by one of these,
+/// so it is all of them or none.
 fn number_end(bytes: &[u8]) -> usize
     ensures end { result ≡ prefix_len continues_number bytes.now }
     ensures within { result ≤ length bytes.now }
@@ -82,8 +83,8 @@ fn in_radix(radix: Option<u64>, digits: &[u8]) -> Option<u64>
 /// The value of digits of a radix.
 #[tactic(auto, using(crate::proofs::Numerals::walk))]
 fn numeral(radix: u64, digits: &[u8]) -> Option<u64>
-    requires some { 2 ≤ radix }
-    requires digits { radix ≤ 36 }
+    requires least { 2 ≤ radix }
+    requires greatest { radix ≤ 36 }
     ensures value { result ≡ numeral radix digits.now }
     ensures fits { IfSome result (λ value. value ≤ maxint) }
 {
@@ -112,7 +113,7 @@ fn appended(radix: u64, value: u64, digit: u64) -> Option<u64>
     if next <= MAXINT { Some(next) } else { None }
 }
 
-/// The value of a digit or letter, or 36.
+/// The value of a digit or letter, or 36, which is no digit of any radix.
 #[tactic(auto, unfolding(crate::specs::Numbers::digit_value))]
 fn digit_value(byte: u8) -> u64
     ensures { result ≡ digit_value byte }

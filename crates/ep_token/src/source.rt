@@ -42,7 +42,7 @@ pub fn one_reading()
     ensures place { (bytes : List ℕ) (place other : ℕ) (refusal cause : TokenRefusal) → Stuck bytes place refusal → Stuck bytes other cause → (place ≡ other) × (refusal ≡ cause) }
 {}
 
-/// Reads a text piece by piece.
+/// Reads a text piece by piece, each byte of it once but for the end of a string that is not closed.
 fn scan(alloc: Global, source: &[u8]) -> Result<Vec<Token>, TokenRefusal>
     requires { length source.now ≤ MAX_SOURCE }
     ensures found { IfOk result (λ found. Tokens source.now found.items) }
