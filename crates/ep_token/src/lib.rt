@@ -1,0 +1,27 @@
+//! The tokens of source texts.
+//!
+//! A source text is a row of tokens, separating bytes and comments, each the longest that can be taken at its place.
+//! `tokens` gives the tokens of such a text, each with its line and place, and refuses every other text at the first
+//! place where nothing can be taken. specs/Tokens.antt says what a row is and where a text is stuck, over what each
+//! kind of piece is: specs/Words.antt, Symbols.antt, Numbers.antt, Strings.antt and Comments.antt. specs/Reading.antt
+//! has what the calls below read at a place, and proofs/ shows that it is what those definitions say.
+#![tactic(auto)]
+
+mod character_string;
+mod comment;
+mod identifier;
+mod number;
+mod piece;
+mod refusal;
+mod source;
+mod spelling;
+pub mod symbol;
+mod token;
+pub mod word;
+
+pub use refusal::TokenRefusal;
+pub use source::{MAX_SOURCE, one_reading, tokens};
+pub use token::{Token, TokenKind};
+
+#[cfg(test)]
+mod tests;
