@@ -1,7 +1,7 @@
 -- How traces that were done, wholly or in part, follow one another.
-use Rattle.std.proofs.Common.{◌≡◌, ℕ, List, [], ◌∷◌, ◌++◌, Option, None, Some, ◌⊎◌, inl, inr, refl, sym, ap, ◌∙◌, subst, append_assoc, append-nil}
+use Rattle.std.proofs.Common.{◌≡◌, ℕ, List, [], ◌∷◌, ◌++◌, Option, None, Some, inl, inr, refl, sym, ap, ◌∙◌, subst, append_assoc, append-nil}
 use Rattle.std.proofs.KnownBytes.{Keeps-refl, Keeps-trans, Appends-nil, Appends-trans, Appends-kept}
-use Rattle.ep_outside.specs.Known.{Keeps, Appends, AppendsFront, Directory, created, appended, ChangesBy, KeepsFiles}
+use Rattle.ep_outside.specs.Known.{Appends, Directory, created, appended, ChangesBy, KeepsFiles}
 use Rattle.ep_typed.specs.Events.{Event, Write, Create, Append, Trace, output_of, files_after, Outside, Same, Does, InHand, MayBegin, DoesPart}
 
 same_functions : {A B : Type 0} {f g : A → B} → ((x : A) → f x ≡ g x) → f ≡ g

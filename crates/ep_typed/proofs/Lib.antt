@@ -1,1 +1,3 @@
 pub mod Done
+pub mod Examples
+pub mod Steady

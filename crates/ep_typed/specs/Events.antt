@@ -1,6 +1,6 @@
 -- What a run does to the outside: a trace of events, and how far a call that may fail came with it.
 use Rattle.std.specs.Prelude.{◌≡◌, ℕ, List, [], ◌∷◌, ◌++◌, Option, ◌⊎◌}
-use Rattle.ep_outside.specs.Known.{IsPrefix, Keeps, Appends, AppendsFront, Directory, created, appended, ChangesBy, KeepsFiles, AppendsFrontTo}
+use Rattle.ep_outside.specs.Known.{Keeps, Appends, AppendsFront, Directory, created, appended, ChangesBy, KeepsFiles, AppendsFrontTo}
 
 -- a piece is written to the output, a file is made empty, or bytes are added at the end of a file
 pub data Event : Type 0 where

@@ -1,6 +1,6 @@
 -- What the first programs do: they write lines.
 use Rattle.std.specs.Prelude.{ℕ, List, [], ◌∷◌, ◌++◌, decimal, flat_map}
-use Rattle.ep_typed.specs.Events.{Event, Write, Trace}
+use Rattle.ep_typed.specs.Events.{Write, Trace}
 use Rattle.ep_typed.specs.declared.first.Statement.{Statement}
 use Rattle.ep_typed.specs.declared.first.Statement.TheVariants.{Empty, WriteText, WriteNumber}
 

@@ -1,2 +1,10 @@
 pub mod Events
 pub mod FirstPrograms
+pub mod Meaning
+pub mod Operations
+pub mod Printing
+pub mod Steady
+pub mod Steps
+pub mod Trees
+pub mod Valid
+pub mod Viewed

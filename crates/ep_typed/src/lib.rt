@@ -1,9 +1,19 @@
 //! Typed programs and what they mean.
 //!
 //! specs/Events.antt has the events by which a run changes the outside, and what it says that some of them
-//! were done: every meaning of this project is a trace of these events and an end.
+//! were done: every meaning of this project is a trace of these events and an end. specs/Meaning.antt has
+//! the meaning of typed trees, by recursion on them, in steps that are counted; specs/Valid.antt says which
+//! trees the static rules give.
 #![tactic(auto)]
 
 mod first;
+mod operations;
+mod tree;
+mod types;
+mod unit;
 
 pub use first::Statement;
+pub use operations::{Binary, Print, Unary};
+pub use tree::{TypedExpr, TypedPlace, TypedStmt, WriteItem};
+pub use types::{Host, TypeValue};
+pub use unit::{Unit, UnitVariable, UnitVariables};

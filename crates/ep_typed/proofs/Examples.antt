@@ -1,0 +1,44 @@
+-- The meaning computes the answers of small programs.
+use Rattle.std.proofs.Common.{◌≡◌, ℕ, ℤ, pos, negsuc, true, false, [], ◌∷◌, refl, codes}
+use Rattle.ep_typed.specs.Events.{Trace, Write}
+use Rattle.ep_typed.specs.Trees.{Variable, Expr, Constant, Read, One, Two, Plain, Wide, Stmt, Compound, Assign, While, Write, stmts, none, next}
+use Rattle.ep_typed.specs.Trees as tree
+use Rattle.ep_typed.specs.Steps.{End, Normal, Error, Outcome, Gives, Ends, Cut, state_of, made, first_state}
+use Rattle.ep_typed.specs.Meaning.{exec}
+use Rattle.ep_typed.specs.declared.operations.Unary.TheVariants as unary
+use Rattle.ep_typed.specs.declared.operations.Binary.TheVariants as binary
+use Rattle.ep_typed.specs.declared.operations.Print.TheVariants as print
+use Rattle.ep_typed.specs.declared.types.TypeValue.TheVariants.{Ordinal}
+
+-- what a statement of unit p comes to, with one variable x of type integer
+abbrev run : Stmt → ℕ → Outcome (Unit {0})
+run s m = exec m (codes "p") s m (made (codes "p") 0 (Ordinal (negsuc 9223372036854775806) (pos 9223372036854775807)) first_state)
+
+abbrev end_of : Outcome (Unit {0}) → End
+end_of (Gives left a s) = Normal
+end_of (Ends left e s) = e
+end_of (Cut s) = Normal
+
+abbrev trace_of : Outcome (Unit {0}) → Trace
+trace_of o = (state_of o).trace
+
+-- whether an expression has this value
+abbrev equals : Expr → ℤ → Expr
+equals e z = Two binary.Equal e (Constant z)
+
+abbrev x : tree.Place
+x = Variable (codes "p") 0
+
+overflow : end_of (run (Compound (next (Assign 3 x (Constant (pos 9223372036854775807))) (next (Assign 4 x (Two binary.Add (Read x) (Constant (pos 1)))) none))) 100) ≡ Error 8 (codes "p") 4
+overflow = refl
+
+division : trace_of (run (tree.Write 3 (Plain print.Boolean (equals (Two binary.Divide (One unary.Negate (Constant (pos 7))) (Constant (pos 2))) (negsuc 2)) ∷ Wide print.Boolean (equals (Two binary.Modulo (One unary.Negate (Constant (pos 7))) (Constant (pos 2))) (pos 1)) (Constant (pos 6)) ∷ []) true) 100)
+    ≡ Write (codes "True") ∷ Write (codes "  True") ∷ Write (10 ∷ []) ∷ []
+division = refl
+
+negative_divisor : end_of (run (tree.Write 3 (Plain print.Integer (Two binary.Modulo (Constant (pos 7)) (One unary.Negate (Constant (pos 2)))) ∷ []) true) 100) ≡ Error 9 (codes "p") 3
+negative_divisor = refl
+
+-- a loop without an end writes as long as there are steps
+loop : trace_of (run (While 3 (Constant (pos 1)) (tree.Write 3 (Plain print.Char (Constant (pos 120)) ∷ []) false)) 20) ≡ Write (codes "x") ∷ Write (codes "x") ∷ Write (codes "x") ∷ []
+loop = refl

@@ -1,0 +1,211 @@
+-- No computation takes back an event, or room that was lost.
+use Rattle.std.proofs.Common.{◌≡◌, ℕ, ℤ, pos, negsuc, zero, suc, ◌+◌, List, [], ◌∷◌, ◌++◌, Option, Some, None, Bool, true, false, IsTrue, length, refl, sym, ap, ◌∙◌, append_assoc, append-nil}
+use Rattle.std.specs.Prelude.{if◌then◌else◌}
+use Rattle.std.specs.List.{list_any}
+use Rattle.ep_outside.specs.Known.{IsPrefix}
+use Rattle.ep_typed.specs.Events.{Trace}
+use Rattle.ep_typed.specs.Meaning.{answered, place, eval, write_piece, write_wide, write_item, write_items, assign, turns, exec, exec_all, make, make_all, start_of, starts_of}
+use Rattle.ep_typed.specs.Operations.{Answer, Number, Fault, is_true}
+use Rattle.ep_typed.specs.Printing.{Result, number_of, plain_text, wide_text, piece_events}
+use Rattle.ep_typed.specs.Printing as result
+use Rattle.ep_typed.specs.Steady.{Grows, Steady}
+use Rattle.ep_typed.specs.Steps.{End, Normal, Halted, Error, Word, State, Outcome, Gives, Ends, Cut, state_of, Computation, give, cut, stop, go_on, bind, spend, change, found, fetch, with_events, assigned, type_at, is_within, size_of, same_type, Resources, watched, met, with_type, made}
+use Rattle.ep_typed.specs.Trees.{Place, Variable, Expr, Constant, Text, Read, One, Two, Step, Item, Plain, Wide, Stmt, Stmts, Empty, Compound, Assign, If, While, Halt, Write, none, next}
+use Rattle.ep_typed.specs.Viewed.{stmt_of}
+use Rattle.ep_typed.specs.declared.operations.Print.{Print}
+use Rattle.ep_typed.specs.declared.types.TypeValue.{TypeValue}
+use Rattle.ep_typed.specs.declared.unit.Unit.{Unit as TypedUnit}
+use Rattle.ep_typed.specs.declared.unit.UnitVariable.{UnitVariable}
+
+-- ---- states that grow
+
+-- a state has grown from itself
+pub grows_refl : (s : State) → Grows s s
+grows_refl s = record { events = record { rest = []; is = sym (append-nil s.trace) }; lost = λ h. h }
+
+-- what has grown from what has grown
+pub grows_trans : {s t u : State} → Grows s t → Grows t u → Grows s u
+grows_trans {s = s} {t = t} {u = u} g h =
+    let p : IsPrefix s.trace t.trace = g.events in
+    let q : IsPrefix t.trace u.trace = h.events in
+    record {
+      events = record { rest = p.rest ++ q.rest; is = q.is ∙ ap (λ l. l ++ q.rest) p.is ∙ append_assoc s.trace p.rest q.rest };
+      lost = λ x. h.lost (g.lost x);
+    }
+
+-- where neither the events nor the resources change
+pub grows_quiet : (s t : State) → t.trace ≡ s.trace → t.resources ≡ s.resources → Grows s t
+grows_quiet s t p q = record { events = record { rest = []; is = p ∙ sym (append-nil s.trace) }; lost = λ h. ap (λ r. r.lost) q ∙ h }
+
+-- events that are added
+pub grows_events : (events : Trace) (s : State) → Grows s (with_events events s)
+grows_events events s = record { events = record { rest = events; is = refl }; lost = λ h. h }
+
+-- room that was lost stays lost where it is watched
+watched_lost : (r : Resources) → IsTrue r.lost → IsTrue (watched r).lost
+watched_lost r h = rw h refl
+
+-- and where a type is elaborated
+met_lost : (t : TypeValue) (r : Resources) → IsTrue r.lost → IsTrue (met t r).lost
+met_lost t r h = go (list_any (same_type t) r.types)
+  where
+    go : (b : Bool) → IsTrue (watched (if b then r else record r { types = t ∷ r.types; words = r.words + 1 })).lost
+    go true = rw h refl
+    go false = rw h refl
+
+-- a type that is elaborated
+pub grows_type : (t : TypeValue) (s : State) → Grows s (with_type t s)
+grows_type t s = record { events = record { rest = []; is = sym (append-nil s.trace) }; lost = met_lost t s.resources }
+
+-- a variable that is made
+pub grows_made : (unit : List ℕ) (number : ℕ) (t : TypeValue) (s : State) → Grows s (made unit number t s)
+grows_made unit number t s = record { events = record { rest = []; is = sym (append-nil s.trace) }; lost = λ h. rw h refl }
+
+-- ---- computations from which the state grows
+
+-- a value
+pub steady_give : {A : Type 0} (a : A) → Steady (give a)
+steady_give a = record { by = λ m s. grows_refl s }
+
+-- no more steps
+pub steady_cut : {A : Type 0} → Steady {A = A} cut
+steady_cut = record { by = λ m s. grows_refl s }
+
+-- an end
+pub steady_stop : {A : Type 0} (e : End) → Steady {A = A} (stop e)
+steady_stop e = record { by = λ m s. grows_refl s }
+
+-- one after another
+pub steady_bind : {A B : Type 0} {c : Computation A} {f : A → Computation B} → Steady c → ((a : A) → Steady (f a)) → Steady (bind c f)
+steady_bind {A = A} {c = c} {f = f} g h = record { by = λ m s. go s (c m s) (g.by m s) }
+  where
+    go : (s : State) (o : Outcome A) → Grows s (state_of o) → Grows s (state_of (go_on o f))
+    go s (Gives left a t) x =
+        let y = h a in grows_trans x (y.by left t)
+    go s (Ends left e t) x = x
+    go s (Cut t) x = x
+
+-- after some steps
+pub steady_spend : {A : Type 0} (k : ℕ) {c : Computation A} → Steady c → Steady (spend k c)
+steady_spend k {c = c} g = record { by = λ m s. go k m s }
+  where
+    go : (k m : ℕ) (s : State) → Grows s (state_of (spend k c m s))
+    go zero m s = g.by m s
+    go (suc k) zero s = grows_refl s
+    go (suc k) (suc m) s = go k m s
+
+-- a change by which the state grows
+pub steady_change : {f : State → State} → ((s : State) → Grows s (f s)) → Steady (change f)
+steady_change h = record { by = λ m s. h s }
+
+-- what is read
+pub steady_fetch : {A : Type 0} (e : End) (f : State → Option A) → Steady (fetch e f)
+steady_fetch {A = A} e f = record { by = λ m s. go m s (f s) }
+  where
+    go : (m : ℕ) (s : State) (o : Option A) → Grows s (state_of (found e o m s))
+    go m s None = grows_refl s
+    go m s (Some a) = grows_refl s
+
+-- one of two
+pub steady_if : {A : Type 0} (b : Bool) {x y : Computation A} → Steady x → Steady y → Steady (if b then x else y)
+steady_if true p q = p
+steady_if false p q = q
+
+-- a loop
+pub steady_turns : (h g : ℕ) (unit : List ℕ) {test : Computation Result} {body : Computation (Unit {0})} → Steady test → Steady body → Steady (turns h unit g test body)
+steady_turns h zero unit x y = steady_cut
+steady_turns h (suc g) unit x y =
+    steady_bind x (λ r. steady_if (is_true (number_of r)) (steady_bind y (λ _. steady_spend 1 (steady_turns h g unit x y))) (steady_spend 1 (steady_give tt)))
+
+-- ---- the forms
+
+module _ (g : ℕ) (unit : List ℕ) where
+  -- an answer
+  pub steady_answered : (line : ℕ) (a : Answer) → Steady (answered g unit line a)
+  steady_answered line (Number z) = steady_give z
+  steady_answered line (Fault error) = steady_stop (Error error unit line)
+
+  -- a place
+  pub steady_place : (line : ℕ) (p : Place) → Steady (place g unit line p)
+  steady_place line (Variable u k) = steady_bind (steady_fetch _ _) (λ n. steady_spend 1 (steady_give n))
+
+  -- an expression
+  pub steady_eval : (line : ℕ) (x : Expr) → Steady (eval g unit line x)
+  steady_eval line (Constant z) = steady_spend 1 (steady_give (result.Number z))
+  steady_eval line (Text bytes) = steady_spend (suc (length bytes)) (steady_give (result.Bytes bytes))
+  steady_eval line (Read p) =
+      steady_bind (steady_place line p) (λ n. steady_bind (steady_fetch _ _) (λ w. steady_spend 1 (steady_give (result.Number w))))
+  steady_eval line (One operation x) =
+      steady_bind (steady_eval line x) (λ a. steady_bind (steady_answered line _) (λ z. steady_spend 1 (steady_give (result.Number z))))
+  steady_eval line (Two operation x y) =
+      steady_bind (steady_eval line x) (λ a. steady_bind (steady_eval line y) (λ b. steady_bind (steady_answered line _) (λ z. steady_spend 1 (steady_give (result.Number z)))))
+  steady_eval line (Step down low high x y) =
+      steady_bind (steady_eval line x) (λ a. steady_bind (steady_eval line y) (λ b. steady_bind (steady_answered line _) (λ z. steady_spend 1 (steady_give (result.Number z)))))
+
+  -- one piece that is written
+  pub steady_write_piece : (bytes : List ℕ) → Steady (write_piece g unit bytes)
+  steady_write_piece bytes = steady_spend (suc (length bytes)) (steady_change (grows_events (piece_events bytes)))
+
+  -- a value in so many places
+  pub steady_write_wide : (line : ℕ) (print : Print) (r : Result) (width : ℤ) → Steady (write_wide g unit line print r width)
+  steady_write_wide line print r (pos width) = steady_write_piece (wide_text print width r)
+  steady_write_wide line print r (negsuc n) = steady_stop (Error 21 unit line)
+
+  -- an item
+  pub steady_write_item : (line : ℕ) (i : Item) → Steady (write_item g unit line i)
+  steady_write_item line (Plain print x) = steady_bind (steady_eval line x) (λ r. steady_write_piece (plain_text print r))
+  steady_write_item line (Wide print x w) =
+      steady_bind (steady_eval line x) (λ r. steady_bind (steady_eval line w) (λ width. steady_write_wide line print r (number_of width)))
+
+  -- items
+  pub steady_write_items : (line : ℕ) (items : List Item) (ends_line : Bool) → Steady (write_items g unit line items ends_line)
+  steady_write_items line [] false = steady_spend 1 (steady_give tt)
+  steady_write_items line [] true = steady_bind (steady_write_piece (10 ∷ [])) (λ _. steady_spend 1 (steady_give tt))
+  steady_write_items line (i ∷ is) ends_line = steady_bind (steady_write_item line i) (λ _. steady_write_items line is ends_line)
+
+  -- a value that is assigned
+  pub steady_assigned : (n : ℕ) (z : ℤ) → Steady (spend 1 (change (assigned n (Word z))))
+  steady_assigned n z = steady_spend 1 (steady_change (λ s. grows_quiet s (assigned n (Word z) s) refl refl))
+
+  -- an assignment
+  pub steady_assign : (line n : ℕ) (z : ℤ) → Steady (assign g unit line n z)
+  steady_assign line n z = record { by = λ m s. go m s (is_within (type_at n s) z) }
+    where
+      go : (m : ℕ) (s : State) (b : Bool) → Grows s (state_of ((if b then spend 1 (change (assigned n (Word z))) else stop (Error 2 unit line)) m s))
+      go m s true =
+          let x = steady_assigned n z in x.by m s
+      go m s false = grows_refl s
+
+  mutual
+    pub steady_exec : (x : Stmt) → Steady (exec g unit x)
+    steady_exec Empty = steady_give tt
+    steady_exec (Compound ss) = steady_exec_all ss
+    steady_exec (Assign line p x) = steady_bind (steady_place line p) (λ n. steady_bind (steady_eval line x) (λ r. steady_assign line n (number_of r)))
+    steady_exec (If line x a b) =
+        steady_bind (steady_eval line x) (λ r. steady_if (is_true (number_of r)) (steady_bind (steady_exec a) (λ _. steady_spend 1 (steady_give tt))) (steady_bind (steady_exec b) (λ _. steady_spend 1 (steady_give tt))))
+    steady_exec (While line x s) = steady_turns g g unit (steady_eval line x) (steady_exec s)
+    steady_exec (Halt line) = steady_stop Halted
+    steady_exec (Write line items ends_line) = steady_write_items line items ends_line
+
+    pub steady_exec_all : (ss : Stmts) → Steady (exec_all g unit ss)
+    steady_exec_all none = steady_give tt
+    steady_exec_all (next s ss) = steady_bind (steady_exec s) (λ _. steady_exec_all ss)
+
+  -- a variable
+  pub steady_make : (number : ℕ) (v : UnitVariable) → Steady (make g unit number v)
+  steady_make number v =
+      steady_spend 1 (steady_bind {c = change (with_type v.type_value)} {f = λ _. spend (size_of v.type_value) (change (made unit number v.type_value))} (steady_change (grows_type v.type_value)) (λ _. steady_spend (size_of v.type_value) (steady_change (grows_made unit number v.type_value))))
+
+  -- variables
+  pub steady_make_all : (number : ℕ) (vs : List UnitVariable) → Steady (make_all g unit number vs)
+  steady_make_all number [] = steady_give tt
+  steady_make_all number (v ∷ vs) = steady_bind (steady_make number v) (λ _. steady_make_all (suc number) vs)
+
+-- the start of a unit
+pub steady_start_of : (g : ℕ) (u : TypedUnit) → Steady (start_of g u)
+steady_start_of g u = steady_spend 1 (steady_bind (steady_make_all g u.name 0 u.variables) (λ _. steady_exec g u.name (stmt_of u.start)))
+
+-- the starts of units
+pub steady_starts_of : (g : ℕ) (us : List TypedUnit) → Steady (starts_of g us)
+steady_starts_of g [] = steady_stop Normal
+steady_starts_of g (u ∷ us) = steady_bind (steady_start_of g u) (λ _. steady_starts_of g us)

@@ -1,0 +1,103 @@
+-- The meaning of typed trees, by recursion on them, in counted steps.
+use Rattle.std.specs.Prelude.{ℕ, ℤ, pos, negsuc, zero, suc, Bool, true, false, List, [], ◌∷◌, length, if◌then◌else◌}
+use Rattle.ep_typed.specs.Trees.{Place, Variable, Expr, Constant, Text, Read, One, Two, Step, Item, Plain, Wide, Stmt, Stmts, Empty, Compound, Assign, If, While, Halt, Write, none, next}
+use Rattle.ep_typed.specs.Viewed.{stmt_of}
+use Rattle.ep_typed.specs.Steps.{Normal, Halted, Error, Word, Outcome, Computation, give, cut, stop, bind, spend, change, fetch, with_events, word_at, assigned, type_at, is_within, size_of, with_type, made, first_state}
+use Rattle.ep_typed.specs.Operations.{Answer, Number, Fault, unary_answer, binary_answer, step_answer, is_true}
+use Rattle.ep_typed.specs.Printing.{Result, Bytes, number_of, plain_text, wide_text, piece_events}
+use Rattle.ep_typed.specs.Printing as result
+use Rattle.ep_typed.specs.declared.operations.Print.{Print}
+use Rattle.ep_typed.specs.declared.unit.UnitVariable.{UnitVariable}
+use Rattle.ep_typed.specs.declared.unit.Unit.{Unit as TypedUnit}
+
+-- the steps that a result spends besides the one of its node: a text has its length
+abbrev pub weight_of : Result → ℕ
+weight_of (result.Number z) = 0
+weight_of (Bytes bytes) = length bytes
+
+-- The forms at a line of a unit; `g` is the most turns that a loop makes, and the most calls that are under way.
+module _ (g : ℕ) (unit : List ℕ) where
+  abbrev pub answered : ℕ → Answer → Computation ℤ
+  answered line (Number z) = give z
+  answered line (Fault error) = stop (Error error unit line)
+
+  -- a place is an allocation; error 1 where the variable is not made yet
+  abbrev pub place : ℕ → Place → Computation ℕ
+  place line (Variable u k) = bind (fetch (Error 1 unit line) (λ s. s.variables u k)) (λ n. spend 1 (give n))
+
+  -- an expression spends a step and its weight when it is done
+  abbrev pub eval : ℕ → Expr → Computation Result
+  eval line (Constant z) = spend 1 (give (result.Number z))
+  eval line (Text bytes) = spend (suc (length bytes)) (give (Bytes bytes))
+  eval line (Read p) = bind (place line p) (λ n. bind (fetch (Error 1 unit line) (word_at n)) (λ w. spend 1 (give (result.Number w))))
+  eval line (One operation x) = bind (eval line x) (λ a. bind (answered line (unary_answer operation (number_of a))) (λ z. spend 1 (give (result.Number z))))
+  eval line (Two operation x y) =
+      bind (eval line x) (λ a. bind (eval line y) (λ b. bind (answered line (binary_answer operation (number_of a) (number_of b))) (λ z. spend 1 (give (result.Number z)))))
+  eval line (Step down low high x y) =
+      bind (eval line x) (λ a. bind (eval line y) (λ b. bind (answered line (step_answer down low high (number_of a) (number_of b))) (λ z. spend 1 (give (result.Number z)))))
+
+  -- one piece spends a step and its length, and is then written
+  abbrev pub write_piece : List ℕ → Computation (Unit {0})
+  write_piece bytes = spend (suc (length bytes)) (change (with_events (piece_events bytes)))
+
+  -- the width is an integer; error 21 for a negative one
+  abbrev pub write_wide : ℕ → Print → Result → ℤ → Computation (Unit {0})
+  write_wide line print r (pos width) = write_piece (wide_text print width r)
+  write_wide line print r (negsuc n) = stop (Error 21 unit line)
+
+  abbrev pub write_item : ℕ → Item → Computation (Unit {0})
+  write_item line (Plain print x) = bind (eval line x) (λ r. write_piece (plain_text print r))
+  write_item line (Wide print x w) = bind (eval line x) (λ r. bind (eval line w) (λ width. write_wide line print r (number_of width)))
+
+  -- the items, then the line end where there is one, and then the statement's step
+  abbrev pub write_items : ℕ → List Item → Bool → Computation (Unit {0})
+  write_items line [] false = spend 1 (give tt)
+  write_items line [] true = bind (write_piece (10 ∷ [])) (λ _. spend 1 (give tt))
+  write_items line (i ∷ is) ends_line = bind (write_item line i) (λ _. write_items line is ends_line)
+
+  -- error 2 where the value is outside the type of the variable
+  abbrev pub assign : ℕ → ℕ → ℤ → Computation (Unit {0})
+  assign line n z m s = (if is_within (type_at n s) z then spend 1 (change (assigned n (Word z))) else stop (Error 2 unit line)) m s
+
+  -- at most so many turns; a turn spends a step, and so does the statement in the end
+  abbrev pub turns : ℕ → Computation Result → Computation (Unit {0}) → Computation (Unit {0})
+  turns zero test body = cut
+  turns (suc g) test body = bind test (λ r. if is_true (number_of r) then bind body (λ _. spend 1 (turns g test body)) else spend 1 (give tt))
+
+  abbrev mutual
+    -- a statement spends a step when it is done; the empty and the compound one spend none
+    pub exec : Stmt → Computation (Unit {0})
+    exec Empty = give tt
+    exec (Compound ss) = exec_all ss
+    exec (Assign line p x) = bind (place line p) (λ n. bind (eval line x) (λ r. assign line n (number_of r)))
+    exec (If line x a b) = bind (eval line x) (λ r. if is_true (number_of r) then bind (exec a) (λ _. spend 1 (give tt)) else bind (exec b) (λ _. spend 1 (give tt)))
+    exec (While line x s) = turns g (eval line x) (exec s)
+    exec (Halt line) = stop Halted
+    exec (Write line items ends_line) = write_items line items ends_line
+
+    pub exec_all : Stmts → Computation (Unit {0})
+    exec_all none = give tt
+    exec_all (next s ss) = bind (exec s) (λ _. exec_all ss)
+
+  -- The type is elaborated, which spends a step for its node, and then the variable is made, which spends its size.
+  abbrev pub make : ℕ → UnitVariable → Computation (Unit {0})
+  make number v = spend 1 (bind (change (with_type v.type_value)) (λ _. spend (size_of v.type_value) (change (made unit number v.type_value))))
+
+  -- the variables from this number on, in order
+  abbrev pub make_all : ℕ → List UnitVariable → Computation (Unit {0})
+  make_all number [] = give tt
+  make_all number (v ∷ vs) = bind (make number v) (λ _. make_all (suc number) vs)
+
+-- The start of a unit spends the step of a call, makes its variables, and runs its block.
+abbrev pub start_of : ℕ → TypedUnit → Computation (Unit {0})
+start_of g u = spend 1 (bind (make_all g u.name 0 u.variables) (λ _. exec g u.name (stmt_of u.start)))
+
+-- the starts of units in order
+abbrev pub starts_of : ℕ → List TypedUnit → Computation (Unit {0})
+starts_of g [] = stop Normal
+starts_of g (u ∷ us) = bind (start_of g u) (λ _. starts_of g us)
+
+-- The meaning of joined units within so many steps. Loops turn at most that often, which is enough, since each
+-- turn spends a step.
+abbrev pub meaning : List TypedUnit → ℕ → Outcome (Unit {0})
+meaning units steps = starts_of steps units steps first_state

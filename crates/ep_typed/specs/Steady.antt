@@ -1,0 +1,13 @@
+-- What a computation leaves of the state that it began with.
+use Rattle.std.specs.Prelude.{ℕ, IsTrue}
+use Rattle.ep_outside.specs.Known.{IsPrefix}
+use Rattle.ep_typed.specs.Steps.{State, Computation, state_of}
+
+-- events are added, and room that was lost stays lost
+pub record Grows (before after : State) : Type 0 where
+  pub events : IsPrefix before.trace after.trace
+  pub lost : IsTrue before.resources.lost → IsTrue after.resources.lost
+
+-- however many steps there are, the state grows
+pub record Steady {A : Type 0} (c : Computation A) : Type 0 where
+  pub by : (m : ℕ) (s : State) → Grows s (state_of (c m s))

@@ -1,0 +1,194 @@
+-- Computations, which spend steps and change a state.
+use Rattle.std.specs.Prelude.{ℕ, ℤ, zero, suc, ◌+◌, Bool, true, false, ◌&&◌, ◌||◌, not, nat_le, List, [], ◌∷◌, ◌++◌, Option, Some, None, length, slice_get, slice_set, if◌then◌else◌}
+use Rattle.std.specs.List.{list_any}
+use Rattle.std.specs.Str.{bytes_eq}
+use Rattle.std.specs.Prelude.{int_le}
+use Rattle.ep_typed.specs.Events.{Trace}
+use Rattle.ep_typed.specs.declared.types.TypeValue.{TypeValue}
+use Rattle.ep_typed.specs.declared.types.TypeValue.TheVariants.{Ordinal, Text}
+
+-- how a run ends
+pub data End : Type 0 where
+  Normal : End
+  Halted : End
+  Error : (number : ℕ) (unit : List ℕ) (line : ℕ) → End
+
+-- a value, which is undefined as a whole or the ordinal number of a simple value
+pub data Value : Type 0 where
+  Undefined : Value
+  Word : (number : ℤ) → Value
+
+-- an allocation: a variable that a declaration makes, or a standard file. They are numbered from 1 in the order of
+-- their making, and `input` and `output` are the first two.
+pub record Allocation : Type 0 where
+  pub type_value : TypeValue
+  pub value : Value
+
+-- what is counted of resources: the distinct type values that were elaborated, the words that live, and whether
+-- they have passed what every run has
+pub record Resources : Type 0 where
+  pub types : List TypeValue
+  pub words : ℕ
+  pub lost : Bool
+
+-- the state of a run
+pub record State : Type 0 where
+  pub allocations : List Allocation
+  -- the allocation of each variable of each unit, by the unit's name, once it is made
+  pub variables : List ℕ → ℕ → Option ℕ
+  pub resources : Resources
+  pub trace : Trace
+
+-- what a computation comes to: a value or an end, with the steps that are left, or too few steps were left
+pub data Outcome (A : Type 0) : Type 0 where
+  Gives : (left : ℕ) (a : A) (state : State) → Outcome A
+  Ends : (left : ℕ) (end : End) (state : State) → Outcome A
+  Cut : (state : State) → Outcome A
+
+abbrev pub state_of : {A : Type 0} → Outcome A → State
+state_of (Gives left a s) = s
+state_of (Ends left e s) = s
+state_of (Cut s) = s
+
+-- from the steps that may be spent and the state
+abbrev pub Computation : Type 0 → Type 0
+Computation A = ℕ → State → Outcome A
+
+abbrev pub give : {A : Type 0} → A → Computation A
+give a m s = Gives m a s
+
+-- no more steps
+abbrev pub cut : {A : Type 0} → Computation A
+cut m s = Cut s
+
+abbrev pub stop : {A : Type 0} → End → Computation A
+stop e m s = Ends m e s
+
+abbrev pub go_on : {A B : Type 0} → Outcome A → (A → Computation B) → Outcome B
+go_on (Gives left a s) f = f a left s
+go_on (Ends left e s) f = Ends left e s
+go_on (Cut s) f = Cut s
+
+-- one computation, and then another one that may use what the first gave
+abbrev pub bind : {A B : Type 0} → Computation A → (A → Computation B) → Computation B
+bind c f m s = go_on (c m s) f
+
+-- so many steps, and then the rest
+abbrev pub spend : {A : Type 0} → ℕ → Computation A → Computation A
+spend zero c m s = c m s
+spend (suc k) c zero s = Cut s
+spend (suc k) c (suc m) s = spend k c m s
+
+-- a change of the state
+abbrev pub change : (State → State) → Computation (Unit {0})
+change f m s = Gives m tt (f s)
+
+-- what is read of the state, or an end where there is nothing
+abbrev pub found : {A : Type 0} → End → Option A → Computation A
+found e None = stop e
+found e (Some a) = give a
+
+abbrev pub fetch : {A : Type 0} → End → (State → Option A) → Computation A
+fetch e f m s = found e (f s) m s
+
+-- ---- what the primitives do to the state
+
+-- the events of one more piece; an empty piece is none
+abbrev pub with_events : Trace → State → State
+with_events events s = record s { trace = s.trace ++ events }
+
+-- the allocation of this number, of which `input` has 1
+abbrev pub allocation_at : List Allocation → ℕ → Option Allocation
+allocation_at allocations zero = None
+allocation_at allocations (suc n) = slice_get allocations n
+
+abbrev pub word_of : Value → Option ℤ
+word_of Undefined = None
+word_of (Word w) = Some w
+
+abbrev pub word_in : Option Allocation → Option ℤ
+word_in None = None
+word_in (Some a) = word_of a.value
+
+-- the word that an allocation has, where it is defined
+abbrev pub word_at : ℕ → State → Option ℤ
+word_at n s = word_in (allocation_at s.allocations n)
+
+abbrev pub changed_at : ℕ → Value → List Allocation → Option Allocation → List Allocation
+changed_at n value allocations None = allocations
+changed_at n value allocations (Some a) = slice_set allocations n (record a { value = value })
+
+abbrev pub assigned_at : ℕ → Value → List Allocation → List Allocation
+assigned_at zero value allocations = allocations
+assigned_at (suc n) value allocations = changed_at n value allocations (slice_get allocations n)
+
+-- the allocation of this number has the value
+abbrev pub assigned : ℕ → Value → State → State
+assigned n value s = record s { allocations = assigned_at n value s.allocations }
+
+-- the type of the allocation of this number
+abbrev pub type_in : Option Allocation → TypeValue
+type_in None = Text
+type_in (Some a) = a.type_value
+
+abbrev pub type_at : ℕ → State → TypeValue
+type_at n s = type_in (allocation_at s.allocations n)
+
+-- whether a word is a value of a type
+abbrev pub is_within : TypeValue → ℤ → Bool
+is_within (Ordinal low high) w = int_le low w && int_le w high
+is_within Text w = false
+
+-- the words of a variable of a type
+abbrev pub size_of : TypeValue → ℕ
+size_of (Ordinal low high) = 1
+size_of Text = 1
+
+-- whether two type values are the same
+abbrev pub same_type : TypeValue → TypeValue → Bool
+same_type (Ordinal l h) (Ordinal m k) = (int_le l m && int_le m l) && (int_le h k && int_le k h)
+same_type Text Text = true
+same_type (Ordinal l h) Text = false
+same_type Text (Ordinal l h) = false
+
+-- every run has room for so many words and types
+abbrev pub has_room : Resources → Bool
+has_room r = nat_le r.words 4194304 && nat_le (length r.types) 262000
+
+-- room that was lost stays lost
+abbrev pub watched : Resources → Resources
+watched r = record r { lost = r.lost || not (has_room r) }
+
+-- one more type that is elaborated, which counts where it is a new one
+abbrev pub met : TypeValue → Resources → Resources
+met t r = watched (if list_any (same_type t) r.types then r else record r { types = t ∷ r.types; words = r.words + 1 })
+
+abbrev pub with_type : TypeValue → State → State
+with_type t s = record s { resources = met t s.resources }
+
+-- so many more words live
+abbrev pub taken : ℕ → Resources → Resources
+taken n r = watched (record r { words = r.words + n })
+
+-- the variable of this number of the unit is the allocation
+abbrev pub bound : List ℕ → ℕ → ℕ → (List ℕ → ℕ → Option ℕ) → List ℕ → ℕ → Option ℕ
+bound unit number n variables u k = if bytes_eq unit u && (nat_le number k && nat_le k number) then Some n else variables u k
+
+-- a new variable, undefined: an allocation of its type, whose words and one more live
+abbrev pub made : List ℕ → ℕ → TypeValue → State → State
+made unit number t s =
+    record s {
+      allocations = s.allocations ++ record { type_value = t; value = Undefined } ∷ [];
+      variables = bound unit number (suc (length s.allocations)) s.variables;
+      resources = taken (size_of t + 1) s.resources;
+    }
+
+-- the state before the first unit is started: `input` and `output` are there
+abbrev pub first_state : State
+first_state =
+    record {
+      allocations = record { type_value = Text; value = Undefined } ∷ record { type_value = Text; value = Undefined } ∷ [];
+      variables = λ unit number. None;
+      resources = record { types = []; words = 4; lost = false };
+      trace = [];
+    }

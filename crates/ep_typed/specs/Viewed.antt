@@ -1,0 +1,48 @@
+-- The plain data of the code's typed trees.
+use Rattle.std.specs.Prelude.{Option, None, Some, map}
+use Rattle.ep_typed.specs.Trees as tree
+use Rattle.ep_typed.specs.declared.operations.Print.{Print}
+use Rattle.ep_typed.specs.declared.tree.TypedPlace.{TypedPlace}
+use Rattle.ep_typed.specs.declared.tree.TypedPlace.TheVariants.{Variable}
+use Rattle.ep_typed.specs.declared.tree.TypedExpr.{TypedExpr}
+use Rattle.ep_typed.specs.declared.tree.TypedExpr.TheOpen as expr
+use Rattle.ep_typed.specs.declared.tree.TypedExpr.TheOpen.{TypedExpr-F}
+use Rattle.ep_typed.specs.declared.tree.TypedExpr.TheFolds.{fold-TypedExpr}
+use Rattle.ep_typed.specs.declared.tree.WriteItem.{WriteItem}
+use Rattle.ep_typed.specs.declared.tree.TypedStmt.{TypedStmt}
+use Rattle.ep_typed.specs.declared.tree.TypedStmt.TheOpen as stmt
+use Rattle.ep_typed.specs.declared.tree.TypedStmt.TheOpen.{TypedStmt-F}
+use Rattle.ep_typed.specs.declared.tree.TypedStmt.TheFolds.{fold-TypedStmt}
+
+abbrev pub place_of : TypedPlace → tree.Place
+place_of (Variable unit number) = tree.Variable unit number
+
+abbrev pub expr_step : TypedExpr-F tree.Expr → tree.Expr
+expr_step (expr.Constant value) = tree.Constant value
+expr_step (expr.Text bytes) = tree.Text bytes
+expr_step (expr.Read place) = tree.Read (place_of place)
+expr_step (expr.Unary operation operand) = tree.One operation operand
+expr_step (expr.Binary operation left right) = tree.Two operation left right
+expr_step (expr.Step down low high value count) = tree.Step down low high value count
+
+abbrev pub expr_of : TypedExpr → tree.Expr
+expr_of = fold-TypedExpr tree.Expr expr_step
+
+abbrev pub wide : Print → TypedExpr → Option TypedExpr → tree.Item
+wide print value None = tree.Plain print (expr_of value)
+wide print value (Some width) = tree.Wide print (expr_of value) (expr_of width)
+
+abbrev pub item_of : WriteItem → tree.Item
+item_of i = wide i.print i.value i.width
+
+abbrev pub stmt_step : TypedStmt-F tree.Stmt → tree.Stmt
+stmt_step stmt.Empty = tree.Empty
+stmt_step (stmt.Compound statements) = tree.Compound (tree.stmts statements)
+stmt_step (stmt.Assign line place value) = tree.Assign line (place_of place) (expr_of value)
+stmt_step (stmt.If line condition then_part else_part) = tree.If line (expr_of condition) then_part else_part
+stmt_step (stmt.While line condition body) = tree.While line (expr_of condition) body
+stmt_step (stmt.Halt line) = tree.Halt line
+stmt_step (stmt.Write line items ends_line) = tree.Write line (map item_of items) ends_line
+
+abbrev pub stmt_of : TypedStmt → tree.Stmt
+stmt_of = fold-TypedStmt tree.Stmt stmt_step

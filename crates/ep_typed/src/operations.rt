@@ -1,0 +1,64 @@
+//! Operators and the required functions that are built.
+
+/// An operator or a required function of one operand.
+#[derive(Clone, Copy, Debug, Drop)]
+pub enum Unary {
+    /// The value as it is: the sign `+`, and `ord`.
+    Same,
+    /// The sign `-`.
+    Negate,
+    /// `not`
+    Not,
+    /// `abs`
+    Absolute,
+    /// `sqr`
+    Square,
+    /// `odd`
+    Odd,
+    /// `chr`
+    Character,
+}
+
+/// An operator of two operands.
+#[derive(Clone, Copy, Debug, Drop)]
+pub enum Binary {
+    /// `+`
+    Add,
+    /// `-`
+    Subtract,
+    /// `*`
+    Multiply,
+    /// `div`
+    Divide,
+    /// `mod`
+    Modulo,
+    /// `and`
+    And,
+    /// `or`
+    Or,
+    /// `=`
+    Equal,
+    /// `<>`
+    Unequal,
+    /// `<`
+    Less,
+    /// `>`
+    Greater,
+    /// `<=`
+    AtMost,
+    /// `>=`
+    AtLeast,
+}
+
+/// How a value is printed.
+#[derive(Clone, Copy, Debug, Drop)]
+pub enum Print {
+    /// As an integer.
+    Integer,
+    /// As a char.
+    Char,
+    /// As a Boolean.
+    Boolean,
+    /// As a text.
+    Text,
+}

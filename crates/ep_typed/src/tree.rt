@@ -1,0 +1,59 @@
+//! Typed trees: expressions, places and statements whose names, types and kinds are settled.
+
+use crate::operations::{Binary, Print, Unary};
+use ep_base::{Boxed, Bytes, Line, List, Name};
+
+/// A place, which is where a variable is (ISO 10206, 6.5.1).
+#[derive(Debug, Drop)]
+pub enum TypedPlace {
+    /// The variable of this number of the unit of this name.
+    Variable(Name, u32),
+}
+
+/// An expression (ISO 10206, 6.8.1).
+#[derive(Drop)]
+pub enum TypedExpr {
+    /// A constant of an ordinal type, by its ordinal number.
+    Constant(i64),
+    /// A text constant.
+    Text(Bytes),
+    /// The value of a variable.
+    Read(TypedPlace),
+    /// An operator or a required function of one operand.
+    Unary(Unary, Boxed<TypedExpr>),
+    /// An operator of two operands. Both are evaluated, the left one first.
+    Binary(Binary, Boxed<TypedExpr>, Boxed<TypedExpr>),
+    /// `succ` and `pred` with a count, which the flag says is taken away: the value and the count, and the
+    /// least and the greatest value of the host type.
+    Step(bool, i64, i64, Boxed<TypedExpr>, Boxed<TypedExpr>),
+}
+
+/// An expression that is written, and its width where there is one.
+#[derive(Drop)]
+pub struct WriteItem {
+    /// How it is printed.
+    pub print: Print,
+    /// The value.
+    pub value: TypedExpr,
+    /// The total width.
+    pub width: Option<TypedExpr>,
+}
+
+/// A statement, with the line of its first token (ISO 10206, 6.9.1).
+#[derive(Drop)]
+pub enum TypedStmt {
+    /// The empty statement.
+    Empty,
+    /// Statements in order.
+    Compound(List<TypedStmt>),
+    /// An assignment.
+    Assign(Line, TypedPlace, TypedExpr),
+    /// `if`; a missing `else` is the empty statement.
+    If(Line, TypedExpr, Boxed<TypedStmt>, Boxed<TypedStmt>),
+    /// `while`
+    While(Line, TypedExpr, Boxed<TypedStmt>),
+    /// `halt`
+    Halt(Line),
+    /// `write`, or with the flag `writeln`, to `output`.
+    Write(Line, List<WriteItem>, bool),
+}

@@ -1,0 +1,34 @@
+//! Typed units.
+
+use crate::tree::TypedStmt;
+use crate::types::{Host, TypeValue};
+use ep_base::{Line, List, Name};
+
+/// A variable of a unit, with the line of its declaration.
+#[derive(Debug, Drop)]
+pub struct UnitVariable {
+    /// Its name.
+    pub name: Name,
+    /// The line of its declaration.
+    pub line: Line,
+    /// The host of its type.
+    pub host: Host,
+    /// Its type.
+    pub type_value: TypeValue,
+}
+
+/// The variables of a unit, by number.
+pub type UnitVariables = List<UnitVariable>;
+
+/// A whole unit.
+#[derive(Drop)]
+pub struct Unit {
+    /// Its name.
+    pub name: Name,
+    /// The line of its block.
+    pub line: Line,
+    /// Its variables, in the order in which they are made.
+    pub variables: UnitVariables,
+    /// What it does when it is started. For a program this is its block.
+    pub start: TypedStmt,
+}
