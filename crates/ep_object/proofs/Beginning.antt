@@ -1,0 +1,103 @@
+-- The machine matches the meaning before the first start.
+use Rattle.std.proofs.Common.{◌≡◌, ℕ, zero, suc, ◌≤◌, List, [], ◌∷◌, length, Option, Some, None, slice_get, replicate, map, refl, ap, ◌∙◌, subst, arith}
+use Rattle.ep_object.specs.Matching.{Memory, Injection, IsIn, MatchesSlot, Represents, Matches}
+use Rattle.ep_object.specs.State.{Frames, Segments, empty_slots, first_segments, first_types, first_live}
+use Rattle.ep_object.specs.declared.code.Image.{Image}
+use Rattle.ep_object.specs.declared.state.Place.{Place}
+use Rattle.ep_object.specs.declared.state.TypeEntry.{TypeEntry}
+use Rattle.ep_object.proofs.Grows.{is_prefix}
+use Rattle.ep_typed.specs.Steps.{Allocation, Resources}
+use Rattle.ep_typed.specs.Steps as meaning
+use Rattle.ep_typed.specs.Valid.{Declarations}
+use Rattle.ep_typed.specs.declared.types.TypeValue.TheVariants as type
+
+-- before the first start, in these frames
+abbrev pub first_memory : Frames → Memory
+first_memory frames = record { frames = frames; segments = first_segments; types = first_types; live = first_live }
+
+-- `input` and `output` have the first two segments
+abbrev pub first_injection : Injection
+first_injection = 1 ∷ 2 ∷ []
+
+map_at : {A B : Type 0} (f : A → B) (xs : List A) (k : ℕ) (x : A) → slice_get xs k ≡ Some x → slice_get (map f xs) k ≡ Some (f x)
+map_at f [] k x h = cc
+map_at f (y ∷ ys) zero x h = let e : y ≡ x = cc in ap (λ z. Some (f z)) e
+map_at f (y ∷ ys) (suc k) x h = map_at f ys k x h
+
+replicate_at : {A : Type 0} (n : ℕ) (x y : A) (k : ℕ) → slice_get (replicate n x) k ≡ Some y → x ≡ y
+replicate_at zero x y k h = cc
+replicate_at (suc n) x y zero h = cc
+replicate_at (suc n) x y (suc k) h = replicate_at n x y k h
+
+length-replicate : {A : Type 0} (n : ℕ) (x : A) → length (replicate n x) ≡ n
+length-replicate zero x = refl
+length-replicate (suc n) x = ap suc (length-replicate n x)
+
+-- no slot holds a place yet
+empty_slot : (segments : Segments) (slot : Option Place) → ◌≡◌ {A = Option Place} None slot → MatchesSlot first_injection segments None slot
+empty_slot segments None h = tt
+empty_slot segments (Some place) h = cc
+
+-- the first types have one word each
+first_sized : (n : ℕ) (entry : TypeEntry) → slice_get first_types n ≡ Some entry → entry.size ≡ 1
+first_sized zero e h = cc
+first_sized (suc zero) e h = cc
+first_sized (suc (suc zero)) e h = cc
+first_sized (suc (suc (suc zero))) e h = cc
+first_sized (suc (suc (suc (suc zero)))) e h = cc
+first_sized (suc (suc (suc (suc (suc n))))) e h = cc
+
+first_within : (n segment : ℕ) → IsIn first_injection n segment → suc segment ≤ 3
+first_within zero segment h = absurd h
+first_within (suc zero) segment h = let e : 1 ≡ segment = cc in omega arith
+first_within (suc (suc zero)) segment h = let e : 2 ≡ segment = cc in omega arith
+first_within (suc (suc (suc n))) segment h = cc
+
+first_apart : (m n segment : ℕ) → IsIn first_injection m segment → IsIn first_injection n segment → m ≡ n
+first_apart zero n segment h k = absurd h
+first_apart m zero segment h k = absurd k
+first_apart (suc zero) (suc zero) segment h k = refl
+first_apart (suc (suc zero)) (suc (suc zero)) segment h k = refl
+first_apart (suc zero) (suc (suc zero)) segment h k = let e : 1 ≡ segment = cc in let f : 2 ≡ segment = cc in absurd (omega arith)
+first_apart (suc (suc zero)) (suc zero) segment h k = let e : 2 ≡ segment = cc in let f : 1 ≡ segment = cc in absurd (omega arith)
+first_apart (suc (suc (suc m))) n segment h k = cc
+first_apart m (suc (suc (suc n))) segment h k = cc
+
+-- a standard file
+abbrev file : Allocation
+file = record { type_value = type.Text; value = meaning.Undefined }
+
+input_represented : Represents first_segments first_types 1 file
+input_represented = record { type_number = 3; stands = refl; described = refl; value = tt }
+
+output_represented : Represents first_segments first_types 2 file
+output_represented = record { type_number = 3; stands = refl; described = refl; value = tt }
+
+first_represented : (n segment : ℕ) (allocation : Allocation) → IsIn first_injection n segment → meaning.allocation_at meaning.first_state.allocations n ≡ Some allocation → Represents first_segments first_types segment allocation
+first_represented zero segment a h k = absurd h
+first_represented (suc zero) segment a h k = let e : 1 ≡ segment = cc in let f : file ≡ a = cc in subst (λ x. Represents first_segments first_types x a) e (subst (λ x. Represents first_segments first_types 1 x) f input_represented)
+first_represented (suc (suc zero)) segment a h k = let e : 2 ≡ segment = cc in let f : file ≡ a = cc in subst (λ x. Represents first_segments first_types x a) e (subst (λ x. Represents first_segments first_types 2 x) f output_represented)
+first_represented (suc (suc (suc n))) segment a h k = cc
+
+nothing : (n : ℕ) → ◌≡◌ {A = Option ℕ} None (Some n) → ⊥
+nothing n h = cc
+
+-- no variable is made, no type is met, and nothing is written
+pub first_matches : (declared : Declarations) (G : Image) (frames : Frames) → frames.units ≡ map empty_slots G.units → Matches declared G first_injection meaning.first_state (first_memory frames)
+first_matches declared G frames empty =
+    record {
+      made = refl;
+      represented = first_represented;
+      apart = first_apart;
+      within = first_within;
+      output = refl;
+      frames = λ unit u there. record {
+        slots = empty_slots u;
+        is = ap (λ units. slice_get units unit) empty ∙ map_at empty_slots G.units unit u there;
+        count = length-replicate u.slots None;
+        matches = λ k slot at_k. empty_slot first_segments slot (replicate_at u.slots None slot k at_k);
+      };
+      typed = λ unit k n v h e. absurd (nothing n h);
+      types = record { first = is_prefix first_types; known = λ low high h. cc; sized = first_sized; count = omega arith };
+      live = omega arith;
+    }

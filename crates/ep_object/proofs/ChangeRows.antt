@@ -1,0 +1,95 @@
+-- What the rows lead to that change variables and that write, where the machine matches.
+use Rattle.std.proofs.Common.{◌≡◌, ℕ, ℤ, pos, ◌+◌, Bool, true, false, cond, IsTrue, List, ◌∷◌, ◌++◌, length, Some, slice_get, refl, sym, ap, ◌∙◌, subst}
+use Rattle.ep_object.specs.Follows.{Bare, Inside}
+use Rattle.ep_object.specs.Matching.{Memory, at, Injection, IsPlaceOf, Describes, IsValueOf, layout, Represents, Matches}
+use Rattle.ep_object.specs.Operands.{Operand, Word, Text}
+use Rattle.ep_object.specs.Operands as operand
+use Rattle.ep_object.specs.Runs.{outcome}
+use Rattle.ep_object.specs.State.{Running, Stopped, Error, output_place, text_entry, first_types}
+use Rattle.ep_object.specs.Texts.{written}
+use Rattle.ep_object.specs.Types.{ordinal_entry}
+use Rattle.ep_object.specs.declared.code.Image.{Image}
+use Rattle.ep_object.specs.declared.state.Place.{Place}
+use Rattle.ep_object.proofs.Changes.{storing, matches_events, grown_storing, matches_assigned}
+use Rattle.ep_object.proofs.Fragments.{Does, FailsWith}
+use Rattle.ep_object.proofs.Growing.{unit_in, slice_get-prefix, same_routine-refl, inside_here}
+use Rattle.ep_object.proofs.Rows.{instr, in_one, outcome_at}
+use Rattle.ep_object.proofs.Standing.{Stands, allocated, place_stands, described-same}
+use Rattle.ep_object.proofs.TextRows.{written-same}
+use Rattle.ep_typed.specs.Events.{Trace}
+use Rattle.ep_typed.specs.Operations.{is_integer}
+use Rattle.ep_typed.specs.Printing.{piece_events}
+use Rattle.ep_typed.specs.Steps.{Value, Undefined, Allocation, type_in, type_at, is_within, assigned, with_events}
+use Rattle.ep_typed.specs.Steps as meaning
+use Rattle.ep_typed.specs.Valid.{Declarations}
+use Rattle.ep_typed.specs.declared.types.TypeValue.TheVariants as type
+
+-- the bounds of an ordinal type are integers
+bounds : (low high : ℤ) (value : Value) → IsValueOf (type.Ordinal low high) value → IsTrue (is_integer low) × IsTrue (is_integer high)
+bounds low high Undefined h = (h.0, h.1)
+bounds low high (meaning.Word w) h = (h.0, h.1)
+
+module _ (declared : Declarations) (G : Image) (place line : ℕ) (below : List Operand) where
+  -- `Put` of a text to `output`
+  pub put_does : (bytes : List ℕ) → slice_get G.instructions place ≡ Some (instr 68 (pos 0) 0 line) → (injection : Injection) (memory : Memory) (s : meaning.State) → Matches declared G injection s memory → Does declared G (at place (Text bytes ∷ operand.Place output_place ∷ below) memory s.trace) (length bytes) (place + 1) (Inside injection memory (Bare below tt)) (with_events (piece_events bytes) s)
+  put_does bytes has injection memory s matches =
+      let a = allocated injection s 2 2 matches.made matches.output in
+      let r : Represents memory.segments memory.types 2 a.0 = matches.represented 2 2 a.0 matches.output a.1 in
+      let types = matches.types in
+      record {
+        injection = injection;
+        memory = memory;
+        operands = below;
+        does = go a.0.value r.type_number (slice_get-prefix first_types memory.types 3 text_entry types.first refl) r.stands ∙ ap (λ events. record { weight = length bytes; to = Running 0 (at (place + 1) below memory (s.trace ++ events)) }) (written-same bytes);
+        matches = matches_events (piece_events bytes) matches;
+        post = inside_here refl;
+      }
+    where
+      go : (value : Value) (type_number : ℕ) → slice_get memory.types 3 ≡ Some text_entry → slice_get memory.segments 2 ≡ Some (Some (record { type_number = type_number; words = layout value })) → outcome G (at place (Text bytes ∷ operand.Place output_place ∷ below) memory s.trace) ≡ record { weight = length bytes; to = Running 0 (at (place + 1) below memory (s.trace ++ written bytes)) }
+      go Undefined type_number typed stands = outcome_at G (instr 68 (pos 0) 0 line) place (Text bytes ∷ operand.Place output_place ∷ below) memory s.trace has ∙ rw (typed, stands) refl
+      go (meaning.Word w) type_number typed stands = outcome_at G (instr 68 (pos 0) 0 line) place (Text bytes ∷ operand.Place output_place ∷ below) memory s.trace has ∙ rw (typed, stands) refl
+
+  -- `Store` of a word, which is checked as the assignment is
+  store_outcome : (memory : Memory) (trace : Trace) (p : Place) (low high z : ℤ) (type_number : ℕ) (value : Value) (b : Bool) → slice_get G.instructions place ≡ Some (instr 23 (pos 0) 0 line) → slice_get memory.types p.type_number ≡ Some (ordinal_entry low high) → slice_get memory.segments p.segment ≡ Some (Some (record { type_number = type_number; words = layout value })) → p.offset ≡ 0 → is_within (type.Ordinal low high) z ≡ b → outcome G (at place (Word z ∷ operand.Place p ∷ below) memory trace) ≡ in_one (cond b (Running 0 (at (place + 1) below (storing memory p.segment type_number (meaning.Word z)) trace)) (Stopped (Error 2 (unit_in G memory.frames) line) trace))
+  store_outcome memory trace p low high z type_number Undefined true has typed stands offset within =
+      outcome_at G (instr 23 (pos 0) 0 line) place (Word z ∷ operand.Place p ∷ below) memory trace has ∙ rw (typed, stands, offset, within) refl
+  store_outcome memory trace p low high z type_number Undefined false has typed stands offset within =
+      outcome_at G (instr 23 (pos 0) 0 line) place (Word z ∷ operand.Place p ∷ below) memory trace has ∙ rw (typed, stands, offset, within) refl
+  store_outcome memory trace p low high z type_number (meaning.Word w) true has typed stands offset within =
+      outcome_at G (instr 23 (pos 0) 0 line) place (Word z ∷ operand.Place p ∷ below) memory trace has ∙ rw (typed, stands, offset, within) refl
+  store_outcome memory trace p low high z type_number (meaning.Word w) false has typed stands offset within =
+      outcome_at G (instr 23 (pos 0) 0 line) place (Word z ∷ operand.Place p ∷ below) memory trace has ∙ rw (typed, stands, offset, within) refl
+
+  module _ (low high z : ℤ) (n : ℕ) (p : Place) (has : slice_get G.instructions place ≡ Some (instr 23 (pos 0) 0 line)) (injection : Injection) (memory : Memory) (place_of : IsPlaceOf injection memory.segments n p) (described : Describes memory.types p.type_number (type.Ordinal low high)) (s : meaning.State) (matches : Matches declared G injection s memory) where
+    here : Stands s memory n p
+    here = place_stands matches place_of
+
+    its_type : here.allocation.type_value ≡ type.Ordinal low high
+    its_type =
+        let r : Represents memory.segments memory.types p.segment here.allocation = here.represents in
+        described-same memory.types r.type_number here.allocation.type_value low high r.described (subst (λ k. Describes memory.types k (type.Ordinal low high)) here.type_number described)
+
+    type_is : type_at n s ≡ type.Ordinal low high
+    type_is = ap type_in here.is ∙ its_type
+
+    pub store_does : is_within (type_at n s) z ≡ true → Does declared G (at place (Word z ∷ operand.Place p ∷ below) memory s.trace) 0 (place + 1) (Inside injection memory (Bare below tt)) (assigned n (meaning.Word z) s)
+    store_does within =
+        let a : Allocation = here.allocation in
+        let r : Represents memory.segments memory.types p.segment a = here.represents in
+        let inside : is_within (type.Ordinal low high) z ≡ true = ap (λ t. is_within t z) (sym type_is) ∙ within in
+        let ends = bounds low high a.value (subst (λ t. IsValueOf t a.value) its_type r.value) in
+        let of_type : IsValueOf a.type_value (meaning.Word z) = subst (λ t. IsValueOf t (meaning.Word z)) (sym its_type) (ends.0, ends.1, inside) in
+        record {
+          injection = injection;
+          memory = storing memory p.segment r.type_number (meaning.Word z);
+          operands = below;
+          does = store_outcome memory s.trace p low high z r.type_number a.value true has described r.stands place_of.offset inside;
+          matches = matches_assigned matches n p.segment a (meaning.Word z) place_of.is_in here.is r of_type;
+          post = record { grown = grown_storing matches n p.segment a (meaning.Word z) place_of.is_in here.is r; routine = same_routine-refl memory.frames; operands_are = refl };
+        }
+
+    pub store_fails : is_within (type_at n s) z ≡ false → FailsWith G (at place (Word z ∷ operand.Place p ∷ below) memory s.trace) 0 2 (unit_in G memory.frames) line s
+    store_fails within =
+        let r : Represents memory.segments memory.types p.segment here.allocation = here.represents in
+        let outside : is_within (type.Ordinal low high) z ≡ false = ap (λ t. is_within t z) (sym type_is) ∙ within in
+        record { fails = store_outcome memory s.trace p low high z r.type_number here.allocation.value false has described r.stands place_of.offset outside }

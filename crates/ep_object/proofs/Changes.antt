@@ -1,0 +1,162 @@
+-- The machine goes on matching where a value is assigned or events are added.
+use Rattle.std.proofs.Common.{◌≡◌, ℕ, zero, suc, ◌⊎◌, inl, inr, List, length, Option, Some, None, slice_get, slice_set, refl, sym, ap, ◌∙◌, subst, arith}
+use Rattle.std.proofs.lemmas.Option.{same_Some}
+use Rattle.ep_object.specs.Matching.{Memory, Injection, IsIn, MatchesSlot, MatchesFrame, IsValueOf, layout, Represents, Matches, Grown}
+use Rattle.ep_object.specs.declared.code.Image.{Image}
+use Rattle.ep_object.specs.declared.code.ImageUnit.{ImageUnit}
+use Rattle.ep_object.specs.declared.state.Place.{Place}
+use Rattle.ep_object.specs.declared.state.Segment.{Segment}
+use Rattle.ep_object.proofs.Elements.{length-set, slice_get-set-same, slice_get-set-other}
+use Rattle.ep_object.proofs.Growing.{is_place_of-grown}
+use Rattle.ep_object.proofs.Grows.{is_prefix}
+use Rattle.ep_typed.specs.Events.{Trace}
+use Rattle.ep_typed.specs.Steps.{Value, Allocation, allocation_at, assigned_at, assigned, type_in, type_at, with_events, is_within}
+use Rattle.ep_typed.specs.Steps as meaning
+use Rattle.ep_typed.specs.Valid.{Declarations}
+
+-- two numbers are the same or not
+same_or_not : (m n : ℕ) → (m ≡ n) ⊎ (m ≡ n → ⊥)
+same_or_not zero zero = inl refl
+same_or_not zero (suc n) = inr (λ e. absurd (omega arith))
+same_or_not (suc m) zero = inr (λ e. absurd (omega arith))
+same_or_not (suc m) (suc n) = elim (same_or_not m n) [ inl e ↦ inl (ap suc e) | inr h ↦ inr (λ e. h (omega arith)) ]
+
+-- ---- frames in a memory that grows
+
+-- a slot goes on matching
+slot-grown : {injection longer : Injection} {memory after : Memory} (o : Option ℕ) (slot : Option Place) → Grown injection memory longer after → MatchesSlot injection memory.segments o slot → MatchesSlot longer after.segments o slot
+slot-grown None None g h = tt
+slot-grown None (Some p) g h = h
+slot-grown (Some n) None g h = h
+slot-grown (Some n) (Some p) g h = is_place_of-grown g h
+
+-- frames that stay what they are go on matching
+pub matches_frame-grown : {injection longer : Injection} {s t : meaning.State} {memory after : Memory} (unit : ℕ) (u : ImageUnit) → Grown injection memory longer after → after.frames ≡ memory.frames → ((k : ℕ) → t.variables u.name k ≡ s.variables u.name k) → MatchesFrame injection s memory unit u → MatchesFrame longer t after unit u
+matches_frame-grown {injection = injection} {longer = longer} {s = s} {t = t} {memory = memory} {after = after} unit u g same variables h =
+    record {
+      slots = h.slots;
+      is = ap (λ f. slice_get f.units unit) same ∙ h.is;
+      count = h.count;
+      matches = λ k slot e. subst (λ o. MatchesSlot longer after.segments o slot) (sym (variables k)) (slot-grown (s.variables u.name k) slot g (h.matches k slot e));
+    }
+
+-- ---- events
+
+-- events are no part of what is matched
+pub matches_events : {declared : Declarations} {G : Image} {injection : Injection} {s : meaning.State} {memory : Memory} (events : Trace) → Matches declared G injection s memory → Matches declared G injection (with_events events s) memory
+matches_events events h =
+    record {
+      made = h.made;
+      represented = h.represented;
+      apart = h.apart;
+      within = h.within;
+      output = h.output;
+      frames = λ unit u e.
+          let f = h.frames unit u e in
+          record { slots = f.slots; is = f.is; count = f.count; matches = f.matches };
+      typed = h.typed;
+      types = h.types;
+      live = h.live;
+    }
+
+-- ---- a value that is assigned
+
+-- the allocation that a value is assigned to, and the others
+assigned_same : (allocations : List Allocation) (n : ℕ) (value : Value) (a : Allocation) → allocation_at allocations n ≡ Some a → allocation_at (assigned_at n value allocations) n ≡ Some (record a { value = value })
+assigned_same allocations zero value a h = cc
+assigned_same allocations (suc n) value a h = rw h (slice_get-set-same allocations n (record a { value = value }) a h)
+
+-- the others stay what they are
+assigned_other : (allocations : List Allocation) (n m : ℕ) (value : Value) (a : Allocation) → allocation_at allocations n ≡ Some a → (n ≡ m → ⊥) → allocation_at (assigned_at n value allocations) m ≡ allocation_at allocations m
+assigned_other allocations zero m value a h other = refl
+assigned_other allocations (suc n) zero value a h other = refl
+assigned_other allocations (suc n) (suc m) value a h other = rw h (slice_get-set-other allocations n m (record a { value = value }) (λ e. other (ap suc e)))
+
+-- and as many as before
+assigned_length : (allocations : List Allocation) (n : ℕ) (value : Value) (a : Allocation) → allocation_at allocations n ≡ Some a → length (assigned_at n value allocations) ≡ length allocations
+assigned_length allocations zero value a h = refl
+assigned_length allocations (suc n) value a h = rw h (length-set allocations n (record a { value = value }))
+
+-- the memory with the words of one segment replaced
+abbrev pub storing : Memory → ℕ → ℕ → Value → Memory
+storing memory segment type_number value = record memory { segments = slice_set memory.segments segment (Some (record { type_number = type_number; words = layout value })) }
+
+-- one allocation is in one segment
+is_in-same : (injection : Injection) (n x y : ℕ) → IsIn injection n x → IsIn injection n y → x ≡ y
+is_in-same injection zero x y p q = absurd p
+is_in-same injection (suc n) x y p q = same_Some x y (sym p ∙ q)
+
+module _ {declared : Declarations} {G : Image} {injection : Injection} {s : meaning.State} {memory : Memory} (h : Matches declared G injection s memory) (n segment : ℕ) (a : Allocation) (value : Value) (is_in : IsIn injection n segment) (is : allocation_at s.allocations n ≡ Some a) (r : Represents memory.segments memory.types segment a) where
+  -- no other segment changes, and this one keeps its type
+  pub grown_storing : Grown injection memory injection (storing memory segment r.type_number value)
+  grown_storing =
+      record {
+        larger = is_prefix injection;
+        types = is_prefix memory.types;
+        segments = omega (arith, length-set memory.segments segment (Some new));
+        hidden = λ k le hidden. hidden;
+        others = λ k le hidden. slice_get-set-other memory.segments segment k (Some new) (λ e. hidden n (subst (λ j. IsIn injection n j) e is_in));
+        typed = λ k x y p q. typed_at k x y p q (same_or_not segment k);
+        ended = λ k y le q. ended_at k y q (same_or_not segment k);
+      }
+    where
+      new : Segment
+      new = record { type_number = r.type_number; words = layout value }
+
+      old : Segment
+      old = record { type_number = r.type_number; words = layout a.value }
+
+      number : (x y : Segment) → ◌≡◌ {A = Option (Option Segment)} (Some (Some x)) (Some (Some y)) → x.type_number ≡ y.type_number
+      number x y e =
+          let z : x ≡ y = cc in ap (λ (s : Segment). s.type_number) z
+
+      typed_at : (k : ℕ) (x y : Segment) → slice_get memory.segments k ≡ Some (Some x) → slice_get (slice_set memory.segments segment (Some new)) k ≡ Some (Some y) → (segment ≡ k) ⊎ (segment ≡ k → ⊥) → y.type_number ≡ x.type_number
+      typed_at k x y p q (inl e) =
+          let now : slice_get (slice_set memory.segments segment (Some new)) k ≡ Some (Some new) = subst (λ j. slice_get (slice_set memory.segments segment (Some new)) j ≡ Some (Some new)) e (slice_get-set-same memory.segments segment (Some new) (Some old) r.stands) in
+          let before : slice_get memory.segments k ≡ Some (Some old) = subst (λ j. slice_get memory.segments j ≡ Some (Some old)) e r.stands in
+          number y new (sym q ∙ now) ∙ number old x (sym before ∙ p)
+      typed_at k x y p q (inr other) = number y x (sym q ∙ (slice_get-set-other memory.segments segment k (Some new) other ∙ p))
+
+      ended_at : (k : ℕ) (y : Segment) → slice_get (slice_set memory.segments segment (Some new)) k ≡ Some (Some y) → (segment ≡ k) ⊎ (segment ≡ k → ⊥) → (x : Segment) × (slice_get memory.segments k ≡ Some (Some x))
+      ended_at k y q (inl e) = (old, subst (λ j. slice_get memory.segments j ≡ Some (Some old)) e r.stands)
+      ended_at k y q (inr other) = (y, sym (slice_get-set-other memory.segments segment k (Some new) other) ∙ q)
+
+  -- the assigned value is represented, and all else as before
+  pub matches_assigned : IsValueOf a.type_value value → Matches declared G injection (assigned n value s) (storing memory segment r.type_number value)
+  matches_assigned of_type =
+      record {
+        made = h.made ∙ sym (assigned_length s.allocations n value a is);
+        represented = λ m k b p q. represented_at m k b p q (same_or_not n m);
+        apart = h.apart;
+        within = λ m k p.
+            let w = h.within m k p in
+            omega (arith, w, length-set memory.segments segment (Some (record { type_number = r.type_number; words = layout value })));
+        output = h.output;
+        frames = λ unit u e. matches_frame-grown {s = s} unit u grown_storing refl (λ k. refl) (h.frames unit u e);
+        typed = λ unit k m v p q. type_at_assigned m (same_or_not n m) ∙ h.typed unit k m v p q;
+        types = h.types;
+        live = h.live;
+      }
+    where
+      new : Segment
+      new = record { type_number = r.type_number; words = layout value }
+
+      old : Segment
+      old = record { type_number = r.type_number; words = layout a.value }
+
+      represented_at : (m k : ℕ) (b : Allocation) → IsIn injection m k → allocation_at (assigned_at n value s.allocations) m ≡ Some b → (n ≡ m) ⊎ (n ≡ m → ⊥) → Represents (slice_set memory.segments segment (Some new)) memory.types k b
+      represented_at m k b p q (inl e) =
+          let there : IsIn injection n k = subst (λ j. IsIn injection j k) (sym e) p in
+          let seg : segment ≡ k = is_in-same injection n segment k is_in there in
+          let b_is : record a { value = value } ≡ b = same_Some (record a { value = value }) b (sym (assigned_same s.allocations n value a is) ∙ subst (λ j. allocation_at (assigned_at n value s.allocations) j ≡ Some b) (sym e) q) in
+          subst (λ j. Represents (slice_set memory.segments segment (Some new)) memory.types j b) seg (subst (λ x. Represents (slice_set memory.segments segment (Some new)) memory.types segment x) b_is (record { type_number = r.type_number; stands = slice_get-set-same memory.segments segment (Some new) (Some old) r.stands; described = r.described; value = of_type }))
+      represented_at m k b p q (inr other) =
+          let before : Represents memory.segments memory.types k b = h.represented m k b p (sym (assigned_other s.allocations n m value a is other) ∙ q) in
+          let apart : (segment ≡ k → ⊥) = λ e. other (h.apart n m k (subst (λ j. IsIn injection n j) e is_in) p) in
+          record { type_number = before.type_number; stands = slice_get-set-other memory.segments segment k (Some new) apart ∙ before.stands; described = before.described; value = before.value }
+
+      type_at_assigned : (m : ℕ) → (n ≡ m) ⊎ (n ≡ m → ⊥) → type_at m (assigned n value s) ≡ type_at m s
+      type_at_assigned m (inl e) =
+          let now : allocation_at (assigned_at n value s.allocations) n ≡ Some (record a { value = value }) = assigned_same s.allocations n value a is in
+          subst (λ j. type_at j (assigned n value s) ≡ type_at j s) e (ap type_in now ∙ sym (ap type_in is))
+      type_at_assigned m (inr other) = ap type_in (assigned_other s.allocations n m value a is other)

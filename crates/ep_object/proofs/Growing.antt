@@ -1,0 +1,106 @@
+-- Memory grows while a routine runs.
+use Rattle.std.proofs.Common.{◌≡◌, ℕ, zero, suc, ◌<◌, List, [], ◌∷◌, ◌++◌, length, Option, Some, slice_get, refl, sym, ap, ◌∙◌, subst, arith}
+use Rattle.std.proofs.lemmas.Option.{slice_get_within}
+use Rattle.ep_object.specs.Follows.{SameRoutine, Inside, Operands}
+use Rattle.ep_object.specs.Matching.{Memory, Injection, IsIn, IsPlaceOf, Describes, Grown}
+use Rattle.ep_object.specs.Operands.{Operand}
+use Rattle.ep_object.specs.Runs.{unit_of, name_of}
+use Rattle.ep_object.specs.State.{Frames, text_entry}
+use Rattle.ep_object.specs.Types.{ordinal_entry}
+use Rattle.ep_object.specs.declared.code.Image.{Image}
+use Rattle.ep_object.specs.declared.state.Place.{Place}
+use Rattle.ep_object.specs.declared.state.Segment.{Segment}
+use Rattle.ep_object.proofs.Grows.{is_prefix, prefix_then}
+use Rattle.ep_outside.specs.Known.{IsPrefix}
+use Rattle.ep_typed.specs.declared.types.TypeValue.{TypeValue}
+use Rattle.ep_typed.specs.declared.types.TypeValue.TheVariants as type
+
+-- an element of a front is the same one of the whole
+pub slice_get-prefix : {A : Type 0} (xs ys : List A) (i : ℕ) (x : A) → IsPrefix xs ys → slice_get xs i ≡ Some x → slice_get ys i ≡ Some x
+slice_get-prefix {A = A} xs ys i x p h = subst (λ l. slice_get l i ≡ Some x) (sym p.is) (go xs i h)
+  where
+    go : (l : List A) (i : ℕ) → slice_get l i ≡ Some x → slice_get (l ++ p.rest) i ≡ Some x
+    go [] i h = cc
+    go (y ∷ l) zero h = h
+    go (y ∷ l) (suc i) h = go l i h
+
+-- allocations stay where they are
+pub is_in-longer : (injection longer : Injection) (n segment : ℕ) → IsPrefix injection longer → IsIn injection n segment → IsIn longer n segment
+is_in-longer injection longer zero segment p h = h
+is_in-longer injection longer (suc n) segment p h = slice_get-prefix injection longer n segment p h
+
+-- memory has grown from itself
+pub grown_refl : (injection : Injection) (memory : Memory) → Grown injection memory injection memory
+grown_refl injection memory =
+    record {
+      larger = is_prefix injection;
+      types = is_prefix memory.types;
+      segments = omega arith;
+      hidden = λ segment le h. h;
+      others = λ segment le h. refl;
+      typed = λ segment x y p q. same_type segment x y (sym p ∙ q);
+      ended = λ segment y le h. (y, h);
+    }
+  where
+    same_type : (segment : ℕ) (x y : Segment) → ◌≡◌ {A = Option (Option Segment)} (Some (Some x)) (Some (Some y)) → y.type_number ≡ x.type_number
+    same_type segment x y h =
+        let e : y ≡ x = cc in ap (λ (z : Segment). z.type_number) e
+
+-- what has grown from what has grown
+pub grown_trans : {injection longer last : Injection} {memory after final : Memory} → Grown injection memory longer after → Grown longer after last final → Grown injection memory last final
+grown_trans {memory = memory} {after = after} {final = final} p q =
+    record {
+      larger = prefix_then p.larger q.larger;
+      types = prefix_then p.types q.types;
+      segments = omega (arith, p.segments, q.segments);
+      hidden = λ segment le h. q.hidden segment (omega (arith, p.segments)) (p.hidden segment le h);
+      others = λ segment le h. q.others segment (omega (arith, p.segments)) (p.hidden segment le h) ∙ p.others segment le h;
+      typed = λ segment x z hx hz.
+          let w : segment < length memory.segments = slice_get_within memory.segments segment (Some x) hx in
+          let y = q.ended segment z (omega (arith, p.segments)) hz in
+          q.typed segment y.0 z y.1 hz ∙ p.typed segment x y.0 hx y.1;
+      ended = λ segment z le hz.
+          let y = q.ended segment z (omega (arith, p.segments)) hz in
+          p.ended segment y.0 le y.1;
+    }
+
+-- the place of an allocation stays its place
+pub is_place_of-grown : {injection longer : Injection} {memory after : Memory} {n : ℕ} {place : Place} → Grown injection memory longer after → IsPlaceOf injection memory.segments n place → IsPlaceOf longer after.segments n place
+is_place_of-grown {injection = injection} {longer = longer} {n = n} {place = place} g h =
+    record {
+      is_in = is_in-longer injection longer n place.segment g.larger h.is_in;
+      within = omega (arith, g.segments, h.within);
+      offset = h.offset;
+      typed = λ y hy.
+          let x = g.ended place.segment y h.within hy in
+          h.typed x.0 x.1 ∙ sym (g.typed place.segment x.0 y x.1 hy);
+    }
+
+-- a type stays what it is
+pub describes-grown : {injection longer : Injection} {memory after : Memory} (n : ℕ) (type_value : TypeValue) → Grown injection memory longer after → Describes memory.types n type_value → Describes after.types n type_value
+describes-grown {memory = memory} {after = after} n (type.Ordinal low high) g h = slice_get-prefix memory.types after.types n (ordinal_entry low high) g.types h
+describes-grown {memory = memory} {after = after} n type.Text g h = slice_get-prefix memory.types after.types n text_entry g.types h
+
+-- the routine is the same as itself
+pub same_routine-refl : (frames : Frames) → SameRoutine frames frames
+same_routine-refl frames = record { turn = refl; routine = refl; unit = refl }
+
+-- and the same as one that is the same
+pub same_routine-trans : {a b c : Frames} → SameRoutine a b → SameRoutine b c → SameRoutine a c
+same_routine-trans p q = record { turn = q.turn ∙ p.turn; routine = q.routine ∙ p.routine; unit = q.unit ∙ p.unit }
+
+-- the name of the unit of the routine that runs, which errors tell
+abbrev pub unit_in : Image → Frames → List ℕ
+unit_in G frames = name_of (unit_of G (slice_get G.routines frames.routine))
+
+-- while the same routine runs, errors tell the same unit
+pub unit_in-same : (G : Image) {before after : Frames} → SameRoutine before after → unit_in G after ≡ unit_in G before
+unit_in-same G h = ap (λ r. name_of (unit_of G (slice_get G.routines r))) h.routine
+
+-- where nothing has grown yet
+pub inside_here : {injection : Injection} {memory : Memory} {Then : Operands} {operands : List Operand} → Then injection memory operands → Inside injection memory Then injection memory operands
+inside_here {injection = injection} {memory = memory} h = record { grown = grown_refl injection memory; routine = same_routine-refl memory.frames; operands_are = h }
+
+-- what is inside of a later memory is inside of an earlier one
+pub inside_later : {injection longer last : Injection} {memory after final : Memory} {Then : Operands} {operands : List Operand} → Grown injection memory longer after → SameRoutine memory.frames after.frames → Inside longer after Then last final operands → Inside injection memory Then last final operands
+inside_later g r h = record { grown = grown_trans g h.grown; routine = same_routine-trans r h.routine; operands_are = h.operands_are }

@@ -1,0 +1,336 @@
+-- A variable is made: the machine goes on matching, or ends for want of storage where room was lost.
+use Rattle.std.proofs.Common.{length-append, leb, cond, ◌≡◌, ℕ, ℤ, zero, suc, pos, ◌+◌, ◌≤◌, ◌<◌, ◌⊎◌, inl, inr, Bool, true, false, ◌&&◌, IsTrue, List, [], ◌∷◌, ◌++◌, length, Option, Some, None, slice_get, slice_set, refl, sym, ap, ◌∙◌, subst, arith}
+use Rattle.std.specs.Prelude.{nat_le, if◌then◌else◌}
+use Rattle.std.specs.Str.{bytes_eq}
+use Rattle.std.proofs.lemmas.Bool.Decides.{nat_tests}
+use Rattle.std.proofs.lemmas.Bool.{lt-ltb}
+use Rattle.std.proofs.lemmas.Option.{slice_get_within, same_Some}
+use Rattle.std.proofs.lemmas.Slice.Eq.{bytes_eq-Decides}
+use native.Mathlib.Decide.{ℕ_discrete}
+use Rattle.ep_object.specs.Follows.{GivesUp, Bare, Inside}
+use Rattle.ep_object.specs.Matching.{Memory, at, Injection, IsIn, IsPlaceOf, Describes, IsHidden, MatchesSlot, MatchesFrame, Represents, Matches, Grown}
+use Rattle.ep_object.specs.Operands.{Operand, Word}
+use Rattle.ep_object.specs.Runs.{outcome}
+use Rattle.ep_object.specs.State.{Frames, Running, Stopped, Error, live_limit, undefined}
+use Rattle.ep_object.specs.Table.{with_slots}
+use Rattle.ep_object.specs.Types.{ordinal_entry}
+use Rattle.ep_object.specs.declared.code.Image.{Image}
+use Rattle.ep_object.specs.declared.code.ImageUnit.{ImageUnit}
+use Rattle.ep_object.specs.declared.state.Place.{Place}
+use Rattle.ep_object.specs.declared.state.Segment.{Segment}
+use Rattle.ep_object.proofs.Bind.{gives_up}
+use Rattle.ep_object.proofs.Changes.{matches_frame-grown}
+use Rattle.ep_object.proofs.Elements.{slice_get-push, slice_get-pushed, slice_get-set-same, slice_get-set-other, length-set}
+use Rattle.ep_object.proofs.Fragments.{Does}
+use Rattle.ep_object.proofs.Growing.{unit_in, slice_get-prefix, is_in-longer}
+use Rattle.ep_object.proofs.Grows.{is_prefix}
+use Rattle.ep_object.proofs.Making.{lost_words}
+use Rattle.ep_object.proofs.Rows.{instr, in_one, outcome_at}
+use Rattle.ep_object.proofs.Standing.{slice_get-some, both}
+use Rattle.ep_typed.specs.Events.{Trace}
+use Rattle.ep_typed.specs.Operations.{is_integer}
+use Rattle.ep_typed.specs.Steps.{Undefined, Allocation, allocation_at, type_in, type_at, bound, made}
+use Rattle.ep_typed.specs.Steps as meaning
+use Rattle.ep_typed.specs.Valid.{Declarations, IsTypeOf}
+use Rattle.ep_typed.specs.declared.types.Host.{Host}
+use Rattle.ep_typed.specs.declared.types.TypeValue.{TypeValue}
+use Rattle.ep_typed.specs.declared.types.TypeValue.TheVariants as type
+use Rattle.ep_typed.specs.declared.unit.UnitVariable.{UnitVariable}
+
+-- two units of the image that have one name are one
+abbrev pub HasDistinctNames : Image → Type 0
+HasDistinctNames G = (i j : ℕ) (a b : ImageUnit) → slice_get G.units i ≡ Some a → slice_get G.units j ≡ Some b → a.name ≡ b.name → i ≡ j
+
+-- the types of the variables that are declared are those of their hosts
+abbrev pub HasTypesOfHosts : Declarations → Type 0
+HasTypesOfHosts declared = (unit : List ℕ) (j : ℕ) (v : UnitVariable) → declared unit j ≡ Some v → IsTypeOf v.host v.type_value
+
+-- ---- what is bound
+
+-- two names are the same or not
+same_name : (a b : List ℕ) → (a ≡ b) ⊎ (a ≡ b → ⊥)
+same_name a b = go (bytes_eq a b) refl
+  where
+    go : (t : Bool) → bytes_eq a b ≡ t → (a ≡ b) ⊎ (a ≡ b → ⊥)
+    go true e = inl ((bytes_eq-Decides a b).0 e)
+    go false e = inr (λ q. let t = (bytes_eq-Decides a b).1 q in cc)
+
+module _ (unit : List ℕ) (number n : ℕ) (variables : List ℕ → ℕ → Option ℕ) where
+  -- the variable that is bound is the allocation
+  pub bound-same : bound unit number n variables unit number ≡ Some n
+  bound-same =
+      let name : bytes_eq unit unit ≡ true = (bytes_eq-Decides unit unit).1 refl in
+      let self : nat_le number number ≡ true = grind (arith, nat_tests) in
+      rw (name, self) refl
+
+  -- a variable of another name or of another number stays what it is
+  pub bound-other : (u : List ℕ) (k : ℕ) → (unit ≡ u → number ≡ k → ⊥) → bound unit number n variables u k ≡ variables u k
+  bound-other u k other = by_name (bytes_eq unit u) refl
+    where
+      by_number : (number ≡ k → ⊥) → (b : Bool) → (nat_le number k && nat_le k number) ≡ b → (if b then Some n else variables u k) ≡ variables u k
+      by_number different true e =
+          let p = both (nat_le number k) (nat_le k number) e in
+          let same : number ≡ k = let x = p.0 in let y = p.1 in grind (arith, nat_tests) in
+          absurd (different same)
+      by_number different false e = refl
+
+      by_name : (b : Bool) → bytes_eq unit u ≡ b → (if b && (nat_le number k && nat_le k number) then Some n else variables u k) ≡ variables u k
+      by_name true e = by_number (other ((bytes_eq-Decides unit u).0 e)) (nat_le number k && nat_le k number) refl
+      by_name false e = refl
+
+-- ---- a list with one more element
+
+-- the elements before it are the same
+slice_get-before : {A : Type 0} (xs : List A) (x : A) (i : ℕ) → i < length xs → slice_get (xs ++ x ∷ []) i ≡ slice_get xs i
+slice_get-before xs x i h = let y = slice_get-some xs i h in slice_get-prefix xs (xs ++ x ∷ []) i y.0 (record { rest = x ∷ []; is = refl }) y.1 ∙ sym y.1
+
+-- an allocation keeps its type, which is that of a host and so not a text
+type_more : (allocations : List Allocation) (a : Allocation) (n : ℕ) (host : Host) (t : TypeValue) → IsTypeOf host t → type_in (allocation_at allocations n) ≡ t → type_in (allocation_at (allocations ++ a ∷ []) n) ≡ t
+type_more allocations a zero host t valid is = is
+type_more allocations a (suc n) host t valid is = go (slice_get allocations n) refl
+  where
+    go : (o : Option Allocation) → slice_get allocations n ≡ o → type_in (slice_get (allocations ++ a ∷ []) n) ≡ t
+    go None e =
+        let text : type.Text ≡ t = sym (ap type_in e) ∙ is in
+        let none : ⊥ = subst (λ y. IsTypeOf host y) (sym text) valid in absurd none
+    go (Some b) e = ap type_in (slice_get-prefix allocations (allocations ++ a ∷ []) n b (record { rest = a ∷ []; is = refl }) e) ∙ sym (ap type_in e) ∙ is
+
+-- ---- the memory with one more variable
+
+-- the segment of a new variable
+abbrev new_segment : ℕ → Segment
+new_segment number = record { type_number = number; words = undefined ∷ [] }
+
+-- its place
+abbrev new_place : Memory → ℕ → Place
+new_place memory number = record { segment = length memory.segments; offset = 0; type_number = number }
+
+-- one more variable of the type of this number, with these frames
+abbrev with_variable : ℕ → Frames → Memory → Memory
+with_variable number frames memory = record memory { frames = frames; segments = memory.segments ++ Some (new_segment number) ∷ []; live = memory.live + 2 }
+
+-- the frames with its place in a slot of the frame that is used
+abbrev with_place : ℕ → ℕ → List (Option Place) → Memory → Frames
+with_place number k slots memory = with_slots memory.frames (slice_set slots k (Some (new_place memory number)))
+
+-- the injection with its segment
+abbrev with_segment : Injection → Memory → Injection
+with_segment injection memory = injection ++ length memory.segments ∷ []
+
+-- an allocation is one that was there, or the new one
+abbrev IsOldOrNew : Injection → Memory → ℕ → ℕ → Type 0
+IsOldOrNew injection memory n segment = IsIn injection n segment ⊎ ((n ≡ suc (length injection)) × (segment ≡ length memory.segments))
+
+is_in-either : (injection : Injection) (memory : Memory) (n segment : ℕ) → IsIn (with_segment injection memory) n segment → IsOldOrNew injection memory n segment
+is_in-either injection memory zero segment h = absurd h
+is_in-either injection memory (suc n) segment h = elim (slice_get-push injection (length memory.segments) segment n h) [ inl p ↦ inl p | inr p ↦ inr (ap suc p.0, p.1) ]
+
+-- no allocation has a number above those that were made
+is_in-within : (injection : Injection) (n segment : ℕ) → IsIn injection n segment → n ≤ length injection
+is_in-within injection zero segment h = absurd h
+is_in-within injection (suc n) segment h = let w : n < length injection = slice_get_within injection n segment h in omega arith
+
+-- memory grows by the new segment
+grown_making : (injection : Injection) (memory : Memory) (number : ℕ) (frames : Frames) → Grown injection memory (with_segment injection memory) (with_variable number frames memory)
+grown_making injection memory number frames =
+    record {
+      larger = record { rest = length memory.segments ∷ []; is = refl };
+      types = is_prefix memory.types;
+      segments = omega (arith, length-append memory.segments (Some (new_segment number) ∷ []));
+      hidden = λ segment le hidden n is_in. stays_hidden segment le hidden n (is_in-either injection memory n segment is_in);
+      others = λ segment le hidden. slice_get-before memory.segments (Some (new_segment number)) segment le;
+      typed = λ segment x y p q. same_type segment x y p (sym (slice_get-before memory.segments (Some (new_segment number)) segment (slice_get_within memory.segments segment (Some x) p)) ∙ q);
+      ended = λ segment y le q. (y, sym (slice_get-before memory.segments (Some (new_segment number)) segment le) ∙ q);
+    }
+  where
+    stays_hidden : (segment : ℕ) → suc segment ≤ length memory.segments → IsHidden injection segment → (n : ℕ) → IsOldOrNew injection memory n segment → ⊥
+    stays_hidden segment le hidden n (inl h) = hidden n h
+    stays_hidden segment le hidden n (inr h) = absurd (omega (arith, h.1))
+
+    same_type : (segment : ℕ) (x y : Segment) → slice_get memory.segments segment ≡ Some (Some x) → slice_get memory.segments segment ≡ Some (Some y) → y.type_number ≡ x.type_number
+    same_type segment x y p q =
+        let e : ◌≡◌ {A = Option (Option Segment)} (Some (Some x)) (Some (Some y)) = sym p ∙ q in
+        let z : y ≡ x = cc in ap (λ (s : Segment). s.type_number) z
+
+module _ {declared : Declarations} {G : Image} {injection : Injection} {s : meaning.State} {memory : Memory} (h : Matches declared G injection s memory) (x : ImageUnit) (low high : ℤ) (number k : ℕ) (is_unit : slice_get G.units memory.frames.unit ≡ Some x) (described : Describes memory.types number (type.Ordinal low high)) (low_fits : IsTrue (is_integer low)) (high_fits : IsTrue (is_integer high)) where
+  -- the allocation of the new variable
+  abbrev new_allocation : Allocation
+  new_allocation = record { type_value = type.Ordinal low high; value = Undefined }
+
+  abbrev its_segment : Option Segment
+  its_segment = Some (new_segment number)
+
+  -- the new segment represents the new allocation, and those before are as they were
+  represented_making : (n segment : ℕ) (a : Allocation) → IsIn (with_segment injection memory) n segment → allocation_at (s.allocations ++ new_allocation ∷ []) n ≡ Some a → Represents (memory.segments ++ its_segment ∷ []) memory.types segment a
+  represented_making zero segment a is_in is = absurd is_in
+  represented_making (suc n) segment a is_in is = go (is_in-either injection memory (suc n) segment is_in) (slice_get-push s.allocations new_allocation a n is)
+    where
+      go : IsOldOrNew injection memory (suc n) segment → (slice_get s.allocations n ≡ Some a) ⊎ ((n ≡ length s.allocations) × (a ≡ new_allocation)) → Represents (memory.segments ++ its_segment ∷ []) memory.types segment a
+      go (inl old) (inl before) =
+          let r : Represents memory.segments memory.types segment a = h.represented (suc n) segment a old before in
+          record { type_number = r.type_number; stands = slice_get-before memory.segments its_segment segment (h.within (suc n) segment old) ∙ r.stands; described = r.described; value = r.value }
+      go (inl old) (inr last) = absurd (omega (arith, is_in-within injection (suc n) segment old, last.0, h.made))
+      go (inr new) (inl before) = absurd (omega (arith, slice_get_within s.allocations n a before, new.0, h.made))
+      go (inr new) (inr last) =
+          subst (λ j. Represents (memory.segments ++ its_segment ∷ []) memory.types j a) (sym new.1)
+          (subst (λ b. Represents (memory.segments ++ its_segment ∷ []) memory.types (length memory.segments) b) (sym last.1)
+          (record { type_number = number; stands = slice_get-pushed memory.segments its_segment; described = described; value = (low_fits, high_fits) }))
+
+  -- no two allocations are in one segment
+  apart_making : (m n segment : ℕ) → IsOldOrNew injection memory m segment → IsOldOrNew injection memory n segment → m ≡ n
+  apart_making m n segment (inl p) (inl q) = h.apart m n segment p q
+  apart_making m n segment (inl p) (inr q) = absurd (omega (arith, h.within m segment p, q.1))
+  apart_making m n segment (inr p) (inl q) = absurd (omega (arith, h.within n segment q, p.1))
+  apart_making m n segment (inr p) (inr q) = p.0 ∙ sym q.0
+
+  -- the frame in which the variable is made, where memory has grown
+  frame_here : MatchesFrame (with_segment injection memory) s (with_variable number memory.frames memory) memory.frames.unit x
+  frame_here = matches_frame-grown {s = s} memory.frames.unit x (grown_making injection memory number memory.frames) refl (λ j. refl) (h.frames memory.frames.unit x is_unit)
+
+  abbrev new_slots : List (Option Place)
+  new_slots = slice_set frame_here.slots k (Some (new_place memory number))
+
+  abbrev later : Memory
+  later = with_variable number (with_place number k frame_here.slots memory) memory
+
+  abbrev later_state : meaning.State
+  later_state = made x.name k (type.Ordinal low high) s
+
+  -- the place in the slot is that of the new allocation
+  new_place_of : IsPlaceOf (with_segment injection memory) later.segments (suc (length s.allocations)) (new_place memory number)
+  new_place_of =
+      record {
+        is_in = subst (λ j. slice_get (with_segment injection memory) j ≡ Some (length memory.segments)) h.made (slice_get-pushed injection (length memory.segments));
+        within = omega (arith, length-append memory.segments (its_segment ∷ []));
+        offset = refl;
+        typed = λ y q. number_of y (sym (slice_get-pushed memory.segments its_segment) ∙ q);
+      }
+    where
+      number_of : (y : Segment) → ◌≡◌ {A = Option (Option Segment)} (Some its_segment) (Some (Some y)) → number ≡ y.type_number
+      number_of y e = let z : new_segment number ≡ y = cc in ap (λ (t : Segment). t.type_number) z
+
+  module _ (within : k < x.slots) where
+    -- the slot has the place of the new variable, and the others have theirs
+    slot_making : (j : ℕ) (slot : Option Place) → slice_get new_slots j ≡ Some slot → MatchesSlot (with_segment injection memory) later.segments (later_state.variables x.name j) slot
+    slot_making j slot q = elim (ℕ_discrete k j) [ yes e ↦ same j slot q e | no e ↦ other j slot q e ]
+      where
+        same : (j : ℕ) (slot : Option Place) → slice_get new_slots j ≡ Some slot → k ≡ j → MatchesSlot (with_segment injection memory) later.segments (later_state.variables x.name j) slot
+        same j slot q e =
+            let old = slice_get-some frame_here.slots k (omega (arith, within, frame_here.count)) in
+            let now = slice_get-set-same frame_here.slots k (Some (new_place memory number)) old.0 old.1 in
+            let here : slice_get new_slots k ≡ Some slot = subst (λ i. slice_get new_slots i ≡ Some slot) (sym e) q in
+            let slot_is : Some (new_place memory number) ≡ slot = same_Some (Some (new_place memory number)) slot (sym now ∙ here) in
+            let bound_here = bound-same x.name k (suc (length s.allocations)) s.variables in
+            subst (λ i. MatchesSlot (with_segment injection memory) later.segments (later_state.variables x.name i) slot) e
+            (subst (λ o. MatchesSlot (with_segment injection memory) later.segments (later_state.variables x.name k) o) slot_is
+            (subst (λ o. MatchesSlot (with_segment injection memory) later.segments o (Some (new_place memory number))) (sym bound_here) new_place_of))
+
+        other : (j : ℕ) (slot : Option Place) → slice_get new_slots j ≡ Some slot → (k ≡ j → ⊥) → MatchesSlot (with_segment injection memory) later.segments (later_state.variables x.name j) slot
+        other j slot q e =
+            let before : slice_get frame_here.slots j ≡ Some slot = sym (slice_get-set-other frame_here.slots k j (Some (new_place memory number)) e) ∙ q in
+            subst (λ o. MatchesSlot (with_segment injection memory) later.segments o slot) (sym (bound-other x.name k (suc (length s.allocations)) s.variables x.name j (λ p. e))) (frame_here.matches j slot before)
+
+    -- the frame has the place of the new variable, and those of the others
+    frame_making : MatchesFrame (with_segment injection memory) later_state later memory.frames.unit x
+    frame_making =
+        record {
+          slots = new_slots;
+          is = slice_get-set-same memory.frames.units memory.frames.unit new_slots frame_here.slots frame_here.is;
+          count = length-set frame_here.slots k (Some (new_place memory number)) ∙ frame_here.count;
+          matches = slot_making;
+        }
+
+    module _ (distinct : HasDistinctNames G) where
+      -- the frames of other units stay what they are
+      frames_making : (unit : ℕ) (u : ImageUnit) → slice_get G.units unit ≡ Some u → MatchesFrame (with_segment injection memory) later_state later unit u
+      frames_making unit u there = elim (ℕ_discrete memory.frames.unit unit) [ yes e ↦ same e | no e ↦ other e ]
+        where
+          same : memory.frames.unit ≡ unit → MatchesFrame (with_segment injection memory) later_state later unit u
+          same e =
+              let is_x : x ≡ u = same_Some x u (sym is_unit ∙ subst (λ i. slice_get G.units i ≡ Some u) (sym e) there) in
+              subst (λ i. MatchesFrame (with_segment injection memory) later_state later i u) e (subst (λ v. MatchesFrame (with_segment injection memory) later_state later memory.frames.unit v) is_x frame_making)
+
+          other : (memory.frames.unit ≡ unit → ⊥) → MatchesFrame (with_segment injection memory) later_state later unit u
+          other e =
+              let f : MatchesFrame (with_segment injection memory) later_state (with_variable number memory.frames memory) unit u =
+              matches_frame-grown {s = s} unit u (grown_making injection memory number memory.frames) refl (λ j. bound-other x.name k (suc (length s.allocations)) s.variables u.name j (λ p q. e (distinct memory.frames.unit unit x u is_unit there p))) (h.frames unit u there) in
+              record {
+                slots = f.slots;
+                is = slice_get-set-other memory.frames.units memory.frames.unit unit new_slots e ∙ f.is;
+                count = f.count;
+                matches = f.matches;
+              }
+
+      module _ (types_valid : HasTypesOfHosts declared) (declared_so : (v : UnitVariable) → declared x.name k ≡ Some v → v.type_value ≡ type.Ordinal low high) where
+        -- the new allocation has the type of its declaration, and the others keep theirs
+        typed_making : (unit : List ℕ) (j n : ℕ) (v : UnitVariable) → later_state.variables unit j ≡ Some n → declared unit j ≡ Some v → type_at n later_state ≡ v.type_value
+        typed_making unit j n v is is_declared = elim (same_name x.name unit) [ inl p ↦ elim (ℕ_discrete k j) [ yes q ↦ same p q | no q ↦ other (λ a b. q b) ] | inr p ↦ other (λ a b. p a) ]
+          where
+            same : x.name ≡ unit → k ≡ j → type_at n later_state ≡ v.type_value
+            same p q =
+                let here : later_state.variables x.name k ≡ Some n = subst (λ u. later_state.variables u k ≡ Some n) (sym p) (subst (λ i. later_state.variables unit i ≡ Some n) (sym q) is) in
+                let n_is : suc (length s.allocations) ≡ n = same_Some (suc (length s.allocations)) n (sym (bound-same x.name k (suc (length s.allocations)) s.variables) ∙ here) in
+                let t_is : v.type_value ≡ type.Ordinal low high = declared_so v (subst (λ u. declared u k ≡ Some v) (sym p) (subst (λ i. declared unit i ≡ Some v) (sym q) is_declared)) in
+                subst (λ i. type_at i later_state ≡ v.type_value) n_is (ap type_in (slice_get-pushed s.allocations new_allocation) ∙ sym t_is)
+
+            other : (x.name ≡ unit → k ≡ j → ⊥) → type_at n later_state ≡ v.type_value
+            other different =
+                let before : s.variables unit j ≡ Some n = sym (bound-other x.name k (suc (length s.allocations)) s.variables unit j different) ∙ is in
+                type_more s.allocations new_allocation n v.host v.type_value (types_valid unit j v is_declared) (h.typed unit j n v before is_declared)
+
+        -- the machine goes on matching
+        matches_making : Matches declared G (with_segment injection memory) later_state later
+        matches_making =
+            record {
+              made = omega (arith, h.made, length-append injection (length memory.segments ∷ []), length-append s.allocations (new_allocation ∷ []));
+              represented = represented_making;
+              apart = λ m n segment p q. apart_making m n segment (is_in-either injection memory m segment p) (is_in-either injection memory n segment q);
+              within = λ n segment p. within_making n segment (is_in-either injection memory n segment p);
+              output = is_in-longer injection (with_segment injection memory) 2 2 (record { rest = length memory.segments ∷ []; is = refl }) h.output;
+              frames = frames_making;
+              typed = typed_making;
+              types = record { first = h.types.first; known = h.types.known; sized = h.types.sized; count = h.types.count };
+              live = omega (arith, h.live);
+            }
+          where
+            within_making : (n segment : ℕ) → IsOldOrNew injection memory n segment → suc segment ≤ length later.segments
+            within_making n segment (inl p) = omega (arith, h.within n segment p, length-append memory.segments (its_segment ∷ []))
+            within_making n segment (inr p) = omega (arith, p.1, length-append memory.segments (its_segment ∷ []))
+
+-- ---- the row
+
+-- what `Make` leads to: one more variable, or error 24 where too many words would live
+make_outcome : (G : Image) (place line : ℕ) (below : List Operand) (low high : ℤ) (number k : ℕ) (slots : List (Option Place)) (memory : Memory) (trace : Trace) (b : Bool) → slice_get G.instructions place ≡ Some (instr 15 (pos k) 0 line) → slice_get memory.frames.units memory.frames.unit ≡ Some slots → Describes memory.types number (type.Ordinal low high) → k < length slots → leb (memory.live + 2) live_limit ≡ b
+    → outcome G (at place (Word (pos number) ∷ below) memory trace) ≡ cond b (record { weight = 1; to = Running 0 (at (place + 1) below (with_variable number (with_place number k slots memory) memory) trace) }) (in_one (Stopped (Error 24 (unit_in G memory.frames) line) trace))
+make_outcome G place line below low high number k slots memory trace true has frame described within fits =
+    outcome_at G (instr 15 (pos k) 0 line) place (Word (pos number) ∷ below) memory trace has ∙ rw (frame, lt-ltb number (length memory.types) (slice_get_within memory.types number (ordinal_entry low high) described), described, lt-ltb k (length slots) within, fits) refl
+make_outcome G place line below low high number k slots memory trace false has frame described within fits =
+    outcome_at G (instr 15 (pos k) 0 line) place (Word (pos number) ∷ below) memory trace has ∙ rw (frame, lt-ltb number (length memory.types) (slice_get_within memory.types number (ordinal_entry low high) described), described, lt-ltb k (length slots) within, fits) refl
+
+-- `Make` of an ordinal type in a slot of the unit's frame, over the number of the type
+pub make_does : (declared : Declarations) (G : Image) (place line : ℕ) (below : List Operand) (low high : ℤ) (number k : ℕ) (x : ImageUnit) → slice_get G.instructions place ≡ Some (instr 15 (pos k) 0 line)
+    → HasDistinctNames G → IsTrue (is_integer low) → IsTrue (is_integer high)
+    → HasTypesOfHosts declared → ((v : UnitVariable) → declared x.name k ≡ Some v → v.type_value ≡ type.Ordinal low high)
+    → (injection : Injection) (memory : Memory) (s : meaning.State) → slice_get G.units memory.frames.unit ≡ Some x → k < x.slots → Describes memory.types number (type.Ordinal low high) → Matches declared G injection s memory
+    → Does declared G (at place (Word (pos number) ∷ below) memory s.trace) 1 (place + 1) (Inside injection memory (Bare below tt)) (made x.name k (type.Ordinal low high) s) ⊎ GivesUp G (at place (Word (pos number) ∷ below) memory s.trace) (made x.name k (type.Ordinal low high) s)
+make_does declared G place line below low high number k x has distinct low_fits high_fits types_valid declared_so injection memory s is_unit within described matches = go (leb (memory.live + 2) live_limit) refl
+  where
+    frame : MatchesFrame (with_segment injection memory) s (with_variable number memory.frames memory) memory.frames.unit x
+    frame = frame_here matches x low high number k is_unit described low_fits high_fits
+
+    leads : (b : Bool) → leb (memory.live + 2) live_limit ≡ b → outcome G (at place (Word (pos number) ∷ below) memory s.trace) ≡ cond b (record { weight = 1; to = Running 0 (at (place + 1) below (with_variable number (with_place number k frame.slots memory) memory) s.trace) }) (in_one (Stopped (Error 24 (unit_in G memory.frames) line) s.trace))
+    leads b e = make_outcome G place line below low high number k frame.slots memory s.trace b has frame.is described (omega (arith, within, frame.count)) e
+
+    go : (b : Bool) → leb (memory.live + 2) live_limit ≡ b → Does declared G (at place (Word (pos number) ∷ below) memory s.trace) 1 (place + 1) (Inside injection memory (Bare below tt)) (made x.name k (type.Ordinal low high) s) ⊎ GivesUp G (at place (Word (pos number) ∷ below) memory s.trace) (made x.name k (type.Ordinal low high) s)
+    go true e =
+        inl (record {
+          injection = with_segment injection memory;
+          memory = with_variable number (with_place number k frame.slots memory) memory;
+          operands = below;
+          does = leads true e;
+          matches = matches_making matches x low high number k is_unit described low_fits high_fits within distinct types_valid declared_so;
+          post = record { grown = grown_making injection memory number (with_place number k frame.slots memory); routine = record { turn = refl; routine = refl; unit = refl }; operands_are = refl };
+        })
+    go false e =
+        let many : 16777216 < memory.live + 2 = grind (arith, nat_tests) in
+        inr (gives_up (leads false e) (inl refl) (is_prefix s.trace) (lost_words (record s.resources { words = s.resources.words + 2 }) (omega (arith, many, matches.live))))

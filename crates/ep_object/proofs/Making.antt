@@ -1,0 +1,325 @@
+-- A type is elaborated and a variable is made: the machine's instructions do what the meaning's changes do, or end
+-- for want of storage where room was lost.
+use Rattle.std.proofs.Common.{length-append, append-nil, ltb, ◌≡◌, ℕ, ℤ, suc, pos, ◌+◌, ◌≤◌, ◌<◌, ◌⊎◌, inl, inr, Bool, true, false, IsTrue, List, [], ◌∷◌, ◌++◌, length, Option, Some, None, slice_get, refl, sym, ap, ◌∙◌, arith, cond, get_or, position}
+use Rattle.std.specs.Prelude.{nat_lt, int_le, ◌&&◌, ◌||◌, not, nat_le, if◌then◌else◌}
+use Rattle.std.specs.List.{list_any, position_or_len}
+use Rattle.std.proofs.lemmas.Option.{slice_get-get_or}
+use Rattle.std.proofs.lemmas.List.Quantifiers.{position-Some}
+use Rattle.std.proofs.lemmas.Bool.Decides.{nat_tests}
+use Rattle.std.proofs.lemmas.Int.{ints}
+use Rattle.ep_object.specs.Matching.{Memory, at, Injection, Describes, MatchesTypes, Matches, Represents, Grown}
+use Rattle.ep_object.specs.Follows.{GivesUp, SameRoutine}
+use Rattle.ep_object.specs.Operands.{Operand, Word}
+use Rattle.ep_object.specs.Runs.{outcome, outcome_of, after, unit_name, run, tick_of, and_then}
+use Rattle.ep_object.specs.State.{State, TypeTable, Going, Running, text_entry, live_limit, type_limit}
+use Rattle.ep_object.specs.Types.{interned}
+use Rattle.ep_object.specs.Table.{typing, with_typing}
+use Rattle.ep_object.specs.Effects.{mapped, Fails, Continues}
+use Rattle.ep_object.specs.declared.code.Instr.{Instr}
+use Rattle.ep_object.specs.Types.{is_ordinal, ordinal_number, ordinal_entry}
+use Rattle.ep_object.specs.declared.state.Kind.{Kind}
+use Rattle.ep_object.specs.declared.state.Kind.TheVariants.{Ord, Pointer, Text}
+use Rattle.ep_object.specs.declared.state.TypeEntry.{TypeEntry}
+use Rattle.ep_object.proofs.Grows.{prefix_then}
+use Rattle.ep_object.proofs.Growing.{slice_get-prefix, grown_refl, same_routine-refl}
+use Rattle.ep_object.proofs.Elements.{slice_get-push, slice_get-pushed}
+use Rattle.ep_typed.specs.Steps.{Resources, met, watched, same_type}
+use Rattle.ep_typed.specs.Steps as meaning
+use Rattle.ep_typed.specs.Steps.{Allocation}
+use Rattle.ep_typed.specs.Valid.{Declarations}
+use Rattle.ep_outside.specs.Known.{IsPrefix}
+use Rattle.ep_typed.specs.Events.{Trace}
+use Rattle.ep_object.specs.declared.code.Image.{Image}
+use Rattle.ep_typed.specs.declared.types.TypeValue.{TypeValue}
+use Rattle.ep_typed.specs.declared.types.TypeValue.TheVariants as type
+
+both : (a b : Bool) → IsTrue (a && b) → IsTrue a × IsTrue b
+both true b h = (refl, h)
+both false b h = cc
+
+-- numbers of which neither is above the other are the same
+same_number : (x y : ℤ) → IsTrue (int_le x y && int_le y x) → x ≡ y
+same_number x y h = let p = both (int_le x y) (int_le y x) h in omega (arith, ints, p.0, p.1)
+
+-- the kind that a number was found for
+ordinal_is : (low high : ℤ) (k : Kind) → IsTrue (is_ordinal low high k) → k ≡ Ord low high
+ordinal_is low high (Ord l h) t =
+    let p = both (int_le low l && int_le l low) (int_le high h && int_le h high) t in
+    let e = same_number low l p.0 in let f = same_number high h p.1 in λ i. Ord (sym e i) (sym f i)
+ordinal_is low high Pointer t = cc
+ordinal_is low high Text t = cc
+
+-- a number that was found is that of the type
+pub described-found : {r : Resources} {types : TypeTable} (low high : ℤ) (n : ℕ) → MatchesTypes r types → ordinal_number low high types ≡ Some n → Describes types n (type.Ordinal low high)
+described-found {types = types} low high n m h =
+    let d = ordinal_entry low high in
+    let p = position-Some (λ (e : TypeEntry). is_ordinal low high e.kind) types n d h in
+    let at_n : slice_get types n ≡ Some (get_or types n d) = slice_get-get_or types n d p.0 in
+    let size = m.sized n (get_or types n d) at_n in
+    let kind = ordinal_is low high (get_or types n d).kind p.1 in
+    at_n ∙ (λ i. Some (record { kind = kind i; size = size i }))
+
+-- the type value that is met is among those that are counted
+same_type-refl : (low high : ℤ) → IsTrue (same_type (type.Ordinal low high) (type.Ordinal low high))
+same_type-refl low high = grind (arith, ints)
+
+-- nothing is forgotten of what was counted
+pub met-words : (t : TypeValue) (r : Resources) → r.words ≤ (met t r).words
+met-words t r = go (list_any (same_type t) r.types)
+  where
+    go : (b : Bool) → r.words ≤ (watched (if b then r else record r { types = t ∷ r.types; words = r.words + 1 })).words
+    go true = omega arith
+    go false = omega arith
+
+-- how far the first element is that passes, or the length
+place_more : {A : Type 0} (p : A → Bool) (xs ys : List A) → position_or_len p xs < length xs → position_or_len p (xs ++ ys) ≡ position_or_len p xs
+place_more p [] ys h = absurd (omega arith)
+place_more p (x ∷ xs) ys h = step (p x) h (λ k. place_more p xs ys k)
+  where
+    step : (b : Bool) → (if not b then 1 + (position_or_len p xs) else 0) < suc (length xs) → (position_or_len p xs < length xs → position_or_len p (xs ++ ys) ≡ position_or_len p xs) → (if not b then 1 + (position_or_len p (xs ++ ys)) else 0) ≡ (if not b then 1 + (position_or_len p xs) else 0)
+    step true k f = refl
+    step false k f = ap (λ k. 1 + k) (f (omega arith))
+
+place_new : {A : Type 0} (p : A → Bool) (xs : List A) (x : A) → IsTrue (p x) → position_or_len p (xs ++ x ∷ []) < length (xs ++ x ∷ [])
+place_new p [] x h = step (p x) h
+  where
+    step : (b : Bool) → IsTrue b → (if not b then 1 else 0) < 1
+    step true k = omega arith
+    step false k = cc
+place_new p (y ∷ xs) x h = step (p y) (place_new p xs x h)
+  where
+    step : (b : Bool) → position_or_len p (xs ++ x ∷ []) < length (xs ++ x ∷ []) → (if not b then 1 + (position_or_len p (xs ++ x ∷ [])) else 0) < suc (length (xs ++ x ∷ []))
+    step true k = omega arith
+    step false k = omega arith
+
+position_of : {A : Type 0} (p : A → Bool) (xs : List A) → position_or_len p xs < length xs → position p xs ≡ Some (position_or_len p xs)
+position_of p xs h = let less : nat_lt (position_or_len p xs) (length xs) ≡ true = grind (arith, nat_tests) in ap (λ b. cond b (Some (position_or_len p xs)) None) less
+
+position_within : (b : Bool) (k n : ℕ) → cond b (Some k) None ≡ Some n → (b ≡ true) × (k ≡ n)
+position_within true k n h = (refl, cc)
+position_within false k n h = cc
+
+position_from-more : {A : Type 0} (p : A → Bool) (xs ys : List A) (n : ℕ) → position p xs ≡ Some n → position p (xs ++ ys) ≡ Some n
+position_from-more p xs ys n h =
+    let w = position_within (nat_lt (position_or_len p xs) (length xs)) (position_or_len p xs) n h in
+    let within : position_or_len p xs < length xs = let t = w.0 in grind (arith, nat_tests) in
+    let same = place_more p xs ys within in
+    position_of p (xs ++ ys) (omega (arith, same, length-append xs ys)) ∙ ap Some (same ∙ w.1)
+
+position_from-new : {A : Type 0} (p : A → Bool) (xs : List A) (x : A) → IsTrue (p x) → (n : ℕ) × (position p (xs ++ x ∷ []) ≡ Some n)
+position_from-new p xs x h = (position_or_len p (xs ++ x ∷ []), position_of p (xs ++ x ∷ []) (place_new p xs x h))
+
+-- what is among the types that are counted after one is met
+met_among : (low high l h : ℤ) (r : Resources) → IsTrue (list_any (same_type (type.Ordinal l h)) (met (type.Ordinal low high) r).types) → IsTrue (same_type (type.Ordinal l h) (type.Ordinal low high)) ⊎ IsTrue (list_any (same_type (type.Ordinal l h)) r.types)
+met_among low high l h r = go (list_any (same_type (type.Ordinal low high)) r.types)
+  where
+    either : (a b : Bool) → IsTrue (a || b) → IsTrue a ⊎ IsTrue b
+    either true b t = inl refl
+    either false b t = inr t
+
+    go : (b : Bool) → IsTrue (list_any (same_type (type.Ordinal l h)) (watched (if b then r else record r { types = type.Ordinal low high ∷ r.types; words = r.words + 1 })).types) → IsTrue (same_type (type.Ordinal l h) (type.Ordinal low high)) ⊎ IsTrue (list_any (same_type (type.Ordinal l h)) r.types)
+    go true t = inr t
+    go false t = either (same_type (type.Ordinal l h) (type.Ordinal low high)) (list_any (same_type (type.Ordinal l h)) r.types) t
+
+-- no fewer types are counted
+met_types-le : (t : TypeValue) (r : Resources) → length r.types ≤ length (met t r).types
+met_types-le t r = go (list_any (same_type t) r.types)
+  where
+    go : (b : Bool) → length r.types ≤ length (watched (if b then r else record r { types = t ∷ r.types; words = r.words + 1 })).types
+    go true = omega arith
+    go false = omega arith
+
+-- a type that is not among them is counted
+met_new : (t : TypeValue) (r : Resources) → (IsTrue (list_any (same_type t) r.types) → ⊥) → (suc (length r.types) ≤ length (met t r).types) × (suc r.words ≤ (met t r).words)
+met_new t r n = go (list_any (same_type t) r.types) n
+  where
+    go : (b : Bool) → (IsTrue b → ⊥) → (suc (length r.types) ≤ length (watched (if b then r else record r { types = t ∷ r.types; words = r.words + 1 })).types) × (suc r.words ≤ (watched (if b then r else record r { types = t ∷ r.types; words = r.words + 1 })).words)
+    go true f = absurd (f refl)
+    go false f = (omega arith, omega arith)
+
+-- the same bounds
+same_bounds : (low high l h : ℤ) → IsTrue (same_type (type.Ordinal l h) (type.Ordinal low high)) → (l ≡ low) × (h ≡ high)
+same_bounds low high l h t = let p = both (int_le l low && int_le low l) (int_le h high && int_le high h) t in (same_number l low p.0, same_number h high p.1)
+
+-- the type has a number already
+pub types-found : {r : Resources} {types : TypeTable} (low high : ℤ) (n : ℕ) → MatchesTypes r types → ordinal_number low high types ≡ Some n → MatchesTypes (met (type.Ordinal low high) r) types
+types-found {r = r} {types = types} low high n m found =
+    record {
+      first = m.first;
+      known = λ l h t. known l h (met_among low high l h r t);
+      sized = m.sized;
+      count = omega (arith, m.count, met_types-le (type.Ordinal low high) r);
+    }
+  where
+    known : (l h : ℤ) → IsTrue (same_type (type.Ordinal l h) (type.Ordinal low high)) ⊎ IsTrue (list_any (same_type (type.Ordinal l h)) r.types) → (k : ℕ) × (ordinal_number l h types ≡ Some k)
+    known l h (inl t) = let e = same_bounds low high l h t in (n, (λ i. ordinal_number (e.0 i) (e.1 i) types) ∙ found)
+    known l h (inr t) = m.known l h t
+
+-- a type without a number was never met
+not_known : {r : Resources} {types : TypeTable} (low high : ℤ) → MatchesTypes r types → ordinal_number low high types ≡ None → IsTrue (list_any (same_type (type.Ordinal low high)) r.types) → ⊥
+not_known low high m none t = let k = m.known low high t in let e : ◌≡◌ {A = Option ℕ} None (Some k.0) = sym none ∙ k.1 in cc
+
+-- the type gets a new number
+pub types-added : {r : Resources} {types : TypeTable} (low high : ℤ) → MatchesTypes r types → ordinal_number low high types ≡ None → MatchesTypes (met (type.Ordinal low high) r) (types ++ ordinal_entry low high ∷ [])
+types-added {r = r} {types = types} low high m none =
+    record {
+      first = prefix_then m.first (record { rest = ordinal_entry low high ∷ []; is = refl });
+      known = λ l h t. known l h (met_among low high l h r t);
+      sized = λ n e at_n. sized n e (slice_get-push types (ordinal_entry low high) e n at_n);
+      count = let new = met_new (type.Ordinal low high) r (not_known low high m none) in omega (arith, m.count, new.0, length-append types (ordinal_entry low high ∷ []));
+    }
+  where
+    known : (l h : ℤ) → IsTrue (same_type (type.Ordinal l h) (type.Ordinal low high)) ⊎ IsTrue (list_any (same_type (type.Ordinal l h)) r.types) → (k : ℕ) × (ordinal_number l h (types ++ ordinal_entry low high ∷ []) ≡ Some k)
+    known l h (inl t) = position_from-new (λ (e : TypeEntry). is_ordinal l h e.kind) types (ordinal_entry low high) t
+    known l h (inr t) = let k = m.known l h t in (k.0, position_from-more (λ (e : TypeEntry). is_ordinal l h e.kind) types (ordinal_entry low high ∷ []) k.0 k.1)
+
+    sized : (n : ℕ) (e : TypeEntry) → (slice_get types n ≡ Some e) ⊎ ((n ≡ length types) × (e ≡ ordinal_entry low high)) → e.size ≡ 1
+    sized n e (inl h) = m.sized n e h
+    sized n e (inr h) = ap (λ (x : TypeEntry). x.size) h.1
+
+-- room is lost where so many words live, or so many types are counted
+pub lost_words : (r : Resources) → 4194305 ≤ r.words → IsTrue (watched r).lost
+lost_words r h = let full : nat_le r.words 4194304 ≡ false = grind (arith, nat_tests) in go r.lost (nat_le r.words 4194304) (nat_le (length r.types) 262000) full
+  where
+    go : (lost a b : Bool) → a ≡ false → IsTrue (lost || not (a && b))
+    go true a b e = refl
+    go false true b e = cc
+    go false false b e = refl
+
+pub lost_types : (r : Resources) → 262001 ≤ length r.types → IsTrue (watched r).lost
+lost_types r h = let full : nat_le (length r.types) 262000 ≡ false = grind (arith, nat_tests) in go r.lost (nat_le r.words 4194304) (nat_le (length r.types) 262000) full
+  where
+    go : (lost a b : Bool) → b ≡ false → IsTrue (lost || not (a && b))
+    go true a b e = refl
+    go false true true e = cc
+    go false true false e = refl
+    go false false b e = refl
+
+-- ---- TOrd
+
+-- the memory with one more type
+abbrev pub with_entry : TypeEntry → Memory → Memory
+with_entry e memory = record memory { types = memory.types ++ e ∷ []; live = memory.live + 1 }
+
+-- a number keeps its type in a longer table
+pub described-longer : (types longer : TypeTable) (n : ℕ) (t : TypeValue) → IsPrefix types longer → Describes types n t → Describes longer n t
+described-longer types longer n (type.Ordinal low high) p h = slice_get-prefix types longer n (ordinal_entry low high) p h
+described-longer types longer n type.Text p h = slice_get-prefix types longer n text_entry p h
+
+-- Matching with another table of types, where no number changes its type.
+pub matches-types : {declared : Declarations} {G : Image} {injection : Injection} {s : meaning.State} {memory : Memory} (resources : Resources) (types : TypeTable) (live : ℕ) → IsPrefix memory.types types → MatchesTypes resources types → live ≤ resources.words
+    → Matches declared G injection s memory → Matches declared G injection (record s { resources = resources }) (record memory { types = types; live = live })
+matches-types {memory = memory} resources types live longer known fits m =
+    record {
+      made = m.made;
+      represented = λ n segment allocation is_in at_n. represents segment allocation (m.represented n segment allocation is_in at_n);
+      apart = m.apart;
+      within = m.within;
+      output = m.output;
+      frames = λ unit u is_unit. let f = m.frames unit u is_unit in record { slots = f.slots; is = f.is; count = f.count; matches = f.matches };
+      typed = m.typed;
+      types = known;
+      live = fits;
+    }
+  where
+    represents : (segment : ℕ) (allocation : Allocation) → Represents memory.segments memory.types segment allocation → Represents memory.segments types segment allocation
+    represents segment allocation r = record { type_number = r.type_number; stands = r.stands; described = described-longer memory.types types r.type_number allocation.type_value longer r.described; value = r.value }
+
+-- grown by a longer table alone
+grown-types : (injection : Injection) (memory : Memory) (types : TypeTable) (live : ℕ) → IsPrefix memory.types types → Grown injection memory injection (record memory { types = types; live = live })
+grown-types injection memory types live longer =
+    let g = grown_refl injection memory in
+    record { larger = g.larger; types = longer; segments = g.segments; hidden = g.hidden; others = g.others; typed = g.typed; ended = g.ended }
+
+-- what TOrd leads to: the type's number on top, and the state that has met the type
+pub record Elaborates (declared : Declarations) (G : Image) (injection : Injection) (memory : Memory) (place : ℕ) (below : List Operand) (t : TypeValue) (k : State) (s : meaning.State) : Type 0 where
+  pub number : ℕ
+  pub final : Memory
+  pub does : outcome G k ≡ record { weight = 0; to = Running 0 (at (place + 1) (Word (pos number) ∷ below) final s.trace) }
+  pub matches : Matches declared G injection (meaning.with_type t s) final
+  pub described : Describes final.types number t
+  pub grown : Grown injection memory injection final
+  pub routine : SameRoutine memory.frames final.frames
+
+-- `TOrd`
+abbrev pub ordinal_instr : ℕ → Instr
+ordinal_instr line = record { op = 51; a = pos 0; b = 0; line = line }
+
+-- the state before it
+abbrev pub before_type : ℕ → ℤ → ℤ → List Operand → Memory → Trace → State
+before_type place low high below memory trace = at place (Word high ∷ Word low ∷ below) memory trace
+
+abbrev fits_one_more : State → Bool
+fits_one_more k = ltb (length k.types) type_limit && ltb k.live live_limit
+
+-- what it leads to where the type has no number yet
+abbrev adds : Image → Instr → State → TypeEntry → List Operand → Bool → Going
+adds G i k e below b = after G i k (mapped (with_typing k) (cond b (Continues (record { operands = Word (pos (length k.types)) ∷ below; types = k.types ++ e ∷ []; live = k.live + 1 })) (Fails 24)))
+
+module _ (G : Image) (place line : ℕ) (low high : ℤ) (below : List Operand) (memory : Memory) (trace : Trace) where
+  -- by what number the type has
+  ordinal_outcome : IsTrue (int_le low high) → (o : Option ℕ) → ordinal_number low high memory.types ≡ o → slice_get G.instructions place ≡ Some (ordinal_instr line)
+      → outcome G (before_type place low high below memory trace) ≡ record { weight = 0; to = after G (ordinal_instr line) (before_type place low high below memory trace) (mapped (with_typing (before_type place low high below memory trace)) (interned o (ordinal_entry low high) below (typing (before_type place low high below memory trace)))) }
+  ordinal_outcome ordered o is fetch =
+      let k = before_type place low high below memory trace in
+      ap (λ x. outcome_of G x k) fetch
+      ∙ ap (λ b. record { weight = 0; to = after G (ordinal_instr line) k (mapped (with_typing k) (cond b (interned (ordinal_number low high memory.types) (ordinal_entry low high) below (typing k)) (Fails 5))) }) ordered
+      ∙ ap (λ x. record { weight = 0; to = after G (ordinal_instr line) k (mapped (with_typing k) (interned x (ordinal_entry low high) below (typing k))) }) is
+
+-- the limits are not met, or room is lost
+full_lost : (a b : ℕ) (r : Resources) → (ltb a 1048576 && ltb b 16777216) ≡ false → a ≤ length r.types + 5 → b ≤ r.words → IsTrue (watched r).lost
+full_lost a b r full few live = go (ltb a 1048576) refl
+  where
+    go : (x : Bool) → ltb a 1048576 ≡ x → IsTrue (watched r).lost
+    go true e = lost_words r (let f : ltb b 16777216 ≡ false = sym (ap (λ y. y && ltb b 16777216) e) ∙ full in grind (arith, nat_tests))
+    go false e = lost_types r (grind (arith, nat_tests))
+
+met_lost : (a b : ℕ) (t : TypeValue) (r : Resources) → (IsTrue (list_any (same_type t) r.types) → ⊥) → (ltb a 1048576 && ltb b 16777216) ≡ false → a ≤ length r.types + 5 → b ≤ r.words → IsTrue (met t r).lost
+met_lost a b t r new full few live = go (list_any (same_type t) r.types) new
+  where
+    go : (x : Bool) → (IsTrue x → ⊥) → IsTrue (watched (if x then r else record r { types = t ∷ r.types; words = r.words + 1 })).lost
+    go true n = absurd (n refl)
+    go false n = full_lost a b (record r { types = t ∷ r.types; words = r.words + 1 }) full (omega (arith, few)) (omega (arith, live))
+
+-- The type is met, or the machine ends for want of storage where room is lost.
+pub elaborates : {declared : Declarations} {G : Image} {injection : Injection} {memory : Memory} (place line : ℕ) (low high : ℤ) (below : List Operand) (s : meaning.State) → IsTrue (int_le low high) → slice_get G.instructions place ≡ Some (ordinal_instr line) → Matches declared G injection s memory
+    → Elaborates declared G injection memory place below (type.Ordinal low high) (before_type place low high below memory s.trace) s ⊎ GivesUp G (before_type place low high below memory s.trace) (meaning.with_type (type.Ordinal low high) s)
+elaborates {declared} {G} {injection} {memory} place line low high below s ordered fetch m = by_number (ordinal_number low high memory.types) refl
+  where
+    added : (b : Bool) → fits_one_more (before_type place low high below memory s.trace) ≡ b → ordinal_number low high memory.types ≡ None → Elaborates declared G injection memory place below (type.Ordinal low high) (before_type place low high below memory s.trace) s ⊎ GivesUp G (before_type place low high below memory s.trace) (meaning.with_type (type.Ordinal low high) s)
+    added true fits none =
+        inl (record {
+          number = length memory.types;
+          final = with_entry (ordinal_entry low high) memory;
+          does = ordinal_outcome G place line low high below memory s.trace ordered None none fetch ∙ ap (λ b. record { weight = 0; to = adds G (ordinal_instr line) (before_type place low high below memory s.trace) (ordinal_entry low high) below b }) fits;
+          matches = matches-types (met (type.Ordinal low high) s.resources) (memory.types ++ ordinal_entry low high ∷ []) (memory.live + 1) (record { rest = ordinal_entry low high ∷ []; is = refl }) (types-added low high m.types none)
+              (let new = met_new (type.Ordinal low high) s.resources (not_known low high m.types none) in omega (arith, new.1, m.live)) m;
+          described = slice_get-pushed memory.types (ordinal_entry low high);
+          grown = grown-types injection memory (memory.types ++ ordinal_entry low high ∷ []) (memory.live + 1) (record { rest = ordinal_entry low high ∷ []; is = refl });
+          routine = same_routine-refl memory.frames;
+        })
+    added false full none =
+        inr (record {
+          lost = met_lost (length memory.types) memory.live (type.Ordinal low high) s.resources (not_known low high m.types none) full m.types.count m.live;
+          ticks = 1;
+          number = 24;
+          is_limit = inl refl;
+          unit = unit_name G (before_type place low high below memory s.trace);
+          line = line;
+          trace = s.trace;
+          runs = ap (λ o. and_then (tick_of 0 (before_type place low high below memory s.trace) o) (run G 0)) (ordinal_outcome G place line low high below memory s.trace ordered None none fetch ∙ ap (λ b. record { weight = 0; to = adds G (ordinal_instr line) (before_type place low high below memory s.trace) (ordinal_entry low high) below b }) full);
+          begins = record { rest = []; is = sym (append-nil s.trace) };
+        })
+
+    by_number : (o : Option ℕ) → ordinal_number low high memory.types ≡ o → Elaborates declared G injection memory place below (type.Ordinal low high) (before_type place low high below memory s.trace) s ⊎ GivesUp G (before_type place low high below memory s.trace) (meaning.with_type (type.Ordinal low high) s)
+    by_number (Some n) found =
+        inl (record {
+          number = n;
+          final = memory;
+          does = ordinal_outcome G place line low high below memory s.trace ordered (Some n) found fetch;
+          matches = matches-types (met (type.Ordinal low high) s.resources) memory.types memory.live (record { rest = []; is = sym (append-nil memory.types) }) (types-found low high n m.types found) (omega (arith, m.live, met-words (type.Ordinal low high) s.resources)) m;
+          described = described-found low high n m.types found;
+          grown = grown_refl injection memory;
+          routine = same_routine-refl memory.frames;
+        })
+    by_number None none = added (fits_one_more (before_type place low high below memory s.trace)) refl none

@@ -1,0 +1,101 @@
+-- What stands in the store where a state of the machine matches.
+use Rattle.std.proofs.Common.{◌≡◌, ℕ, ℤ, pos, negsuc, zero, suc, ◌<◌, Bool, true, false, ◌&&◌, IsTrue, List, [], ◌∷◌, length, Some, slice_get, refl, sym, ap, ◌∙◌, subst, arith}
+use Rattle.std.proofs.lemmas.Bool.Decides.{nat_tests}
+use Rattle.std.proofs.lemmas.Option.{slice_get_within, same_Some}
+use Rattle.std.specs.Prelude.{int_le, int_lt}
+use Rattle.ep_object.specs.Matching.{Memory, Injection, IsIn, IsPlaceOf, Describes, Represents, Matches}
+use Rattle.ep_object.specs.State.{TypeTable, text_entry, undefined}
+use Rattle.ep_object.specs.Types.{ordinal_entry}
+use Rattle.ep_object.specs.declared.code.Image.{Image}
+use Rattle.ep_object.specs.declared.state.Place.{Place}
+use Rattle.ep_object.specs.declared.state.TypeEntry.{TypeEntry}
+use Rattle.ep_typed.specs.Operations.{is_integer}
+use Rattle.ep_typed.specs.Steps.{Allocation, allocation_at, type_in, is_within}
+use Rattle.ep_typed.specs.Steps as meaning
+use Rattle.ep_typed.specs.Valid.{Declarations, is_of_host, least, greatest, IsTypeOf}
+use Rattle.ep_typed.specs.declared.types.Host.{Host}
+use Rattle.ep_typed.specs.declared.types.TypeValue.{TypeValue}
+use Rattle.ep_typed.specs.declared.types.TypeValue.TheVariants as type
+
+-- an element that is there
+pub slice_get-some : {A : Type 0} (xs : List A) (k : ℕ) → k < length xs → (x : A) × (slice_get xs k ≡ Some x)
+slice_get-some [] k h = absurd (omega arith)
+slice_get-some (x ∷ xs) zero h = (x, refl)
+slice_get-some (x ∷ xs) (suc k) h = slice_get-some xs k (omega arith)
+
+-- the allocation at a place, and what the segment has of it
+pub record Stands (s : meaning.State) (memory : Memory) (n : ℕ) (place : Place) : Type 0 where
+  pub allocation : Allocation
+  pub is : allocation_at s.allocations n ≡ Some allocation
+  pub represents : Represents memory.segments memory.types place.segment allocation
+  pub type_number : place.type_number ≡ represents.type_number
+
+-- an allocation that is somewhere has been made
+pub allocated : (injection : Injection) (s : meaning.State) (n segment : ℕ) → length injection ≡ length s.allocations → IsIn injection n segment → (a : Allocation) × (allocation_at s.allocations n ≡ Some a)
+allocated injection s zero segment made h = absurd h
+allocated injection s (suc n) segment made h =
+    let w : n < length injection = slice_get_within injection n segment h in
+    slice_get-some s.allocations n (omega arith)
+
+-- at the place of an allocation stands that allocation
+pub place_stands : {declared : Declarations} {G : Image} {injection : Injection} {s : meaning.State} {memory : Memory} {n : ℕ} {place : Place} → Matches declared G injection s memory → IsPlaceOf injection memory.segments n place → Stands s memory n place
+place_stands {injection = injection} {s = s} {memory = memory} {n = n} {place = place} matches place_of =
+    let a = allocated injection s n place.segment matches.made place_of.is_in in
+    let r : Represents memory.segments memory.types place.segment a.0 = matches.represented n place.segment a.0 place_of.is_in a.1 in
+    record { allocation = a.0; is = a.1; represents = r; type_number = place_of.typed (record { type_number = r.type_number; words = _ }) r.stands }
+
+-- a type describes one type value
+pub described-same : (types : TypeTable) (n : ℕ) (t : TypeValue) (low high : ℤ) → Describes types n t → Describes types n (type.Ordinal low high) → t ≡ type.Ordinal low high
+described-same types n (type.Ordinal l h) low high p q =
+    let e : ordinal_entry l h ≡ ordinal_entry low high = same_Some (ordinal_entry l h) (ordinal_entry low high) (sym p ∙ q) in
+    let k : (ordinal_entry l h).kind ≡ (ordinal_entry low high).kind = ap (λ (x : TypeEntry). x.kind) e in
+    cc
+described-same types n type.Text low high p q =
+    let e : text_entry ≡ ordinal_entry low high = same_Some text_entry (ordinal_entry low high) (sym p ∙ q) in
+    let k : text_entry.kind ≡ (ordinal_entry low high).kind = ap (λ (x : TypeEntry). x.kind) e in
+    cc
+
+-- the type of a place of a variable describes the type of its declaration
+pub place_described : {declared : Declarations} {G : Image} {injection : Injection} {s : meaning.State} {memory : Memory} {n : ℕ} {place : Place} (t : TypeValue) → Matches declared G injection s memory → IsPlaceOf injection memory.segments n place → meaning.type_at n s ≡ t → Describes memory.types place.type_number t
+place_described {s = s} {memory = memory} {n = n} {place = place} t matches place_of typed =
+    let x : Stands s memory n place = place_stands matches place_of in
+    let a : Allocation = x.allocation in
+    let r : Represents memory.segments memory.types place.segment a = x.represents in
+    let e : a.type_value ≡ t = sym (ap type_in x.is) ∙ typed in
+    subst (λ k. Describes memory.types k t) (sym x.type_number) (subst (λ y. Describes memory.types r.type_number y) e r.described)
+
+-- ---- values of types
+
+-- numbers that are at most one after another
+pub int_le-trans : (a b c : ℤ) → IsTrue (int_le a b) → IsTrue (int_le b c) → IsTrue (int_le a c)
+int_le-trans (pos a) (pos b) (pos c) p q = grind (arith, nat_tests)
+int_le-trans (pos a) (pos b) (negsuc c) p q = grind (arith, nat_tests)
+int_le-trans (pos a) (negsuc b) c p q = cc
+int_le-trans (negsuc a) b (pos c) p q = refl
+int_le-trans (negsuc a) (pos b) (negsuc c) p q = cc
+int_le-trans (negsuc a) (negsuc b) (negsuc c) p q = grind (arith, nat_tests)
+
+-- both of two tests
+pub both : (a b : Bool) → IsTrue (a && b) → IsTrue a × IsTrue b
+both true true h = (refl, refl)
+both true false h = cc
+both false b h = cc
+
+-- a value of a type is one of its host
+pub within_host : (h : Host) (low high w : ℤ) → IsTypeOf h (type.Ordinal low high) → IsTrue (is_within (type.Ordinal low high) w) → IsTrue (is_of_host h w)
+within_host h low high w t p =
+    let x = both (int_le low w) (int_le w high) p in
+    let l = both (int_le (least h) low) (int_le low (greatest h)) t.1 in
+    let g = both (int_le (least h) high) (int_le high (greatest h)) t.2 in
+    rw (int_le-trans (least h) low w l.0 x.0, int_le-trans w high (greatest h) x.1 g.1) refl
+
+-- a word of a type is not the undefined one
+pub word_defined : (low high w : ℤ) → IsTrue (is_integer low) → IsTrue (is_within (type.Ordinal low high) w) → int_lt undefined w ≡ true
+word_defined low high (pos n) i p = refl
+word_defined low high (negsuc n) i p =
+    let x = both (int_le low (negsuc n)) (int_le (negsuc n) high) p in
+    let y = both (int_le (negsuc 9223372036854775806) low) (int_le low (pos 9223372036854775807)) i in
+    above n (int_le-trans (negsuc 9223372036854775806) low (negsuc n) y.0 x.0)
+  where
+    above : (n : ℕ) → IsTrue (int_le (negsuc 9223372036854775806) (negsuc n)) → int_lt undefined (negsuc n) ≡ true
+    above n h = grind (arith, nat_tests)

@@ -1,0 +1,106 @@
+-- A run of a machine that follows a computation tells what the computation comes to.
+use Rattle.std.proofs.Common.{◌≡◌, ℕ, zero, suc, ◌+◌, ◌-◌, ◌*◌, ◌≤◌, ◌⊎◌, inl, inr, IsTrue, refl, sym, ap, ◌∙◌, subst, arith}
+use Rattle.ep_outside.specs.Known.{IsPrefix}
+use Rattle.ep_typed.specs.Events.{Trace}
+use Rattle.ep_typed.specs.Steps.{Outcome, Gives, Ends, Cut, state_of}
+use Rattle.ep_typed.specs.Steps as meaning
+use Rattle.ep_object.specs.Follows.{Meets, GivesUp, end_of}
+use Rattle.ep_object.specs.Runs.{run, run_from, tick, and_then, trace_of}
+use Rattle.ep_object.specs.State.{State, End, Going, Running, Stopped, Error}
+use Rattle.ep_object.specs.Tells.{EndsSo, RanOut, StillGoes, GoesOn, Tells, spare_ticks}
+use Rattle.ep_object.specs.declared.code.Image.{Image}
+use Rattle.ep_object.proofs.Grows.{prefix_then}
+use Rattle.ep_object.proofs.Views.{runs_extend, ends_stay, events_grow}
+
+cases : (a b : ℕ) → (a ≤ b) ⊎ (b ≤ a)
+cases zero b = inl (omega arith)
+cases (suc a) zero = inr (omega arith)
+cases (suc a) (suc b) = elim (cases a b) [ inl x ↦ inl (omega arith) | inr x ↦ inr (omega arith) ]
+
+-- what holds of no state
+abbrev pub Never : {A : Type 0} → A → meaning.State → State → Type 0
+Never a s k = ⊥
+
+module _ (G : Image) (k : State) where
+  -- so many ticks from the state
+  abbrev after_ticks : ℕ → Going
+  after_ticks t = run_from G t (Running 0 k)
+
+  -- a run that has ended has ended at any later tick
+  ended_later : (t u : ℕ) (end : End) (trace : Trace) → t ≤ u → after_ticks t ≡ Stopped end trace → after_ticks u ≡ Stopped end trace
+  ended_later t u end trace le h = ap after_ticks (sum t u le) ∙ ends_stay G t (u - t) (Running 0 k) end trace h
+    where
+      sum : (t u : ℕ) → t ≤ u → u ≡ t + (u - t)
+      sum t u le = omega arith
+
+  -- a run has one end
+  stopped_same : (x y : End) (a b : Trace) → ◌≡◌ {A = Going} (Stopped x a) (Stopped y b) → (x ≡ y) × (a ≡ b)
+  stopped_same x y a b h = (cc, cc)
+
+  one_end : (t u : ℕ) (x y : End) (a b : Trace) → after_ticks t ≡ Stopped x a → after_ticks u ≡ Stopped y b → (x ≡ y) × (a ≡ b)
+  one_end t u x y a b h i = stopped_same x y a b (sym (ended_later t (t + u) x a (omega arith) h) ∙ ended_later u (t + u) y b (omega arith) i)
+
+  -- it does not run where it has ended
+  not_both : (wait : ℕ) (s : State) (x : End) (a : Trace) → ◌≡◌ {A = Going} (Running wait s) (Stopped x a) → ⊥
+  not_both wait s x a h = cc
+
+  running_before : (t u wait : ℕ) (s : State) (x : End) (a : Trace) → after_ticks t ≡ Running wait s → after_ticks u ≡ Stopped x a → u ≤ t → ⊥
+  running_before t u wait s x a h i le = not_both wait s x a (sym h ∙ ended_later u t x a le i)
+
+  -- the events grow
+  events_later : (t u : ℕ) → t ≤ u → IsPrefix (trace_of (after_ticks t)) (trace_of (after_ticks u))
+  events_later t u le =
+      subst (λ g. IsPrefix (trace_of (after_ticks t)) (trace_of g)) (sym (ap after_ticks (sum t u le) ∙ runs_extend G t (u - t) (Running 0 k))) (events_grow G (u - t) (after_ticks t))
+    where
+      sum : (t u : ℕ) → t ≤ u → u ≡ t + (u - t)
+      sum t u le = omega arith
+
+  events_between : (t u : ℕ) (g h : Going) → t ≤ u → after_ticks t ≡ g → after_ticks u ≡ h → IsPrefix (trace_of g) (trace_of h)
+  events_between t u g h le i j = subst (λ x. IsPrefix (trace_of x) (trace_of h)) i (subst (λ x. IsPrefix (trace_of (after_ticks t)) (trace_of x)) j (events_later t u le))
+
+  -- the tick at which a run ends
+  ends_after : (t wait : ℕ) (last : State) (x : End) (a : Trace) → after_ticks t ≡ Running wait last → tick G wait last ≡ Stopped x a → after_ticks (t + 1) ≡ Stopped x a
+  ends_after t wait last x a h i = runs_extend G t 1 (Running 0 k) ∙ (ap (run_from G 1) h ∙ ap (λ g. and_then g (run G 0)) i)
+
+module _ {A : Type 0} (G : Image) (k : State) (come : ℕ → Outcome A) (e : A → ℕ) (follows : (m : ℕ) → Meets G k m Never spare_ticks e (come m) ⊎ GivesUp G k (state_of (come m))) where
+  -- a run that has ended
+  tells_end : (t : ℕ) (end : End) (trace : Trace) → run G t 0 k ≡ Stopped end trace → EndsSo come end trace ⊎ RanOut come end trace
+  tells_end t end trace h = go (come (64 * t + spare_ticks)) refl (follows (64 * t + spare_ticks))
+    where
+      go : (o : Outcome A) → come (64 * t + spare_ticks) ≡ o → Meets G k (64 * t + spare_ticks) Never spare_ticks e o ⊎ GivesUp G k (state_of o) → EndsSo come end trace ⊎ RanOut come end trace
+      go (Gives left a s) is (inl x) = absurd x.post
+      go (Ends left end2 s) is (inl x) =
+          let same = one_end G k t (x.ticks + 1) end (end_of end2) trace s.trace h (ends_after G k x.ticks x.wait x.last (end_of end2) s.trace x.runs x.ends) in
+          inl (record { steps = 64 * t + spare_ticks; left = left; its_end = end2; state = s; is = is; same_end = same.0; same_trace = same.1 })
+      go (Cut s) is (inl x) = absurd (running_before G k x.ticks t x.wait x.to end trace x.runs h (omega (arith, x.slow)))
+      go o is (inr x) =
+          let same = one_end G k t x.ticks end (Error x.number x.unit x.line) trace x.trace h x.runs in
+          inr (record { steps = 64 * t + spare_ticks; lost = subst (λ y. IsTrue (state_of y).resources.lost) (sym is) x.lost; number = x.number; unit = x.unit; line = x.line; is = same.0; is_limit = x.is_limit; begins = subst (λ y. IsPrefix trace (state_of y).trace) (sym is) (subst (λ y. IsPrefix y (state_of o).trace) (sym same.1) x.begins) })
+
+  -- a run that goes on
+  tells_more : (t wait : ℕ) (s : State) → run G t 0 k ≡ Running wait s → GoesOn come t s.trace
+  tells_more t wait s h = record { steps = 64 * t + spare_ticks; begins = front (come (64 * t + spare_ticks)) (follows (64 * t + spare_ticks)); all = λ m few. still m few (come m) refl (follows m) }
+    where
+      later : (u : ℕ) (end : End) (trace : Trace) → run G u 0 k ≡ Stopped end trace → IsPrefix s.trace trace
+      later u end trace i = elim (cases t u) [ inl le ↦ events_between G k t u (Running wait s) (Stopped end trace) le h i | inr le ↦ absurd (running_before G k t u wait s end trace h i le) ]
+
+      front : (o : Outcome A) → Meets G k (64 * t + spare_ticks) Never spare_ticks e o ⊎ GivesUp G k (state_of o) → IsPrefix s.trace (state_of o).trace
+      front (Gives left a s2) (inl x) = absurd x.post
+      front (Ends left end s2) (inl x) = later (x.ticks + 1) (end_of end) s2.trace (ends_after G k x.ticks x.wait x.last (end_of end) s2.trace x.runs x.ends)
+      front (Cut s2) (inl x) = subst (λ y. IsPrefix s.trace y) x.same (events_between G k t x.ticks (Running wait s) (Running x.wait x.to) (omega (arith, x.slow)) h x.runs)
+      front o (inr x) = prefix_then (later x.ticks (Error x.number x.unit x.line) x.trace x.runs) x.begins
+
+      still : (m : ℕ) → 64 * m + spare_ticks ≤ t → (o : Outcome A) → come m ≡ o → Meets G k m Never spare_ticks e o ⊎ GivesUp G k (state_of o) → StillGoes (come m) s.trace ⊎ IsTrue (state_of (come m)).resources.lost
+      still m few (Gives left a s2) is (inl x) = absurd x.post
+      still m few (Ends left end s2) is (inl x) =
+          let pays = x.pays in
+          absurd (running_before G k t (x.ticks + 1) wait s (end_of end) s2.trace h (ends_after G k x.ticks x.wait x.last (end_of end) s2.trace x.runs x.ends) (omega (arith, pays.fast, pays.all)))
+      still m few (Cut s2) is (inl x) = inl (record { state = s2; is = is; begins = subst (λ y. IsPrefix y s.trace) x.same (events_between G k x.ticks t (Running x.wait x.to) (Running wait s) (omega (arith, x.fast)) x.runs h) })
+      still m few o is (inr x) = inr (subst (λ y. IsTrue (state_of y).resources.lost) (sym is) x.lost)
+
+  pub tells : (t : ℕ) → Tells come t (run G t 0 k)
+  tells t = go (run G t 0 k) refl
+    where
+      go : (g : Going) → run G t 0 k ≡ g → Tells come t g
+      go (Running wait s) h = tells_more t wait s h
+      go (Stopped end trace) h = tells_end t end trace h

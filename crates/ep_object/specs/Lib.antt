@@ -1,0 +1,16 @@
+pub mod Control
+pub mod Effects
+pub mod Follows
+pub mod Laws
+pub mod Matching
+pub mod Operands
+pub mod Places
+pub mod Placing
+pub mod Runs
+pub mod Scene
+pub mod State
+pub mod Table
+pub mod Tells
+pub mod Texts
+pub mod Types
+pub mod WordRows

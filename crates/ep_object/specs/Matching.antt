@@ -1,0 +1,130 @@
+-- When a state of the machine matches a state of the meaning.
+use Rattle.std.specs.Prelude.{◌≡◌, ℕ, ℤ, zero, suc, ◌+◌, ◌≤◌, IsTrue, List, [], ◌∷◌, length, slice_get, Option, Some, None, ⊤}
+use Rattle.std.specs.List.{list_any}
+use Rattle.ep_outside.specs.Known.{IsPrefix}
+use Rattle.ep_typed.specs.Events.{Trace}
+use Rattle.ep_typed.specs.Operations.{is_integer}
+use Rattle.ep_typed.specs.Steps.{Value, Undefined, Allocation, Resources, is_within, same_type}
+use Rattle.ep_typed.specs.Steps as meaning
+use Rattle.ep_typed.specs.Valid.{Declarations}
+use Rattle.ep_typed.specs.declared.types.TypeValue.{TypeValue}
+use Rattle.ep_typed.specs.declared.types.TypeValue.TheVariants as type
+use Rattle.ep_typed.specs.declared.unit.UnitVariable.{UnitVariable}
+use Rattle.ep_object.specs.Operands.{Operand}
+use Rattle.ep_object.specs.State.{Frames, Segments, TypeTable, State, text_entry, first_types, undefined}
+use Rattle.ep_object.specs.Types.{ordinal_entry, ordinal_number}
+use Rattle.ep_object.specs.declared.code.Image.{Image}
+use Rattle.ep_object.specs.declared.code.ImageUnit.{ImageUnit}
+use Rattle.ep_object.specs.declared.state.Place.{Place}
+use Rattle.ep_object.specs.declared.state.Segment.{Segment}
+use Rattle.ep_object.specs.declared.state.TypeEntry.{TypeEntry}
+
+-- what a machine has besides its operands, the place in the code and its events
+pub record Memory : Type 0 where
+  pub frames : Frames
+  pub segments : Segments
+  pub types : TypeTable
+  pub live : ℕ
+
+-- the state at a place in the code
+abbrev pub at : ℕ → List Operand → Memory → Trace → State
+at place operands memory trace =
+    record {
+      place = place;
+      operands = operands;
+      frames = memory.frames;
+      segments = memory.segments;
+      types = memory.types;
+      live = memory.live;
+      trace = trace;
+    }
+
+-- The injection of allocations into segments: the segment of each allocation, in the order of making. The
+-- allocation of number 1, which is `input`, is its first item. Segments that are no item are hidden ones.
+abbrev pub Injection : Type 0
+Injection = List ℕ
+
+-- the allocation of this number is in the segment
+abbrev pub IsIn : Injection → ℕ → ℕ → Type 0
+IsIn injection zero segment = ⊥
+IsIn injection (suc n) segment = slice_get injection n ≡ Some segment
+
+-- the type of this number describes the type value
+abbrev pub Describes : TypeTable → ℕ → TypeValue → Type 0
+Describes types n (type.Ordinal low high) = slice_get types n ≡ Some (ordinal_entry low high)
+Describes types n type.Text = slice_get types n ≡ Some text_entry
+
+-- the words of a value
+abbrev pub layout : Value → List ℤ
+layout Undefined = undefined ∷ []
+layout (meaning.Word w) = w ∷ []
+
+-- a value of a type, whose bounds are integers
+abbrev pub IsValueOf : TypeValue → Value → Type 0
+IsValueOf (type.Ordinal low high) Undefined = IsTrue (is_integer low) × IsTrue (is_integer high)
+IsValueOf (type.Ordinal low high) (meaning.Word w) = IsTrue (is_integer low) × IsTrue (is_integer high) × IsTrue (is_within (type.Ordinal low high) w)
+IsValueOf type.Text Undefined = ⊤
+IsValueOf type.Text (meaning.Word w) = ⊥
+
+-- a segment has the words of an allocation, and its type describes the allocation's
+pub record Represents (segments : Segments) (types : TypeTable) (segment : ℕ) (allocation : Allocation) : Type 0 where
+  pub type_number : ℕ
+  pub stands : slice_get segments segment ≡ Some (Some (record { type_number = type_number; words = layout allocation.value }))
+  pub described : Describes types type_number allocation.type_value
+  pub value : IsValueOf allocation.type_value allocation.value
+
+-- a place is that of the whole allocation of this number
+pub record IsPlaceOf (injection : Injection) (segments : Segments) (n : ℕ) (place : Place) : Type 0 where
+  pub is_in : IsIn injection n place.segment
+  pub within : suc place.segment ≤ length segments
+  pub offset : place.offset ≡ 0
+  pub typed : (x : Segment) → slice_get segments place.segment ≡ Some (Some x) → place.type_number ≡ x.type_number
+
+-- a slot holds the place of a variable once it is made, and none before
+abbrev pub MatchesSlot : Injection → Segments → Option ℕ → Option Place → Type 0
+MatchesSlot injection segments None None = ⊤
+MatchesSlot injection segments None (Some place) = ⊥
+MatchesSlot injection segments (Some n) None = ⊥
+MatchesSlot injection segments (Some n) (Some place) = IsPlaceOf injection segments n place
+
+-- the frame of a unit has the places of its variables
+pub record MatchesFrame (injection : Injection) (s : meaning.State) (memory : Memory) (unit : ℕ) (u : ImageUnit) : Type 0 where
+  pub slots : List (Option Place)
+  pub is : slice_get memory.frames.units unit ≡ Some slots
+  pub count : length slots ≡ u.slots
+  pub matches : (k : ℕ) (slot : Option Place) → slice_get slots k ≡ Some slot → MatchesSlot injection memory.segments (s.variables u.name k) slot
+
+-- What the types of the machine have to do with those that the meaning counts: each that was elaborated has a
+-- number, and no more were added than were elaborated.
+pub record MatchesTypes (resources : Resources) (types : TypeTable) : Type 0 where
+  pub first : IsPrefix first_types types
+  pub known : (low high : ℤ) → IsTrue (list_any (same_type (type.Ordinal low high)) resources.types) → (n : ℕ) × (ordinal_number low high types ≡ Some n)
+  pub sized : (n : ℕ) (entry : TypeEntry) → slice_get types n ≡ Some entry → entry.size ≡ 1
+  pub count : length types ≤ length resources.types + 5
+
+-- the state of the meaning matches the machine's memory by the injection, where these variables are declared
+pub record Matches (declared : Declarations) (G : Image) (injection : Injection) (s : meaning.State) (memory : Memory) : Type 0 where
+  pub made : length injection ≡ length s.allocations
+  pub represented : (n segment : ℕ) (allocation : Allocation) → IsIn injection n segment → meaning.allocation_at s.allocations n ≡ Some allocation → Represents memory.segments memory.types segment allocation
+  pub apart : (m n segment : ℕ) → IsIn injection m segment → IsIn injection n segment → m ≡ n
+  pub within : (n segment : ℕ) → IsIn injection n segment → suc segment ≤ length memory.segments
+  pub output : IsIn injection 2 2
+  pub frames : (unit : ℕ) (u : ImageUnit) → slice_get G.units unit ≡ Some u → MatchesFrame injection s memory unit u
+  -- the allocation of a variable that is declared has the type of the declaration
+  pub typed : (unit : List ℕ) (k n : ℕ) (v : UnitVariable) → s.variables unit k ≡ Some n → declared unit k ≡ Some v → meaning.type_at n s ≡ v.type_value
+  pub types : MatchesTypes s.resources memory.types
+  pub live : memory.live ≤ s.resources.words
+
+-- a segment in which no allocation is
+abbrev pub IsHidden : Injection → ℕ → Type 0
+IsHidden injection segment = (n : ℕ) → IsIn injection n segment → ⊥
+
+-- The injection is a longer one, hidden segments are what they were, and no segment changes its type.
+pub record Grown (injection : Injection) (memory : Memory) (longer : Injection) (after : Memory) : Type 0 where
+  pub larger : IsPrefix injection longer
+  pub types : IsPrefix memory.types after.types
+  pub segments : length memory.segments ≤ length after.segments
+  pub hidden : (segment : ℕ) → suc segment ≤ length memory.segments → IsHidden injection segment → IsHidden longer segment
+  pub others : (segment : ℕ) → suc segment ≤ length memory.segments → IsHidden injection segment → slice_get after.segments segment ≡ slice_get memory.segments segment
+  pub typed : (segment : ℕ) (x y : Segment) → slice_get memory.segments segment ≡ Some (Some x) → slice_get after.segments segment ≡ Some (Some y) → y.type_number ≡ x.type_number
+  pub ended : (segment : ℕ) (y : Segment) → suc segment ≤ length memory.segments → slice_get after.segments segment ≡ Some (Some y) → (x : Segment) × (slice_get memory.segments segment ≡ Some (Some x))

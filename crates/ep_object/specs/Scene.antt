@@ -1,0 +1,29 @@
+-- What code needs of the image in which it stands: its texts, and the variables that it names.
+use Rattle.std.specs.Prelude.{◌≡◌, ℕ, pos, ◌+◌, ◌<◌, IsTrue, ltb, List, Some, slice_get}
+use Rattle.ep_object.specs.Placing.{Placement, placed_unit}
+use Rattle.ep_object.specs.declared.code.Image.{Image}
+use Rattle.ep_object.specs.declared.code.ImageUnit.{ImageUnit}
+use Rattle.ep_object.specs.declared.code.Instr.{Instr}
+use Rattle.ep_typed.specs.Valid.{Declarations, IsTypeOf}
+use Rattle.ep_typed.specs.declared.unit.UnitVariable.{UnitVariable}
+
+-- A text of an object stands in the image.
+pub record TextStands (G : Image) (p : Placement) (k : ℕ) (bytes : List ℕ) : Type 0 where
+  pub own : IsTrue (ltb k p.texts.own)
+  pub there : slice_get G.texts (p.texts.before + k) ≡ Some bytes
+
+-- A variable of a unit has a slot in the frame of that unit, and a `Unit` that names it is placed so.
+pub record VariableStands (G : Image) (ps : List Placement) (unit : List ℕ) (k : ℕ) : Type 0 where
+  pub number : ℕ
+  pub image_unit : ImageUnit
+  pub there : slice_get G.units number ≡ Some image_unit
+  pub named : image_unit.name ≡ unit
+  pub within : k < image_unit.slots
+  pub placed : (i : Instr) → placed_unit ps (Some (record { unit = unit; number = k })) i ≡ record i { a = pos number; b = k }
+
+-- The texts of an object and all variables that are declared stand in the image, and the types of the variables are
+-- those of their hosts.
+pub record Scene (declared : Declarations) (G : Image) (ps : List Placement) (p : Placement) (texts : List (List ℕ)) : Type 0 where
+  pub texts_stand : (k : ℕ) (bytes : List ℕ) → slice_get texts k ≡ Some bytes → TextStands G p k bytes
+  pub variables_stand : (unit : List ℕ) (k : ℕ) (v : UnitVariable) → declared unit k ≡ Some v → VariableStands G ps unit k
+  pub types_valid : (unit : List ℕ) (k : ℕ) (v : UnitVariable) → declared unit k ≡ Some v → IsTypeOf v.host v.type_value

@@ -1,0 +1,53 @@
+-- What a run of the machine tells of the computation that it follows. The computation is given by what it comes to
+-- with so many steps.
+use Rattle.std.specs.Prelude.{◌≡◌, ℕ, ◌+◌, ◌*◌, ◌≤◌, ◌⊎◌, IsTrue, List}
+use Rattle.ep_outside.specs.Known.{IsPrefix}
+use Rattle.ep_typed.specs.Events.{Trace}
+use Rattle.ep_typed.specs.Steps.{Outcome, Gives, Ends, Cut, state_of}
+use Rattle.ep_typed.specs.Steps as meaning
+use Rattle.ep_object.specs.Follows.{end_of}
+use Rattle.ep_object.specs.State.{End, Going, Running, Stopped, Error}
+
+-- the ticks that a run may spend besides 64 for each step
+abbrev pub spare_ticks : ℕ
+spare_ticks = 42
+
+-- the computation ends so too, after the same events
+pub record EndsSo {A : Type 0} (come : ℕ → Outcome A) (end : End) (trace : Trace) : Type 0 where
+  pub steps : ℕ
+  pub left : ℕ
+  pub its_end : meaning.End
+  pub state : meaning.State
+  pub is : come steps ≡ Ends left its_end state
+  pub same_end : end ≡ end_of its_end
+  pub same_trace : trace ≡ state.trace
+
+-- the computation has more words or types than every run has room for, and the machine has ended for want of storage
+-- or of depth
+pub record RanOut {A : Type 0} (come : ℕ → Outcome A) (end : End) (trace : Trace) : Type 0 where
+  pub steps : ℕ
+  pub lost : IsTrue (state_of (come steps)).resources.lost
+  pub number : ℕ
+  pub unit : List ℕ
+  pub line : ℕ
+  pub is : end ≡ Error number unit line
+  pub is_limit : (number ≡ 24) ⊎ (number ≡ 25)
+  pub begins : IsPrefix trace (state_of (come steps)).trace
+
+-- with so few steps the computation has not ended, and the events begin with all of its own
+pub record StillGoes {A : Type 0} (o : Outcome A) (trace : Trace) : Type 0 where
+  pub state : meaning.State
+  pub is : o ≡ Cut state
+  pub begins : IsPrefix state.trace trace
+
+-- The events of a run that has spent so many ticks are a front of those of the computation. They begin with all that
+-- the computation does in one step for 64 ticks, and it has not ended by then, but where room was lost.
+pub record GoesOn {A : Type 0} (come : ℕ → Outcome A) (ticks : ℕ) (trace : Trace) : Type 0 where
+  pub steps : ℕ
+  pub begins : IsPrefix trace (state_of (come steps)).trace
+  pub all : (m : ℕ) → 64 * m + spare_ticks ≤ ticks → StillGoes (come m) trace ⊎ IsTrue (state_of (come m)).resources.lost
+
+-- what a run tells that has ended, or has spent so many ticks
+abbrev pub Tells : {A : Type 0} → (ℕ → Outcome A) → ℕ → Going → Type 0
+Tells come ticks (Running wait s) = GoesOn come ticks s.trace
+Tells come ticks (Stopped end trace) = EndsSo come end trace ⊎ RanOut come end trace

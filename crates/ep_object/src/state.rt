@@ -1,0 +1,43 @@
+//! What the state of a machine is made of, where contracts and code see the same.
+
+use crate::code::Words;
+
+/// Where a variable is.
+#[derive(Clone, Copy, Debug, Drop)]
+pub struct Place {
+    /// The number of its segment.
+    pub segment: u64,
+    /// The words of the segment before it.
+    pub offset: u32,
+    /// The number of its type in the type table.
+    pub type_number: u32,
+}
+
+/// The words of an allocation, that is a variable of its own.
+#[derive(Debug, Drop)]
+pub struct Segment {
+    /// The number of its type in the type table.
+    pub type_number: u32,
+    /// Its words.
+    pub words: Words,
+}
+
+/// What kind of type it is.
+#[derive(Clone, Copy, Debug, Drop)]
+pub enum Kind {
+    /// An ordinal type with its bounds.
+    Ord(i64, i64),
+    /// A pointer type.
+    Pointer,
+    /// The type of text files.
+    Text,
+}
+
+/// An entry of the type table.
+#[derive(Clone, Copy, Debug, Drop)]
+pub struct TypeEntry {
+    /// Its kind.
+    pub kind: Kind,
+    /// How many words a variable of the type takes.
+    pub size: u32,
+}
