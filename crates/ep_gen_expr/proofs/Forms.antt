@@ -1,0 +1,134 @@
+-- The code of each form, from that of its parts.
+use Rattle.std.proofs.Common.{◌≡◌, ℕ, ℤ, pos, ◌<◌, ◌-◌, ◌^◌, length, slice_get, Some, arith, Result, Ok, Err, OnOk, Bool, List, [], ◌∷◌, ◌++◌, refl, sym, ap, ◌∙◌, subst, append_assoc, append-nil}
+use Rattle.ep_object.specs.declared.code.Instr.{Instr}
+use Rattle.ep_object.specs.declared.code.Reference.{Reference}
+use Rattle.ep_typed.specs.Trees.{Place, Variable, Expr, Constant, Text, Read, One, Two, Step}
+use Rattle.ep_typed.specs.declared.operations.Unary.{Unary}
+use Rattle.ep_typed.specs.declared.operations.Unary.TheVariants as unary
+use Rattle.ep_typed.specs.declared.operations.Binary.{Binary}
+use Rattle.ep_gen_expr.specs.ExprCode.{IsPlaceCode, IsExprCode, instr, reference, push, bare, one_code, two_code, count_code, step_code}
+use Rattle.ep_gen_expr.specs.Growth.{IsNowhere, Grows, NumbersText, NumbersReference, AppendsPlace, AppendsExpr}
+use Rattle.ep_gen_expr.specs.declared.code.Code.{Code}
+use Rattle.ep_gen_expr.proofs.Pushed.{table_same, table_then, table_pushed, get_later, get_last}
+use Rattle.ep_gen_expr.proofs.Stays.{place_code_stays, expr_code_stays, place_code_short, expr_code_short}
+
+pub grows_none : (a : Code) → Grows a a []
+grows_none a = record { instructions = sym (append-nil a.instructions); texts = table_same a.texts; references = table_same a.references; constant_types = refl; line = refl }
+
+pub grows_then : {a b c : Code} {is js : List Instr} → Grows a b is → Grows b c js → Grows a c (is ++ js)
+grows_then {a = a} {is = is} {js = js} p q = record {
+  instructions = q.instructions ∙ ap (λ l. l ++ js) p.instructions ∙ append_assoc a.instructions is js;
+  texts = table_then p.texts q.texts;
+  references = table_then p.references q.references;
+  constant_types = q.constant_types ∙ p.constant_types;
+  line = q.line ∙ p.line;
+}
+
+-- instructions that are determined by the line
+pub grows_at : (f : ℕ → List Instr) {a b c : Code} {is : List Instr} → Grows a b is → Grows b c (f b.line) → Grows a c (is ++ f a.line)
+grows_at f {a = a} {b = b} {c = c} {is = is} p q = subst (λ line. Grows a c (is ++ f line)) p.line (grows_then p q)
+
+-- two numbers
+pub grows_pair : {a b c : Code} (low high : ℤ) → Grows a b (push a.line low ∷ []) → Grows b c (push b.line high ∷ []) → Grows a c (push a.line low ∷ push a.line high ∷ [])
+grows_pair low high p q = grows_at (λ line. push line high ∷ []) p q
+
+-- what leaves a value as it is
+pub grows_kept : {a b c : Code} → Grows a b (bare a.line 3 ∷ []) → Grows b c (bare b.line 2 ∷ []) → Grows a c (bare a.line 3 ∷ bare a.line 2 ∷ [])
+grows_kept p q = grows_at (λ line. bare line 2 ∷ []) p q
+
+-- what checks a char
+pub grows_character : {a b c : Code} → Grows a b (push a.line (pos 0) ∷ push a.line (pos 255) ∷ []) → Grows b c (instr 39 (pos 14) 0 b.line ∷ []) → Grows a c (one_code a.line unary.Character)
+grows_character p q = grows_at (λ line. instr 39 (pos 14) 0 line ∷ []) p q
+
+-- what comes after two parts
+after_two : (f g : ℕ → List Instr) {a b c d : Code} {is : List Instr} → Grows a b is → Grows b c (f b.line) → Grows c d (g c.line) → Grows a d (is ++ (f a.line ++ g a.line))
+after_two f g {a = a} {d = d} {is = is} p q r = subst (λ l. Grows a d l) (append_assoc is (f a.line) (g a.line)) (grows_at g (grows_at f p q) r)
+
+-- what steps
+pub grows_step : {a b c d : Code} (down : Bool) (low high : ℤ) → Grows a b (count_code a.line down) → Grows b c (push b.line low ∷ push b.line high ∷ []) → Grows c d (bare c.line 40 ∷ []) → Grows a d (step_code a.line down low high)
+grows_step down low high p q r = after_two (λ line. push line low ∷ push line high ∷ []) (λ line. bare line 40 ∷ []) p q r
+
+-- the code of a part under the tables of the whole
+place_part : {a b c : Code} {is : List Instr} (x : Place) (p : AppendsPlace a b x) → Grows b c is → IsPlaceCode c.references a.line x p.code
+place_part {a = a} {b = b} {c = c} x p q = place_code_stays b.references c.references a.line x p.code q.references.begins p.is_code
+
+first_part : {a b c : Code} {is : List Instr} (x : Expr) (p : AppendsExpr a b x) → Grows b c is → IsExprCode c.texts c.references a.line x p.code
+first_part {a = a} {b = b} {c = c} x p q = expr_code_stays b.texts c.texts b.references c.references a.line q.texts.begins q.references.begins x p.code p.is_code
+
+second_part : {a b c d : Code} {is js : List Instr} (x : Expr) → Grows a b is → (p : AppendsExpr b c x) → Grows c d js → IsExprCode d.texts d.references a.line x p.code
+second_part {d = d} x g p q = subst (λ line. IsExprCode d.texts d.references line x p.code) g.line (first_part x p q)
+
+whole_expr : {a b : Code} (x : Expr) (code : List Instr) → IsExprCode b.texts b.references a.line x code → Grows a b code → AppendsExpr a b x
+whole_expr {a = a} {b = b} x code h g = record { code = code; is_code = h; grows = g; short = expr_code_short b.texts b.references a.line x code h }
+
+whole_place : {a b : Code} (x : Place) (code : List Instr) → IsPlaceCode b.references a.line x code → Grows a b code → AppendsPlace a b x
+whole_place {a = a} {b = b} x code h g = record { code = code; is_code = h; grows = g; short = place_code_short b.references a.line x code h }
+
+pub appends_variable : {a b c : Code} (unit : List ℕ) (number k : ℕ) → NumbersReference a b (reference unit number) k → Grows b c (instr 13 (pos k) 0 b.line ∷ []) → AppendsPlace a c (Variable unit number)
+appends_variable {a = a} unit number k p q =
+    whole_place (Variable unit number) (instr 13 (pos k) 0 a.line ∷ []) (k, get_later k (reference unit number) q.references.begins p.there, refl) (grows_at (λ line. instr 13 (pos k) 0 line ∷ []) p.grows q)
+
+pub appends_constant : {a b : Code} (z : ℤ) → Grows a b (push a.line z ∷ []) → AppendsExpr a b (Constant z)
+appends_constant {a = a} z g = whole_expr (Constant z) (push a.line z ∷ []) refl g
+
+pub appends_text : {a b c : Code} (bytes : List ℕ) (k : ℕ) → NumbersText a b bytes k → Grows b c (instr 1 (pos k) 0 b.line ∷ []) → AppendsExpr a c (Text bytes)
+appends_text {a = a} bytes k p q =
+    whole_expr (Text bytes) (instr 1 (pos k) 0 a.line ∷ []) (k, get_later k bytes q.texts.begins p.there, refl) (grows_at (λ line. instr 1 (pos k) 0 line ∷ []) p.grows q)
+
+pub appends_read : {a b c : Code} (place : Place) → AppendsPlace a b place → Grows b c (bare b.line 22 ∷ []) → AppendsExpr a c (Read place)
+appends_read {a = a} place p q =
+    whole_expr (Read place) (p.code ++ bare a.line 22 ∷ []) (p.code, place_part place p q, refl) (grows_at (λ line. bare line 22 ∷ []) p.grows q)
+
+pub appends_one : {a b c : Code} (operation : Unary) (x : Expr) → AppendsExpr a b x → Grows b c (one_code b.line operation) → AppendsExpr a c (One operation x)
+appends_one {a = a} operation x p q =
+    whole_expr (One operation x) (p.code ++ one_code a.line operation) (p.code, first_part x p q, refl) (grows_at (λ line. one_code line operation) p.grows q)
+
+-- what comes after two operands
+after_parts : (f : ℕ → List Instr) {a b c d : Code} {is js : List Instr} → Grows a b is → Grows b c js → Grows c d (f c.line) → Grows a d (is ++ (js ++ f a.line))
+after_parts f {a = a} {d = d} {is = is} {js = js} p q r = subst (λ l. Grows a d l) (append_assoc is js (f a.line)) (grows_at f (grows_then p q) r)
+
+pub appends_two : {a b c d : Code} (operation : Binary) (x y : Expr) → AppendsExpr a b x → AppendsExpr b c y → Grows c d (two_code c.line operation ∷ []) → AppendsExpr a d (Two operation x y)
+appends_two {a = a} operation x y p q r =
+    whole_expr (Two operation x y) (p.code ++ (q.code ++ two_code a.line operation ∷ [])) (p.code, q.code, first_part x p (grows_then q.grows r), second_part y p.grows q r, refl) (after_parts (λ line. two_code line operation ∷ []) p.grows q.grows r)
+
+pub appends_step : {a b c d : Code} (down : Bool) (low high : ℤ) (x n : Expr) → AppendsExpr a b x → AppendsExpr b c n → Grows c d (step_code c.line down low high) → AppendsExpr a d (Step down low high x n)
+appends_step {a = a} down low high x n p q r =
+    whole_expr (Step down low high x n) (p.code ++ (q.code ++ step_code a.line down low high)) (p.code, q.code, first_part x p (grows_then q.grows r), second_part n p.grows q r, refl) (after_parts (λ line. step_code line down low high) p.grows q.grows r)
+
+-- a new text at the end of the table
+new_text : (a : Code) (ts : List (List ℕ)) (bytes : List ℕ) (k : ℕ) → IsNowhere a.texts bytes → k ≡ length a.texts → k < 2 ^ 32 - 1 → ts ≡ a.texts ++ bytes ∷ [] → NumbersText a (record a { texts = ts }) bytes k
+new_text a ts bytes k new at few e = record {
+  there = ap (λ n. slice_get ts n) at ∙ ap (λ l. slice_get l (length a.texts)) e ∙ get_last a.texts bytes;
+  grows = record { instructions = sym (append-nil a.instructions); texts = table_pushed new (omega arith) e; references = table_same a.references; constant_types = refl; line = refl };
+}
+
+new_reference : (a : Code) (rs : List Reference) (r : Reference) (k : ℕ) → IsNowhere a.references r → k ≡ length a.references → k < 2 ^ 32 - 1 → rs ≡ a.references ++ r ∷ [] → NumbersReference a (record a { references = rs }) r k
+new_reference a rs r k new at few e = record {
+  there = ap (λ n. slice_get rs n) at ∙ ap (λ l. slice_get l (length a.references)) e ∙ get_last a.references r;
+  grows = record { instructions = sym (append-nil a.instructions); texts = table_same a.texts; references = table_pushed new (omega arith) e; constant_types = refl; line = refl };
+}
+
+-- the same, of a table and a text that were seen through a reference and a copy
+pub numbers_new_text : (a : Code) (ts xs ys : List (List ℕ)) (bytes copy : List ℕ) (k : ℕ) → xs ≡ a.texts → ys ≡ a.texts → copy ≡ bytes → IsNowhere xs bytes → (k ≡ length ys) × (k < 2 ^ 32 - 1) → ts ≡ a.texts ++ copy ∷ [] → NumbersText a (record a { texts = ts }) bytes k
+numbers_new_text a ts xs ys bytes copy k p q r new at e =
+    new_text a ts bytes k (subst (λ l. IsNowhere l bytes) p new) (at.0 ∙ ap length q) at.1 (e ∙ ap (λ b. a.texts ++ b ∷ []) r)
+
+pub numbers_new_reference : (a : Code) (rs xs ys : List Reference) (unit copy : List ℕ) (number k : ℕ) → xs ≡ a.references → ys ≡ a.references → copy ≡ unit → IsNowhere xs (reference unit number) → (k ≡ length ys) × (k < 2 ^ 32 - 1) → rs ≡ a.references ++ reference copy number ∷ [] → NumbersReference a (record a { references = rs }) (reference unit number) k
+numbers_new_reference a rs xs ys unit copy number k p q r new at e =
+    new_reference a rs (reference unit number) k (subst (λ l. IsNowhere l (reference unit number)) p new) (at.0 ∙ ap length q) at.1 (e ∙ ap (λ u. a.references ++ reference u number ∷ []) r)
+
+-- one that is there
+pub numbers_old_text : (a : Code) (bytes : List ℕ) (k : ℕ) → slice_get a.texts k ≡ Some bytes → NumbersText a a bytes k
+numbers_old_text a bytes k there = record { there = there; grows = grows_none a }
+
+pub numbers_old_reference : (a : Code) (r : Reference) (k : ℕ) → slice_get a.references k ≡ Some r → NumbersReference a a r k
+numbers_old_reference a r k there = record { there = there; grows = grows_none a }
+
+-- a consequence of what holds on success
+pub on_ok : {T E : Type 0} {P Q : Type 0} (r : Result T E) → (P → Q) → OnOk r P → OnOk r Q
+on_ok (Ok x) f h = f h
+on_ok (Err e) f h = tt
+
+pub ruleset numbers = (numbers_old_text, numbers_old_reference)
+
+pub ruleset forms = (appends_variable, appends_constant, appends_text, appends_read, appends_one, appends_two, appends_step)

@@ -1,0 +1,11 @@
+pub mod Pushed
+pub mod Found
+pub mod Stays
+pub mod Forms
+pub mod Placed
+pub mod Following
+pub mod Hosts
+pub mod Answering
+pub mod OneOperand
+pub mod TwoOperands
+pub mod Stepping

@@ -1,0 +1,5 @@
+use Rattle.ep_gen_expr.proofs.Forms.{on_ok, grows_kept}
+use Rattle.ep_gen_expr.proofs.operations.keep.Goals as goal
+
+pub returns : goal.returns
+returns c = on_ok c.emit-2.result (grows_kept c.in_ok-emit.ensures) c.emit-2.ensures

@@ -1,0 +1,63 @@
+-- How code under construction grows.
+use Rattle.std.specs.Prelude.{◌≡◌, ℕ, ◌*◌, ◌^◌, ◌<◌, ◌≤◌, List, [], ◌++◌, Some, length, slice_get}
+use Rattle.ep_outside.specs.Known.{IsPrefix}
+use Rattle.ep_object.specs.declared.code.Instr.{Instr}
+use Rattle.ep_object.specs.declared.code.Reference.{Reference}
+use Rattle.ep_typed.specs.Trees.{Place, Expr}
+use Rattle.ep_gen_expr.specs.ExprCode.{IsPlaceCode, IsExprCode, place_nodes, expr_nodes}
+use Rattle.ep_gen_expr.specs.declared.code.Code.{Code}
+pub use Rattle.ep_gen_expr.specs.ExprCode.{reference}
+
+-- no code yet
+abbrev pub empty_code : ℕ → Code
+empty_code line = record { instructions = []; texts = []; references = []; constant_types = []; line = line }
+
+-- the item is none of the list
+abbrev pub IsNowhere : {A : Type 0} → List A → A → Type 0
+IsNowhere xs x = (k : ℕ) → slice_get xs k ≡ Some x → ⊥
+
+-- no item stands at two places
+abbrev pub AreDistinct : {A : Type 0} → List A → Type 0
+AreDistinct {A} xs = (j k : ℕ) (x : A) → slice_get xs j ≡ Some x → slice_get xs k ≡ Some x → j ≡ k
+
+-- a table has fewer than 2 ^ 32 items
+abbrev pub IsTable : {A : Type 0} → List A → Type 0
+IsTable xs = length xs < 2 ^ 32
+
+-- a table has new items at its end, stays small, and has each item once
+pub record TableGrows {A : Type 0} (old new : List A) : Type 0 where
+  pub begins : IsPrefix old new
+  pub small : IsTable old → IsTable new
+  pub distinct : AreDistinct old → AreDistinct new
+
+-- these instructions are appended, and all else is as before but for new items of the two tables
+pub record Grows (old new : Code) (is : List Instr) : Type 0 where
+  pub instructions : new.instructions ≡ old.instructions ++ is
+  pub texts : TableGrows old.texts new.texts
+  pub references : TableGrows old.references new.references
+  pub constant_types : new.constant_types ≡ old.constant_types
+  pub line : new.line ≡ old.line
+
+-- the text has this number, and no instruction is appended
+pub record NumbersText (old new : Code) (bytes : List ℕ) (k : ℕ) : Type 0 where
+  pub there : slice_get new.texts k ≡ Some bytes
+  pub grows : Grows old new []
+
+-- the reference has this number, and no instruction is appended
+pub record NumbersReference (old new : Code) (r : Reference) (k : ℕ) : Type 0 where
+  pub there : slice_get new.references k ≡ Some r
+  pub grows : Grows old new []
+
+-- the code of the place is appended, at most 32 instructions for each typed node
+pub record AppendsPlace (old new : Code) (p : Place) : Type 0 where
+  pub code : List Instr
+  pub is_code : IsPlaceCode new.references old.line p code
+  pub grows : Grows old new code
+  pub short : length code ≤ 32 * place_nodes p
+
+-- the code of the expression is appended, at most 32 instructions for each typed node
+pub record AppendsExpr (old new : Code) (x : Expr) : Type 0 where
+  pub code : List Instr
+  pub is_code : IsExprCode new.texts new.references old.line x code
+  pub grows : Grows old new code
+  pub short : length code ≤ 32 * expr_nodes x

@@ -1,0 +1,3 @@
+pub mod ExprCode
+pub mod Growth
+pub mod Laws

@@ -1,0 +1,128 @@
+//! The code of places and expressions.
+
+ghost use Rattle.std.specs.Prelude.{OnOk};
+ghost use Rattle.ep_typed.specs.Trees.{Constant, One, Read, Step, Text, Two, Variable};
+ghost use Rattle.ep_typed.specs.Viewed.{expr_of, place_of};
+ghost use Rattle.ep_gen_expr.specs.Growth.{AppendsPlace, AppendsExpr};
+
+use crate::code::{Code, emit};
+use crate::operations::{apply_binary, apply_step, apply_unary};
+use crate::tables::{reference_number, text_number};
+use ep_base::{Name, NoMemory};
+use ep_object::op;
+use ep_typed::{Binary, TypedExpr, TypedPlace, Unary};
+use std::alloc::Global;
+
+/// Appends the code of a place, which leaves the place.
+pub fn place_code(alloc: Global, p: &TypedPlace, code: &mut Code) -> Result<(), NoMemory>
+    ensures { OnOk result (AppendsPlace code.old code.new (place_of p.now)) }
+{
+    match p {
+        TypedPlace::Variable(unit, number) => variable_code(alloc, unit, *number, code),
+    }
+}
+
+/// Appends the code of a variable.
+#[tactic(auto, using(crate::proofs::Forms::forms))]
+fn variable_code(alloc: Global, unit: &Name, number: u32, code: &mut Code) -> Result<(), NoMemory>
+    ensures { OnOk result (AppendsPlace code.old code.new (Variable unit.now number)) }
+{
+    let place = reference_number(alloc, unit, number, code)?;
+    emit(code, op::UNIT, place as i64, 0)
+}
+
+/// Appends the code of an expression, which leaves its value.
+#[cycle(expression)]
+pub fn expression_code(alloc: Global, e: &TypedExpr, code: &mut Code) -> Result<(), NoMemory>
+    ensures { OnOk result (AppendsExpr code.old code.new (expr_of e.now)) }
+{
+    match e {
+        TypedExpr::Constant(value) => constant_code(*value, code),
+        TypedExpr::Text(bytes) => text_code(alloc, bytes.items(), code),
+        TypedExpr::Read(place) => read_code(alloc, place, code),
+        TypedExpr::Unary(operation, operand) => unary_code(alloc, *operation, operand.get(), code),
+        TypedExpr::Binary(operation, left, right) => {
+            binary_code(alloc, *operation, left.get(), right.get(), code)
+        }
+        TypedExpr::Step(down, low, high, value, count) => {
+            step_code(alloc, *down, *low, *high, value.get(), count.get(), code)
+        }
+    }
+}
+
+/// Appends the code of a constant.
+#[tactic(auto, using(crate::proofs::Forms::forms))]
+fn constant_code(value: i64, code: &mut Code) -> Result<(), NoMemory>
+    ensures { OnOk result (AppendsExpr code.old code.new (Constant value)) }
+{
+    emit(code, op::PUSH, value, 0)
+}
+
+/// Appends the code of a text constant.
+#[tactic(auto, using(crate::proofs::Forms::forms))]
+fn text_code(alloc: Global, bytes: &[u8], code: &mut Code) -> Result<(), NoMemory>
+    ensures { OnOk result (AppendsExpr code.old code.new (Text bytes.now)) }
+{
+    let place = text_number(alloc, bytes, code)?;
+    emit(code, op::TEXT, place as i64, 0)
+}
+
+/// Appends the code of a variable's value.
+#[tactic(auto, using(crate::proofs::Forms::forms))]
+fn read_code(alloc: Global, place: &TypedPlace, code: &mut Code) -> Result<(), NoMemory>
+    ensures { OnOk result (AppendsExpr code.old code.new (Read (place_of place.now))) }
+{
+    place_code(alloc, place, code)?;
+    emit(code, op::LOAD, 0, 0)
+}
+
+/// Appends the code of an operation of one operand.
+#[cycle(expression)]
+#[tactic(auto, using(crate::proofs::Forms::forms))]
+fn unary_code(
+    alloc: Global,
+    operation: Unary,
+    operand: &TypedExpr,
+    code: &mut Code,
+) -> Result<(), NoMemory>
+    ensures { OnOk result (AppendsExpr code.old code.new (One operation (expr_of operand.now))) }
+{
+    expression_code(alloc, operand, code)?;
+    apply_unary(operation, code)
+}
+
+/// Appends the code of an operation of two operands.
+#[cycle(expression)]
+#[tactic(auto, using(crate::proofs::Forms::forms))]
+fn binary_code(
+    alloc: Global,
+    operation: Binary,
+    left: &TypedExpr,
+    right: &TypedExpr,
+    code: &mut Code,
+) -> Result<(), NoMemory>
+    ensures { OnOk result (AppendsExpr code.old code.new (Two operation (expr_of left.now) (expr_of right.now))) }
+{
+    expression_code(alloc, left, code)?;
+    expression_code(alloc, right, code)?;
+    apply_binary(operation, code)
+}
+
+/// Appends the code of a step from a value by a count.
+#[cycle(expression)]
+#[tactic(auto, using(crate::proofs::Forms::forms))]
+fn step_code(
+    alloc: Global,
+    down: bool,
+    low: i64,
+    high: i64,
+    value: &TypedExpr,
+    count: &TypedExpr,
+    code: &mut Code,
+) -> Result<(), NoMemory>
+    ensures { OnOk result (AppendsExpr code.old code.new (Step down low high (expr_of value.now) (expr_of count.now))) }
+{
+    expression_code(alloc, value, code)?;
+    expression_code(alloc, count, code)?;
+    apply_step(down, low, high, code)
+}

@@ -1,0 +1,12 @@
+//! The laws of code.
+
+ghost use Rattle.ep_gen_expr.specs.Laws.{PlaceCodeStays, ExprCodeStays, PlaceCodeIsShort, ExprCodeIsShort};
+
+/// Does nothing: its contract states what holds of the code of every expression and place. It stays code when the
+/// tables grow, and has at most 32 instructions for each typed node.
+pub fn laws_of_code()
+    ensures place_stays { PlaceCodeStays }
+    ensures expr_stays { ExprCodeStays }
+    ensures place_short { PlaceCodeIsShort }
+    ensures expr_short { ExprCodeIsShort }
+{}

@@ -1,0 +1,19 @@
+//! The code of expressions and places.
+//!
+//! specs/ExprCode.antt says which instructions are the code of a tree under given tables, and stays true when the
+//! tables grow. specs/Growth.antt says how code grows. The functions append the code of one tree to what stands.
+#![tactic(auto)]
+
+mod code;
+mod expressions;
+mod laws;
+mod operations;
+mod tables;
+
+pub use code::{Code, emit};
+pub use expressions::{expression_code, place_code};
+pub use laws::laws_of_code;
+pub use tables::{reference_number, text_number};
+
+#[cfg(test)]
+mod tests;

@@ -1,0 +1,89 @@
+//! The instructions of operations, after the code of their operands.
+
+ghost use Rattle.std.specs.Prelude.{[], ◌∷◌, OnOk};
+ghost use Rattle.ep_gen_expr.specs.ExprCode.{bare, push, one_code, two_code, count_code, step_code};
+ghost use Rattle.ep_gen_expr.specs.Growth.{Grows};
+
+use crate::code::{Code, emit};
+use ep_base::NoMemory;
+use ep_object::op;
+use ep_typed::{Binary, Unary};
+
+/// The error of a value that is none of a type.
+const OUT_OF_RANGE: i64 = 14;
+
+/// Appends what an operation does with its operand.
+pub fn apply_unary(operation: Unary, code: &mut Code) -> Result<(), NoMemory>
+    ensures { OnOk result (Grows code.old code.new (one_code code.old.line operation)) }
+{
+    match operation {
+        Unary::Same => keep(code),
+        Unary::Negate => emit(code, op::NEG, 0, 0),
+        Unary::Not => emit(code, op::NOT, 0, 0),
+        Unary::Absolute => emit(code, op::ABS, 0, 0),
+        Unary::Square => emit(code, op::SQR, 0, 0),
+        Unary::Odd => emit(code, op::ODD, 0, 0),
+        Unary::Character => {
+            push_pair(code, 0, 255)?;
+            emit(code, op::CHECK, OUT_OF_RANGE, 0)
+        }
+    }
+}
+
+/// Appends what leaves a value as it is: each step of the meaning has a tick of its own, or a chain of such
+/// operations would spend steps and no ticks.
+fn keep(code: &mut Code) -> Result<(), NoMemory>
+    ensures { OnOk result (Grows code.old code.new (bare code.old.line 3 ∷ bare code.old.line 2 ∷ [])) }
+{
+    emit(code, op::DUP, 0, 0)?;
+    emit(code, op::DROP, 0, 0)
+}
+
+/// Appends two numbers.
+fn push_pair(code: &mut Code, low: i64, high: i64) -> Result<(), NoMemory>
+    ensures { OnOk result (Grows code.old code.new (push code.old.line low ∷ push code.old.line high ∷ [])) }
+{
+    emit(code, op::PUSH, low, 0)?;
+    emit(code, op::PUSH, high, 0)
+}
+
+/// Appends what an operation does with its two operands.
+pub fn apply_binary(operation: Binary, code: &mut Code) -> Result<(), NoMemory>
+    ensures { OnOk result (Grows code.old code.new (two_code code.old.line operation ∷ [])) }
+{
+    match operation {
+        Binary::Add => emit(code, op::ADD, 0, 0),
+        Binary::Subtract => emit(code, op::SUB, 0, 0),
+        Binary::Multiply => emit(code, op::MUL, 0, 0),
+        Binary::Divide => emit(code, op::DIV, 0, 0),
+        Binary::Modulo => emit(code, op::MOD, 0, 0),
+        Binary::And => emit(code, op::AND, 0, 0),
+        Binary::Or => emit(code, op::OR, 0, 0),
+        Binary::Equal => emit(code, op::CMP, 0, 0),
+        Binary::Unequal => emit(code, op::CMP, 1, 0),
+        Binary::Less => emit(code, op::CMP, 2, 0),
+        Binary::Greater => emit(code, op::CMP, 3, 0),
+        Binary::AtMost => emit(code, op::CMP, 4, 0),
+        Binary::AtLeast => emit(code, op::CMP, 5, 0),
+    }
+}
+
+/// Appends a step from a value by a count, which is taken away where `down` says so.
+pub fn apply_step(down: bool, low: i64, high: i64, code: &mut Code) -> Result<(), NoMemory>
+    ensures { OnOk result (Grows code.old code.new (step_code code.old.line down low high)) }
+{
+    negate_if(down, code)?;
+    push_pair(code, low, high)?;
+    emit(code, op::STEP, 0, 0)
+}
+
+/// Appends the negation of a count that is taken away.
+fn negate_if(down: bool, code: &mut Code) -> Result<(), NoMemory>
+    ensures { OnOk result (Grows code.old code.new (count_code code.old.line down)) }
+{
+    if down {
+        emit(code, op::NEG, 0, 0)
+    } else {
+        Ok(())
+    }
+}
