@@ -1,0 +1,55 @@
+//! How a run ends.
+
+use ep_base::{Line, Name};
+
+/// How a run ended, or why it stopped.
+#[derive(Debug, Drop)]
+pub enum End {
+    /// By itself.
+    Normal,
+    /// By halt.
+    Halt,
+    /// By an error.
+    Error {
+        /// Its number.
+        number: u8,
+        /// The unit in which it came.
+        unit: Name,
+        /// The line at which it came.
+        line: Line,
+    },
+    /// The budget is spent, and a further run goes on.
+    Budget,
+    /// The code is broken.
+    Broken {
+        /// The place of the instruction.
+        pc: u32,
+    },
+    /// A read of the input failed.
+    ReadFault,
+    /// A write to the output failed.
+    WriteFault,
+    /// A call of the files failed.
+    FileFault,
+    /// Memory is wanting.
+    NoMemory,
+}
+
+/// The same, with the number of the unit in place of its name.
+#[derive(Clone, Copy, Debug, Drop)]
+pub enum Ended {
+    /// By itself.
+    Normal,
+    /// By halt.
+    Halt,
+    /// By an error with a number, in a unit, at a line.
+    Error(u8, u32, u32),
+    /// The budget is spent.
+    Budget,
+    /// The code is broken at a place.
+    Broken(u32),
+    /// A write failed.
+    WriteFault,
+    /// Memory is wanting.
+    NoMemory,
+}

@@ -1,0 +1,31 @@
+//! The machine as code: it runs an image within a budget of ticks.
+//!
+//! A run is the run that ep_object defines: the same state, end and ticks, and the same events, as the contract of
+//! `Machine::run` says in the words of specs/Machines.antt. Each row of the table is a function on the part of the
+//! machine that it touches, and its contract is one equation with the row of ep_object's table.
+//!
+//! The frequent rows run in a loop of their own, in which the operand stack, the place and the ticks are local. It
+//! leaves every other row to the whole table, one instruction at a time, so no rare row makes a frequent one slow.
+#![tactic(auto)]
+
+mod cell;
+mod control;
+mod end;
+mod output;
+mod parts;
+mod places;
+mod run;
+mod stack;
+mod start;
+mod step;
+mod table;
+mod texts;
+mod turns;
+mod types;
+mod words;
+
+pub use end::End;
+pub use run::Machine;
+
+#[cfg(test)]
+mod tests;

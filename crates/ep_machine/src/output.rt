@@ -1,0 +1,111 @@
+//! The row that writes.
+
+ghost use Rattle.std.specs.Prelude.{◌≡◌, ◌<◌, ◌≤◌, ◌+◌, List, [], ◌∷◌, Option, Some, None, MatchOption};
+ghost use Rattle.ep_object.specs.Effects.{Continues, bare_weighed};
+ghost use Rattle.ep_object.specs.Operands.{Operand};
+ghost use Rattle.ep_object.specs.Texts.{put_of, put_row, written};
+ghost use Rattle.ep_outside.specs.Known.{Keeps};
+ghost use Rattle.ep_outside.specs.Answers.{Writes, write_faults};
+ghost use Rattle.ep_typed.specs.Events.{Write};
+ghost use Rattle.ep_machine.specs.Outputs.{OnNoMemory, IsRefusal, UnlessDone, IsPut, OnFault, text_kind_in};
+
+use crate::control::spend;
+use crate::stack::Stack;
+use crate::step::{Outward, Step};
+use crate::words;
+use ep_object::{Instr, Kind, Place, Segment, TypeEntry};
+use ep_outside::{Sink, WriteAnswer};
+
+/// Writes a text, if it is not empty.
+#[tactic(auto, using(crate::proofs::Outputs::writing))]
+fn write_text<O: Sink>(output: &mut O, text: &[u8]) -> WriteAnswer
+    ensures writes { Writes result (O.held output.old) (O.held output.new) text.now }
+    ensures faults { O.faults output.old + write_faults result ≤ O.faults output.new }
+    ensures event { UnlessDone result (written text.now ≡ Write text.now ∷ []) }
+{
+    if text.is_empty() {
+        return WriteAnswer::Done;
+    }
+    output.write(text)
+}
+
+/// Whether a type is that of text files.
+fn is_text(types: &[TypeEntry], type_number: u32) -> Option<bool>
+    ensures { result ≡ text_kind_in types.now type_number }
+{
+    match types.get(type_number as usize) {
+        Some(entry) => match entry.kind {
+            Kind::Text => Some(true),
+            Kind::Ord(_, _) => Some(false),
+            Kind::Pointer => Some(false),
+        },
+        None => None,
+    }
+}
+
+/// How the row ends where no text can go to the file at a place.
+fn refusal(segments: &[Option<Segment>], p: Place) -> Option<Step>
+    ensures { IsRefusal segments.now p result }
+{
+    let Some(segment) = segments.get(p.segment as usize) else {
+        return Some(Step::Broken);
+    };
+    let Some(segment) = segment else {
+        return Some(Step::Error(11));
+    };
+    if p.offset as usize >= segment.words.items().len() {
+        return Some(Step::Broken);
+    }
+    if p.segment == 2 && p.offset == 0 {
+        None
+    } else {
+        Some(Step::Error(18))
+    }
+}
+
+/// A text goes to a text file.
+#[tactic(auto, using(crate::proofs::Outputs::putting))]
+pub fn put<O: Sink>(
+    instr: &Instr,
+    types: &[TypeEntry],
+    segments: &[Option<Segment>],
+    limit: u64,
+    ticks: &mut u64,
+    stack: &mut Stack,
+    output: &mut O,
+) -> Outward
+    requires { ticks.old < limit }
+    ensures within { ticks.new < limit }
+    ensures counts { O.faults output.old ≤ O.faults output.new }
+    ensures fault { OnFault result (O.faults output.old < O.faults output.new) }
+    ensures quiet { OnNoMemory result (Keeps (O.held output.old) (O.held output.new)) }
+    ensures done { IsPut limit (bare_weighed instr.now (put_row types.now segments.now stack.old)) result ticks.old ticks.new stack.old stack.new (O.held output.old) (O.held output.new) }
+{
+    if !words::is_bare(instr) {
+        return Outward::Row(Step::Broken);
+    }
+    let Some(p) = stack.place_under_text() else {
+        return Outward::Row(Step::Broken);
+    };
+    let Some(text) = stack.text_top() else {
+        return Outward::Row(Step::Broken);
+    };
+    let Some(true) = is_text(types, p.type_number) else {
+        return Outward::Row(Step::Broken);
+    };
+    if !spend(limit, ticks, text.len() as u64) {
+        return Outward::Row(Step::Full);
+    }
+    if let Some(step) = refusal(segments, p) {
+        return Outward::Row(step);
+    }
+    match write_text(output, text) {
+        WriteAnswer::Done => {
+            stack.pop();
+            stack.pop();
+            Outward::Row(Step::Next)
+        }
+        WriteAnswer::Failed => Outward::WriteFault,
+        WriteAnswer::NoMemory => Outward::Row(Step::NoMemory),
+    }
+}

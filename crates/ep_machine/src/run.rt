@@ -1,0 +1,167 @@
+//! The machine.
+
+ghost use Rattle.std.specs.Prelude.{◌≡◌, ◌≢◌, ◌⊎◌, ℕ, ◌<◌, ◌≤◌, ◌+◌, ◌^◌, length, List, [], Option, Some, None, IsTrue, IfOk, MatchOption};
+ghost use Rattle.ep_object.specs.Runs.{begin as beginning, run_to, timed, trace_of};
+ghost use Rattle.ep_typed.specs.Events.{Trace, DoesPart, Outside};
+ghost use Rattle.ep_object.specs.State.{State};
+ghost use Rattle.ep_machine.specs.Answers.{Answers, RunsTo, UnlessStopped, OnStopped, OnWriteFaultEnd, IsEnd, outside};
+ghost use Rattle.ep_machine.specs.Turns.{ended_at};
+ghost use Rattle.ep_machine.specs.declared.end.Ended.TheVariants as ended;
+ghost use Rattle.ep_machine.specs.Turns.{UnlessFailed, OnFailed, OnWriteFault, Ran, RanPart, is_ready, is_known};
+
+use crate::end::{End, Ended};
+use crate::parts::Parts;
+use crate::stack::Stack;
+use crate::{start, turns};
+use ep_base::NoMemory;
+use ep_object::{Image, Segment};
+use ep_outside::{Files, Sink, Source};
+use std::alloc::{AllocError, Global};
+
+/// A machine at work on an image.
+#[derive(Drop)]
+pub struct Machine<'a> {
+    image: &'a Image,
+    alloc: Global,
+    pc: u32,
+    ticks: u64,
+    stack: Stack,
+    parts: Parts,
+    segments: Vec<Option<Segment>>,
+    ended: Ended,
+    ghost small: { length image.now.instructions < 2 ^ 32 },
+    ghost ready: { IsTrue (is_ready image.now parts.routine ended) },
+}
+
+impl<'a> Machine<'a> {
+    ghost use Rattle.ep_machine.specs.Machines.{image_of, ticks_of, ended_of, standing};
+
+    /// A machine before the first instruction of an image. An image of 2^32 or more instructions is refused as if
+    /// memory were wanting.
+    pub fn new(alloc: Global, image: &'a Image) -> Result<Machine<'a>, NoMemory>
+        ensures start { IfOk result (λ m. standing m [] ≡ timed 0 (beginning image.now)) }
+        ensures image { IfOk result (λ m. image_of m ≡ image.now) }
+        ensures ticks { IfOk result (λ m. ticks_of m ≡ 0) }
+    {
+        if image.instructions.items().len() > u32::MAX as usize {
+            return Err(AllocError);
+        }
+        let mut parts = Parts {
+            turn: 0,
+            routine: 0,
+            unit: 0,
+            units: start::frames(alloc, image.units.items())?,
+            types: start::types(alloc)?,
+            live: 4,
+        };
+        let segments = start::segments(alloc)?;
+        let mut pc = 0;
+        let ended = match turns::begin(image, 0, &mut parts, &mut pc) {
+            None => Ended::Budget,
+            Some(Ended::Normal) => Ended::Normal,
+            Some(Ended::Broken(at)) => Ended::Broken(at),
+            Some(_) => return Err(AllocError),
+        };
+        Ok(Machine {
+            image,
+            alloc,
+            pc,
+            ticks: 0,
+            stack: Stack::new(alloc),
+            parts,
+            segments,
+            ended,
+        })
+    }
+
+    /// Goes on for at most so many ticks, unless it has ended.
+    fn resume<O: Sink>(&mut self, budget: u64, output: &mut O)
+        requires { ticks_of self.old + budget < 2 ^ 61 }
+        ensures exact { UnlessFailed (ended_of self.new) (Ran (image_of self.old) (ticks_of self.old + budget) (standing self.old) (standing self.new) (O.held output.old) (O.held output.new)) }
+        ensures failed { OnFailed (ended_of self.new) (RanPart (image_of self.old) (ticks_of self.old + budget) (standing self.old) (O.held output.old) (O.held output.new)) }
+        ensures image { image_of self.new ≡ image_of self.old }
+        ensures within { ticks_of self.new < 2 ^ 61 }
+        ensures counts { O.faults output.old ≤ O.faults output.new }
+        ensures fault { OnWriteFault (ended_of self.new) ((ended_of self.old ≡ ended.WriteFault) ⊎ (O.faults output.old < O.faults output.new)) }
+        ensures again { ended_of self.old ≢ ended.Budget → (ended_of self.new ≡ ended_of self.old) × (ticks_of self.new ≡ ticks_of self.old) × (output.new ≡ output.old) }
+    {
+        if let Ended::Budget = self.ended {
+            let limit = self.ticks + budget;
+            self.ended = turns::go(
+                self.image,
+                self.alloc,
+                limit,
+                &mut self.pc,
+                &mut self.ticks,
+                &mut self.stack,
+                &mut self.parts,
+                &mut self.segments,
+                output,
+            );
+        }
+    }
+
+    /// Goes on for at most so many ticks. `Budget` says that a further call goes on from here; any other end is
+    /// answered again by a further call, which does nothing. The name of a unit takes memory, so `NoMemory` may come
+    /// in place of an error. Nothing is read, and no file is touched.
+    pub fn run<F: Files, I: Source, O: Sink>(
+        &mut self,
+        budget: u64,
+        files: &mut F,
+        input: &mut I,
+        output: &mut O,
+    ) -> End
+        requires { ticks_of self.old + budget < 2 ^ 61 }
+        ensures exact { UnlessStopped result (RunsTo (image_of self.old) (ticks_of self.old + budget) (standing self.old) (standing self.new) (outside (O.held output.old) (F.files files.old)) (outside (O.held output.new) (F.files files.new))) }
+        ensures part { OnStopped result (DoesPart (trace_of (run_to (image_of self.old) (ticks_of self.old + budget) (standing self.old [])).going) (outside (O.held output.old) (F.files files.old)) (outside (O.held output.new) (F.files files.new))) }
+        ensures end { (trace : Trace) → IsEnd result (standing self.new trace).going }
+        ensures image { image_of self.new ≡ image_of self.old }
+        ensures within { ticks_of self.new < 2 ^ 61 }
+        ensures counts { O.faults output.old ≤ O.faults output.new }
+        ensures fault { OnWriteFaultEnd result ((ended_of self.old ≡ ended.WriteFault) ⊎ (O.faults output.old < O.faults output.new)) }
+        ensures again { ended_of self.old ≢ ended.Budget → Answers (ended_of self.old) result × (ticks_of self.new ≡ ticks_of self.old) × (output.new ≡ output.old) }
+        ensures files { files.new ≡ files.old }
+        ensures input { input.new ≡ input.old }
+    {
+        self.resume(budget, output);
+        match answer(self.image, self.alloc, self.ended) {
+            End::NoMemory => {
+                self.ended = Ended::NoMemory;
+                End::NoMemory
+            }
+            end => end,
+        }
+    }
+
+    /// The ticks that it has spent.
+    pub fn ticks(&self) -> u64
+        ensures { result ≡ ticks_of self.now }
+    {
+        self.ticks
+    }
+}
+
+/// The answer of an end.
+fn answer(image: &Image, alloc: Global, ended: Ended) -> End
+    requires { IsTrue (is_known image.now ended) }
+    ensures answers { Answers ended result }
+    ensures end { (s : State) → IsEnd result (ended_at image.now ended s) }
+{
+    match ended {
+        Ended::Normal => End::Normal,
+        Ended::Halt => End::Halt,
+        Ended::Error(number, unit, line) => {
+            let Some(unit) = image.units.items().get(unit as usize) else {
+                unreachable!()
+            };
+            match unit.name.copy(alloc) {
+                Ok(unit) => End::Error { number, unit, line },
+                Err(_) => End::NoMemory,
+            }
+        }
+        Ended::Budget => End::Budget,
+        Ended::Broken(pc) => End::Broken { pc },
+        Ended::WriteFault => End::WriteFault,
+        Ended::NoMemory => End::NoMemory,
+    }
+}

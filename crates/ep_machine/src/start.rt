@@ -1,0 +1,63 @@
+//! What a machine begins with.
+
+ghost use Rattle.std.specs.Prelude.{◌≡◌, List, [], map, take, IfOk};
+ghost use Rattle.ep_object.specs.State.{empty_slots, first_types, first_segments, text_segment as segment_of_text, integer_entry, char_entry, boolean_entry, text_entry, pointer_entry};
+
+use ep_base::List;
+use ep_object::{ImageUnit, Kind, Place, Segment, TypeEntry};
+use std::alloc::{AllocError, Global};
+
+/// The slots of the frames of all units, which hold no place yet.
+pub fn frames(alloc: Global, units: &[ImageUnit]) -> Result<Vec<List<Option<Place>>>, AllocError>
+    ensures { IfOk result (λ v. v.items ≡ map empty_slots units.now) }
+{
+    let mut frames = Vec::new(alloc);
+    for unit in units {
+        let slots = List::from_vec(vec![in alloc; None; unit.slots as usize]?);
+        frames.push(slots)?;
+    }
+    Ok(frames)
+}
+
+fn entry(kind: Kind) -> TypeEntry
+    ensures { result ≡ record { kind = kind; size = 1 } }
+{
+    TypeEntry { kind, size: 1 }
+}
+
+/// The types from the start.
+pub fn types(alloc: Global) -> Result<Vec<TypeEntry>, AllocError>
+    ensures { IfOk result (λ v. v.items ≡ first_types) }
+{
+    let mut types = Vec::new(alloc);
+    types.push(entry(Kind::Ord(-i64::MAX, i64::MAX)))?;
+    types.push(entry(Kind::Ord(0, 255)))?;
+    types.push(entry(Kind::Ord(0, 1)))?;
+    types.push(entry(Kind::Text))?;
+    types.push(entry(Kind::Pointer))?;
+    Ok(types)
+}
+
+fn text_segment(alloc: Global) -> Result<Segment, AllocError>
+    ensures { IfOk result (λ s. s ≡ segment_of_text) }
+{
+    let mut words = List::new(alloc);
+    words.push(i64::MIN)?;
+    Ok(Segment {
+        type_number: 3,
+        words,
+    })
+}
+
+/// The segments from the start.
+pub fn segments(alloc: Global) -> Result<Vec<Option<Segment>>, AllocError>
+    ensures { IfOk result (λ v. v.items ≡ first_segments) }
+{
+    let mut segments = Vec::new(alloc);
+    let input = text_segment(alloc)?;
+    let output = text_segment(alloc)?;
+    segments.push(None)?;
+    segments.push(Some(input))?;
+    segments.push(Some(output))?;
+    Ok(segments)
+}

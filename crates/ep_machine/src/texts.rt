@@ -1,0 +1,247 @@
+//! The rows on texts.
+
+ghost use Rattle.std.specs.Prelude.{◌≡◌, ℕ, ◌<◌, ◌≤◌, ◌+◌, ◌*◌, ◌^◌, ◌++◌, ◌∷◌, suc, length, leb, slice_get, if◌then◌else◌, Option, Some, None, MatchOption, IfOk, pos, replicate, take};
+ghost use Rattle.std.specs.Fmt.{signed_decimal};
+ghost use Rattle.ep_object.specs.Effects.{Continues, bare_weighed, only_a_weighed, light};
+ghost use Rattle.ep_object.specs.Control.{dup_row};
+ghost use Rattle.ep_object.specs.Texts.{text_row, chars_row, form_row, form_width_row, form_any_row, formed as formed_of, cut, padded, boolean_text as text_of_boolean};
+ghost use Rattle.ep_object.specs.Operands.{Text, Word};
+ghost use Rattle.ep_machine.specs.Printing.{printed_top, IsRestored};
+ghost use Rattle.ep_machine.specs.Steps.{IsDone, IsStep};
+
+use crate::control::{spend, top_weight};
+use crate::stack::Stack;
+use crate::step::Step;
+use crate::{places, words};
+use ep_base::{Bytes, List};
+use ep_object::Instr;
+use itoa::Buffer;
+use std::alloc::{AllocError, Global};
+
+/// One more text.
+fn push_text(stack: &mut Stack, text: &[u8]) -> Step
+    ensures { IsStep (Continues (Text text.now ∷ stack.old)) result stack.new }
+{
+    if stack.push_text(text) {
+        Step::Next
+    } else {
+        Step::NoMemory
+    }
+}
+
+/// A text of the image.
+pub fn text(instr: &Instr, texts: &[Bytes], limit: u64, ticks: &mut u64, stack: &mut Stack) -> Step
+    requires { ticks.old < limit }
+    ensures within { ticks.new < limit }
+    ensures done { IsDone limit (only_a_weighed instr.now (text_row texts.now instr.now.a stack.old)) result ticks.old ticks.new stack.old stack.new }
+{
+    if !words::has_only_a(instr) || instr.a < 0 {
+        return Step::Broken;
+    }
+    let Some(bytes) = texts.get(instr.a as usize) else {
+        return Step::Broken;
+    };
+    let bytes = bytes.items();
+    if !spend(limit, ticks, bytes.len() as u64) {
+        return Step::Full;
+    }
+    push_text(stack, bytes)
+}
+
+/// The text of a char.
+pub fn chars(instr: &Instr, limit: u64, ticks: &mut u64, stack: &mut Stack) -> Step
+    requires { ticks.old < limit }
+    ensures within { ticks.new < limit }
+    ensures done { IsDone limit (bare_weighed instr.now (chars_row stack.old)) result ticks.old ticks.new stack.old stack.new }
+{
+    if !words::is_bare(instr) {
+        return Step::Broken;
+    }
+    let Some(w) = stack.word_top() else {
+        return Step::Broken;
+    };
+    let Some(c) = words::index(256, w) else {
+        return Step::Broken;
+    };
+    if !spend(limit, ticks, 1) {
+        return Step::Full;
+    }
+    stack.pop();
+    push_text(stack, &[c as u8])
+}
+
+/// The operand on top stands there twice.
+pub fn dup(instr: &Instr, alloc: Global, limit: u64, ticks: &mut u64, stack: &mut Stack) -> Step
+    requires { ticks.old < limit }
+    ensures within { ticks.new < limit }
+    ensures done { IsDone limit (bare_weighed instr.now (dup_row stack.old)) result ticks.old ticks.new stack.old stack.new }
+{
+    if !words::is_bare(instr) {
+        return Step::Broken;
+    }
+    if let Some(w) = stack.word_top() {
+        return words::push_word(stack, w);
+    }
+    if let Some(p) = stack.place_top() {
+        return places::push_place(stack, Some(p));
+    }
+    let Some(bytes) = stack.text_top() else {
+        return Step::Broken;
+    };
+    let Some(weight) = (bytes.len() as u64).checked_mul(3) else {
+        return Step::Full;
+    };
+    let Ok(copy) = Vec::from_slice(alloc, bytes) else {
+        return Step::NoMemory;
+    };
+    if !spend(limit, ticks, weight) {
+        return Step::Full;
+    }
+    push_text(stack, &copy)
+}
+
+/// The text of a Boolean.
+fn boolean_text(w: i64) -> &'static [u8]
+    ensures { result.now ≡ text_of_boolean w }
+{
+    if w == 0 { b"False" } else { b"True" }
+}
+
+/// The text of an integer.
+fn integer_text(alloc: Global, w: i64) -> Result<Bytes, AllocError>
+    ensures { IfOk result (λ b. b ≡ signed_decimal w) }
+{
+    let mut buffer = Buffer::new();
+    let text = buffer.format(w);
+    List::from_slice(alloc, text.as_bytes())
+}
+
+/// What is printed of the operand on top.
+fn printed(alloc: Global, a: i64, stack: &Stack) -> Result<Option<Bytes>, AllocError>
+    ensures { IfOk result (λ o. o ≡ printed_top a stack.now) }
+{
+    match a {
+        0 => match stack.word_top() {
+            Some(w) => Ok(Some(integer_text(alloc, w)?)),
+            None => Ok(None),
+        },
+        1 => match stack.word_top() {
+            Some(w) => {
+                if words::is_boolean(w) {
+                    Ok(Some(List::from_slice(alloc, boolean_text(w))?))
+                } else {
+                    Ok(None)
+                }
+            }
+            None => Ok(None),
+        },
+        2 => match stack.text_top() {
+            Some(bytes) => Ok(Some(List::from_slice(alloc, bytes)?)),
+            None => Ok(None),
+        },
+        _ => Ok(None),
+    }
+}
+
+/// What is printed in so many places.
+fn formed(alloc: Global, a: i64, width: u64, bytes: &[u8]) -> Result<Vec<u8>, AllocError>
+    ensures { IfOk result (λ v. v.items ≡ formed_of a width bytes.now) }
+{
+    let wide = width as usize;
+    let shown = if a == 0 || bytes.len() <= wide {
+        bytes
+    } else {
+        &bytes[..wide]
+    };
+    let mut text = Vec::new(alloc);
+    if shown.len() < wide {
+        text.resize(wide - shown.len(), b' ')?;
+    }
+    text.extend_from_slice(shown)?;
+    Ok(text)
+}
+
+/// How many bytes are printed in so many places.
+fn formed_size(a: i64, width: u64, bytes: &[u8]) -> u64
+    ensures { result ≡ length (formed_of a width bytes.now) }
+{
+    let size = bytes.len() as u64;
+    if a == 0 && width < size { size } else { width }
+}
+
+/// The operand on top as a text.
+fn form_plain(alloc: Global, a: i64, limit: u64, ticks: &mut u64, stack: &mut Stack) -> Step
+    requires { ticks.old < limit }
+    ensures within { ticks.new < limit }
+    ensures done { IsDone limit (form_row a stack.old) result ticks.old ticks.new stack.old stack.new }
+{
+    let Ok(bytes) = printed(alloc, a, stack) else {
+        return Step::NoMemory;
+    };
+    let Some(bytes) = bytes else {
+        return Step::Broken;
+    };
+    let bytes = bytes.items();
+    if !spend(limit, ticks, top_weight(stack) + bytes.len() as u64) {
+        return Step::Full;
+    }
+    stack.pop();
+    push_text(stack, bytes)
+}
+
+/// The width is put back, where the limit has no room.
+fn restored(stack: &mut Stack, width: i64) -> Step
+    ensures { IsRestored result (Word width ∷ stack.old) stack.new }
+{
+    if stack.push_word(width) {
+        Step::Full
+    } else {
+        Step::NoMemory
+    }
+}
+
+/// The operand below the top as a text, in so many places as the top says.
+fn form_wide(alloc: Global, a: i64, limit: u64, ticks: &mut u64, stack: &mut Stack) -> Step
+    requires { ticks.old < limit }
+    ensures within { ticks.new < limit }
+    ensures done { IsDone limit (form_width_row a stack.old) result ticks.old ticks.new stack.old stack.new }
+{
+    let Some(width) = stack.pop_word() else {
+        return Step::Broken;
+    };
+    let Ok(bytes) = printed(alloc, a, stack) else {
+        return Step::NoMemory;
+    };
+    let Some(bytes) = bytes else {
+        return Step::Broken;
+    };
+    let bytes = bytes.items();
+    let popped = top_weight(stack);
+    if width < 0 {
+        if spend(limit, ticks, popped) {
+            return Step::Error(21);
+        }
+        return restored(stack, width);
+    }
+    if !spend(limit, ticks, popped + formed_size(a, width as u64, bytes)) {
+        return restored(stack, width);
+    }
+    let Ok(text) = formed(alloc, a, width as u64, bytes) else {
+        return Step::NoMemory;
+    };
+    stack.pop();
+    push_text(stack, &text)
+}
+
+/// An operand as a text, in so many places where the second field is 1.
+pub fn form(instr: &Instr, alloc: Global, limit: u64, ticks: &mut u64, stack: &mut Stack) -> Step
+    requires { ticks.old < limit }
+    ensures within { ticks.new < limit }
+    ensures done { IsDone limit (form_any_row instr.now.a instr.now.b stack.old) result ticks.old ticks.new stack.old stack.new }
+{
+    match instr.b {
+        0 => form_plain(alloc, instr.a, limit, ticks, stack),
+        1 => form_wide(alloc, instr.a, limit, ticks, stack),
+        _ => Step::Broken,
+    }
+}
