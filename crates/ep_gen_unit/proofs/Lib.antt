@@ -1,0 +1,15 @@
+pub mod Alone
+pub mod Branching
+pub mod Compounds
+pub mod Following
+pub mod ItemForms
+pub mod Makes
+pub mod Parts
+pub mod ProgramForms
+pub mod Programs
+pub mod Simple
+pub mod Starts
+pub mod StmtMoves
+pub mod StmtForms
+pub mod StmtStays
+pub mod Writing

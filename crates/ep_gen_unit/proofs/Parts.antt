@@ -1,0 +1,56 @@
+-- What the proofs about statements share: where parts of code stand, and what is known of expressions.
+use Rattle.std.proofs.Common.{◌≡◌, ℕ, ℤ, ◌+◌, ◌≤◌, List, ◌++◌, length, Some, refl}
+use Rattle.ep_gen_expr.specs.ExprCode.{IsPlaceCode, IsExprCode}
+use Rattle.ep_gen_expr.proofs.Placed.{code_front, code_back}
+use Rattle.ep_object.specs.Follows.{Fragment, Inside, Bare, OnTop, PlaceOnTop}
+use Rattle.ep_object.specs.Matching.{Memory, Injection}
+use Rattle.ep_object.specs.Operands.{Operand}
+use Rattle.ep_object.specs.Placing.{Placement, CodeStands}
+use Rattle.ep_object.specs.declared.code.Image.{Image}
+use Rattle.ep_object.specs.declared.code.Instr.{Instr}
+use Rattle.ep_object.specs.declared.code.Reference.{Reference}
+use Rattle.ep_object.proofs.Growing.{unit_in}
+use Rattle.ep_typed.specs.Meaning.{place, eval, weight_of}
+use Rattle.ep_typed.specs.Steps.{Computation}
+use Rattle.ep_typed.specs.Trees.{Variable, Expr}
+use Rattle.ep_typed.specs.Valid.{Declarations, Kind, IsExpr, IsTypeOf}
+use Rattle.ep_typed.specs.declared.types.Host.{Host}
+use Rattle.ep_typed.specs.declared.types.TypeValue.{TypeValue}
+use Rattle.ep_typed.specs.declared.types.TypeValue.TheVariants as type
+use Rattle.ep_typed.specs.declared.unit.UnitVariable.{UnitVariable}
+
+-- two parts of code stand one after the other
+pub code_stands-parts : (G : Image) (ps : List Placement) (p : Placement) (references : List Reference) (at : ℕ) (xs ys : List Instr) → CodeStands G ps p references at (xs ++ ys) → CodeStands G ps p references at xs × CodeStands G ps p references (at + length xs) ys
+code_stands-parts G ps p references at xs ys h = (code_front G ps p references at xs ys h, code_back G ps p references at xs ys h)
+
+-- a type of a host is an ordinal one
+pub ordinal_of_host : (h : Host) (t : TypeValue) → IsTypeOf h t → (low high : ℤ) × (t ≡ type.Ordinal low high)
+ordinal_of_host h (type.Ordinal low high) k = (low, high, refl)
+ordinal_of_host h type.Text k = absurd k
+
+module _ (declared : Declarations) (G : Image) (ps : List Placement) (p : Placement) (texts : List (List ℕ)) (references : List Reference) (n : ℕ) (unit : List ℕ) where
+  -- from a place of the object to another one, the machine follows the computation and leaves the operands as they were
+  abbrev pub Moves : ℕ → ℕ → Computation (Unit {0}) → Type 0
+  Moves at to c =
+      (injection : Injection) (memory : Memory) (below : List Operand) (d : ℕ) → 40 ≤ d → unit_in G memory.frames ≡ unit
+      → Fragment declared G n injection memory (p.instructions.before + at) below c (p.instructions.before + to) (λ a. Inside injection memory (Bare below a)) d (λ a. d)
+
+  -- the same, where more credit is left than there was
+  abbrev pub Writes : ℕ → ℕ → Computation (Unit {0}) → Type 0
+  Writes at to c =
+      (injection : Injection) (memory : Memory) (below : List Operand) (d : ℕ) → 40 ≤ d → unit_in G memory.frames ≡ unit
+      → Fragment declared G n injection memory (p.instructions.before + at) below c (p.instructions.before + to) (λ a. Inside injection memory (Bare below a)) d (λ a. 1 + d)
+
+  -- the machine follows expressions
+  abbrev pub ExpressionsFollow : Type 0
+  ExpressionsFollow =
+      (kind : Kind) (x : Expr) → IsExpr declared kind x → (line at : ℕ) (code : List Instr) → IsExprCode texts references line x code → CodeStands G ps p references at code
+      → (injection : Injection) (memory : Memory) (below : List Operand) (d : ℕ) → 32 ≤ d → unit_in G memory.frames ≡ unit
+      → Fragment declared G n injection memory (p.instructions.before + at) below (eval n unit line x) (p.instructions.before + (at + length code)) (λ r. Inside injection memory (OnTop kind below r)) d (λ r. d + 8 + weight_of r)
+
+  -- the machine follows places
+  abbrev pub PlacesFollow : Type 0
+  PlacesFollow =
+      (of_unit : List ℕ) (k : ℕ) (v : UnitVariable) → declared of_unit k ≡ Some v → (line at : ℕ) (code : List Instr) → IsPlaceCode references line (Variable of_unit k) code → CodeStands G ps p references at code
+      → (injection : Injection) (memory : Memory) (below : List Operand) (d : ℕ) → 32 ≤ d → unit_in G memory.frames ≡ unit
+      → Fragment declared G n injection memory (p.instructions.before + at) below (place n unit line (Variable of_unit k)) (p.instructions.before + (at + length code)) (λ a. Inside injection memory (PlaceOnTop v.type_value below a)) d (λ a. d + 8)

@@ -1,0 +1,97 @@
+-- Code of statements stays code when the tables grow, and is short.
+use Rattle.std.proofs.Common.{◌≡◌, ℕ, ◌+◌, ◌*◌, ◌≤◌, Bool, true, false, List, [], ◌∷◌, ◌++◌, length, refl, ap, arith, length-append}
+use Rattle.ep_outside.specs.Known.{IsPrefix}
+use Rattle.ep_object.specs.declared.code.Instr.{Instr}
+use Rattle.ep_object.specs.declared.code.Reference.{Reference}
+use Rattle.ep_typed.specs.Trees.{Place, Variable, Item, Plain, Wide, Stmt, Stmts, Empty, Compound, Assign, If, While, Halt, Write, none, next}
+use Rattle.ep_typed.specs.declared.operations.Print.{Print}
+use Rattle.ep_typed.specs.declared.operations.Print.TheVariants as print
+use Rattle.ep_gen_expr.specs.ExprCode.{bare, place_nodes, expr_nodes}
+use Rattle.ep_gen_expr.proofs.Stays.{place_code_stays, expr_code_stays, place_code_short, expr_code_short}
+use Rattle.ep_gen_unit.specs.StmtCode.{IsItemCode, AreItemsCode, IsStmtCode, AreStmtsCode, plain_code, before_width, wide_code}
+use Rattle.ep_gen_unit.specs.StmtGrowth.{item_nodes, items_nodes, stmt_nodes, stmts_nodes}
+
+module _ (ts us : List (List ℕ)) (rs ss : List Reference) (a : IsPrefix ts us) (b : IsPrefix rs ss) where
+  pub item_code_stays : (line : ℕ) (i : Item) (is : List Instr) → IsItemCode ts rs line i is → IsItemCode us ss line i is
+  item_code_stays line (Plain print x) is h = (h.0, expr_code_stays ts us rs ss line a b x h.0 h.1, h.2)
+  item_code_stays line (Wide print x w) is h = (h.0, h.1, expr_code_stays ts us rs ss line a b x h.0 h.2, expr_code_stays ts us rs ss line a b w h.1 h.3, h.4)
+
+  pub items_code_stays : (line : ℕ) (items : List Item) (ends_line : Bool) (is : List Instr) → AreItemsCode ts rs line items ends_line is → AreItemsCode us ss line items ends_line is
+  items_code_stays line [] false is h = h
+  items_code_stays line [] true is h = h
+  items_code_stays line (i ∷ items) ends_line is h = (h.0, h.1, item_code_stays line i h.0 h.2, items_code_stays line items ends_line h.1 h.3, h.4)
+
+  mutual
+    pub stmt_code_stays : (at : ℕ) (s : Stmt) (is : List Instr) → IsStmtCode ts rs at s is → IsStmtCode us ss at s is
+    stmt_code_stays at Empty is h = h
+    stmt_code_stays at (Compound statements) is h = stmts_code_stays at statements is h
+    stmt_code_stays at (Assign line p x) is h = (h.0, h.1, place_code_stays rs ss line p h.0 b h.2, expr_code_stays ts us rs ss line a b x h.1 h.3, h.4)
+    stmt_code_stays at (If line x s t) is h =
+        (h.0, h.1, h.2, expr_code_stays ts us rs ss line a b x h.0 h.3, stmt_code_stays (at + length h.0 + 1) s h.1 h.4, stmt_code_stays (at + length h.0 + 1 + length h.1 + 1) t h.2 h.5, h.6)
+    stmt_code_stays at (While line x s) is h = (h.0, h.1, expr_code_stays ts us rs ss line a b x h.0 h.2, stmt_code_stays (at + length h.0 + 1) s h.1 h.3, h.4)
+    stmt_code_stays at (Halt line) is h = h
+    stmt_code_stays at (Write line items ends_line) is h = items_code_stays line items ends_line is h
+
+    pub stmts_code_stays : (at : ℕ) (statements : Stmts) (is : List Instr) → AreStmtsCode ts rs at statements is → AreStmtsCode us ss at statements is
+    stmts_code_stays at none is h = h
+    stmts_code_stays at (next s rest) is h = (h.0, h.1, stmt_code_stays at s h.0 h.2, stmts_code_stays (at + length h.0) rest h.1 h.3, h.4)
+
+plain_short : (line : ℕ) (print : Print) → length (plain_code line print) ≤ 1
+plain_short line print.Integer = omega arith
+plain_short line print.Char = omega arith
+plain_short line print.Boolean = omega arith
+plain_short line print.Text = omega arith
+
+before_short : (line : ℕ) (print : Print) → length (before_width line print) ≤ 1
+before_short line print.Integer = omega arith
+before_short line print.Char = omega arith
+before_short line print.Boolean = omega arith
+before_short line print.Text = omega arith
+
+if_short : (xs ys zs : List Instr) (i j : Instr) (is : List Instr) → is ≡ xs ++ i ∷ (ys ++ j ∷ zs) → (k m n : ℕ) → length xs ≤ 32 * k → length ys ≤ 32 * m → length zs ≤ 32 * n → length is ≤ 32 * (1 + k + m + n)
+if_short xs ys zs i j is e k m n p q r = omega (arith, ap length e, length-append xs (i ∷ (ys ++ j ∷ zs)), length-append ys (j ∷ zs), p, q, r)
+
+while_short : (xs ys : List Instr) (i j : Instr) (is : List Instr) → is ≡ xs ++ i ∷ (ys ++ j ∷ []) → (k m : ℕ) → length xs ≤ 32 * k → length ys ≤ 32 * m → length is ≤ 32 * (1 + k + m)
+while_short xs ys i j is e k m p q = omega (arith, ap length e, length-append xs (i ∷ (ys ++ j ∷ [])), length-append ys (j ∷ []), p, q)
+
+place_one : (p : Place) → place_nodes p ≡ 1
+place_one (Variable unit number) = refl
+
+module _ (ts : List (List ℕ)) (rs : List Reference) where
+  item_code_short : (line : ℕ) (i : Item) (is : List Instr) → IsItemCode ts rs line i is → length is ≤ 32 * item_nodes i
+  item_code_short line (Plain print x) is h =
+      omega (arith, ap length h.2, length-append h.0 (plain_code line print ++ bare line 68 ∷ []), length-append (plain_code line print) (bare line 68 ∷ []), plain_short line print, expr_code_short ts rs line x h.0 h.1)
+  item_code_short line (Wide print x w) is h =
+      omega (
+        arith,
+        ap length h.4,
+        length-append h.0 (before_width line print ++ (h.1 ++ wide_code line print ∷ bare line 68 ∷ [])),
+        length-append (before_width line print) (h.1 ++ wide_code line print ∷ bare line 68 ∷ []),
+        length-append h.1 (wide_code line print ∷ bare line 68 ∷ []),
+        before_short line print,
+        expr_code_short ts rs line x h.0 h.2,
+        expr_code_short ts rs line w h.1 h.3,
+      )
+
+  items_code_short : (line : ℕ) (items : List Item) (ends_line : Bool) (is : List Instr) → AreItemsCode ts rs line items ends_line is → length is ≤ 32 * items_nodes items + 4
+  items_code_short line [] false is h = omega (arith, ap length h)
+  items_code_short line [] true is h = omega (arith, ap length h)
+  items_code_short line (i ∷ items) ends_line is h = omega (arith, ap length h.4, length-append h.0 h.1, item_code_short line i h.0 h.2, items_code_short line items ends_line h.1 h.3)
+
+  mutual
+    pub stmt_code_short : (at : ℕ) (s : Stmt) (is : List Instr) → IsStmtCode ts rs at s is → length is ≤ 32 * stmt_nodes s
+    stmt_code_short at Empty is h = omega (arith, ap length h)
+    stmt_code_short at (Compound statements) is h = omega (arith, stmts_code_short at statements is h)
+    stmt_code_short at (Assign line p x) is h =
+        omega (arith, ap length h.4, length-append h.0 (h.1 ++ bare line 23 ∷ []), length-append h.1 (bare line 23 ∷ []), place_code_short rs line p h.0 h.2, place_one p, expr_code_short ts rs line x h.1 h.3)
+    stmt_code_short at (If line x s t) is h =
+        if_short h.0 h.1 h.2 _ _ is h.6 (expr_nodes x) (stmt_nodes s) (stmt_nodes t)
+        (expr_code_short ts rs line x h.0 h.3) (stmt_code_short (at + length h.0 + 1) s h.1 h.4) (stmt_code_short (at + length h.0 + 1 + length h.1 + 1) t h.2 h.5)
+    stmt_code_short at (While line x s) is h =
+        while_short h.0 h.1 _ _ is h.4 (expr_nodes x) (stmt_nodes s) (expr_code_short ts rs line x h.0 h.2) (stmt_code_short (at + length h.0 + 1) s h.1 h.3)
+    stmt_code_short at (Halt line) is h = omega (arith, ap length h)
+    stmt_code_short at (Write line items ends_line) is h = omega (arith, items_code_short line items ends_line is h)
+
+    pub stmts_code_short : (at : ℕ) (ss : Stmts) (is : List Instr) → AreStmtsCode ts rs at ss is → length is ≤ 32 * stmts_nodes ss
+    stmts_code_short at none is h = omega (arith, ap length h)
+    stmts_code_short at (next s rest) is h = omega (arith, ap length h.4, length-append h.0 h.1, stmt_code_short at s h.0 h.2, stmts_code_short (at + length h.0) rest h.1 h.3)

@@ -1,0 +1,5 @@
+pub mod Laws
+pub mod ProgramLaws
+pub mod StmtCode
+pub mod StmtGrowth
+pub mod UnitCode

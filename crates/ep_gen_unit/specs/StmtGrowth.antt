@@ -1,0 +1,107 @@
+-- How code under construction grows by statements, whose lines differ, and how forward jumps get their goals.
+use Rattle.std.specs.Prelude.{◌≡◌, ℕ, pos, ◌+◌, ◌*◌, ◌^◌, ◌-◌, ◌<◌, ◌≤◌, Bool, false, List, [], ◌∷◌, ◌++◌, length, slice_set}
+use Rattle.ep_gen_expr.specs.ExprCode.{instr, expr_nodes}
+use Rattle.ep_gen_expr.specs.Growth.{TableGrows, Grows, IsTable, AreDistinct}
+use Rattle.ep_gen_expr.specs.declared.code.Code.{Code}
+use Rattle.ep_gen_unit.specs.UnitCode.{routine_at}
+use Rattle.ep_gen_unit.specs.StmtCode.{IsItemCode, AreItemsCode, IsStmtCode, AreStmtsCode}
+use Rattle.ep_object.specs.declared.code.Instr.{Instr}
+use Rattle.ep_object.specs.declared.code.Object.{Object}
+use Rattle.ep_typed.specs.declared.unit.Unit.{Unit as TypedUnit}
+use Rattle.ep_typed.specs.Trees.{Item, Plain, Wide, Stmt, Stmts, Empty, Compound, Assign, If, While, Halt, Write, none, next}
+
+-- these instructions are appended, the line is any, and all else is as before but for new items of the two tables
+pub record Follows (old new : Code) (is : List Instr) : Type 0 where
+  pub instructions : new.instructions ≡ old.instructions ++ is
+  pub texts : TableGrows old.texts new.texts
+  pub references : TableGrows old.references new.references
+  pub constant_types : new.constant_types ≡ old.constant_types
+
+-- the place after the code, where a next instruction stands: a number that a field of 32 bits holds
+pub record IsNextPlace (code : Code) (k : ℕ) : Type 0 where
+  pub is_length : k ≡ length code.instructions
+  pub small : k < 2 ^ 32 - 1
+
+-- one instruction is appended, at this place, that is to be replaced by a jump
+pub record LeavesHole (old new : Code) (k : ℕ) : Type 0 where
+  pub filler : Instr
+  pub grows : Grows old new (filler ∷ [])
+  pub is_length : k ≡ length old.instructions
+
+-- in place of the filler stands a jump to the place after the code, and all else is as before
+abbrev pub landed : Code → ℕ → ℕ → ℕ → Code
+landed code hole op line = record code { instructions = slice_set code.instructions hole (instr op (pos (length code.instructions)) 0 line) }
+
+-- the nodes of an item, and one for what writes it
+abbrev pub item_nodes : Item → ℕ
+item_nodes (Plain print x) = 1 + expr_nodes x
+item_nodes (Wide print x w) = 1 + expr_nodes x + expr_nodes w
+
+abbrev pub items_nodes : List Item → ℕ
+items_nodes [] = 0
+items_nodes (i ∷ items) = item_nodes i + items_nodes items
+
+-- the nodes of a statement: one for itself, and those of its parts
+abbrev mutual
+  pub stmt_nodes : Stmt → ℕ
+  stmt_nodes Empty = 1
+  stmt_nodes (Compound ss) = 1 + stmts_nodes ss
+  stmt_nodes (Assign line p x) = 2 + expr_nodes x
+  stmt_nodes (If line x a b) = 1 + expr_nodes x + stmt_nodes a + stmt_nodes b
+  stmt_nodes (While line x s) = 1 + expr_nodes x + stmt_nodes s
+  stmt_nodes (Halt line) = 1
+  stmt_nodes (Write line items ends_line) = 1 + items_nodes items
+
+  pub stmts_nodes : Stmts → ℕ
+  stmts_nodes none = 0
+  stmts_nodes (next s ss) = stmt_nodes s + stmts_nodes ss
+
+-- the code that writes the item is appended
+pub record AppendsItem (old new : Code) (i : Item) : Type 0 where
+  pub code : List Instr
+  pub is_code : IsItemCode new.texts new.references old.line i code
+  pub grows : Grows old new code
+
+-- the code that writes the items is appended, and then the line end where there is one
+pub record AppendsItems (old new : Code) (items : List Item) (ends_line : Bool) : Type 0 where
+  pub code : List Instr
+  pub is_code : AreItemsCode new.texts new.references old.line items ends_line code
+  pub grows : Grows old new code
+
+-- the code of the statement is appended, at most 32 instructions for each typed node
+pub record AppendsStmt (old new : Code) (s : Stmt) : Type 0 where
+  pub code : List Instr
+  pub is_code : IsStmtCode new.texts new.references (length old.instructions) s code
+  pub follows : Follows old new code
+  pub short : length code ≤ 32 * stmt_nodes s
+
+-- the code of the statements is appended
+pub record AppendsStmts (old new : Code) (ss : Stmts) : Type 0 where
+  pub code : List Instr
+  pub is_code : AreStmtsCode new.texts new.references (length old.instructions) ss code
+  pub follows : Follows old new code
+
+-- the tables and the code of an object have places that a field of 32 bits holds, and each text and reference is there once
+pub record IsCompact (o : Object) : Type 0 where
+  pub few_texts : IsTable o.texts
+  pub few_references : IsTable o.references
+  pub few_instructions : IsTable o.instructions
+  pub texts : AreDistinct o.texts
+  pub references : AreDistinct o.references
+
+-- the object of a unit, from its code, the number of its variables and the entry of its second routine
+abbrev pub assembled : TypedUnit → Code → ℕ → ℕ → Object
+assembled u code slots stop_entry = record {
+  «module» = false;
+  name = u.name;
+  interface = [];
+  imports = [];
+  references = code.references;
+  texts = code.texts;
+  constant_types = code.constant_types;
+  routines = routine_at 0 ∷ routine_at stop_entry ∷ [];
+  unit_slots = slots;
+  start = 0;
+  stop = 1;
+  instructions = code.instructions;
+}

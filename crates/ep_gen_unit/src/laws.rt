@@ -1,0 +1,19 @@
+//! The laws of the code of statements.
+
+ghost use Rattle.ep_gen_unit.specs.Laws.{StmtCodeStays, StmtCodeIsShort};
+ghost use Rattle.ep_gen_unit.specs.ProgramLaws.{ProgramsTell};
+
+/// Does nothing: its contract states what holds of the code of every statement. It stays code when the tables grow,
+/// and has at most 32 instructions for each typed node.
+pub fn laws_of_statements()
+    ensures stays { StmtCodeStays }
+    ensures short { StmtCodeIsShort }
+{}
+
+/// Does nothing: its contract states that a run of the image of a program tells what the program means. A run that has
+/// ended has done the same events and ended in the same way, and the events of one that goes on are a front of those of
+/// the meaning, and begin with all that the meaning does in one step for 64 ticks; but where a run needs more words or
+/// types than every run has room for, the machine may have ended for want of storage.
+pub fn laws_of_programs()
+    ensures { ProgramsTell }
+{}

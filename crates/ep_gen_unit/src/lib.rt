@@ -1,0 +1,19 @@
+//! Code of statements and units.
+//!
+//! specs/StmtCode.antt says which instructions are the code of a statement that begins at a place, under given tables,
+//! and specs/UnitCode.antt which object is the code of a program. specs/StmtGrowth.antt says how code grows by
+//! statements. A jump ahead is first a filler, and gets its goal once the part that it skips is there.
+#![tactic(auto)]
+
+mod items;
+mod jumps;
+mod laws;
+mod program;
+mod statements;
+
+pub use laws::{laws_of_programs, laws_of_statements};
+pub use program::program_code;
+pub use statements::statement_code;
+
+#[cfg(test)]
+mod tests;

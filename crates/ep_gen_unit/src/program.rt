@@ -1,0 +1,117 @@
+//! The object of a program.
+
+ghost use Rattle.std.specs.Prelude.{◌≡◌, [], ◌∷◌, OnOk, IfOk};
+ghost use Rattle.ep_typed.specs.declared.types.TypeValue.TheVariants.{Ordinal};
+ghost use Rattle.ep_gen_expr.specs.Growth.{Grows};
+ghost use Rattle.ep_gen_unit.specs.StmtCode.{type_code, make_code, make_all_code};
+ghost use Rattle.ep_gen_unit.specs.StmtGrowth.{Follows, IsCompact, assembled};
+ghost use Rattle.ep_gen_unit.specs.UnitCode.{IsProgramCode, routine_at};
+
+use crate::jumps::{field_number, next_place};
+use crate::statements::statement_code;
+use ep_base::{List, NoMemory};
+use ep_gen_expr::{Code, emit};
+use ep_object::{CodeRoutine, CodeRoutines, Object, op};
+use ep_typed::{TypeValue, Unit, UnitVariable};
+use std::alloc::Global;
+
+/// The object of a program. Its routine 0 makes the variables and runs the block, and its routine 1 does nothing.
+/// Where memory is wanting, or the code or a table would reach 2 ^ 32 - 1 entries, the program is refused.
+pub fn program_code(alloc: Global, u: &Unit) -> Result<Object, NoMemory>
+    ensures program { IfOk result (λ o. IsProgramCode u.now o) }
+    ensures compact { IfOk result (λ o. IsCompact o) }
+{
+    let mut code = Code::new(alloc, u);
+    let unit_slots = field_number(u.variables.items().len())?;
+    make_all(u.variables.items(), &mut code)?;
+    statement_code(alloc, &u.start, &mut code)?;
+    code.line = u.line;
+    emit(&mut code, op::RETURN, 0, 0)?;
+    let stop_entry = next_place(&code)?;
+    emit(&mut code, op::RETURN, 0, 0)?;
+    assemble(alloc, u, code, unit_slots, stop_entry)
+}
+
+/// The object of the code.
+fn assemble(
+    alloc: Global,
+    u: &Unit,
+    code: Code,
+    unit_slots: u32,
+    stop_entry: u32,
+) -> Result<Object, NoMemory>
+    ensures { IfOk result (λ o. o ≡ assembled u.now code unit_slots stop_entry) }
+{
+    let name = u.name.copy(alloc)?;
+    let routines = two_routines(alloc, stop_entry)?;
+    Ok(Object {
+        module: false,
+        name,
+        interface: List::new(alloc),
+        imports: List::new(alloc),
+        references: code.references,
+        texts: code.texts,
+        constant_types: code.constant_types,
+        routines,
+        unit_slots,
+        start: 0,
+        stop: 1,
+        instructions: code.instructions,
+    })
+}
+
+/// A routine at the first instruction and one at this place, which have no arguments and no slots.
+fn two_routines(alloc: Global, stop_entry: u32) -> Result<CodeRoutines, NoMemory>
+    ensures { IfOk result (λ l. l ≡ routine_at 0 ∷ routine_at stop_entry ∷ []) }
+{
+    let start = CodeRoutine {
+        entry: 0,
+        arguments: 0,
+        slots: 0,
+    };
+    let stop = CodeRoutine {
+        entry: stop_entry,
+        arguments: 0,
+        slots: 0,
+    };
+    List::from_slice(alloc, &[start, stop])
+}
+
+/// Appends the code that makes the variables, in order.
+fn make_all(variables: &[UnitVariable], code: &mut Code) -> Result<(), NoMemory>
+    ensures { OnOk result (Follows code.old code.new (make_all_code 0 variables.now)) }
+{
+    for (number, variable) in variables.iter().enumerate() {
+        let slot = field_number(number)?;
+        make_variable(variable, slot, code)?;
+    }
+    Ok(())
+}
+
+/// Appends the code that makes a variable in a slot.
+fn make_variable(variable: &UnitVariable, slot: u32, code: &mut Code) -> Result<(), NoMemory>
+    ensures { OnOk result (Follows code.old code.new (make_code slot variable.now)) }
+{
+    code.line = variable.line;
+    push_type(variable.type_value, code)?;
+    emit(code, op::MAKE, slot as i64, 0)
+}
+
+/// Appends the code that leaves an ordinal type. The type of text files needs none.
+fn push_type(type_value: TypeValue, code: &mut Code) -> Result<(), NoMemory>
+    ensures { OnOk result (Grows code.old code.new (type_code code.old.line type_value)) }
+{
+    match type_value {
+        TypeValue::Ordinal(low, high) => push_ordinal(low, high, code),
+        TypeValue::Text => Ok(()),
+    }
+}
+
+/// Appends the code that leaves an ordinal type with these bounds.
+fn push_ordinal(low: i64, high: i64, code: &mut Code) -> Result<(), NoMemory>
+    ensures { OnOk result (Grows code.old code.new (type_code code.old.line (Ordinal low high))) }
+{
+    emit(code, op::PUSH, low, 0)?;
+    emit(code, op::PUSH, high, 0)?;
+    emit(code, op::T_ORD, 0, 0)
+}

@@ -1,0 +1,139 @@
+//! The code of statements.
+//!
+//! A statement sets the line, so it is set again after a part that is a statement.
+
+ghost use Rattle.std.specs.Prelude.{OnOk, map};
+ghost use Rattle.ep_typed.specs.Trees.{Compound, Assign, If, While, Halt, Write, stmts};
+ghost use Rattle.ep_typed.specs.Viewed.{expr_of, item_of, place_of, stmt_of};
+ghost use Rattle.ep_gen_unit.specs.StmtGrowth.{AppendsStmt, AppendsStmts};
+
+use crate::items::items_code;
+use crate::jumps::{land, leave_hole, next_place};
+use ep_base::{Line, NoMemory};
+use ep_gen_expr::{Code, emit, expression_code, place_code};
+use ep_object::op;
+use ep_typed::{TypedExpr, TypedPlace, TypedStmt, WriteItem};
+use std::alloc::Global;
+
+/// Appends the code of a statement. Where memory is wanting, or the code or a table would reach 2 ^ 32 entries, it is
+/// refused, and the code is then that of no statement.
+#[cycle(statement)]
+pub fn statement_code(alloc: Global, s: &TypedStmt, code: &mut Code) -> Result<(), NoMemory>
+    ensures { OnOk result (AppendsStmt code.old code.new (stmt_of s.now)) }
+{
+    match s {
+        TypedStmt::Empty => Ok(()),
+        TypedStmt::Compound(statements) => compound_code(alloc, statements.items(), code),
+        TypedStmt::Assign(line, place, value) => assign_code(alloc, *line, place, value, code),
+        TypedStmt::If(line, condition, then_part, else_part) => {
+            if_code(
+                alloc,
+                *line,
+                condition,
+                then_part.get(),
+                else_part.get(),
+                code,
+            )
+        }
+        TypedStmt::While(line, condition, body) => {
+            while_code(alloc, *line, condition, body.get(), code)
+        }
+        TypedStmt::Halt(line) => halt_code(*line, code),
+        TypedStmt::Write(line, items, ends_line) => {
+            write_code(alloc, *line, items.items(), *ends_line, code)
+        }
+    }
+}
+
+/// Appends the code of statements one after another.
+#[cycle(statement)]
+fn compound_code(alloc: Global, statements: &[TypedStmt], code: &mut Code) -> Result<(), NoMemory>
+    ensures { OnOk result (AppendsStmts code.old code.new (stmts (map stmt_of statements.now))) }
+{
+    for s in statements {
+        statement_code(alloc, s, code)?;
+    }
+    Ok(())
+}
+
+/// Appends the code of an assignment.
+fn assign_code(
+    alloc: Global,
+    line: Line,
+    place: &TypedPlace,
+    value: &TypedExpr,
+    code: &mut Code,
+) -> Result<(), NoMemory>
+    ensures { OnOk result (AppendsStmt code.old code.new (Assign line (place_of place.now) (expr_of value.now))) }
+{
+    code.line = line;
+    place_code(alloc, place, code)?;
+    expression_code(alloc, value, code)?;
+    emit(code, op::STORE, 0, 0)
+}
+
+/// Appends the code of an `if`: the condition, the jump over the first part, that part, the jump over the second part,
+/// and that part.
+#[cycle(statement)]
+fn if_code(
+    alloc: Global,
+    line: Line,
+    condition: &TypedExpr,
+    then_part: &TypedStmt,
+    else_part: &TypedStmt,
+    code: &mut Code,
+) -> Result<(), NoMemory>
+    ensures { OnOk result (AppendsStmt code.old code.new (If line (expr_of condition.now) (stmt_of then_part.now) (stmt_of else_part.now))) }
+{
+    code.line = line;
+    expression_code(alloc, condition, code)?;
+    let skip = leave_hole(code)?;
+    statement_code(alloc, then_part, code)?;
+    let leave = leave_hole(code)?;
+    land(code, skip, op::JUMP_FALSE, line)?;
+    statement_code(alloc, else_part, code)?;
+    land(code, leave, op::JUMP, line)
+}
+
+/// Appends the code of a `while`: the condition, the jump out of the loop, the body, and the jump back.
+#[cycle(statement)]
+fn while_code(
+    alloc: Global,
+    line: Line,
+    condition: &TypedExpr,
+    body: &TypedStmt,
+    code: &mut Code,
+) -> Result<(), NoMemory>
+    ensures { OnOk result (AppendsStmt code.old code.new (While line (expr_of condition.now) (stmt_of body.now))) }
+{
+    code.line = line;
+    let start = next_place(code)?;
+    expression_code(alloc, condition, code)?;
+    let leave = leave_hole(code)?;
+    statement_code(alloc, body, code)?;
+    code.line = line;
+    emit(code, op::JUMP, start as i64, 0)?;
+    land(code, leave, op::JUMP_FALSE, line)
+}
+
+/// Appends the code of `halt`.
+fn halt_code(line: Line, code: &mut Code) -> Result<(), NoMemory>
+    ensures { OnOk result (AppendsStmt code.old code.new (Halt line)) }
+{
+    code.line = line;
+    emit(code, op::HALT, 0, 0)
+}
+
+/// Appends the code of a `write` or `writeln`.
+fn write_code(
+    alloc: Global,
+    line: Line,
+    items: &[WriteItem],
+    ends_line: bool,
+    code: &mut Code,
+) -> Result<(), NoMemory>
+    ensures { OnOk result (AppendsStmt code.old code.new (Write line (map item_of items.now) ends_line)) }
+{
+    code.line = line;
+    items_code(alloc, items, ends_line, code)
+}
