@@ -64,22 +64,22 @@ module _ (G : Image) (k : State) where
 
 module _ {A : Type 0} (G : Image) (k : State) (come : ℕ → Outcome A) (e : A → ℕ) (follows : (m : ℕ) → Meets G k m Never spare_ticks e (come m) ⊎ GivesUp G k (state_of (come m))) where
   -- a run that has ended
-  tells_end : (t : ℕ) (end : End) (trace : Trace) → run G t 0 k ≡ Stopped end trace → EndsSo come end trace ⊎ RanOut come end trace
+  tells_end : (t : ℕ) (end : End) (trace : Trace) → run G t 0 k ≡ Stopped end trace → EndsSo come t end trace ⊎ RanOut come t end trace
   tells_end t end trace h = go (come (64 * t + spare_ticks)) refl (follows (64 * t + spare_ticks))
     where
-      go : (o : Outcome A) → come (64 * t + spare_ticks) ≡ o → Meets G k (64 * t + spare_ticks) Never spare_ticks e o ⊎ GivesUp G k (state_of o) → EndsSo come end trace ⊎ RanOut come end trace
+      go : (o : Outcome A) → come (64 * t + spare_ticks) ≡ o → Meets G k (64 * t + spare_ticks) Never spare_ticks e o ⊎ GivesUp G k (state_of o) → EndsSo come t end trace ⊎ RanOut come t end trace
       go (Gives left a s) is (inl x) = absurd x.post
       go (Ends left end2 s) is (inl x) =
           let same = one_end G k t (x.ticks + 1) end (end_of end2) trace s.trace h (ends_after G k x.ticks x.wait x.last (end_of end2) s.trace x.runs x.ends) in
-          inl (record { steps = 64 * t + spare_ticks; left = left; its_end = end2; state = s; is = is; same_end = same.0; same_trace = same.1 })
+          inl (record { steps = 64 * t + spare_ticks; few = omega arith; left = left; its_end = end2; state = s; is = is; same_end = same.0; same_trace = same.1 })
       go (Cut s) is (inl x) = absurd (running_before G k x.ticks t x.wait x.to end trace x.runs h (omega (arith, x.slow)))
       go o is (inr x) =
           let same = one_end G k t x.ticks end (Error x.number x.unit x.line) trace x.trace h x.runs in
-          inr (record { steps = 64 * t + spare_ticks; lost = subst (λ y. IsTrue (state_of y).resources.lost) (sym is) x.lost; number = x.number; unit = x.unit; line = x.line; is = same.0; is_limit = x.is_limit; begins = subst (λ y. IsPrefix trace (state_of y).trace) (sym is) (subst (λ y. IsPrefix y (state_of o).trace) (sym same.1) x.begins) })
+          inr (record { steps = 64 * t + spare_ticks; few = omega arith; lost = subst (λ y. IsTrue (state_of y).resources.lost) (sym is) x.lost; number = x.number; unit = x.unit; line = x.line; is = same.0; is_limit = x.is_limit; begins = subst (λ y. IsPrefix trace (state_of y).trace) (sym is) (subst (λ y. IsPrefix y (state_of o).trace) (sym same.1) x.begins) })
 
   -- a run that goes on
   tells_more : (t wait : ℕ) (s : State) → run G t 0 k ≡ Running wait s → GoesOn come t s.trace
-  tells_more t wait s h = record { steps = 64 * t + spare_ticks; begins = front (come (64 * t + spare_ticks)) (follows (64 * t + spare_ticks)); all = λ m few. still m few (come m) refl (follows m) }
+  tells_more t wait s h = record { steps = 64 * t + spare_ticks; few = omega arith; begins = front (come (64 * t + spare_ticks)) (follows (64 * t + spare_ticks)); all = λ m few. still m few (come m) refl (follows m) }
     where
       later : (u : ℕ) (end : End) (trace : Trace) → run G u 0 k ≡ Stopped end trace → IsPrefix s.trace trace
       later u end trace i = elim (cases t u) [ inl le ↦ events_between G k t u (Running wait s) (Stopped end trace) le h i | inr le ↦ absurd (running_before G k t u wait s end trace h i le) ]

@@ -12,9 +12,10 @@ use Rattle.ep_object.specs.State.{End, Going, Running, Stopped, Error}
 abbrev pub spare_ticks : ℕ
 spare_ticks = 42
 
--- the computation ends so too, after the same events
-pub record EndsSo {A : Type 0} (come : ℕ → Outcome A) (end : End) (trace : Trace) : Type 0 where
+-- the computation ends so too, after the same events, with steps that are not many more than 64 for each tick
+pub record EndsSo {A : Type 0} (come : ℕ → Outcome A) (ticks : ℕ) (end : End) (trace : Trace) : Type 0 where
   pub steps : ℕ
+  pub few : steps ≤ 64 * (ticks + 1)
   pub left : ℕ
   pub its_end : meaning.End
   pub state : meaning.State
@@ -22,10 +23,11 @@ pub record EndsSo {A : Type 0} (come : ℕ → Outcome A) (end : End) (trace : T
   pub same_end : end ≡ end_of its_end
   pub same_trace : trace ≡ state.trace
 
--- the computation has more words or types than every run has room for, and the machine has ended for want of storage
--- or of depth
-pub record RanOut {A : Type 0} (come : ℕ → Outcome A) (end : End) (trace : Trace) : Type 0 where
+-- the computation has more words or types than every run has room for within steps that are not many more than 64 for
+-- each tick, and the machine has ended for want of storage or of depth
+pub record RanOut {A : Type 0} (come : ℕ → Outcome A) (ticks : ℕ) (end : End) (trace : Trace) : Type 0 where
   pub steps : ℕ
+  pub few : steps ≤ 64 * (ticks + 1)
   pub lost : IsTrue (state_of (come steps)).resources.lost
   pub number : ℕ
   pub unit : List ℕ
@@ -40,14 +42,16 @@ pub record StillGoes {A : Type 0} (o : Outcome A) (trace : Trace) : Type 0 where
   pub is : o ≡ Cut state
   pub begins : IsPrefix state.trace trace
 
--- The events of a run that has spent so many ticks are a front of those of the computation. They begin with all that
--- the computation does in one step for 64 ticks, and it has not ended by then, but where room was lost.
+-- The events of a run that has spent so many ticks are a front of those that the computation does with not many more
+-- than 64 steps for each tick. They begin with all that the computation does in one step for 64 ticks, and it has not
+-- ended by then, but where room was lost.
 pub record GoesOn {A : Type 0} (come : ℕ → Outcome A) (ticks : ℕ) (trace : Trace) : Type 0 where
   pub steps : ℕ
+  pub few : steps ≤ 64 * (ticks + 1)
   pub begins : IsPrefix trace (state_of (come steps)).trace
   pub all : (m : ℕ) → 64 * m + spare_ticks ≤ ticks → StillGoes (come m) trace ⊎ IsTrue (state_of (come m)).resources.lost
 
 -- what a run tells that has ended, or has spent so many ticks
 abbrev pub Tells : {A : Type 0} → (ℕ → Outcome A) → ℕ → Going → Type 0
 Tells come ticks (Running wait s) = GoesOn come ticks s.trace
-Tells come ticks (Stopped end trace) = EndsSo come end trace ⊎ RanOut come end trace
+Tells come ticks (Stopped end trace) = EndsSo come ticks end trace ⊎ RanOut come ticks end trace
