@@ -1,5 +1,5 @@
 -- The machine follows a whole program.
-use Rattle.std.proofs.Common.{◌≡◌, ℕ, ◌+◌, ◌<◌, [], ◌∷◌, ◌++◌, length, length-append, Some, slice_get, refl, sym, ap, ◌∙◌, subst, arith}
+use Rattle.std.proofs.Common.{◌≡◌, ℕ, ◌+◌, ◌<◌, false, [], ◌∷◌, ◌++◌, length, length-append, Some, slice_get, refl, sym, ap, ◌∙◌, subst, arith}
 use Rattle.std.proofs.lemmas.Bool.{lt-ltb}
 use Rattle.ep_gen_expr.specs.ExprCode.{bare}
 use Rattle.ep_gen_unit.specs.StmtCode.{make_all_code}
@@ -12,17 +12,19 @@ use Rattle.ep_object.proofs.Alone.{placements_alone, code_stands-alone}
 use Rattle.ep_object.proofs.Beginning.{first_memory, first_injection, first_matches}
 use Rattle.ep_object.proofs.Bind.{follows_post}
 use Rattle.ep_object.proofs.Fragments.{fragment_bind_bare, fragment_stop}
-use Rattle.ep_object.proofs.Tells.{Never, tells}
-use Rattle.ep_object.specs.Tells.{Tells, spare_ticks}
+use Rattle.ep_object.proofs.Tells.{Never, tells, tells_close}
+use Rattle.ep_object.specs.Tells.{Tells, AreClose, spare_ticks}
 use Rattle.ep_object.proofs.Growing.{unit_in}
 use Rattle.ep_object.proofs.Rows.{return_enters}
 use Rattle.ep_object.specs.Follows.{Follows, Fragment, Inside, SameRoutine}
+use Rattle.ep_object.specs.Laws.{EndsAt}
 use Rattle.ep_object.specs.Matching.{Memory, at as standing}
 use Rattle.ep_object.specs.Placing.{CodeStands, alone, first_placement}
 use Rattle.ep_object.specs.Runs.{begin, outcome, enter, run_from}
-use Rattle.ep_object.specs.State.{State, Frames, Running, Stopped, Normal, first_frames}
+use Rattle.ep_object.specs.State.{State, Frames, End, Running, Stopped, Normal, first_frames}
 use Rattle.ep_object.specs.declared.code.Object.{Object}
 use Rattle.ep_typed.proofs.Steady.{steady_stop}
+use Rattle.ep_typed.specs.Events.{Trace}
 use Rattle.ep_typed.specs.Meaning.{starts_of, meaning as meaning_of}
 use Rattle.ep_typed.specs.Steps as meaning
 use Rattle.ep_typed.specs.Valid.{IsValid, own}
@@ -86,3 +88,9 @@ module _ (u : TypedUnit) (o : Object) (is : IsProgramCode u o) where
     program_tells t =
         subst (λ g. Tells (meaning_of (u ∷ [])) t (run_from (alone o) t g)) (sym begins)
         (tells (alone o) start_state (meaning_of (u ∷ [])) (λ a. 41) (λ m. let f = program_follows m in f.by m (omega arith)) t)
+
+    -- The ticks of a run of the program's image that ends and the steps of its meaning bound one another.
+    pub program_spends : (t : ℕ) (end : End) (trace : Trace) → EndsAt (alone o) (begin (alone o)) 0 t end trace
+        → (steps left : ℕ) (its_end : meaning.End) (s : meaning.State) → meaning_of (u ∷ []) (left + steps) ≡ meaning.Ends left its_end s → s.resources.lost ≡ false → AreClose steps t
+    program_spends t end trace at steps left its_end s is kept =
+        tells_close (alone o) start_state (meaning_of (u ∷ [])) (λ a. 41) (λ m. let f = program_follows m in f.by m (omega arith)) t steps left its_end s end trace (subst (λ g. EndsAt (alone o) g 0 t end trace) begins at) is kept

@@ -1,13 +1,14 @@
 -- A run of a machine that follows a computation tells what the computation comes to.
-use Rattle.std.proofs.Common.{◌≡◌, ℕ, zero, suc, ◌+◌, ◌-◌, ◌*◌, ◌≤◌, ◌⊎◌, inl, inr, IsTrue, refl, sym, ap, ◌∙◌, subst, arith}
+use Rattle.std.proofs.Common.{◌≡◌, ℕ, zero, suc, ◌+◌, ◌-◌, ◌*◌, ◌≤◌, ◌⊎◌, inl, inr, IsTrue, Bool, false, refl, sym, ap, ◌∙◌, subst, arith}
 use Rattle.ep_outside.specs.Known.{IsPrefix}
 use Rattle.ep_typed.specs.Events.{Trace}
 use Rattle.ep_typed.specs.Steps.{Outcome, Gives, Ends, Cut, state_of}
 use Rattle.ep_typed.specs.Steps as meaning
-use Rattle.ep_object.specs.Follows.{Meets, GivesUp, end_of}
+use Rattle.ep_object.specs.Follows.{Meets, EndsToo, GivesUp, end_of}
+use Rattle.ep_object.specs.Laws.{EndsAt, IsRunning}
 use Rattle.ep_object.specs.Runs.{run, run_from, tick, and_then, trace_of}
 use Rattle.ep_object.specs.State.{State, End, Going, Running, Stopped, Error}
-use Rattle.ep_object.specs.Tells.{EndsSo, RanOut, StillGoes, GoesOn, Tells, spare_ticks}
+use Rattle.ep_object.specs.Tells.{EndsSo, RanOut, StillGoes, GoesOn, Tells, AreClose, spare_ticks}
 use Rattle.ep_object.specs.declared.code.Image.{Image}
 use Rattle.ep_object.proofs.Grows.{prefix_then}
 use Rattle.ep_object.proofs.Views.{runs_extend, ends_stay, events_grow}
@@ -16,6 +17,9 @@ cases : (a b : ℕ) → (a ≤ b) ⊎ (b ≤ a)
 cases zero b = inl (omega arith)
 cases (suc a) zero = inr (omega arith)
 cases (suc a) (suc b) = elim (cases a b) [ inl x ↦ inl (omega arith) | inr x ↦ inr (omega arith) ]
+
+not_both_ways : (b : Bool) → IsTrue b → b ≡ false → ⊥
+not_both_ways b h i = cc
 
 -- what holds of no state
 abbrev pub Never : {A : Type 0} → A → meaning.State → State → Type 0
@@ -46,6 +50,9 @@ module _ (G : Image) (k : State) where
 
   running_before : (t u wait : ℕ) (s : State) (x : End) (a : Trace) → after_ticks t ≡ Running wait s → after_ticks u ≡ Stopped x a → u ≤ t → ⊥
   running_before t u wait s x a h i le = not_both wait s x a (sym h ∙ ended_later u t x a le i)
+
+  is_running_before : (t u : ℕ) (x : End) (a : Trace) → IsRunning (after_ticks t) → after_ticks u ≡ Stopped x a → u ≤ t → ⊥
+  is_running_before t u x a r i le = subst IsRunning {y = Stopped x a} (ended_later u t x a le i) r
 
   -- the events grow
   events_later : (t u : ℕ) → t ≤ u → IsPrefix (trace_of (after_ticks t)) (trace_of (after_ticks u))
@@ -104,3 +111,18 @@ module _ {A : Type 0} (G : Image) (k : State) (come : ℕ → Outcome A) (e : A 
       go : (g : Going) → run G t 0 k ≡ g → Tells come t g
       go (Running wait s) h = tells_more t wait s h
       go (Stopped end trace) h = tells_end t end trace h
+
+  -- the ticks after which a run has ended and the steps that the computation has spent by then bound one another
+  pub tells_close : (t spent left : ℕ) (its_end : meaning.End) (s : meaning.State) (end : End) (trace : Trace) → EndsAt G (Running 0 k) 0 t end trace → come (left + spent) ≡ Ends left its_end s → s.resources.lost ≡ false → AreClose spent t
+  tells_close t spent left its_end s end trace at is kept = go (subst (λ o. Meets G k (left + spent) Never spare_ticks e o ⊎ GivesUp G k (state_of o)) is (follows (left + spent)))
+    where
+      ticks : (x : EndsToo G k (left + spent) left spare_ticks its_end s.trace) → t ≡ suc x.ticks
+      ticks x =
+          let ended = ends_after G k x.ticks x.wait x.last (end_of its_end) s.trace x.runs x.ends in
+          let not_later : suc at.before ≤ x.ticks → ⊥ = λ le. running_before G k x.ticks (suc at.before) x.wait x.last end trace x.runs at.ends le in
+          let not_sooner : suc x.ticks ≤ at.before → ⊥ = λ le. is_running_before G k at.before (suc x.ticks) (end_of its_end) s.trace at.runs (subst (λ u. after_ticks G k u ≡ Stopped (end_of its_end) s.trace) {y = suc x.ticks} (omega arith) ended) le in
+          omega (arith, at.at, not_later, not_sooner)
+
+      go : EndsToo G k (left + spent) left spare_ticks its_end s.trace ⊎ GivesUp G k s → AreClose spent t
+      go (inl x) = let pays = x.pays in record { slow = omega (arith, ticks x, pays.slow, pays.all); fast = omega (arith, ticks x, pays.fast, pays.all) }
+      go (inr x) = absurd (not_both_ways s.resources.lost x.lost kept)

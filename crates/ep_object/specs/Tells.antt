@@ -55,3 +55,8 @@ pub record GoesOn {A : Type 0} (come : ℕ → Outcome A) (ticks : ℕ) (trace :
 abbrev pub Tells : {A : Type 0} → (ℕ → Outcome A) → ℕ → Going → Type 0
 Tells come ticks (Running wait s) = GoesOn come ticks s.trace
 Tells come ticks (Stopped end trace) = EndsSo come ticks end trace ⊎ RanOut come ticks end trace
+
+-- steps and ticks bound one another
+pub record AreClose (steps ticks : ℕ) : Type 0 where
+  pub slow : steps ≤ 64 * (ticks + 1)
+  pub fast : ticks ≤ 64 * (steps + 1)
