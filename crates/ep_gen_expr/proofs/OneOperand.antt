@@ -4,10 +4,11 @@ use Rattle.std.specs.Prelude.{◌-ℤ◌, ◌*ℤ◌, neg_ℤ, unsigned_abs}
 use Rattle.ep_object.specs.Matching.{Memory, Injection}
 use Rattle.ep_object.specs.Operands.{Operand, Word}
 use Rattle.ep_object.specs.Placing.{Placement, CodeStands}
+use Rattle.ep_object.specs.Runs.{unit_in}
 use Rattle.ep_object.specs.declared.code.Image.{Image}
 use Rattle.ep_object.specs.declared.code.Reference.{Reference}
 use Rattle.ep_object.proofs.Fragments.{fragment_less, fragment_to, fragment_one, fragment_give}
-use Rattle.ep_object.proofs.Growing.{unit_in, inside_here}
+use Rattle.ep_object.proofs.Growing.{inside_here}
 use Rattle.ep_object.proofs.Rows.{RowAnswers, push_pushes, neg_answers, abs_answers, sqr_answers, odd_answers, not_answers, check_answers}
 use Rattle.ep_object.proofs.TextRows.{drop_drops, dup_pushes}
 use Rattle.ep_typed.specs.Operations.{Number, unary_answer}

@@ -1,3 +1,4 @@
 pub mod ExprCode
 pub mod Growth
 pub mod Laws
+pub mod Following

@@ -1,5 +1,6 @@
 //! The laws of code.
 
+ghost use Rattle.ep_gen_expr.specs.Following.{PlacesAreFollowed, ExpressionsAreFollowed};
 ghost use Rattle.ep_gen_expr.specs.Laws.{PlaceCodeStays, ExprCodeStays, PlaceCodeIsShort, ExprCodeIsShort};
 
 /// Does nothing: its contract states what holds of the code of every expression and place. It stays code when the
@@ -9,4 +10,11 @@ pub fn laws_of_code()
     ensures expr_stays { ExprCodeStays }
     ensures place_short { PlaceCodeIsShort }
     ensures expr_short { ExprCodeIsShort }
+{}
+
+/// Does nothing: its contract states that wherever the code of an expression or of a place stands in an image, the
+/// machine follows its meaning through the code, at every number of steps, and leaves the value or the place on top.
+pub fn laws_of_following()
+    ensures places { PlacesAreFollowed }
+    ensures expressions { ExpressionsAreFollowed }
 {}

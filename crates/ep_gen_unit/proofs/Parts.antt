@@ -6,10 +6,10 @@ use Rattle.ep_object.specs.Follows.{Fragment, Inside, Bare, OnTop, PlaceOnTop}
 use Rattle.ep_object.specs.Matching.{Memory, Injection}
 use Rattle.ep_object.specs.Operands.{Operand}
 use Rattle.ep_object.specs.Placing.{Placement, CodeStands}
+use Rattle.ep_object.specs.Runs.{unit_in}
 use Rattle.ep_object.specs.declared.code.Image.{Image}
 use Rattle.ep_object.specs.declared.code.Instr.{Instr}
 use Rattle.ep_object.specs.declared.code.Reference.{Reference}
-use Rattle.ep_object.proofs.Growing.{unit_in}
 use Rattle.ep_typed.specs.Meaning.{place, eval, weight_of}
 use Rattle.ep_typed.specs.Steps.{Computation}
 use Rattle.ep_typed.specs.Trees.{Variable, Expr}

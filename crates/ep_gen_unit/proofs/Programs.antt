@@ -14,13 +14,12 @@ use Rattle.ep_object.proofs.Bind.{follows_post}
 use Rattle.ep_object.proofs.Fragments.{fragment_bind_bare, fragment_stop}
 use Rattle.ep_object.proofs.Tells.{Never, tells, tells_close}
 use Rattle.ep_object.specs.Tells.{Tells, AreClose, spare_ticks}
-use Rattle.ep_object.proofs.Growing.{unit_in}
 use Rattle.ep_object.proofs.Rows.{return_enters}
 use Rattle.ep_object.specs.Follows.{Follows, Fragment, Inside, SameRoutine}
 use Rattle.ep_object.specs.Laws.{EndsAt}
 use Rattle.ep_object.specs.Matching.{Memory, at as standing}
 use Rattle.ep_object.specs.Placing.{CodeStands, alone, first_placement}
-use Rattle.ep_object.specs.Runs.{begin, outcome, enter, run_from}
+use Rattle.ep_object.specs.Runs.{begin, outcome, enter, run_from, unit_in}
 use Rattle.ep_object.specs.State.{State, Frames, End, Running, Stopped, Normal, first_frames}
 use Rattle.ep_object.specs.declared.code.Object.{Object}
 use Rattle.ep_typed.proofs.Steady.{steady_stop}

@@ -10,10 +10,11 @@ use Rattle.ep_object.specs.Matching.{Memory, Injection}
 use Rattle.ep_object.specs.Operands.{Operand}
 use Rattle.ep_object.specs.Placing.{Placement, CodeStands}
 use Rattle.ep_object.specs.Scene.{Scene}
+use Rattle.ep_object.specs.Runs.{unit_in}
 use Rattle.ep_object.specs.declared.code.Image.{Image}
 use Rattle.ep_object.specs.declared.code.Object.{Object}
 use Rattle.ep_object.proofs.Fragments.{fragment_less, fragment_move, fragment_bind_bare}
-use Rattle.ep_object.proofs.Growing.{unit_in, unit_in-same}
+use Rattle.ep_object.proofs.Growing.{unit_in-same}
 use Rattle.ep_typed.proofs.Steady.{steady_exec}
 use Rattle.ep_typed.specs.Meaning.{make_all, start_of}
 use Rattle.ep_typed.specs.Valid.{Declarations, IsStmt}

@@ -4,7 +4,7 @@ use Rattle.ep_object.specs.Follows.{Bare, Inside}
 use Rattle.ep_object.specs.Matching.{Memory, at, Injection, IsPlaceOf, Describes, IsValueOf, layout, Represents, Matches}
 use Rattle.ep_object.specs.Operands.{Operand, Word, Text}
 use Rattle.ep_object.specs.Operands as operand
-use Rattle.ep_object.specs.Runs.{outcome}
+use Rattle.ep_object.specs.Runs.{outcome, unit_in}
 use Rattle.ep_object.specs.State.{Running, Stopped, Error, output_place, text_entry, first_types}
 use Rattle.ep_object.specs.Texts.{written}
 use Rattle.ep_object.specs.Types.{ordinal_entry}
@@ -12,7 +12,7 @@ use Rattle.ep_object.specs.declared.code.Image.{Image}
 use Rattle.ep_object.specs.declared.state.Place.{Place}
 use Rattle.ep_object.proofs.Changes.{storing, matches_events, grown_storing, matches_assigned}
 use Rattle.ep_object.proofs.Fragments.{Does, FailsWith}
-use Rattle.ep_object.proofs.Growing.{unit_in, slice_get-prefix, same_routine-refl, inside_here}
+use Rattle.ep_object.proofs.Growing.{slice_get-prefix, same_routine-refl, inside_here}
 use Rattle.ep_object.proofs.Rows.{instr, in_one, outcome_at}
 use Rattle.ep_object.proofs.Standing.{Stands, allocated, place_stands, described-same}
 use Rattle.ep_object.proofs.TextRows.{written-same}

@@ -4,7 +4,7 @@ use Rattle.std.proofs.lemmas.Option.{slice_get_within}
 use Rattle.ep_object.specs.Follows.{SameRoutine, Inside, Operands}
 use Rattle.ep_object.specs.Matching.{Memory, Injection, IsIn, IsPlaceOf, Describes, Grown}
 use Rattle.ep_object.specs.Operands.{Operand}
-use Rattle.ep_object.specs.Runs.{unit_of, name_of}
+use Rattle.ep_object.specs.Runs.{unit_of, name_of, unit_in}
 use Rattle.ep_object.specs.State.{Frames, text_entry}
 use Rattle.ep_object.specs.Types.{ordinal_entry}
 use Rattle.ep_object.specs.declared.code.Image.{Image}
@@ -88,10 +88,6 @@ same_routine-refl frames = record { turn = refl; routine = refl; unit = refl }
 -- and the same as one that is the same
 pub same_routine-trans : {a b c : Frames} → SameRoutine a b → SameRoutine b c → SameRoutine a c
 same_routine-trans p q = record { turn = q.turn ∙ p.turn; routine = q.routine ∙ p.routine; unit = q.unit ∙ p.unit }
-
--- the name of the unit of the routine that runs, which errors tell
-abbrev pub unit_in : Image → Frames → List ℕ
-unit_in G frames = name_of (unit_of G (slice_get G.routines frames.routine))
 
 -- while the same routine runs, errors tell the same unit
 pub unit_in-same : (G : Image) {before after : Frames} → SameRoutine before after → unit_in G after ≡ unit_in G before

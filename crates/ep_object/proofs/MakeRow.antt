@@ -10,7 +10,7 @@ use native.Mathlib.Decide.{ℕ_discrete}
 use Rattle.ep_object.specs.Follows.{GivesUp, Bare, Inside}
 use Rattle.ep_object.specs.Matching.{Memory, at, Injection, IsIn, IsPlaceOf, Describes, IsHidden, MatchesSlot, MatchesFrame, Represents, Matches, Grown}
 use Rattle.ep_object.specs.Operands.{Operand, Word}
-use Rattle.ep_object.specs.Runs.{outcome}
+use Rattle.ep_object.specs.Runs.{outcome, unit_in}
 use Rattle.ep_object.specs.State.{Frames, Running, Stopped, Error, live_limit, undefined}
 use Rattle.ep_object.specs.Table.{with_slots}
 use Rattle.ep_object.specs.Types.{ordinal_entry}
@@ -22,7 +22,7 @@ use Rattle.ep_object.proofs.Bind.{gives_up}
 use Rattle.ep_object.proofs.Changes.{matches_frame-grown}
 use Rattle.ep_object.proofs.Elements.{slice_get-push, slice_get-pushed, slice_get-set-same, slice_get-set-other, length-set}
 use Rattle.ep_object.proofs.Fragments.{Does}
-use Rattle.ep_object.proofs.Growing.{unit_in, slice_get-prefix, is_in-longer}
+use Rattle.ep_object.proofs.Growing.{slice_get-prefix, is_in-longer}
 use Rattle.ep_object.proofs.Grows.{is_prefix}
 use Rattle.ep_object.proofs.Making.{lost_words}
 use Rattle.ep_object.proofs.Rows.{instr, in_one, outcome_at}

@@ -10,7 +10,7 @@ use Rattle.std.proofs.lemmas.Int.{ints}
 use Rattle.ep_object.specs.Matching.{Memory, at, Injection, Describes, MatchesTypes, Matches, Represents, Grown}
 use Rattle.ep_object.specs.Follows.{GivesUp, SameRoutine}
 use Rattle.ep_object.specs.Operands.{Operand, Word}
-use Rattle.ep_object.specs.Runs.{outcome, outcome_of, after, unit_name, run, tick_of, and_then}
+use Rattle.ep_object.specs.Runs.{outcome, outcome_of, after, unit_in, run, tick_of, and_then}
 use Rattle.ep_object.specs.State.{State, TypeTable, Going, Running, text_entry, live_limit, type_limit}
 use Rattle.ep_object.specs.Types.{interned}
 use Rattle.ep_object.specs.Table.{typing, with_typing}
@@ -304,7 +304,7 @@ elaborates {declared} {G} {injection} {memory} place line low high below s order
           ticks = 1;
           number = 24;
           is_limit = inl refl;
-          unit = unit_name G (before_type place low high below memory s.trace);
+          unit = unit_in G memory.frames;
           line = line;
           trace = s.trace;
           runs = ap (λ o. and_then (tick_of 0 (before_type place low high below memory s.trace) o) (run G 0)) (ordinal_outcome G place line low high below memory s.trace ordered None none fetch ∙ ap (λ b. record { weight = 0; to = adds G (ordinal_instr line) (before_type place low high below memory s.trace) (ordinal_entry low high) below b }) full);

@@ -6,7 +6,7 @@ use Rattle.ep_object.specs.Matching.{Memory, at, Injection, MatchesSlot, Matches
 use Rattle.ep_object.specs.Operands.{Operand, Word, Text}
 use Rattle.ep_object.specs.Operands as operand
 use Rattle.ep_object.specs.Places.{loaded}
-use Rattle.ep_object.specs.Runs.{outcome, after}
+use Rattle.ep_object.specs.Runs.{outcome, after, unit_in}
 use Rattle.ep_object.specs.State.{undefined, output_place}
 use Rattle.ep_object.specs.Table.{on_operands}
 use Rattle.ep_object.specs.Types.{ordinal_entry}
@@ -14,7 +14,7 @@ use Rattle.ep_object.specs.declared.code.Image.{Image}
 use Rattle.ep_object.specs.declared.code.ImageUnit.{ImageUnit}
 use Rattle.ep_object.specs.declared.state.Place.{Place}
 use Rattle.ep_object.proofs.Choices.{Reads, Misses, Finds}
-use Rattle.ep_object.proofs.Growing.{unit_in, inside_here}
+use Rattle.ep_object.proofs.Growing.{inside_here}
 use Rattle.ep_object.proofs.Rows.{instr, in_one, RowPushes, outcome_at}
 use Rattle.ep_object.proofs.Standing.{slice_get-some, Stands, place_stands, described-same, place_described, within_host, word_defined}
 use Rattle.ep_typed.specs.Events.{Trace}

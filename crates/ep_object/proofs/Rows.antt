@@ -6,7 +6,7 @@ use Rattle.ep_object.specs.Control.{jump_where}
 use Rattle.ep_object.specs.Effects.{Continues, Fails, is_zero}
 use Rattle.ep_object.specs.Matching.{Memory, at}
 use Rattle.ep_object.specs.Operands.{Operand, Word}
-use Rattle.ep_object.specs.Runs.{Outcome, outcome, outcome_of, after, enter}
+use Rattle.ep_object.specs.Runs.{Outcome, outcome, outcome_of, after, enter, unit_in}
 use Rattle.ep_object.specs.State.{Going, Running, Stopped, Halt}
 use Rattle.ep_object.specs.Table.{on_operands}
 use Rattle.ep_object.specs.WordRows as rows
@@ -16,7 +16,6 @@ use Rattle.ep_object.specs.declared.code.Image.{Image}
 use Rattle.ep_object.specs.declared.code.Instr.{Instr}
 use Rattle.ep_object.proofs.Answers.{is_integer-same, is_zero-same, is_zero-true, bit-same, is_boolean-same}
 use Rattle.ep_object.proofs.Choices.{going_of}
-use Rattle.ep_object.proofs.Growing.{unit_in}
 use Rattle.ep_typed.specs.Events.{Trace}
 use Rattle.ep_typed.specs.Operations.{Answer, Number, Fault, integer, is_integer, ordinal_of, is_same, is_true, unary_answer, binary_answer, step_answer, within}
 use Rattle.ep_typed.specs.Valid.{is_of_host}

@@ -8,13 +8,12 @@ use Rattle.std.specs.Fmt.{signed_decimal}
 use Rattle.std.specs.Prelude.{unsigned_abs}
 use Rattle.ep_object.specs.Matching.{Memory, at}
 use Rattle.ep_object.specs.Operands.{Operand, Word, Text, weight}
-use Rattle.ep_object.specs.Runs.{Outcome, outcome}
+use Rattle.ep_object.specs.Runs.{Outcome, outcome, unit_in}
 use Rattle.ep_object.specs.State.{Running, Stopped, Error}
 use Rattle.ep_object.specs.Texts as rows
 use Rattle.ep_object.specs.WordRows.{is_boolean}
 use Rattle.ep_object.specs.declared.code.Image.{Image}
 use Rattle.ep_object.proofs.Answers.{is_boolean-same}
-use Rattle.ep_object.proofs.Growing.{unit_in}
 use Rattle.ep_object.proofs.Rows.{instr, RowPushes, outcome_at}
 use Rattle.ep_typed.specs.Events.{Trace}
 use Rattle.ep_typed.specs.Printing.{Number, Bytes, boolean_text, plain_text, wide_text, piece_events}

@@ -1,0 +1,39 @@
+-- The machine follows expressions and places: wherever their code stands in an image, it does what they mean.
+use Rattle.std.specs.Prelude.{◌≡◌, ℕ, ◌+◌, ◌≤◌, List, length, Some}
+use Rattle.ep_gen_expr.specs.ExprCode.{IsPlaceCode, IsExprCode}
+use Rattle.ep_object.specs.Follows.{Fragment, Inside, Operands, OnTop, PlaceOnTop}
+use Rattle.ep_object.specs.Matching.{Memory, Injection}
+use Rattle.ep_object.specs.Operands.{Operand}
+use Rattle.ep_object.specs.Placing.{Placement, CodeStands}
+use Rattle.ep_object.specs.Runs.{unit_in}
+use Rattle.ep_object.specs.Scene.{Scene}
+use Rattle.ep_object.specs.declared.code.Image.{Image}
+use Rattle.ep_object.specs.declared.code.Instr.{Instr}
+use Rattle.ep_object.specs.declared.code.Reference.{Reference}
+use Rattle.ep_typed.specs.Meaning.{eval, place, weight_of}
+use Rattle.ep_typed.specs.Steps.{Computation}
+use Rattle.ep_typed.specs.Trees.{Variable, Expr}
+use Rattle.ep_typed.specs.Valid.{Declarations, Kind, IsExpr}
+use Rattle.ep_typed.specs.declared.unit.UnitVariable.{UnitVariable}
+
+-- From every memory of a routine of the unit, with any operands below and at every number of steps, the machine follows the computation through the code at this place of the object. Behind the code the same routine runs, memory has grown, what the computation gives lies on the operands below, and the credit has risen by this gain.
+abbrev pub IsFollowedThrough : {A : Type 0} → Declarations → Image → Placement → List ℕ → ℕ → List Instr → Computation A → (List Operand → A → Operands) → (A → ℕ) → Type 0
+IsFollowedThrough declared G p unit at code c Then gain =
+    (n : ℕ) (injection : Injection) (memory : Memory) (below : List Operand) (credit : ℕ) → 1 ≤ credit → unit_in G memory.frames ≡ unit
+    → Fragment declared G n injection memory (p.instructions.before + at) below c (p.instructions.before + (at + length code)) (λ a. Inside injection memory (Then below a)) credit (λ a. credit + gain a)
+
+-- Wherever the code of a variable that is declared stands in an image with a scene, the machine follows its place through the code and leaves the place on top.
+abbrev pub PlacesAreFollowed : Type 0
+PlacesAreFollowed =
+    (declared : Declarations) (G : Image) (ps : List Placement) (p : Placement) (texts : List (List ℕ)) (references : List Reference) → Scene declared G ps p texts
+    → (turns : ℕ) (unit of_unit : List ℕ) (k : ℕ) (v : UnitVariable) → declared of_unit k ≡ Some v
+    → (line at : ℕ) (code : List Instr) → IsPlaceCode references line (Variable of_unit k) code → CodeStands G ps p references at code
+    → IsFollowedThrough declared G p unit at code (place turns unit line (Variable of_unit k)) (PlaceOnTop v.type_value) (λ a. 8)
+
+-- Wherever the code of an expression that is valid under the declarations stands in an image with a scene, the machine follows its value through the code and leaves the value on top.
+abbrev pub ExpressionsAreFollowed : Type 0
+ExpressionsAreFollowed =
+    (declared : Declarations) (G : Image) (ps : List Placement) (p : Placement) (texts : List (List ℕ)) (references : List Reference) → Scene declared G ps p texts
+    → (turns : ℕ) (unit : List ℕ) (kind : Kind) (x : Expr) → IsExpr declared kind x
+    → (line at : ℕ) (code : List Instr) → IsExprCode texts references line x code → CodeStands G ps p references at code
+    → IsFollowedThrough declared G p unit at code (eval turns unit line x) (OnTop kind) (λ r. 8 + weight_of r)
