@@ -35,4 +35,4 @@ module _ {declared : Declarations} {G : Image} (g : ℕ) (unit : List ℕ) (line
 
 -- an instruction of one tick that changes the operands alone, and spends of the credit
 pub row_waits : {A : Type 0} {declared : Declarations} {G : Image} {c : Computation A} {n place to d d1 : ℕ} {injection : Injection} {memory : Memory} {operands operands1 : List Operand} {P : A → After} {e : A → ℕ} → RowPushes G place operands 0 operands1 → 1 + d1 ≤ d → Fragment declared G n injection memory (place + 1) operands1 c to P d1 e → Fragment declared G n injection memory place operands c to P d e
-row_waits {memory = memory} row le h = fragment_waits (λ s matches. row memory s.trace) (λ s matches. matches) le h
+row_waits {memory = memory} row le h = fragment_waits (λ s matches. row memory s.trace) le h

@@ -53,14 +53,14 @@ module _ {declared : Declarations} {G : Image} (ps : List Placement) (p : Placem
   -- a constant, by `Push`
   constant_follows : (n : ℕ) (host : Host) (z : ℤ) → IsTrue (is_of_host host z) → (line at : ℕ) → CodeStands G ps p references at (push line z ∷ []) → (injection : Injection) (memory : Memory) (below : List Operand) (d : ℕ) → Fragment declared G n injection memory (p.instructions.before + at) below (eval g unit line (Constant z)) (p.instructions.before + (at + 1)) (λ r. Inside injection memory (OnTop (Ordinal host) below r)) d (λ r. d + 8 + weight_of r)
   constant_follows n host z of_host line at stands injection memory below d =
-      fragment_less {n = suc n} (omega arith) (fragment_to (omega arith) (fragment_one {n = n} {d1 = d + 8} (λ s matches. push_pushes G (p.instructions.before + at) line below z stands.0 memory s.trace) (λ s matches. matches) (omega arith)
+      fragment_less {n = suc n} (omega arith) (fragment_to (omega arith) (fragment_one {n = n} {d1 = d + 8} (λ s matches. push_pushes G (p.instructions.before + at) line below z stands.0 memory s.trace) (omega arith)
       (fragment_give (omega arith) (inside_here (record { number = z; is_number = refl; of_host = of_host; is = refl })))))
 
   -- a text, by `Text`, which spends its length
   text_follows : (n k : ℕ) (bytes : List ℕ) → slice_get texts k ≡ Some bytes → (line at : ℕ) → CodeStands G ps p references at (instr 1 (pos k) 0 line ∷ []) → (injection : Injection) (memory : Memory) (below : List Operand) (d : ℕ) → Fragment declared G n injection memory (p.instructions.before + at) below (eval g unit line (Text bytes)) (p.instructions.before + (at + 1)) (λ r. Inside injection memory (OnTop Bytes below r)) d (λ r. d + 8 + weight_of r)
   text_follows n k bytes there line at stands injection memory below d =
       let text : TextStands G p k bytes = scene.texts_stand k bytes there in
-      fragment_less {n = suc n} (omega arith) (fragment_to (omega arith) (fragment_paid {n = n} {d1 = d + 8 + length bytes} {weight = length bytes} {w = length bytes} (λ s matches. text_pushes G (p.instructions.before + at) line below (p.texts.before + k) bytes text.there (text_at G ps p references line k (p.instructions.before + at) bytes text stands.0) memory s.trace) (λ s matches. matches) (omega arith) (omega arith) (omega arith)
+      fragment_less {n = suc n} (omega arith) (fragment_to (omega arith) (fragment_paid {n = n} {d1 = d + 8 + length bytes} {weight = length bytes} {w = length bytes} (λ s matches. text_pushes G (p.instructions.before + at) line below (p.texts.before + k) bytes text.there (text_at G ps p references line k (p.instructions.before + at) bytes text stands.0) memory s.trace) (omega arith) (omega arith) (omega arith)
       (fragment_give (omega arith) (inside_here (record { bytes = bytes; is_text = refl; is = refl })))))
 
   -- what `Unit` finds of a variable that is declared, where the routine is one of the unit

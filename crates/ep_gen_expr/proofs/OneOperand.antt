@@ -45,7 +45,7 @@ module _ (declared : Declarations) (G : Image) (ps : List Placement) (p : Placem
   same_follows : (n at : ℕ) (operand : Host) → ((z : ℤ) → IsTrue (is_of_host operand z) → IsTrue (is_of_host host.Integer z)) → CodeStands G ps p references at (one_code line unary.Same) → Operates n at unary.Same operand host.Integer
   same_follows n at operand integer stands z of_host injection memory below d unit_is =
       fragment_less {n = suc n} (omega arith) (fragment_to (omega arith) (row_waits {d1 = d + 7} (dup_pushes G (p.instructions.before + at) line below z stands.0) (omega arith)
-      (fragment_one {n = n} {d1 = d + 8} (λ s matches. drop_drops G (p.instructions.before + at + 1) line (Word z ∷ below) (Word z) (instr_at G (omega arith) stands.1.0) memory s.trace) (λ s matches. matches) (omega arith)
+      (fragment_one {n = n} {d1 = d + 8} (λ s matches. drop_drops G (p.instructions.before + at + 1) line (Word z ∷ below) (Word z) (instr_at G (omega arith) stands.1.0) memory s.trace) (omega arith)
       (fragment_give (omega arith) (inside_here (record { number = z; is_number = refl; of_host = integer z of_host; is = refl }))))))
 
   -- the char of a number, which `Check` checks

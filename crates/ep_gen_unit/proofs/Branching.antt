@@ -44,7 +44,7 @@ module _ {declared : Declarations} {G : Image} (ps : List Placement) (p : Placem
         fragment_branch {then_place = p.instructions.before + test_end + 1} {else_place = p.instructions.before + (then_end + 1)} {d1 = d + 7} (is_true z)
         (λ s matches. jump_false_jumps G (p.instructions.before + test_end) line below z (p.instructions.before + (then_end + 1)) (omega (arith, room)) (jump_false_has G ps p references line test_end (then_end + 1) [] inside at_out) after s.trace) (omega arith)
         (λ is. fragment_from {place = p.instructions.before + (test_end + 1)} (omega arith) (fragment_bind_bare {e = λ u. d + 7} (λ u. steady_spend 1 (steady_give tt)) (then_moves longer after below (d + 7) (omega arith) (unit_in-same G routine ∙ home)) (λ u last final grown2 routine2.
-        fragment_less {n = suc n} (omega arith) (fragment_one {d1 = d} (λ s matches. jump_jumps G (p.instructions.before + then_end) line below (p.instructions.before + else_end) (omega (arith, room)) (jump_has G ps p references line then_end else_end [] inside_end at_jump) final s.trace) (λ s matches. matches) (omega arith) (fragment_give (omega arith) (inside_here refl))))))
+        fragment_less {n = suc n} (omega arith) (fragment_one {d1 = d} (λ s matches. jump_jumps G (p.instructions.before + then_end) line below (p.instructions.before + else_end) (omega (arith, room)) (jump_has G ps p references line then_end else_end [] inside_end at_jump) final s.trace) (omega arith) (fragment_give (omega arith) (inside_here refl))))))
         (λ is. fragment_bind_bare {e = λ u. d + 7} (λ u. steady_spend 1 (steady_give tt)) (else_moves longer after below (d + 7) (omega arith) (unit_in-same G routine ∙ home)) (λ u last final grown2 routine2.
         fragment_less {n = suc n} (omega arith) (fragment_move {d1 = d} (omega arith) (fragment_give (omega arith) (inside_here refl))))))
 

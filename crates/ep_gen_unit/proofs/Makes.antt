@@ -12,8 +12,8 @@ use Rattle.ep_object.specs.State.{Frames}
 use Rattle.ep_object.specs.declared.code.Image.{Image}
 use Rattle.ep_object.specs.declared.code.ImageUnit.{ImageUnit}
 use Rattle.ep_object.specs.declared.code.Reference.{Reference}
-use Rattle.ep_object.proofs.Fragments.{fragment_bind, fragment_bind_bare, fragment_give, fragment_post, fragment_from, fragment_to, fragment_less, fragment_one, fragment_waits}
-use Rattle.ep_object.proofs.Growing.{inside_here, inside_later}
+use Rattle.ep_object.proofs.Fragments.{inside_bind, fragment_bind_bare, fragment_give, fragment_from, fragment_to, fragment_less, fragment_one, fragment_waits}
+use Rattle.ep_object.proofs.Growing.{inside_here}
 use Rattle.ep_object.proofs.Losing.{fragment_effect_or_lost}
 use Rattle.ep_object.proofs.MakeRow.{HasDistinctNames, HasTypesOfHosts, make_does}
 use Rattle.ep_object.proofs.NewTypes.{TypeOnTop, ord_does, fragment_change_or_lost}
@@ -68,15 +68,13 @@ module _ (declared : Declarations) (G : Image) (ps : List Placement) (p : Placem
         let third : p.instructions.before + (at + 1) + 1 ≡ p.instructions.before + (at + 1 + 1) = omega arith in
         let fourth : p.instructions.before + (at + 1 + 1) + 1 ≡ p.instructions.before + (at + 1 + 1 + 1) = omega arith in
         let last : p.instructions.before + (at + 1 + 1 + 1) + 1 ≡ p.instructions.before + (at + 4) = omega arith in
-        fragment_less {n = suc n} (omega arith) (fragment_one {d1 = d + 3} (λ s matches. push_pushes G (p.instructions.before + at) line below low stands.0 memory s.trace) (λ s matches. matches) (omega arith)
-        (fragment_from second (fragment_waits {d1 = d + 2} (λ s matches. push_pushes G (p.instructions.before + (at + 1)) line (Word low ∷ below) high stands.1.0 memory s.trace) (λ s matches. matches) (omega arith)
-        (fragment_from third (fragment_bind {middle = p.instructions.before + (at + 1 + 1) + 1} {P = λ a. Inside injection memory (TypeOnTop (type.Ordinal low high) below)} {e = λ a. d} (λ a. steady_spend 1 (steady_change (grows_made x.name number (type.Ordinal low high))))
+        fragment_less {n = suc n} (omega arith) (fragment_one {d1 = d + 3} (λ s matches. push_pushes G (p.instructions.before + at) line below low stands.0 memory s.trace) (omega arith)
+        (fragment_from second (fragment_waits {d1 = d + 2} (λ s matches. push_pushes G (p.instructions.before + (at + 1)) line (Word low ∷ below) high stands.1.0 memory s.trace) (omega arith)
+        (fragment_from third (inside_bind {middle = p.instructions.before + (at + 1 + 1) + 1} {First = λ a. TypeOnTop (type.Ordinal low high) below} {e = λ a. d} (λ a. steady_spend 1 (steady_change (grows_made x.name number (type.Ordinal low high))))
         (fragment_change_or_lost {weight = 0} (with_type (type.Ordinal low high)) (λ s matches. ord_does declared G (p.instructions.before + (at + 1 + 1)) line below low high valid.0 stands.1.1.0 injection memory s matches) (omega arith))
-        (λ a longer after pushed i.
-        let top : TypeOnTop (type.Ordinal low high) below longer after pushed = i.operands_are in
-        fragment_post (λ b at_last final at_end j. inside_later i.grown i.routine j)
-        (subst (λ o. Fragment declared G n longer after (p.instructions.before + (at + 1 + 1) + 1) o (spend 1 (change (made x.name number (type.Ordinal low high)))) (p.instructions.before + (at + 4)) (λ b. Inside longer after (Bare below b)) d (λ b. d)) (sym top.is)
-        (fragment_from fourth (fragment_to last (make_row_moves low high top.number fits.0 fits.1 declared_so (p.instructions.before + (at + 1 + 1 + 1)) stands.1.1.1.0 longer after below d (same_frame G x memory.frames after.frames i.routine home) top.described))))))))))
+        (λ a longer after pushed grown routine top.
+        subst (λ o. Fragment declared G n longer after (p.instructions.before + (at + 1 + 1) + 1) o (spend 1 (change (made x.name number (type.Ordinal low high)))) (p.instructions.before + (at + 4)) (λ b. Inside longer after (Bare below b)) d (λ b. d)) (sym top.is)
+        (fragment_from fourth (fragment_to last (make_row_moves low high top.number fits.0 fits.1 declared_so (p.instructions.before + (at + 1 + 1 + 1)) stands.1.1.1.0 longer after below d (same_frame G x memory.frames after.frames routine home) top.described)))))))))
 
   -- a variable is made in its slot
   one_moves : (g number at : ℕ) (v : UnitVariable) → declared x.name number ≡ Some v → IsValueOf v.type_value Undefined → number < x.slots → CodeStands G ps p references at (make_code number v) → MovesIn declared G p n x at (at + length (make_code number v)) (make g x.name number v)

@@ -71,7 +71,7 @@ module _ (u : TypedUnit) (o : Object) (is : IsProgramCode u o) where
 
   module _ (valid : IsValid u) where
     -- the machine follows the meaning of the program
-    pub program_follows : (n : ℕ) → Follows (alone o) n start_state meaning.first_state (starts_of n (u ∷ [])) Never spare_ticks (λ a. 41)
+    pub program_follows : (n : ℕ) → Follows (λ k. SameRoutine start_frames k.frames) (alone o) n start_state meaning.first_state (starts_of n (u ∷ [])) Never spare_ticks (λ a. 41)
     program_follows n =
         let scene = scene_alone u o is valid in
         let start = start_follows (placements_alone o) (first_placement o) n u o is (code_stands-alone o) (room_alone u o is valid) refl scene
@@ -86,10 +86,10 @@ module _ (u : TypedUnit) (o : Object) (is : IsProgramCode u o) where
     pub program_tells : (t : ℕ) → Tells (meaning_of (u ∷ [])) t (run_from (alone o) t (begin (alone o)))
     program_tells t =
         subst (λ g. Tells (meaning_of (u ∷ [])) t (run_from (alone o) t g)) (sym begins)
-        (tells (alone o) start_state (meaning_of (u ∷ [])) (λ a. 41) (λ m. let f = program_follows m in f.by m (omega arith)) t)
+        (tells (λ k. SameRoutine start_frames k.frames) (alone o) start_state (meaning_of (u ∷ [])) (λ a. 41) (λ m. let f = program_follows m in f.by m (omega arith)) t)
 
     -- The ticks of a run of the program's image that ends and the steps of its meaning bound one another.
     pub program_spends : (t : ℕ) (end : End) (trace : Trace) → EndsAt (alone o) (begin (alone o)) 0 t end trace
         → (steps left : ℕ) (its_end : meaning.End) (s : meaning.State) → meaning_of (u ∷ []) (left + steps) ≡ meaning.Ends left its_end s → s.resources.lost ≡ false → AreClose steps t
     program_spends t end trace at steps left its_end s is kept =
-        tells_close (alone o) start_state (meaning_of (u ∷ [])) (λ a. 41) (λ m. let f = program_follows m in f.by m (omega arith)) t steps left its_end s end trace (subst (λ g. EndsAt (alone o) g 0 t end trace) begins at) is kept
+        tells_close (λ k. SameRoutine start_frames k.frames) (alone o) start_state (meaning_of (u ∷ [])) (λ a. 41) (λ m. let f = program_follows m in f.by m (omega arith)) t steps left its_end s end trace (subst (λ g. EndsAt (alone o) g 0 t end trace) begins at) is kept

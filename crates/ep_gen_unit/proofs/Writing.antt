@@ -99,7 +99,7 @@ module _ {declared : Declarations} {G : Image} (ps : List Placement) (p : Placem
         (λ k. form_negative_boolean G (p.instructions.before + (at + length xs + 0 + length ws)) line (over_output below) z k of_host at_print.0) longer after (2 + d) (omega arith) (omega arith) (omega arith) (unit_in-same G routine ∙ home)))
     wide_value print.Char line at d x w xs ws valid code wcode at_value at_before at_width at_print injection memory below enough home =
         fragment_bind_number {host = host.Char} {e = λ r. d + 8 + weight_of r} (λ r. steady_bind (steady_eval n unit line w) (λ width. steady_write_wide n unit line print.Char r (number_of width))) (expressions (kind.Ordinal host.Char) x valid.0 line at xs code at_value injection memory (over_output below) d enough home) (λ z longer after of_host grown routine.
-        fragment_waits {place1 = p.instructions.before + (at + length xs) + 1} {d1 = d + 6} (λ s matches. chars_pushes G (p.instructions.before + (at + length xs)) line (over_output below) z of_host at_before.0 after s.trace) (λ s matches. matches) (omega arith)
+        fragment_waits {place1 = p.instructions.before + (at + length xs) + 1} {d1 = d + 6} (λ s matches. chars_pushes G (p.instructions.before + (at + length xs)) line (over_output below) z of_host at_before.0 after s.trace) (omega arith)
         (fragment_from {place = p.instructions.before + (at + length xs + 1)} (omega arith) (after_value print.Char (Number z) (Text (unsigned_abs z ∷ [])) 1 line (at + length xs + 1) (d + 6) w ws valid.1 wcode at_width at_print below
         (λ width. form_wide_text G (p.instructions.before + (at + length xs + 1 + length ws)) line (over_output below) (unsigned_abs z ∷ []) width at_print.0)
         (λ k. form_negative_text G (p.instructions.before + (at + length xs + 1 + length ws)) line (over_output below) (unsigned_abs z ∷ []) k at_print.0) longer after (2 + d) (omega arith) (omega arith) (omega arith) (unit_in-same G routine ∙ home))))
@@ -115,7 +115,7 @@ module _ {declared : Declarations} {G : Image} (ps : List Placement) (p : Placem
         let all = subst (λ k. CodeStands G ps p references at k) h.2 stands in
         let parts = code_stands-parts G ps p references (at + 1) h.0 (plain_code line print ++ bare line 68 ∷ []) all.1 in
         let ends : at + 1 + length h.0 + length (plain_code line print ++ bare line 68 ∷ []) ≡ at + length is = omega (arith, ap length h.2, length-append h.0 (plain_code line print ++ bare line 68 ∷ [])) in
-        fragment_waits {place1 = p.instructions.before + at + 1} {d1 = d - 1} (λ s matches. output_pushes declared G (p.instructions.before + at) line below all.0 memory s.trace) (λ s matches. matches) (omega arith)
+        fragment_waits {place1 = p.instructions.before + at + 1} {d1 = d - 1} (λ s matches. output_pushes declared G (p.instructions.before + at) line below all.0 memory s.trace) (omega arith)
         (fragment_from {place = p.instructions.before + (at + 1)} (omega arith) (fragment_to (ap (λ k. p.instructions.before + k) ends) (fragment_credit {d = d - 1} {e = λ a. 2 + (d - 1)} (omega arith) (λ a. omega arith)
         (plain_value print line (at + 1) (d - 1) x h.0 valid h.1 parts.0 parts.1 injection memory below (omega arith) home))))
     item_writes line at (Wide print x w) is valid h stands injection memory below d enough home =
@@ -125,15 +125,15 @@ module _ {declared : Declarations} {G : Image} (ps : List Placement) (p : Placem
         let second = code_stands-parts G ps p references (at + 1 + length h.0) (before_width line print) rest first.1 in
         let third = code_stands-parts G ps p references (at + 1 + length h.0 + length (before_width line print)) h.1 (wide_code line print ∷ bare line 68 ∷ []) second.1 in
         let ends : at + 1 + length h.0 + length (before_width line print) + length h.1 + 2 ≡ at + length is = omega (arith, ap length h.4, length-append h.0 (before_width line print ++ rest), length-append (before_width line print) rest, length-append h.1 (wide_code line print ∷ bare line 68 ∷ [])) in
-        fragment_waits {place1 = p.instructions.before + at + 1} {d1 = d - 1} (λ s matches. output_pushes declared G (p.instructions.before + at) line below all.0 memory s.trace) (λ s matches. matches) (omega arith)
+        fragment_waits {place1 = p.instructions.before + at + 1} {d1 = d - 1} (λ s matches. output_pushes declared G (p.instructions.before + at) line below all.0 memory s.trace) (omega arith)
         (fragment_from {place = p.instructions.before + (at + 1)} (omega arith) (fragment_to (ap (λ k. p.instructions.before + k) ends) (fragment_credit {d = d - 1} {e = λ a. 2 + (d - 1)} (omega arith) (λ a. omega arith)
         (wide_value print line (at + 1) (d - 1) x w h.0 h.1 valid h.2 h.3 first.0 second.0 third.0 third.1 injection memory below (omega arith) home))))
 
   -- the line end
   pub line_end_writes : (line at : ℕ) → CodeStands G ps p references at (line_end_code line) → Writes declared G ps p texts references n unit at (at + 4) (write_piece n unit (10 ∷ []))
   line_end_writes line at stands injection memory below d enough home =
-      fragment_waits {place1 = p.instructions.before + at + 1} {d1 = d - 1} (λ s matches. output_pushes declared G (p.instructions.before + at) line below stands.0 memory s.trace) (λ s matches. matches) (omega arith)
-      (fragment_from {place = p.instructions.before + (at + 1)} (omega arith) (fragment_waits {place1 = p.instructions.before + (at + 1) + 1} {d1 = d - 2} (λ s matches. push_pushes G (p.instructions.before + (at + 1)) line (over_output below) (pos 10) stands.1.0 memory s.trace) (λ s matches. matches) (omega arith)
+      fragment_waits {place1 = p.instructions.before + at + 1} {d1 = d - 1} (λ s matches. output_pushes declared G (p.instructions.before + at) line below stands.0 memory s.trace) (omega arith)
+      (fragment_from {place = p.instructions.before + (at + 1)} (omega arith) (fragment_waits {place1 = p.instructions.before + (at + 1) + 1} {d1 = d - 2} (λ s matches. push_pushes G (p.instructions.before + (at + 1)) line (over_output below) (pos 10) stands.1.0 memory s.trace) (omega arith)
       (fragment_from {place = p.instructions.before + (at + 1 + 1)} (omega arith) (fragment_to {to = p.instructions.before + (at + 1 + 1 + 2)} (omega arith)
       (made_and_put line (at + 1 + 1) 0 (d - 2) (1 + d) (10 ∷ []) stands.1.1.1 injection memory (Word (pos 10) ∷ over_output below) below (chars_pushes G (p.instructions.before + (at + 1 + 1)) line (over_output below) (pos 10) refl stands.1.1.0) (omega arith))))))
 

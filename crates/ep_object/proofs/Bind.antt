@@ -6,7 +6,7 @@ use Rattle.ep_object.specs.State.{State, Going, Running, Stopped, Error}
 use Rattle.ep_object.specs.declared.code.Image.{Image}
 use Rattle.ep_object.proofs.Grows.{prefix_then}
 use Rattle.ep_object.proofs.Views.{run_more, run_waits, run_acts}
-use Rattle.ep_object.proofs.Weights.{pays_join, pays_ticks, pays_weaken, pays_waits}
+use Rattle.ep_object.proofs.Weights.{pays_join, pays_weaken, pays_waits}
 use Rattle.ep_outside.specs.Known.{IsPrefix}
 use Rattle.ep_typed.specs.Events.{Trace}
 use Rattle.ep_typed.specs.Steady.{Grows, Steady}
@@ -14,8 +14,8 @@ use Rattle.ep_typed.specs.Steps.{Gives, Ends, Cut, Computation, state_of, give, 
 use Rattle.ep_typed.specs.Steps as meaning
 
 -- what is met, or room was lost
-abbrev pub Met : {A : Type 0} → Image → State → ℕ → (A → meaning.State → State → Type 0) → ℕ → (A → ℕ) → meaning.Outcome A → Type 0
-Met G k m P d e o = Meets G k m P d e o ⊎ GivesUp G k (state_of o)
+abbrev pub Met : {A : Type 0} → (State → Type 0) → Image → State → ℕ → (A → meaning.State → State → Type 0) → ℕ → (A → ℕ) → meaning.Outcome A → Type 0
+Met Within G k m P d e o = Meets Within G k m P d e o ⊎ GivesUp G k (state_of o)
 
 -- ---- a run that goes on from where a run has come
 
@@ -37,10 +37,10 @@ run_waiting G k v j to o le =
     run_waits G j 0 k (omega arith) ∙ ap (λ x. Running x k) (zero-add j)
 
 -- what is met from a later point is met from here
-meets_from : {A : Type 0} (G : Image) (k k1 : State) {m left t d e : ℕ} (f : A → ℕ) (P : A → meaning.State → State → Type 0) (o : meaning.Outcome A) → run G t 0 k ≡ Running 0 k1 → Pays m left t d e → Meets G k1 left P e f o → Meets G k m P d f o
-meets_from G k k1 {t = t} f P (Gives l a s) r p h = record { ticks = t + h.ticks; to = h.to; runs = run_then G t h.ticks k k1 r ∙ h.runs; pays = pays_join p h.pays; post = h.post }
-meets_from G k k1 {t = t} f P (Ends l x s) r p h = record { ticks = t + h.ticks; wait = h.wait; last = h.last; runs = run_then G t h.ticks k k1 r ∙ h.runs; ends = h.ends; pays = pays_ticks (suc (t + h.ticks)) (omega arith) (pays_join p h.pays) }
-meets_from G k k1 {t = t} f P (Cut s) r p h = record { ticks = t + h.ticks; wait = h.wait; to = h.to; runs = run_then G t h.ticks k k1 r ∙ h.runs; same = h.same; slow = omega (arith, p.slow, p.all, h.slow); fast = omega (arith, p.fast, p.all, h.fast) }
+meets_from : {A : Type 0} (Within : State → Type 0) (G : Image) (k k1 : State) {m left t d e : ℕ} (f : A → ℕ) (P : A → meaning.State → State → Type 0) (o : meaning.Outcome A) → run G t 0 k ≡ Running 0 k1 → Pays m left t d e → Meets Within G k1 left P e f o → Meets Within G k m P d f o
+meets_from Within G k k1 {t = t} f P (Gives l a s) r p h = record { ticks = t + h.ticks; to = h.to; runs = run_then G t h.ticks k k1 r ∙ h.runs; pays = pays_join p h.pays; post = h.post }
+meets_from Within G k k1 {t = t} f P (Ends l x s) r p h = record { ticks = t + h.ticks; wait = h.wait; last = h.last; runs = run_then G t h.ticks k k1 r ∙ h.runs; within = h.within; ends = h.ends; spent = p.spent + h.spent; all = omega (arith, p.all, h.all); slow = omega (arith, p.slow, h.slow); fast = omega (arith, p.fast, h.fast) }
+meets_from Within G k k1 {t = t} f P (Cut s) r p h = record { ticks = t + h.ticks; wait = h.wait; to = h.to; runs = run_then G t h.ticks k k1 r ∙ h.runs; within = h.within; same = h.same; slow = omega (arith, p.slow, p.all, h.slow); fast = omega (arith, p.fast, p.all, h.fast) }
 
 -- what gives up later gives up
 gives_up_from : (G : Image) (k k1 : State) (t : ℕ) (s : meaning.State) → run G t 0 k ≡ Running 0 k1 → GivesUp G k1 s → GivesUp G k s
@@ -51,21 +51,21 @@ gives_up_grown : (G : Image) (k : State) (s t : meaning.State) → Grows s t →
 gives_up_grown G k s t g h = record { lost = g.lost h.lost; ticks = h.ticks; number = h.number; is_limit = h.is_limit; unit = h.unit; line = h.line; trace = h.trace; runs = h.runs; begins = prefix_then h.begins g.events }
 
 -- both together
-met_from : {A : Type 0} (G : Image) (k k1 : State) {m left t d e : ℕ} (f : A → ℕ) (P : A → meaning.State → State → Type 0) (o : meaning.Outcome A) → run G t 0 k ≡ Running 0 k1 → Pays m left t d e → Met G k1 left P e f o → Met G k m P d f o
-met_from G k k1 f P o r p (inl h) = inl (meets_from G k k1 f P o r p h)
-met_from G k k1 {t = t} f P o r p (inr h) = inr (gives_up_from G k k1 t (state_of o) r h)
+met_from : {A : Type 0} (Within : State → Type 0) (G : Image) (k k1 : State) {m left t d e : ℕ} (f : A → ℕ) (P : A → meaning.State → State → Type 0) (o : meaning.Outcome A) → run G t 0 k ≡ Running 0 k1 → Pays m left t d e → Met Within G k1 left P e f o → Met Within G k m P d f o
+met_from Within G k k1 f P o r p (inl h) = inl (meets_from Within G k k1 f P o r p h)
+met_from Within G k k1 {t = t} f P o r p (inr h) = inr (gives_up_from G k k1 t (state_of o) r h)
 
 -- ---- one computation after another
 
 -- the machine follows the first and then, from wherever that leads, the second
-pub follows_bind : {A B : Type 0} {G : Image} {n : ℕ} {k : State} {s : meaning.State} {c : Computation A} {f : A → Computation B} {P : A → meaning.State → State → Type 0} {Q : B → meaning.State → State → Type 0} {d : ℕ} {e : A → ℕ} {g : B → ℕ} → ((a : A) → Steady (f a)) → Follows G n k s c P d e → ((a : A) (s1 : meaning.State) (k1 : State) → P a s1 k1 → Follows G n k1 s1 (f a) Q (e a) g) → Follows G n k s (bind c f) Q d g
-follows_bind {A = A} {G = G} {n = n} {k = k} {s = s} {c = c} {f = f} {P = P} {Q = Q} {d = d} {e = e} {g = g} steady first then = record { by = λ m le. go m le (c m s) (first.by m le) }
+pub follows_bind : {A B : Type 0} {Within : State → Type 0} {G : Image} {n : ℕ} {k : State} {s : meaning.State} {c : Computation A} {f : A → Computation B} {P : A → meaning.State → State → Type 0} {Q : B → meaning.State → State → Type 0} {d : ℕ} {e : A → ℕ} {g : B → ℕ} → ((a : A) → Steady (f a)) → Follows Within G n k s c P d e → ((a : A) (s1 : meaning.State) (k1 : State) → P a s1 k1 → Follows Within G n k1 s1 (f a) Q (e a) g) → Follows Within G n k s (bind c f) Q d g
+follows_bind {A = A} {Within = Within} {G = G} {n = n} {k = k} {s = s} {c = c} {f = f} {P = P} {Q = Q} {d = d} {e = e} {g = g} steady first then = record { by = λ m le. go m le (c m s) (first.by m le) }
   where
-    go : (m : ℕ) → m ≤ n → (o : meaning.Outcome A) → Met G k m P d e o → Met G k m Q d g (go_on o f)
+    go : (m : ℕ) → m ≤ n → (o : meaning.Outcome A) → Met Within G k m P d e o → Met Within G k m Q d g (go_on o f)
     go m le (Gives left a s1) (inl h) =
         let w : Pays m left h.ticks d (e a) = h.pays in
         let z = then a s1 h.to h.post in
-        met_from G k h.to g Q (f a left s1) h.runs w (z.by left (omega (arith, w.all)))
+        met_from Within G k h.to g Q (f a left s1) h.runs w (z.by left (omega (arith, w.all)))
     go m le (Gives left a s1) (inr h) =
         let z = steady a in inr (gives_up_grown G k s1 (state_of (f a left s1)) (z.by left s1) h)
     go m le (Ends left x s1) (inl h) = inl h
@@ -74,40 +74,50 @@ follows_bind {A = A} {G = G} {n = n} {k = k} {s = s} {c = c} {f = f} {P = P} {Q 
     go m le (Cut s1) (inr h) = inr h
 
 -- with fewer steps
-pub follows_less : {A : Type 0} {G : Image} {n n2 : ℕ} {k : State} {s : meaning.State} {c : Computation A} {P : A → meaning.State → State → Type 0} {d : ℕ} {e : A → ℕ} → n2 ≤ n → Follows G n k s c P d e → Follows G n2 k s c P d e
+pub follows_less : {A : Type 0} {Within : State → Type 0} {G : Image} {n n2 : ℕ} {k : State} {s : meaning.State} {c : Computation A} {P : A → meaning.State → State → Type 0} {d : ℕ} {e : A → ℕ} → n2 ≤ n → Follows Within G n k s c P d e → Follows Within G n2 k s c P d e
 follows_less le h = record { by = λ m l. h.by m (omega arith) }
 
 -- with more credit before, less after, and of what follows from where it leads
-pub follows_weaken : {A : Type 0} {G : Image} {n : ℕ} {k : State} {s : meaning.State} {c : Computation A} {P Q : A → meaning.State → State → Type 0} {d d2 : ℕ} {e e2 : A → ℕ} → d ≤ d2 → ((a : A) → d + e2 a ≤ d2 + e a) → ((a : A) (s1 : meaning.State) (k1 : State) → P a s1 k1 → Q a s1 k1) → Follows G n k s c P d e → Follows G n k s c Q d2 e2
-follows_weaken {A = A} {G = G} {k = k} {s = s} {c = c} {P = P} {Q = Q} {d = d} {d2 = d2} {e = e} {e2 = e2} more less post h = record { by = λ m l. go m (c m s) (h.by m l) }
+pub follows_weaken : {A : Type 0} {Within : State → Type 0} {G : Image} {n : ℕ} {k : State} {s : meaning.State} {c : Computation A} {P Q : A → meaning.State → State → Type 0} {d d2 : ℕ} {e e2 : A → ℕ} → d ≤ d2 → ((a : A) → d + e2 a ≤ d2 + e a) → ((a : A) (s1 : meaning.State) (k1 : State) → P a s1 k1 → Q a s1 k1) → Follows Within G n k s c P d e → Follows Within G n k s c Q d2 e2
+follows_weaken {A = A} {Within = Within} {G = G} {k = k} {s = s} {c = c} {P = P} {Q = Q} {d = d} {d2 = d2} {e = e} {e2 = e2} more less post h = record { by = λ m l. go m (c m s) (h.by m l) }
   where
-    go : (m : ℕ) (o : meaning.Outcome A) → Met G k m P d e o → Met G k m Q d2 e2 o
+    go : (m : ℕ) (o : meaning.Outcome A) → Met Within G k m P d e o → Met Within G k m Q d2 e2 o
     go m o (inr h) = inr h
     go m (Gives left a s1) (inl h) = inl (record { ticks = h.ticks; to = h.to; runs = h.runs; pays = pays_weaken (less a) h.pays; post = post a s1 h.to h.post })
-    go m (Ends left x s1) (inl h) = inl (record { ticks = h.ticks; wait = h.wait; last = h.last; runs = h.runs; ends = h.ends; pays = pays_weaken (omega arith) h.pays })
-    go m (Cut s1) (inl h) = inl (record { ticks = h.ticks; wait = h.wait; to = h.to; runs = h.runs; same = h.same; slow = omega (arith, h.slow); fast = omega (arith, h.fast) })
+    go m (Ends left x s1) (inl h) = inl (record { ticks = h.ticks; wait = h.wait; last = h.last; runs = h.runs; within = h.within; ends = h.ends; spent = h.spent; all = h.all; slow = omega (arith, h.slow); fast = omega (arith, h.fast) })
+    go m (Cut s1) (inl h) = inl (record { ticks = h.ticks; wait = h.wait; to = h.to; runs = h.runs; within = h.within; same = h.same; slow = omega (arith, h.slow); fast = omega (arith, h.fast) })
+
+-- within more states
+pub follows_wider : {A : Type 0} {Within Wider : State → Type 0} {G : Image} {n : ℕ} {k : State} {s : meaning.State} {c : Computation A} {P : A → meaning.State → State → Type 0} {d : ℕ} {e : A → ℕ} → ((k1 : State) → Within k1 → Wider k1) → Follows Within G n k s c P d e → Follows Wider G n k s c P d e
+follows_wider {A = A} {Within = Within} {Wider = Wider} {G = G} {k = k} {s = s} {c = c} {P = P} {d = d} {e = e} wider h = record { by = λ m l. go m (c m s) (h.by m l) }
+  where
+    go : (m : ℕ) (o : meaning.Outcome A) → Met Within G k m P d e o → Met Wider G k m P d e o
+    go m o (inr h) = inr h
+    go m (Gives left a s1) (inl h) = inl h
+    go m (Ends left x s1) (inl h) = inl (record { ticks = h.ticks; wait = h.wait; last = h.last; runs = h.runs; within = wider h.last h.within; ends = h.ends; spent = h.spent; all = h.all; slow = h.slow; fast = h.fast })
+    go m (Cut s1) (inl h) = inl (record { ticks = h.ticks; wait = h.wait; to = h.to; runs = h.runs; within = wider h.to h.within; same = h.same; slow = h.slow; fast = h.fast })
 
 -- with more credit before, or less after
-pub follows_credit : {A : Type 0} {G : Image} {n : ℕ} {k : State} {s : meaning.State} {c : Computation A} {P : A → meaning.State → State → Type 0} {d d2 : ℕ} {e e2 : A → ℕ} → d ≤ d2 → ((a : A) → d + e2 a ≤ d2 + e a) → Follows G n k s c P d e → Follows G n k s c P d2 e2
+pub follows_credit : {A : Type 0} {Within : State → Type 0} {G : Image} {n : ℕ} {k : State} {s : meaning.State} {c : Computation A} {P : A → meaning.State → State → Type 0} {d d2 : ℕ} {e e2 : A → ℕ} → d ≤ d2 → ((a : A) → d + e2 a ≤ d2 + e a) → Follows Within G n k s c P d e → Follows Within G n k s c P d2 e2
 follows_credit more less h = follows_weaken more less (λ a s1 k1 p. p) h
 
 -- of what follows from where it leads
-pub follows_post : {A : Type 0} {G : Image} {n : ℕ} {k : State} {s : meaning.State} {c : Computation A} {P Q : A → meaning.State → State → Type 0} {d : ℕ} {e : A → ℕ} → ((a : A) (s1 : meaning.State) (k1 : State) → P a s1 k1 → Q a s1 k1) → Follows G n k s c P d e → Follows G n k s c Q d e
+pub follows_post : {A : Type 0} {Within : State → Type 0} {G : Image} {n : ℕ} {k : State} {s : meaning.State} {c : Computation A} {P Q : A → meaning.State → State → Type 0} {d : ℕ} {e : A → ℕ} → ((a : A) (s1 : meaning.State) (k1 : State) → P a s1 k1 → Q a s1 k1) → Follows Within G n k s c P d e → Follows Within G n k s c Q d e
 follows_post post h = follows_weaken (omega arith) (λ a. omega arith) post h
 
 -- from a state that is the same
-pub follows_from : {A : Type 0} {G : Image} {n : ℕ} {k k1 : State} {s : meaning.State} {c : Computation A} {P : A → meaning.State → State → Type 0} {d : ℕ} {e : A → ℕ} → k ≡ k1 → Follows G n k1 s c P d e → Follows G n k s c P d e
-follows_from {G = G} {n = n} {s = s} {c = c} {P = P} {d = d} {e = e} q h = subst (λ x. Follows G n x s c P d e) (sym q) h
+pub follows_from : {A : Type 0} {Within : State → Type 0} {G : Image} {n : ℕ} {k k1 : State} {s : meaning.State} {c : Computation A} {P : A → meaning.State → State → Type 0} {d : ℕ} {e : A → ℕ} → k ≡ k1 → Follows Within G n k1 s c P d e → Follows Within G n k s c P d e
+follows_from {Within = Within} {G = G} {n = n} {s = s} {c = c} {P = P} {d = d} {e = e} q h = subst (λ x. Follows Within G n x s c P d e) (sym q) h
 
 -- ---- one instruction
 
 -- an instruction, without a step: its ticks cost their number
-pub follows_waits : {A : Type 0} {G : Image} {n v : ℕ} {k k1 : State} {s : meaning.State} {c : Computation A} {P : A → meaning.State → State → Type 0} {d : ℕ} {e : A → ℕ} → outcome G k ≡ record { weight = v; to = Running 0 k1 } → Follows G n k1 s c P d e → Follows G n k s c P (suc v + d) e
-follows_waits {G = G} {v = v} {k = k} {k1 = k1} {s = s} {c = c} {P = P} {d = d} {e = e} o h =
-    record { by = λ m l. met_from G k k1 e P (c m s) (run_instruction G k v (Running 0 k1) o) (pays_waits m (suc v) d) (h.by m l) }
+pub follows_waits : {A : Type 0} {Within : State → Type 0} {G : Image} {n v : ℕ} {k k1 : State} {s : meaning.State} {c : Computation A} {P : A → meaning.State → State → Type 0} {d : ℕ} {e : A → ℕ} → outcome G k ≡ record { weight = v; to = Running 0 k1 } → Follows Within G n k1 s c P d e → Follows Within G n k s c P (suc v + d) e
+follows_waits {Within = Within} {G = G} {v = v} {k = k} {k1 = k1} {s = s} {c = c} {P = P} {d = d} {e = e} o h =
+    record { by = λ m l. met_from Within G k k1 e P (c m s) (run_instruction G k v (Running 0 k1) o) (pays_waits m (suc v) d) (h.by m l) }
 
 -- one instruction of one tick
-pub follows_step : {A : Type 0} {G : Image} {n : ℕ} {k k1 : State} {s : meaning.State} {c : Computation A} {P : A → meaning.State → State → Type 0} {d : ℕ} {e : A → ℕ} → outcome G k ≡ record { weight = 0; to = Running 0 k1 } → Follows G n k1 s c P d e → Follows G n k s c P (1 + d) e
+pub follows_step : {A : Type 0} {Within : State → Type 0} {G : Image} {n : ℕ} {k k1 : State} {s : meaning.State} {c : Computation A} {P : A → meaning.State → State → Type 0} {d : ℕ} {e : A → ℕ} → outcome G k ≡ record { weight = 0; to = Running 0 k1 } → Follows Within G n k1 s c P d e → Follows Within G n k s c P (1 + d) e
 follows_step o h = follows_waits o h
 
 -- ---- steps
@@ -139,13 +149,13 @@ ticks_before v m = elim (cases v m) [ inl x ↦ (m, x, omega arith, inl refl) | 
 
 -- An instruction with its steps: it waits until its last tick, and what the computation does then, as an event, it
 -- does at that one. A run that is cut inside of the steps is one in which the instruction still waits.
-pub follows_paid : {A : Type 0} {G : Image} {n v w : ℕ} {k k1 : State} {s : meaning.State} {c : Computation A} {P : A → meaning.State → State → Type 0} {d d1 : ℕ} {e : A → ℕ} → k.trace ≡ s.trace → outcome G k ≡ record { weight = v; to = Running 0 k1 } → w ≤ 64 * v + d → suc w + d1 ≤ 64 * suc v + d → suc v + d1 ≤ 64 * suc w + d → Follows G n k1 s c P d1 e → Follows G (suc n) k s (spend (suc w) c) P d e
-follows_paid {A = A} {G = G} {n = n} {v = v} {w = w} {k = k} {k1 = k1} {s = s} {c = c} {P = P} {d = d} {d1 = d1} {e = e} same o inside slow fast h = record { by = λ m l. go m l (few_or_all (suc w) m) }
+pub follows_paid : {A : Type 0} {Within : State → Type 0} {G : Image} {n v w : ℕ} {k k1 : State} {s : meaning.State} {c : Computation A} {P : A → meaning.State → State → Type 0} {d d1 : ℕ} {e : A → ℕ} → Within k → k.trace ≡ s.trace → outcome G k ≡ record { weight = v; to = Running 0 k1 } → w ≤ 64 * v + d → suc w + d1 ≤ 64 * suc v + d → suc v + d1 ≤ 64 * suc w + d → Follows Within G n k1 s c P d1 e → Follows Within G (suc n) k s (spend (suc w) c) P d e
+follows_paid {A = A} {Within = Within} {G = G} {n = n} {v = v} {w = w} {k = k} {k1 = k1} {s = s} {c = c} {P = P} {d = d} {d1 = d1} {e = e} within same o inside slow fast h = record { by = λ m l. go m l (few_or_all (suc w) m) }
   where
-    go : (m : ℕ) → m ≤ suc n → (m < suc w) ⊎ ((i : ℕ) × (suc w + i ≡ m)) → Met G k m P d e (spend (suc w) c m s)
+    go : (m : ℕ) → m ≤ suc n → (m < suc w) ⊎ ((i : ℕ) × (suc w + i ≡ m)) → Met Within G k m P d e (spend (suc w) c m s)
     go m l (inl x) =
         let y = ticks_before v m in
-        subst (Met G k m P d e) (sym (spend_few c (suc w) m s x)) (inl (record { ticks = y.0; wait = y.0; to = k; runs = run_waiting G k v y.0 (Running 0 k1) o y.1; same = same; slow = slow_at y.3; fast = omega (arith, y.2) }))
+        subst (Met Within G k m P d e) (sym (spend_few c (suc w) m s x)) (inl (record { ticks = y.0; wait = y.0; to = k; runs = run_waiting G k v y.0 (Running 0 k1) o y.1; within = within; same = same; slow = slow_at y.3; fast = omega (arith, y.2) }))
       where
         slow_at : {j : ℕ} → (j ≡ m) ⊎ (j ≡ v) → m ≤ 64 * j + d
         slow_at (inl q) = omega arith
@@ -154,34 +164,34 @@ follows_paid {A = A} {G = G} {n = n} {v = v} {w = w} {k = k} {k1 = k1} {s = s} {
         let i : ℕ = x.0 in
         let q : spend (suc w) c m s ≡ c i s = ap (λ j. spend (suc w) c j s) (sym x.1) ∙ spend_all c (suc w) i s in
         let p : Pays m i (suc v) d d1 = record { spent = suc w; all = omega (arith, x.1); slow = slow; fast = fast } in
-        subst (Met G k m P d e) (sym q) (met_from G k k1 e P (c i s) (run_instruction G k v (Running 0 k1) o) p (h.by i (omega (arith, x.1))))
+        subst (Met Within G k m P d e) (sym q) (met_from Within G k k1 e P (c i s) (run_instruction G k v (Running 0 k1) o) p (h.by i (omega (arith, x.1))))
 
 -- steps without an instruction cost their number
-pub follows_moves : {A : Type 0} {G : Image} {n : ℕ} (w : ℕ) {k : State} {s : meaning.State} {c : Computation A} {P : A → meaning.State → State → Type 0} {d : ℕ} {e : A → ℕ} → k.trace ≡ s.trace → Follows G n k s c P d e → Follows G (w + n) k s (spend w c) P (w + d) e
-follows_moves {A = A} {G = G} {n = n} w {k = k} {s = s} {c = c} {P = P} {d = d} {e = e} same h = record { by = λ m l. go m l (few_or_all w m) }
+pub follows_moves : {A : Type 0} {Within : State → Type 0} {G : Image} {n : ℕ} (w : ℕ) {k : State} {s : meaning.State} {c : Computation A} {P : A → meaning.State → State → Type 0} {d : ℕ} {e : A → ℕ} → Within k → k.trace ≡ s.trace → Follows Within G n k s c P d e → Follows Within G (w + n) k s (spend w c) P (w + d) e
+follows_moves {A = A} {Within = Within} {G = G} {n = n} w {k = k} {s = s} {c = c} {P = P} {d = d} {e = e} within same h = record { by = λ m l. go m l (few_or_all w m) }
   where
-    go : (m : ℕ) → m ≤ w + n → (m < w) ⊎ ((i : ℕ) × (w + i ≡ m)) → Met G k m P (w + d) e (spend w c m s)
+    go : (m : ℕ) → m ≤ w + n → (m < w) ⊎ ((i : ℕ) × (w + i ≡ m)) → Met Within G k m P (w + d) e (spend w c m s)
     go m l (inl x) =
-        subst (Met G k m P (w + d) e) (sym (spend_few c w m s x)) (inl (record { ticks = 0; wait = 0; to = k; runs = refl; same = same; slow = omega arith; fast = omega arith }))
+        subst (Met Within G k m P (w + d) e) (sym (spend_few c w m s x)) (inl (record { ticks = 0; wait = 0; to = k; runs = refl; within = within; same = same; slow = omega arith; fast = omega arith }))
     go m l (inr x) =
         let i : ℕ = x.0 in
         let q : spend w c m s ≡ c i s = ap (λ j. spend w c j s) (sym x.1) ∙ spend_all c w i s in
         let p : Pays m i 0 (w + d) d = record { spent = w; all = omega (arith, x.1); slow = omega arith; fast = omega arith } in
-        subst (Met G k m P (w + d) e) (sym q) (met_from G k k {t = 0} e P (c i s) refl p (h.by i (omega (arith, x.1))))
+        subst (Met Within G k m P (w + d) e) (sym q) (met_from Within G k k {t = 0} e P (c i s) refl p (h.by i (omega (arith, x.1))))
 
 -- ---- ends, and nothing at all
 
 -- nothing is left to do
-pub follows_give : {A : Type 0} {G : Image} {n : ℕ} {k : State} {s : meaning.State} (a : A) {P : A → meaning.State → State → Type 0} {d : ℕ} {e : A → ℕ} → e a ≤ d → P a s k → Follows G n k s (give a) P d e
+pub follows_give : {A : Type 0} {Within : State → Type 0} {G : Image} {n : ℕ} {k : State} {s : meaning.State} (a : A) {P : A → meaning.State → State → Type 0} {d : ℕ} {e : A → ℕ} → e a ≤ d → P a s k → Follows Within G n k s (give a) P d e
 follows_give {k = k} a {e = e} le h = record { by = λ m l. inl (record { ticks = 0; to = k; runs = refl; pays = record { spent = 0; all = omega arith; slow = omega arith; fast = omega arith }; post = h }) }
 
 -- a change of the state, where the machine matches what it leads to already
-pub follows_changed : {G : Image} {n : ℕ} {k : State} {s : meaning.State} (f : meaning.State → meaning.State) {P : Unit {0} → meaning.State → State → Type 0} {d : ℕ} {e : Unit {0} → ℕ} → e tt ≤ d → P tt (f s) k → Follows G n k s (meaning.change f) P d e
+pub follows_changed : {Within : State → Type 0} {G : Image} {n : ℕ} {k : State} {s : meaning.State} (f : meaning.State → meaning.State) {P : Unit {0} → meaning.State → State → Type 0} {d : ℕ} {e : Unit {0} → ℕ} → e tt ≤ d → P tt (f s) k → Follows Within G n k s (meaning.change f) P d e
 follows_changed {k = k} f {e = e} le h = record { by = λ m l. inl (record { ticks = 0; to = k; runs = refl; pays = record { spent = 0; all = omega arith; slow = omega arith; fast = omega arith }; post = h }) }
 
 -- no step is left
-pub follows_cut : {A : Type 0} {G : Image} {k : State} {s : meaning.State} {P : A → meaning.State → State → Type 0} {d : ℕ} {e : A → ℕ} → k.trace ≡ s.trace → Follows G 0 k s cut P d e
-follows_cut {k = k} same = record { by = λ m l. inl (record { ticks = 0; wait = 0; to = k; runs = refl; same = same; slow = omega arith; fast = omega arith }) }
+pub follows_cut : {A : Type 0} {Within : State → Type 0} {G : Image} {k : State} {s : meaning.State} {P : A → meaning.State → State → Type 0} {d : ℕ} {e : A → ℕ} → Within k → k.trace ≡ s.trace → Follows Within G 0 k s cut P d e
+follows_cut {k = k} within same = record { by = λ m l. inl (record { ticks = 0; wait = 0; to = k; runs = refl; within = within; same = same; slow = omega arith; fast = omega arith }) }
 
 -- the last tick of an instruction that waits
 ends_at : (v : ℕ) (k : State) (to : Going) → tick_of v k (record { weight = v; to = to }) ≡ to
@@ -193,9 +203,9 @@ tick_at : (G : Image) (k : State) (v : ℕ) (to : Going) → outcome G k ≡ rec
 tick_at G k v to o = ap (tick_of v k) o ∙ ends_at v k to
 
 -- an instruction that ends the run as the computation does
-pub follows_stop : {A : Type 0} {G : Image} {n v : ℕ} {k : State} {s : meaning.State} {x : meaning.End} {P : A → meaning.State → State → Type 0} {d : ℕ} {e : A → ℕ} → outcome G k ≡ record { weight = v; to = Stopped (end_of x) s.trace } → suc v ≤ d → Follows G n k s (stop x) P d e
-follows_stop {G = G} {v = v} {k = k} {s = s} {x = x} o le =
-    record { by = λ m l. inl (record { ticks = v; wait = v; last = k; runs = run_waiting G k v v (Stopped (end_of x) s.trace) o (omega arith); ends = tick_at G k v (Stopped (end_of x) s.trace) o; pays = record { spent = 0; all = omega arith; slow = omega arith; fast = omega arith } }) }
+pub follows_stop : {A : Type 0} {Within : State → Type 0} {G : Image} {n v : ℕ} {k : State} {s : meaning.State} {x : meaning.End} {P : A → meaning.State → State → Type 0} {d : ℕ} {e : A → ℕ} → Within k → outcome G k ≡ record { weight = v; to = Stopped (end_of x) s.trace } → suc v ≤ d → Follows Within G n k s (stop x) P d e
+follows_stop {Within = Within} {G = G} {v = v} {k = k} {s = s} {x = x} within o le =
+    record { by = λ m l. inl (record { ticks = v; wait = v; last = k; runs = run_waiting G k v v (Stopped (end_of x) s.trace) o (omega arith); within = within; ends = tick_at G k v (Stopped (end_of x) s.trace) o; spent = 0; all = omega arith; slow = omega arith; fast = omega arith }) }
 
 -- an instruction for which there is no storage left, where room was lost
 pub gives_up : {G : Image} {v number : ℕ} {unit : List ℕ} {line : ℕ} {k : State} {s : meaning.State} {trace : Trace} → outcome G k ≡ record { weight = v; to = Stopped (Error number unit line) trace } → (number ≡ 24) ⊎ (number ≡ 25) → IsPrefix trace s.trace → IsTrue s.resources.lost → GivesUp G k s
@@ -203,13 +213,13 @@ gives_up {G = G} {v = v} {number = number} {unit = unit} {line = line} {k = k} {
     record { lost = lost; ticks = suc v; number = number; is_limit = limit; unit = unit; line = line; trace = trace; runs = run_instruction G k v (Stopped (Error number unit line) trace) o; begins = begins }
 
 -- where the machine ends for want of room, and the computation loses it in any case
-pub follows_lost : {A : Type 0} {G : Image} {n : ℕ} {k : State} {s : meaning.State} {c : Computation A} {P : A → meaning.State → State → Type 0} {d : ℕ} {e : A → ℕ} → ((m : ℕ) → m ≤ n → GivesUp G k (state_of (c m s))) → Follows G n k s c P d e
+pub follows_lost : {A : Type 0} {Within : State → Type 0} {G : Image} {n : ℕ} {k : State} {s : meaning.State} {c : Computation A} {P : A → meaning.State → State → Type 0} {d : ℕ} {e : A → ℕ} → ((m : ℕ) → m ≤ n → GivesUp G k (state_of (c m s))) → Follows Within G n k s c P d e
 follows_lost h = record { by = λ m l. inr (h m l) }
 
 -- where room was lost already
-pub follows_gives_up : {A : Type 0} {G : Image} {n : ℕ} {k : State} {s : meaning.State} {c : Computation A} {P : A → meaning.State → State → Type 0} {d : ℕ} {e : A → ℕ} → Steady c → GivesUp G k s → Follows G n k s c P d e
-follows_gives_up {G = G} {k = k} {s = s} {c = c} steady h = follows_lost (λ m l. gives_up_grown G k s (state_of (c m s)) (steady.by m s) h)
+pub follows_gives_up : {A : Type 0} {Within : State → Type 0} {G : Image} {n : ℕ} {k : State} {s : meaning.State} {c : Computation A} {P : A → meaning.State → State → Type 0} {d : ℕ} {e : A → ℕ} → Steady c → GivesUp G k s → Follows Within G n k s c P d e
+follows_gives_up {Within = Within} {G = G} {k = k} {s = s} {c = c} steady h = follows_lost (λ m l. gives_up_grown G k s (state_of (c m s)) (steady.by m s) h)
 
 -- where a change of the state loses it
-pub follows_change_lost : {G : Image} {n : ℕ} {k : State} {s : meaning.State} {f : meaning.State → meaning.State} {P : Unit {0} → meaning.State → State → Type 0} {d : ℕ} {e : Unit {0} → ℕ} → GivesUp G k (f s) → Follows G n k s (meaning.change f) P d e
+pub follows_change_lost : {Within : State → Type 0} {G : Image} {n : ℕ} {k : State} {s : meaning.State} {f : meaning.State → meaning.State} {P : Unit {0} → meaning.State → State → Type 0} {d : ℕ} {e : Unit {0} → ℕ} → GivesUp G k (f s) → Follows Within G n k s (meaning.change f) P d e
 follows_change_lost h = record { by = λ m l. inr h }

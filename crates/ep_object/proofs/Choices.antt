@@ -9,7 +9,7 @@ use Rattle.ep_object.specs.State.{State, Going, Running, Stopped, Error}
 use Rattle.ep_object.specs.declared.code.Image.{Image}
 use Rattle.ep_object.proofs.Bind.{Met, follows_paid, follows_stop, follows_give, follows_changed}
 use Rattle.ep_object.proofs.Fragments.{Does, FailsWith, landed, fragment_bind_number, fragment_bind_bare, fragment_less, fragment_waits, fragment_one, fragment_move, fragment_give, fragment_cut, fragment_stop}
-use Rattle.ep_object.proofs.Growing.{grown_trans, same_routine-trans, inside_here}
+use Rattle.ep_object.proofs.Growing.{grown_trans, same_routine-refl, same_routine-trans, inside_here}
 use Rattle.ep_typed.proofs.Steady.{steady_if, steady_bind, steady_spend, steady_give, steady_turns}
 use Rattle.ep_typed.specs.Events.{Trace}
 use Rattle.ep_typed.specs.Meaning.{answered, turns}
@@ -37,24 +37,24 @@ fragment_fetch {A = A} {B = B} {declared = declared} {G = G} {n = n} {injection 
     read : Option A → Computation B
     read o = bind (found (meaning.Error number unit line) o) (λ a. spend 1 (give (f a)))
 
-    by_option : (s : meaning.State) (m : ℕ) (o : Option A) → h s ≡ o → Met G (at place operands memory s.trace) m (λ a. Lands declared G to (P a)) d e (bind (found (meaning.Error number unit line) o) (λ a. spend 1 (give (f a))) m s) → Met G (at place operands memory s.trace) m (λ a. Lands declared G to (P a)) d e (bind (fetch (meaning.Error number unit line) h) (λ a. spend 1 (give (f a))) m s)
-    by_option s m o q x = subst (λ y. Met G (at place operands memory s.trace) m (λ a. Lands declared G to (P a)) d e (bind (found (meaning.Error number unit line) y) (λ a. spend 1 (give (f a))) m s)) (sym q) x
+    by_option : (s : meaning.State) (m : ℕ) (o : Option A) → h s ≡ o → Met (λ k. SameRoutine memory.frames k.frames) G (at place operands memory s.trace) m (λ a. Lands declared G to (P a)) d e (bind (found (meaning.Error number unit line) o) (λ a. spend 1 (give (f a))) m s) → Met (λ k. SameRoutine memory.frames k.frames) G (at place operands memory s.trace) m (λ a. Lands declared G to (P a)) d e (bind (fetch (meaning.Error number unit line) h) (λ a. spend 1 (give (f a))) m s)
+    by_option s m o q x = subst (λ y. Met (λ k. SameRoutine memory.frames k.frames) G (at place operands memory s.trace) m (λ a. Lands declared G to (P a)) d e (bind (found (meaning.Error number unit line) y) (λ a. spend 1 (give (f a))) m s)) (sym q) x
 
-    missed : (s : meaning.State) → FailsWith G (at place operands memory s.trace) 0 number unit line s → Follows G (suc n) (at place operands memory s.trace) s (stop {A = B} (meaning.Error number unit line)) (λ a. Lands declared G to (P a)) d e
-    missed s fails = follows_stop fails.fails le
+    missed : (s : meaning.State) → FailsWith G (at place operands memory s.trace) 0 number unit line s → Follows (λ k. SameRoutine memory.frames k.frames) G (suc n) (at place operands memory s.trace) s (stop {A = B} (meaning.Error number unit line)) (λ a. Lands declared G to (P a)) d e
+    missed s fails = follows_stop (same_routine-refl memory.frames) fails.fails le
 
-    met : (s : meaning.State) (a : A) → Does declared G (at place operands memory s.trace) 0 to (P (f a)) s → Follows G (suc n) (at place operands memory s.trace) s (spend 1 (give (f a))) (λ b. Lands declared G to (P b)) d e
+    met : (s : meaning.State) (a : A) → Does declared G (at place operands memory s.trace) 0 to (P (f a)) s → Follows (λ k. SameRoutine memory.frames k.frames) G (suc n) (at place operands memory s.trace) s (spend 1 (give (f a))) (λ b. Lands declared G to (P b)) d e
     met s a does =
         let small : e (f a) ≤ d + 63 = le2 a in
-        follows_paid {v = 0} {w = 0} {d1 = d + 63} refl does.does (omega arith) (omega arith) (omega arith) (follows_give (f a) small (landed does))
+        follows_paid {v = 0} {w = 0} {d1 = d + 63} (same_routine-refl memory.frames) refl does.does (omega arith) (omega arith) (omega arith) (follows_give (f a) small (landed does))
 
-    go : (s : meaning.State) (m : ℕ) → m ≤ suc n → (o : Option A) → Reads declared G (at place operands memory s.trace) number unit line to (λ a. P (f a)) s o → Met G (at place operands memory s.trace) m (λ a. Lands declared G to (P a)) d e (bind (found (meaning.Error number unit line) o) (λ a. spend 1 (give (f a))) m s)
+    go : (s : meaning.State) (m : ℕ) → m ≤ suc n → (o : Option A) → Reads declared G (at place operands memory s.trace) number unit line to (λ a. P (f a)) s o → Met (λ k. SameRoutine memory.frames k.frames) G (at place operands memory s.trace) m (λ a. Lands declared G to (P a)) d e (bind (found (meaning.Error number unit line) o) (λ a. spend 1 (give (f a))) m s)
     go s m l o (Misses is fails) =
         let z = missed s fails in
-        subst (λ y. Met G (at place operands memory s.trace) m (λ a. Lands declared G to (P a)) d e (bind (found (meaning.Error number unit line) y) (λ a. spend 1 (give (f a))) m s)) (sym is) (z.by m l)
+        subst (λ y. Met (λ k. SameRoutine memory.frames k.frames) G (at place operands memory s.trace) m (λ a. Lands declared G to (P a)) d e (bind (found (meaning.Error number unit line) y) (λ a. spend 1 (give (f a))) m s)) (sym is) (z.by m l)
     go s m l o (Finds a is does) =
         let z = met s a does in
-        subst (λ y. Met G (at place operands memory s.trace) m (λ a. Lands declared G to (P a)) d e (bind (found (meaning.Error number unit line) y) (λ a. spend 1 (give (f a))) m s)) (sym is) (z.by m l)
+        subst (λ y. Met (λ k. SameRoutine memory.frames k.frames) G (at place operands memory s.trace) m (λ a. Lands declared G to (P a)) d e (bind (found (meaning.Error number unit line) y) (λ a. spend 1 (give (f a))) m s)) (sym is) (z.by m l)
 
 -- ---- an answer
 
@@ -67,7 +67,7 @@ going_of to below memory unit line trace (Fault error) = Stopped (Error error un
 pub fragment_answer : {B : Type 0} {declared : Declarations} {G : Image} {n : ℕ} {injection : Injection} {memory : Memory} {place to : ℕ} {operands : List Operand} {P : B → After} {d : ℕ} {e : B → ℕ} (g : ℕ) (unit : List ℕ) (line : ℕ) (below : List Operand) (a : Answer) (f : ℤ → B) → ((s : meaning.State) → Matches declared G injection s memory → outcome G (at place operands memory s.trace) ≡ record { weight = 0; to = going_of to below memory unit line s.trace a }) → ((z : ℤ) → a ≡ Number z → P (f z) injection memory (Word z ∷ below)) → 1 ≤ d → ((z : ℤ) → e (f z) ≤ d + 63) → Fragment declared G (suc n) injection memory place operands (bind (answered g unit line a) (λ z. spend 1 (give (f z)))) to P d e
 fragment_answer {d = d} {e = e} g unit line below (Number z) f does post le le2 =
     let small : e (f z) ≤ d + 63 = le2 z in
-    fragment_one {d1 = d + 63} does (λ s matches. matches) (omega arith) (fragment_give small (post z refl))
+    fragment_one {d1 = d + 63} does (omega arith) (fragment_give small (post z refl))
 fragment_answer g unit line below (Fault error) f does post le le2 = fragment_stop does le
 
 -- ---- a change of the state that is checked first
@@ -77,26 +77,26 @@ pub fragment_checked : {declared : Declarations} {G : Image} {n : ℕ} {injectio
 fragment_checked {declared = declared} {G = G} {n = n} {injection = injection} {memory = memory} {place = place} {to = to} {operands = operands} {P = P} {d = d} {e = e} {number = number} {line = line} {unit = unit} b f passes refuses le le2 =
     record { by = λ s matches. record { by = λ m l. go s matches m l (b s) refl } }
   where
-    holds : (s : meaning.State) → Does declared G (at place operands memory s.trace) 0 to (P tt) (f s) → Follows G (suc n) (at place operands memory s.trace) s (spend 1 (change f)) (λ a. Lands declared G to (P a)) d e
-    holds s does = follows_paid {v = 0} {w = 0} {d1 = d + 63} refl does.does (omega arith) (omega arith) (omega arith) (follows_changed {n = n} f {P = λ a. Lands declared G to (P a)} {d = d + 63} {e = e} le2 (landed does))
+    holds : (s : meaning.State) → Does declared G (at place operands memory s.trace) 0 to (P tt) (f s) → Follows (λ k. SameRoutine memory.frames k.frames) G (suc n) (at place operands memory s.trace) s (spend 1 (change f)) (λ a. Lands declared G to (P a)) d e
+    holds s does = follows_paid {v = 0} {w = 0} {d1 = d + 63} (same_routine-refl memory.frames) refl does.does (omega arith) (omega arith) (omega arith) (follows_changed {n = n} f {P = λ a. Lands declared G to (P a)} {d = d + 63} {e = e} le2 (landed does))
 
-    fails : (s : meaning.State) → FailsWith G (at place operands memory s.trace) 0 number unit line s → Follows G (suc n) (at place operands memory s.trace) s (stop {A = Unit {0}} (meaning.Error number unit line)) (λ a. Lands declared G to (P a)) d e
-    fails s x = follows_stop x.fails le
+    fails : (s : meaning.State) → FailsWith G (at place operands memory s.trace) 0 number unit line s → Follows (λ k. SameRoutine memory.frames k.frames) G (suc n) (at place operands memory s.trace) s (stop {A = Unit {0}} (meaning.Error number unit line)) (λ a. Lands declared G to (P a)) d e
+    fails s x = follows_stop (same_routine-refl memory.frames) x.fails le
 
-    go : (s : meaning.State) → Matches declared G injection s memory → (m : ℕ) → m ≤ suc n → (x : Bool) → b s ≡ x → Met G (at place operands memory s.trace) m (λ a. Lands declared G to (P a)) d e ((if b s then spend 1 (change f) else stop (meaning.Error number unit line)) m s)
+    go : (s : meaning.State) → Matches declared G injection s memory → (m : ℕ) → m ≤ suc n → (x : Bool) → b s ≡ x → Met (λ k. SameRoutine memory.frames k.frames) G (at place operands memory s.trace) m (λ a. Lands declared G to (P a)) d e ((if b s then spend 1 (change f) else stop (meaning.Error number unit line)) m s)
     go s matches m l true q =
         let z = holds s (passes s matches q) in
-        subst (λ y. Met G (at place operands memory s.trace) m (λ a. Lands declared G to (P a)) d e ((if y then spend 1 (change f) else stop (meaning.Error number unit line)) m s)) (sym q) (z.by m l)
+        subst (λ y. Met (λ k. SameRoutine memory.frames k.frames) G (at place operands memory s.trace) m (λ a. Lands declared G to (P a)) d e ((if y then spend 1 (change f) else stop (meaning.Error number unit line)) m s)) (sym q) (z.by m l)
     go s matches m l false q =
         let z = fails s (refuses s matches q) in
-        subst (λ y. Met G (at place operands memory s.trace) m (λ a. Lands declared G to (P a)) d e ((if y then spend 1 (change f) else stop (meaning.Error number unit line)) m s)) (sym q) (z.by m l)
+        subst (λ y. Met (λ k. SameRoutine memory.frames k.frames) G (at place operands memory s.trace) m (λ a. Lands declared G to (P a)) d e ((if y then spend 1 (change f) else stop (meaning.Error number unit line)) m s)) (sym q) (z.by m l)
 
 -- ---- one of two ways
 
 -- an instruction, without a step, that goes one of two ways
 pub fragment_branch : {A : Type 0} {declared : Declarations} {G : Image} {n : ℕ} {injection : Injection} {memory : Memory} {place then_place else_place to : ℕ} {operands operands1 : List Operand} {x y : Computation A} {P : A → After} {d d1 : ℕ} {e : A → ℕ} (b : Bool) → ((s : meaning.State) → Matches declared G injection s memory → outcome G (at place operands memory s.trace) ≡ record { weight = 0; to = Running 0 (at (if b then then_place else else_place) operands1 memory s.trace) }) → 1 + d1 ≤ d → (b ≡ true → Fragment declared G n injection memory then_place operands1 x to P d1 e) → (b ≡ false → Fragment declared G n injection memory else_place operands1 y to P d1 e) → Fragment declared G n injection memory place operands (if b then x else y) to P d e
-fragment_branch true does le then_way else_way = fragment_waits does (λ s matches. matches) le (then_way refl)
-fragment_branch false does le then_way else_way = fragment_waits does (λ s matches. matches) le (else_way refl)
+fragment_branch true does le then_way else_way = fragment_waits does le (then_way refl)
+fragment_branch false does le then_way else_way = fragment_waits does le (else_way refl)
 
 -- ---- a loop
 
@@ -113,6 +113,6 @@ fragment_turns h unit d steady_test steady_body first start tests leads_out bodi
     fragment_bind_number {e = λ r. d + 2} (λ r. steady_if (is_true (number_of r)) (steady_bind steady_body (λ a. steady_spend 1 (steady_turns h k unit steady_test steady_body))) (steady_spend 1 (steady_give tt))) (fragment_less le (tests injection memory grown routine)) (λ z v1 m1 of_host grown1 routine1.
     fragment_branch {d1 = d + 1} (is_true z) (λ s matches. leads_out z m1 s.trace (same_routine-trans routine routine1)) (omega arith)
     (λ is. fragment_bind_bare {e = λ a. d + 1} (λ a. steady_spend 1 (steady_turns h k unit steady_test steady_body)) (fragment_less le (bodies v1 m1 (grown_trans grown grown1) (same_routine-trans routine routine1))) (λ a v2 m2 grown2 routine2.
-    fragment_one {d1 = d} (λ s matches. leads_back m2 s.trace (same_routine-trans routine (same_routine-trans routine1 routine2))) (λ s matches. matches) (omega arith)
+    fragment_one {d1 = d} (λ s matches. leads_back m2 s.trace (same_routine-trans routine (same_routine-trans routine1 routine2))) (omega arith)
     (fragment_turns h unit d steady_test steady_body first start tests leads_out bodies leads_back k (omega arith) v2 m2 (grown_trans grown (grown_trans grown1 grown2)) (same_routine-trans routine (same_routine-trans routine1 routine2)))))
     (λ is. fragment_move {d1 = d} (omega arith) (fragment_give (omega arith) (inside_here refl))))

@@ -7,8 +7,8 @@ use Rattle.ep_object.specs.Runs.{outcome}
 use Rattle.ep_object.specs.State.{State, Running, Stopped, Error}
 use Rattle.ep_object.specs.declared.code.Image.{Image}
 use Rattle.ep_object.specs.declared.state.Place.{Place as PlaceOf}
-use Rattle.ep_object.proofs.Bind.{follows_bind, follows_less, follows_weaken, follows_credit, follows_from, follows_waits, follows_paid, follows_moves, follows_give, follows_changed, follows_cut, follows_stop}
-use Rattle.ep_object.proofs.Growing.{inside_later}
+use Rattle.ep_object.proofs.Bind.{follows_bind, follows_less, follows_weaken, follows_wider, follows_credit, follows_from, follows_waits, follows_paid, follows_moves, follows_give, follows_changed, follows_cut, follows_stop}
+use Rattle.ep_object.proofs.Growing.{inside_later, same_routine-refl, same_routine-trans}
 use Rattle.ep_typed.specs.Printing.{Result}
 use Rattle.ep_typed.specs.Printing as result
 use Rattle.ep_typed.specs.Steady.{Steady}
@@ -22,12 +22,13 @@ use Rattle.ep_typed.specs.declared.types.TypeValue.{TypeValue}
 -- ---- one fragment after another
 
 -- the first part of the code follows the first computation, and the second part, from all that may hold between, the second
-pub fragment_bind : {A B : Type 0} {declared : Declarations} {G : Image} {n : ℕ} {injection : Injection} {memory : Memory} {place middle to : ℕ} {operands : List Operand} {c : Computation A} {f : A → Computation B} {P : A → After} {Q : B → After} {d : ℕ} {e : A → ℕ} {g : B → ℕ} → ((a : A) → Steady (f a)) → Fragment declared G n injection memory place operands c middle P d e → ((a : A) (longer : Injection) (after : Memory) (pushed : List Operand) → P a longer after pushed → Fragment declared G n longer after middle pushed (f a) to Q (e a) g) → Fragment declared G n injection memory place operands (bind c f) to Q d g
+pub fragment_bind : {A B : Type 0} {declared : Declarations} {G : Image} {n : ℕ} {injection : Injection} {memory : Memory} {place middle to : ℕ} {operands : List Operand} {c : Computation A} {f : A → Computation B} {P : A → After} {Q : B → After} {d : ℕ} {e : A → ℕ} {g : B → ℕ} → ((a : A) → Steady (f a)) → Fragment declared G n injection memory place operands c middle P d e → ((a : A) (longer : Injection) (after : Memory) (pushed : List Operand) → P a longer after pushed → SameRoutine memory.frames after.frames × Fragment declared G n longer after middle pushed (f a) to Q (e a) g) → Fragment declared G n injection memory place operands (bind c f) to Q d g
 fragment_bind steady first second =
     record {
       by = λ s matches. follows_bind steady (first.by s matches) (λ a s1 k1 lands.
           let next = second a lands.injection lands.memory lands.operands lands.post in
-          follows_from lands.is (next.by s1 lands.matches));
+          let fragment = next.1 in
+          follows_from lands.is (follows_wider (λ k same. same_routine-trans next.0 same) (fragment.by s1 lands.matches)));
     }
 
 module _ {A : Type 0} {declared : Declarations} {G : Image} {c : Computation A} where
@@ -67,9 +68,9 @@ module _ {A : Type 0} {declared : Declarations} {G : Image} {c : Computation A} 
 -- after the code of a form, memory has grown, the same routine runs, and the operand of the form is there
 module _ {B : Type 0} {declared : Declarations} {G : Image} {n : ℕ} {injection : Injection} {memory : Memory} {place middle to : ℕ} {operands : List Operand} {d : ℕ} {g : B → ℕ} {Then : B → Operands} where
   -- after a form of any kind
-  inside_bind : {A : Type 0} {c : Computation A} {f : A → Computation B} {First : A → Operands} {e : A → ℕ} → ((a : A) → Steady (f a)) → Fragment declared G n injection memory place operands c middle (λ a. Inside injection memory (First a)) d e → ((a : A) (longer : Injection) (after : Memory) (pushed : List Operand) → Grown injection memory longer after → SameRoutine memory.frames after.frames → First a longer after pushed → Fragment declared G n longer after middle pushed (f a) to (λ b. Inside longer after (Then b)) (e a) g) → Fragment declared G n injection memory place operands (bind c f) to (λ b. Inside injection memory (Then b)) d g
+  pub inside_bind : {A : Type 0} {c : Computation A} {f : A → Computation B} {First : A → Operands} {e : A → ℕ} → ((a : A) → Steady (f a)) → Fragment declared G n injection memory place operands c middle (λ a. Inside injection memory (First a)) d e → ((a : A) (longer : Injection) (after : Memory) (pushed : List Operand) → Grown injection memory longer after → SameRoutine memory.frames after.frames → First a longer after pushed → Fragment declared G n longer after middle pushed (f a) to (λ b. Inside longer after (Then b)) (e a) g) → Fragment declared G n injection memory place operands (bind c f) to (λ b. Inside injection memory (Then b)) d g
   inside_bind steady first second =
-      fragment_bind steady first (λ a longer after pushed i. fragment_post (λ b last final at_end j. inside_later i.grown i.routine j) (second a longer after pushed i.grown i.routine i.operands_are))
+      fragment_bind steady first (λ a longer after pushed i. (i.routine, fragment_post (λ b last final at_end j. inside_later i.grown i.routine j) (second a longer after pushed i.grown i.routine i.operands_are)))
 
   -- after an expression of an ordinal type
   pub fragment_bind_number : {host : Host} {below : List Operand} {c : Computation Result} {f : Result → Computation B} {e : Result → ℕ} → ((a : Result) → Steady (f a)) → Fragment declared G n injection memory place operands c middle (λ a. Inside injection memory (OnTop (kind.Ordinal host) below a)) d e → ((z : ℤ) (longer : Injection) (after : Memory) → IsTrue (is_of_host host z) → Grown injection memory longer after → SameRoutine memory.frames after.frames → Fragment declared G n longer after middle (Word z ∷ below) (f (result.Number z)) to (λ b. Inside longer after (Then b)) (e (result.Number z)) g) → Fragment declared G n injection memory place operands (bind c f) to (λ b. Inside injection memory (Then b)) d g
@@ -115,25 +116,25 @@ pub landed : {declared : Declarations} {G : Image} {k : State} {weight to : ℕ}
 landed h = record { injection = h.injection; memory = h.memory; operands = h.operands; is = refl; matches = h.matches; post = h.post }
 
 module _ {A : Type 0} {declared : Declarations} {G : Image} {c : Computation A} {to : ℕ} {P : A → After} {e : A → ℕ} where
-  -- an instruction without a step, which costs its ticks
-  pub fragment_waits : {n : ℕ} {injection injection1 : Injection} {memory memory1 : Memory} {place place1 d d1 weight : ℕ} {operands operands1 : List Operand} → ((s : meaning.State) → Matches declared G injection s memory → outcome G (at place operands memory s.trace) ≡ record { weight = weight; to = Running 0 (at place1 operands1 memory1 s.trace) }) → ((s : meaning.State) → Matches declared G injection s memory → Matches declared G injection1 s memory1) → suc weight + d1 ≤ d → Fragment declared G n injection1 memory1 place1 operands1 c to P d1 e → Fragment declared G n injection memory place operands c to P d e
-  fragment_waits {d1 = d1} {weight = weight} does matched le h =
-      record { by = λ s matches. follows_credit {d = suc weight + d1} {e = e} le (λ a. omega arith) (follows_waits (does s matches) (h.by s (matched s matches))) }
+  -- an instruction without a step, which leaves memory as it is and costs its ticks
+  pub fragment_waits : {n : ℕ} {injection : Injection} {memory : Memory} {place place1 d d1 weight : ℕ} {operands operands1 : List Operand} → ((s : meaning.State) → Matches declared G injection s memory → outcome G (at place operands memory s.trace) ≡ record { weight = weight; to = Running 0 (at place1 operands1 memory s.trace) }) → suc weight + d1 ≤ d → Fragment declared G n injection memory place1 operands1 c to P d1 e → Fragment declared G n injection memory place operands c to P d e
+  fragment_waits {d1 = d1} {weight = weight} does le h =
+      record { by = λ s matches. follows_credit {d = suc weight + d1} {e = e} le (λ a. omega arith) (follows_waits (does s matches) (h.by s matches)) }
 
-  -- an instruction with steps
-  pub fragment_paid : {n : ℕ} {injection injection1 : Injection} {memory memory1 : Memory} {place place1 d d1 weight w : ℕ} {operands operands1 : List Operand} → ((s : meaning.State) → Matches declared G injection s memory → outcome G (at place operands memory s.trace) ≡ record { weight = weight; to = Running 0 (at place1 operands1 memory1 s.trace) }) → ((s : meaning.State) → Matches declared G injection s memory → Matches declared G injection1 s memory1) → w ≤ 64 * weight + d → suc w + d1 ≤ 64 * suc weight + d → suc weight + d1 ≤ 64 * suc w + d → Fragment declared G n injection1 memory1 place1 operands1 c to P d1 e → Fragment declared G (suc n) injection memory place operands (spend (suc w) c) to P d e
-  fragment_paid does matched inside slow fast h =
-      record { by = λ s matches. follows_paid refl (does s matches) inside slow fast (h.by s (matched s matches)) }
+  -- an instruction with steps, which leaves memory as it is
+  pub fragment_paid : {n : ℕ} {injection : Injection} {memory : Memory} {place place1 d d1 weight w : ℕ} {operands operands1 : List Operand} → ((s : meaning.State) → Matches declared G injection s memory → outcome G (at place operands memory s.trace) ≡ record { weight = weight; to = Running 0 (at place1 operands1 memory s.trace) }) → w ≤ 64 * weight + d → suc w + d1 ≤ 64 * suc weight + d → suc weight + d1 ≤ 64 * suc w + d → Fragment declared G n injection memory place1 operands1 c to P d1 e → Fragment declared G (suc n) injection memory place operands (spend (suc w) c) to P d e
+  fragment_paid {memory = memory} does inside slow fast h =
+      record { by = λ s matches. follows_paid (same_routine-refl memory.frames) refl (does s matches) inside slow fast (h.by s matches) }
 
   -- one instruction of one tick, with one step
-  pub fragment_one : {n : ℕ} {injection injection1 : Injection} {memory memory1 : Memory} {place place1 d d1 : ℕ} {operands operands1 : List Operand} → ((s : meaning.State) → Matches declared G injection s memory → outcome G (at place operands memory s.trace) ≡ record { weight = 0; to = Running 0 (at place1 operands1 memory1 s.trace) }) → ((s : meaning.State) → Matches declared G injection s memory → Matches declared G injection1 s memory1) → d1 ≤ d + 63 → Fragment declared G n injection1 memory1 place1 operands1 c to P d1 e → Fragment declared G (suc n) injection memory place operands (spend 1 c) to P d e
-  fragment_one {d = d} {d1 = d1} does matched le h =
-      fragment_paid {d = d} {d1 = d1} {weight = 0} {w = 0} does matched (omega arith) (omega arith) (omega arith) h
+  pub fragment_one : {n : ℕ} {injection : Injection} {memory : Memory} {place place1 d d1 : ℕ} {operands operands1 : List Operand} → ((s : meaning.State) → Matches declared G injection s memory → outcome G (at place operands memory s.trace) ≡ record { weight = 0; to = Running 0 (at place1 operands1 memory s.trace) }) → d1 ≤ d + 63 → Fragment declared G n injection memory place1 operands1 c to P d1 e → Fragment declared G (suc n) injection memory place operands (spend 1 c) to P d e
+  fragment_one {d = d} {d1 = d1} does le h =
+      fragment_paid {d = d} {d1 = d1} {weight = 0} {w = 0} does (omega arith) (omega arith) (omega arith) h
 
   -- steps without an instruction, which cost their number
   pub fragment_moves : {n : ℕ} (w : ℕ) {injection : Injection} {memory : Memory} {place d d1 : ℕ} {operands : List Operand} → w + d1 ≤ d → Fragment declared G n injection memory place operands c to P d1 e → Fragment declared G (w + n) injection memory place operands (spend w c) to P d e
-  fragment_moves w {d1 = d1} le h =
-      record { by = λ s matches. follows_credit {d = w + d1} {e = e} le (λ a. omega arith) (follows_moves w refl (h.by s matches)) }
+  fragment_moves w {memory = memory} {d1 = d1} le h =
+      record { by = λ s matches. follows_credit {d = w + d1} {e = e} le (λ a. omega arith) (follows_moves w (same_routine-refl memory.frames) refl (h.by s matches)) }
 
   -- one step without an instruction
   pub fragment_move : {n : ℕ} {injection : Injection} {memory : Memory} {place d d1 : ℕ} {operands : List Operand} → 1 + d1 ≤ d → Fragment declared G n injection memory place operands c to P d1 e → Fragment declared G (suc n) injection memory place operands (spend 1 c) to P d e
@@ -146,11 +147,11 @@ fragment_give {injection = injection} {memory = memory} {operands = operands} {a
 
 -- no step is left
 pub fragment_cut : {A : Type 0} {declared : Declarations} {G : Image} {injection : Injection} {memory : Memory} {place to : ℕ} {operands : List Operand} {P : A → After} {d : ℕ} {e : A → ℕ} → Fragment declared G 0 injection memory place operands cut to P d e
-fragment_cut = record { by = λ s matches. follows_cut refl }
+fragment_cut {memory = memory} = record { by = λ s matches. follows_cut (same_routine-refl memory.frames) refl }
 
 -- an instruction that ends the run
 pub fragment_stop : {A : Type 0} {declared : Declarations} {G : Image} {n : ℕ} {injection : Injection} {memory : Memory} {place to weight : ℕ} {operands : List Operand} {x : meaning.End} {P : A → After} {d : ℕ} {e : A → ℕ} → ((s : meaning.State) → Matches declared G injection s memory → outcome G (at place operands memory s.trace) ≡ record { weight = weight; to = Stopped (end_of x) s.trace }) → suc weight ≤ d → Fragment declared G n injection memory place operands (stop x) to P d e
-fragment_stop does le = record { by = λ s matches. follows_stop (does s matches) le }
+fragment_stop {memory = memory} does le = record { by = λ s matches. follows_stop (same_routine-refl memory.frames) (does s matches) le }
 
 module _ {declared : Declarations} {G : Image} {n : ℕ} {injection : Injection} {memory : Memory} {place to weight : ℕ} {operands : List Operand} {P : Unit {0} → After} {d : ℕ} {e : Unit {0} → ℕ} where
   -- an instruction that changes the state, with steps; what events it has come with its last tick
@@ -159,7 +160,7 @@ module _ {declared : Declarations} {G : Image} {n : ℕ} {injection : Injection}
       record {
         by = λ s matches.
             let x = does s matches in
-            follows_paid refl x.does inside slow fast (follows_changed {n = n} f {P = λ a. Lands declared G to (P a)} {d = e tt} {e = e} (omega arith) (landed x));
+            follows_paid (same_routine-refl memory.frames) refl x.does inside slow fast (follows_changed {n = n} f {P = λ a. Lands declared G to (P a)} {d = e tt} {e = e} (omega arith) (landed x));
       }
 
   -- an instruction that changes the state, without a step

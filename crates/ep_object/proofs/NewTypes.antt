@@ -1,7 +1,7 @@
 -- A type is elaborated: the machine goes on matching, or ends for want of room where it was lost.
 use Rattle.std.proofs.Common.{◌≡◌, ℕ, ℤ, pos, suc, ◌+◌, ◌≤◌, ◌⊎◌, inl, inr, IsTrue, List, ◌∷◌, Some, slice_get, refl, arith}
 use Rattle.std.specs.Prelude.{int_le}
-use Rattle.ep_object.specs.Follows.{GivesUp, Follows, Fragment, After, Lands, Inside}
+use Rattle.ep_object.specs.Follows.{GivesUp, Follows, Fragment, After, Lands, SameRoutine, Inside}
 use Rattle.ep_object.specs.Matching.{Memory, at, Injection, Describes, Matches}
 use Rattle.ep_object.specs.Operands.{Operand, Word}
 use Rattle.ep_object.specs.declared.code.Image.{Image}
@@ -41,6 +41,6 @@ ord_does declared G place line below low high ordered has injection memory s mat
 pub fragment_change_or_lost : {declared : Declarations} {G : Image} {n : ℕ} {injection : Injection} {memory : Memory} {place to weight : ℕ} {operands : List Operand} {P : Unit {0} → After} {d : ℕ} {e : Unit {0} → ℕ} (f : meaning.State → meaning.State) → ((s : meaning.State) → Matches declared G injection s memory → Does declared G (at place operands memory s.trace) weight to (P tt) (f s) ⊎ GivesUp G (at place operands memory s.trace) (f s)) → suc weight + e tt ≤ d → Fragment declared G n injection memory place operands (change f) to P d e
 fragment_change_or_lost {declared = declared} {G = G} {n = n} {injection = injection} {memory = memory} {place = place} {to = to} {weight = weight} {operands = operands} {P = P} {d = d} {e = e} f does le = record { by = λ s matches. go s (does s matches) }
   where
-    go : (s : meaning.State) → Does declared G (at place operands memory s.trace) weight to (P tt) (f s) ⊎ GivesUp G (at place operands memory s.trace) (f s) → Follows G n (at place operands memory s.trace) s (change f) (λ a. Lands declared G to (P a)) d e
+    go : (s : meaning.State) → Does declared G (at place operands memory s.trace) weight to (P tt) (f s) ⊎ GivesUp G (at place operands memory s.trace) (f s) → Follows (λ k. SameRoutine memory.frames k.frames) G n (at place operands memory s.trace) s (change f) (λ a. Lands declared G to (P a)) d e
     go s (inl x) = follows_credit {d = suc weight + e tt} {e = e} le (λ a. omega arith) (follows_waits x.does (follows_changed {n = n} f {P = λ a. Lands declared G to (P a)} {d = e tt} {e = e} (omega arith) (landed x)))
     go s (inr x) = follows_change_lost x

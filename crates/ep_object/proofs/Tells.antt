@@ -69,12 +69,12 @@ module _ (G : Image) (k : State) where
   ends_after : (t wait : ℕ) (last : State) (x : End) (a : Trace) → after_ticks t ≡ Running wait last → tick G wait last ≡ Stopped x a → after_ticks (t + 1) ≡ Stopped x a
   ends_after t wait last x a h i = runs_extend G t 1 (Running 0 k) ∙ (ap (run_from G 1) h ∙ ap (λ g. and_then g (run G 0)) i)
 
-module _ {A : Type 0} (G : Image) (k : State) (come : ℕ → Outcome A) (e : A → ℕ) (follows : (m : ℕ) → Meets G k m Never spare_ticks e (come m) ⊎ GivesUp G k (state_of (come m))) where
+module _ {A : Type 0} (Within : State → Type 0) (G : Image) (k : State) (come : ℕ → Outcome A) (e : A → ℕ) (follows : (m : ℕ) → Meets Within G k m Never spare_ticks e (come m) ⊎ GivesUp G k (state_of (come m))) where
   -- a run that has ended
   tells_end : (t : ℕ) (end : End) (trace : Trace) → run G t 0 k ≡ Stopped end trace → EndsSo come t end trace ⊎ RanOut come t end trace
   tells_end t end trace h = go (come (64 * t + spare_ticks)) refl (follows (64 * t + spare_ticks))
     where
-      go : (o : Outcome A) → come (64 * t + spare_ticks) ≡ o → Meets G k (64 * t + spare_ticks) Never spare_ticks e o ⊎ GivesUp G k (state_of o) → EndsSo come t end trace ⊎ RanOut come t end trace
+      go : (o : Outcome A) → come (64 * t + spare_ticks) ≡ o → Meets Within G k (64 * t + spare_ticks) Never spare_ticks e o ⊎ GivesUp G k (state_of o) → EndsSo come t end trace ⊎ RanOut come t end trace
       go (Gives left a s) is (inl x) = absurd x.post
       go (Ends left end2 s) is (inl x) =
           let same = one_end G k t (x.ticks + 1) end (end_of end2) trace s.trace h (ends_after G k x.ticks x.wait x.last (end_of end2) s.trace x.runs x.ends) in
@@ -91,17 +91,16 @@ module _ {A : Type 0} (G : Image) (k : State) (come : ℕ → Outcome A) (e : A 
       later : (u : ℕ) (end : End) (trace : Trace) → run G u 0 k ≡ Stopped end trace → IsPrefix s.trace trace
       later u end trace i = elim (cases t u) [ inl le ↦ events_between G k t u (Running wait s) (Stopped end trace) le h i | inr le ↦ absurd (running_before G k t u wait s end trace h i le) ]
 
-      front : (o : Outcome A) → Meets G k (64 * t + spare_ticks) Never spare_ticks e o ⊎ GivesUp G k (state_of o) → IsPrefix s.trace (state_of o).trace
+      front : (o : Outcome A) → Meets Within G k (64 * t + spare_ticks) Never spare_ticks e o ⊎ GivesUp G k (state_of o) → IsPrefix s.trace (state_of o).trace
       front (Gives left a s2) (inl x) = absurd x.post
       front (Ends left end s2) (inl x) = later (x.ticks + 1) (end_of end) s2.trace (ends_after G k x.ticks x.wait x.last (end_of end) s2.trace x.runs x.ends)
       front (Cut s2) (inl x) = subst (λ y. IsPrefix s.trace y) x.same (events_between G k t x.ticks (Running wait s) (Running x.wait x.to) (omega (arith, x.slow)) h x.runs)
       front o (inr x) = prefix_then (later x.ticks (Error x.number x.unit x.line) x.trace x.runs) x.begins
 
-      still : (m : ℕ) → 64 * m + spare_ticks ≤ t → (o : Outcome A) → come m ≡ o → Meets G k m Never spare_ticks e o ⊎ GivesUp G k (state_of o) → StillGoes (come m) s.trace ⊎ IsTrue (state_of (come m)).resources.lost
+      still : (m : ℕ) → 64 * m + spare_ticks ≤ t → (o : Outcome A) → come m ≡ o → Meets Within G k m Never spare_ticks e o ⊎ GivesUp G k (state_of o) → StillGoes (come m) s.trace ⊎ IsTrue (state_of (come m)).resources.lost
       still m few (Gives left a s2) is (inl x) = absurd x.post
       still m few (Ends left end s2) is (inl x) =
-          let pays = x.pays in
-          absurd (running_before G k t (x.ticks + 1) wait s (end_of end) s2.trace h (ends_after G k x.ticks x.wait x.last (end_of end) s2.trace x.runs x.ends) (omega (arith, pays.fast, pays.all)))
+          absurd (running_before G k t (x.ticks + 1) wait s (end_of end) s2.trace h (ends_after G k x.ticks x.wait x.last (end_of end) s2.trace x.runs x.ends) (omega (arith, x.fast, x.all)))
       still m few (Cut s2) is (inl x) = inl (record { state = s2; is = is; begins = subst (λ y. IsPrefix y s.trace) x.same (events_between G k x.ticks t (Running x.wait x.to) (Running wait s) (omega (arith, x.fast)) x.runs h) })
       still m few o is (inr x) = inr (subst (λ y. IsTrue (state_of y).resources.lost) (sym is) x.lost)
 
@@ -114,15 +113,15 @@ module _ {A : Type 0} (G : Image) (k : State) (come : ℕ → Outcome A) (e : A 
 
   -- the ticks after which a run has ended and the steps that the computation has spent by then bound one another
   pub tells_close : (t spent left : ℕ) (its_end : meaning.End) (s : meaning.State) (end : End) (trace : Trace) → EndsAt G (Running 0 k) 0 t end trace → come (left + spent) ≡ Ends left its_end s → s.resources.lost ≡ false → AreClose spent t
-  tells_close t spent left its_end s end trace at is kept = go (subst (λ o. Meets G k (left + spent) Never spare_ticks e o ⊎ GivesUp G k (state_of o)) is (follows (left + spent)))
+  tells_close t spent left its_end s end trace at is kept = go (subst (λ o. Meets Within G k (left + spent) Never spare_ticks e o ⊎ GivesUp G k (state_of o)) is (follows (left + spent)))
     where
-      ticks : (x : EndsToo G k (left + spent) left spare_ticks its_end s.trace) → t ≡ suc x.ticks
+      ticks : (x : EndsToo Within G k (left + spent) left spare_ticks its_end s.trace) → t ≡ suc x.ticks
       ticks x =
           let ended = ends_after G k x.ticks x.wait x.last (end_of its_end) s.trace x.runs x.ends in
           let not_later : suc at.before ≤ x.ticks → ⊥ = λ le. running_before G k x.ticks (suc at.before) x.wait x.last end trace x.runs at.ends le in
           let not_sooner : suc x.ticks ≤ at.before → ⊥ = λ le. is_running_before G k at.before (suc x.ticks) (end_of its_end) s.trace at.runs (subst (λ u. after_ticks G k u ≡ Stopped (end_of its_end) s.trace) {y = suc x.ticks} (omega arith) ended) le in
           omega (arith, at.at, not_later, not_sooner)
 
-      go : EndsToo G k (left + spent) left spare_ticks its_end s.trace ⊎ GivesUp G k s → AreClose spent t
-      go (inl x) = let pays = x.pays in record { slow = omega (arith, ticks x, pays.slow, pays.all); fast = omega (arith, ticks x, pays.fast, pays.all) }
+      go : EndsToo Within G k (left + spent) left spare_ticks its_end s.trace ⊎ GivesUp G k s → AreClose spent t
+      go (inl x) = record { slow = omega (arith, ticks x, x.slow, x.all); fast = omega (arith, ticks x, x.fast, x.all) }
       go (inr x) = absurd (not_both_ways s.resources.lost x.lost kept)

@@ -38,31 +38,36 @@ pub record Reaches (G : Image) (k : State) (m left d e : ℕ) (Post : State → 
   pub pays : Pays m left ticks d e
   pub post : Post to
 
--- the machine ends so, and at no earlier tick
-pub record EndsToo (G : Image) (k : State) (m left d : ℕ) (e : meaning.End) (trace : Trace) : Type 0 where
+-- The machine ends so, and at no earlier tick; until then it is within such states. Of m steps all but those left were spent, at most 64 for each tick but the last.
+pub record EndsToo (Within : State → Type 0) (G : Image) (k : State) (m left d : ℕ) (e : meaning.End) (trace : Trace) : Type 0 where
   pub ticks : ℕ
   pub wait : ℕ
   pub last : State
   pub runs : run G ticks 0 k ≡ Running wait last
+  pub within : Within last
   pub ends : tick G wait last ≡ Stopped (end_of e) trace
-  pub pays : Pays m left (suc ticks) d 0
+  pub spent : ℕ
+  pub all : left + spent ≡ m
+  pub slow : spent ≤ 64 * ticks + d
+  pub fast : suc ticks ≤ 64 * spent + d
 
--- the machine is still running at a point at which its events are those
-pub record RunsOn (G : Image) (k : State) (m d : ℕ) (trace : Trace) : Type 0 where
+-- the machine is still running, within such states, at a point at which its events are those
+pub record RunsOn (Within : State → Type 0) (G : Image) (k : State) (m d : ℕ) (trace : Trace) : Type 0 where
   pub ticks : ℕ
   pub wait : ℕ
   pub to : State
   pub runs : run G ticks 0 k ≡ Running wait to
+  pub within : Within to
   pub same : to.trace ≡ trace
   pub slow : m ≤ 64 * ticks + d
   pub fast : ticks ≤ 64 * m + d
 
 -- What the machine does where the computation comes to this with m steps. The credit after it may depend on what
 -- the computation gives, since a text has a weight.
-abbrev pub Meets : {A : Type 0} → Image → State → ℕ → (A → meaning.State → State → Type 0) → ℕ → (A → ℕ) → Outcome A → Type 0
-Meets G k m Post d e (Gives left a s) = Reaches G k m left d (e a) (Post a s)
-Meets G k m Post d e (Ends left end s) = EndsToo G k m left d end s.trace
-Meets G k m Post d e (Cut s) = RunsOn G k m d s.trace
+abbrev pub Meets : {A : Type 0} → (State → Type 0) → Image → State → ℕ → (A → meaning.State → State → Type 0) → ℕ → (A → ℕ) → Outcome A → Type 0
+Meets Within G k m Post d e (Gives left a s) = Reaches G k m left d (e a) (Post a s)
+Meets Within G k m Post d e (Ends left end s) = EndsToo Within G k m left d end s.trace
+Meets Within G k m Post d e (Cut s) = RunsOn Within G k m d s.trace
 
 -- room was lost by then, and the machine ends for want of storage or of depth
 pub record GivesUp (G : Image) (k : State) (s : meaning.State) : Type 0 where
@@ -76,9 +81,9 @@ pub record GivesUp (G : Image) (k : State) (s : meaning.State) : Type 0 where
   pub runs : run G ticks 0 k ≡ Stopped (Error number unit line) trace
   pub begins : IsPrefix trace s.trace
 
--- the machine follows the computation with up to n steps
-pub record Follows {A : Type 0} (G : Image) (n : ℕ) (k : State) (s : meaning.State) (c : Computation A) (Post : A → meaning.State → State → Type 0) (d : ℕ) (e : A → ℕ) : Type 0 where
-  pub by : (m : ℕ) → m ≤ n → Meets G k m Post d e (c m s) ⊎ GivesUp G k (state_of (c m s))
+-- the machine follows the computation with up to n steps, within such states until it comes to where it leads
+pub record Follows {A : Type 0} (Within : State → Type 0) (G : Image) (n : ℕ) (k : State) (s : meaning.State) (c : Computation A) (Post : A → meaning.State → State → Type 0) (d : ℕ) (e : A → ℕ) : Type 0 where
+  pub by : (m : ℕ) → m ≤ n → Meets Within G k m Post d e (c m s) ⊎ GivesUp G k (state_of (c m s))
 
 -- what holds of the injection, the memory and the operands after a fragment of code
 abbrev pub After : Type 1
@@ -93,10 +98,15 @@ pub record Lands (declared : Declarations) (G : Image) (place : ℕ) (Post : Aft
   pub matches : Matches declared G injection s memory
   pub post : Post injection memory operands
 
--- From a place of the code, with this injection, memory and operands, the machine follows the computation to
--- another place, where this holds then.
+-- the same routine runs in the same unit's frame
+pub record SameRoutine (before after : Frames) : Type 0 where
+  pub turn : after.turn ≡ before.turn
+  pub routine : after.routine ≡ before.routine
+  pub unit : after.unit ≡ before.unit
+
+-- From a place of the code, with this injection, memory and operands, the machine follows the computation within the same routine to another place, where this holds then.
 pub record Fragment {A : Type 0} (declared : Declarations) (G : Image) (n : ℕ) (injection : Injection) (memory : Memory) (place : ℕ) (operands : List Operand) (c : Computation A) (to : ℕ) (Post : A → After) (d : ℕ) (e : A → ℕ) : Type 0 where
-  pub by : (s : meaning.State) → Matches declared G injection s memory → Follows G n (at place operands memory s.trace) s c (λ a. Lands declared G to (Post a)) d e
+  pub by : (s : meaning.State) → Matches declared G injection s memory → Follows (λ k. SameRoutine memory.frames k.frames) G n (at place operands memory s.trace) s c (λ a. Lands declared G to (Post a)) d e
 
 -- ---- what holds after the code of a form
 
@@ -137,12 +147,6 @@ pub record PlaceOnTop (type : TypeValue) (below : List Operand) (n : ℕ) (injec
   pub is : operands ≡ Place place ∷ below
   pub place_of : IsPlaceOf injection memory.segments n place
   pub described : Describes memory.types place.type_number type
-
--- the same routine runs in the same unit's frame
-pub record SameRoutine (before after : Frames) : Type 0 where
-  pub turn : after.turn ≡ before.turn
-  pub routine : after.routine ≡ before.routine
-  pub unit : after.unit ≡ before.unit
 
 -- inside of a routine: memory has grown, the routine is the same, and the operands are such
 pub record Inside (injection : Injection) (memory : Memory) (Then : Operands) (longer : Injection) (after : Memory) (operands : List Operand) : Type 0 where
