@@ -5,6 +5,7 @@ pub mod Bind
 pub mod ChangeRows
 pub mod Changes
 pub mod Choices
+pub mod Effects
 pub mod Elements
 mod Examples
 pub mod Fragments
@@ -18,7 +19,9 @@ pub mod NewTypes
 pub mod Pieces
 pub mod PlaceRows
 pub mod Rows
+pub mod Simulating
 pub mod Standing
+pub mod Stays
 pub mod Tells
 pub mod TextRows
 pub mod Ticks

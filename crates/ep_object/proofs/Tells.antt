@@ -13,7 +13,7 @@ use Rattle.ep_object.specs.declared.code.Image.{Image}
 use Rattle.ep_object.proofs.Grows.{prefix_then}
 use Rattle.ep_object.proofs.Views.{runs_extend, ends_stay, events_grow}
 
-cases : (a b : ℕ) → (a ≤ b) ⊎ (b ≤ a)
+pub cases : (a b : ℕ) → (a ≤ b) ⊎ (b ≤ a)
 cases zero b = inl (omega arith)
 cases (suc a) zero = inr (omega arith)
 cases (suc a) (suc b) = elim (cases a b) [ inl x ↦ inl (omega arith) | inr x ↦ inr (omega arith) ]
@@ -27,11 +27,11 @@ Never a s k = ⊥
 
 module _ (G : Image) (k : State) where
   -- so many ticks from the state
-  abbrev after_ticks : ℕ → Going
+  abbrev pub after_ticks : ℕ → Going
   after_ticks t = run_from G t (Running 0 k)
 
   -- a run that has ended has ended at any later tick
-  ended_later : (t u : ℕ) (end : End) (trace : Trace) → t ≤ u → after_ticks t ≡ Stopped end trace → after_ticks u ≡ Stopped end trace
+  pub ended_later : (t u : ℕ) (end : End) (trace : Trace) → t ≤ u → after_ticks t ≡ Stopped end trace → after_ticks u ≡ Stopped end trace
   ended_later t u end trace le h = ap after_ticks (sum t u le) ∙ ends_stay G t (u - t) (Running 0 k) end trace h
     where
       sum : (t u : ℕ) → t ≤ u → u ≡ t + (u - t)
@@ -48,10 +48,10 @@ module _ (G : Image) (k : State) where
   not_both : (wait : ℕ) (s : State) (x : End) (a : Trace) → ◌≡◌ {A = Going} (Running wait s) (Stopped x a) → ⊥
   not_both wait s x a h = cc
 
-  running_before : (t u wait : ℕ) (s : State) (x : End) (a : Trace) → after_ticks t ≡ Running wait s → after_ticks u ≡ Stopped x a → u ≤ t → ⊥
+  pub running_before : (t u wait : ℕ) (s : State) (x : End) (a : Trace) → after_ticks t ≡ Running wait s → after_ticks u ≡ Stopped x a → u ≤ t → ⊥
   running_before t u wait s x a h i le = not_both wait s x a (sym h ∙ ended_later u t x a le i)
 
-  is_running_before : (t u : ℕ) (x : End) (a : Trace) → IsRunning (after_ticks t) → after_ticks u ≡ Stopped x a → u ≤ t → ⊥
+  pub is_running_before : (t u : ℕ) (x : End) (a : Trace) → IsRunning (after_ticks t) → after_ticks u ≡ Stopped x a → u ≤ t → ⊥
   is_running_before t u x a r i le = subst IsRunning {y = Stopped x a} (ended_later u t x a le i) r
 
   -- the events grow
@@ -62,11 +62,11 @@ module _ (G : Image) (k : State) where
       sum : (t u : ℕ) → t ≤ u → u ≡ t + (u - t)
       sum t u le = omega arith
 
-  events_between : (t u : ℕ) (g h : Going) → t ≤ u → after_ticks t ≡ g → after_ticks u ≡ h → IsPrefix (trace_of g) (trace_of h)
+  pub events_between : (t u : ℕ) (g h : Going) → t ≤ u → after_ticks t ≡ g → after_ticks u ≡ h → IsPrefix (trace_of g) (trace_of h)
   events_between t u g h le i j = subst (λ x. IsPrefix (trace_of x) (trace_of h)) i (subst (λ x. IsPrefix (trace_of (after_ticks t)) (trace_of x)) j (events_later t u le))
 
   -- the tick at which a run ends
-  ends_after : (t wait : ℕ) (last : State) (x : End) (a : Trace) → after_ticks t ≡ Running wait last → tick G wait last ≡ Stopped x a → after_ticks (t + 1) ≡ Stopped x a
+  pub ends_after : (t wait : ℕ) (last : State) (x : End) (a : Trace) → after_ticks t ≡ Running wait last → tick G wait last ≡ Stopped x a → after_ticks (t + 1) ≡ Stopped x a
   ends_after t wait last x a h i = runs_extend G t 1 (Running 0 k) ∙ (ap (run_from G 1) h ∙ ap (λ g. and_then g (run G 0)) i)
 
 module _ {A : Type 0} (Within : State → Type 0) (G : Image) (k : State) (come : ℕ → Outcome A) (e : A → ℕ) (follows : (m : ℕ) → Meets Within G k m Never spare_ticks e (come m) ⊎ GivesUp G k (state_of (come m))) where

@@ -8,6 +8,7 @@ pub mod Places
 pub mod Placing
 pub mod Runs
 pub mod Scene
+pub mod Simulates
 pub mod State
 pub mod Table
 pub mod Tells

@@ -15,5 +15,5 @@ pub use code::{
     ImageUnit, ImageUnits, Instr, Instrs, Numbers, Object, ObjectImport, ObjectImports, Reference,
     References, Texts, Words,
 };
-pub use laws::laws_of_runs;
+pub use laws::{laws_of_runs, laws_of_simulations};
 pub use state::{Kind, Place, Segment, TypeEntry};

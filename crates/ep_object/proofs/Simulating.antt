@@ -1,0 +1,125 @@
+-- What runs from the entry of a routine do that simulates a computation.
+use Rattle.std.proofs.Common.{◌≡◌, ℕ, zero, suc, ◌+◌, ◌-◌, ◌≤◌, inl, inr, List, refl, sym, ap, ◌∙◌, subst, arith}
+use Rattle.ep_outside.specs.Known.{IsPrefix}
+use Rattle.ep_typed.specs.Events.{Trace}
+use Rattle.ep_typed.specs.Steps.{Outcome, Gives, Ends, Cut, Computation, spend, state_of}
+use Rattle.ep_typed.specs.Steps as meaning
+use Rattle.ep_typed.specs.Valid.{Declarations}
+use Rattle.ep_object.specs.Follows.{end_of, Reaches, EndsToo, RunsOn, Follows, Operands, SameRoutine}
+use Rattle.ep_object.specs.Laws.{IsRunning}
+use Rattle.ep_object.specs.Matching.{Memory, Injection}
+use Rattle.ep_object.specs.Operands.{Operand}
+use Rattle.ep_object.specs.Runs.{run, run_from, trace_of}
+use Rattle.ep_object.specs.Simulates.{routine_credit, Enters, Leaves, Simulates, StaysIn, LeavesAfter, EndsAfter, StaysAfter, AnswersInRoom}
+use Rattle.ep_object.specs.State.{State, Frames, Going, Running, Stopped}
+use Rattle.ep_object.specs.declared.code.Image.{Image}
+use Rattle.ep_object.proofs.Bind.{Met, follows_moves}
+use Rattle.ep_object.proofs.Growing.{same_routine-refl}
+use Rattle.ep_object.proofs.Grows.{is_prefix, prefix_then, run_grows}
+use Rattle.ep_object.proofs.Stays.{runs_stay, same_between}
+use Rattle.ep_object.proofs.Tells.{running_before, events_between, ends_after}
+use Rattle.ep_object.proofs.Views.{runs_extend}
+
+module _ (G : Image) (k : State) where
+  -- a run that comes to the same routine was in it at each tick before
+  stays_in : (t u wait : ℕ) (last : State) (trace : Trace) → t ≤ u → run G u 0 k ≡ Running wait last → SameRoutine k.frames last.frames → IsPrefix last.trace trace → StaysIn G k t trace
+  stays_in t u wait last trace le runs same begins = go (run G t 0 k) refl
+    where
+      rest : (v : ℕ) (s : State) → run G t 0 k ≡ Running v s → run_from G (u - t) (Running v s) ≡ Running wait last
+      rest v s h = ap (run_from G (u - t)) (sym h) ∙ (sym (runs_extend G t (u - t) (Running 0 k)) ∙ (ap (λ n. run G n 0 k) {x = t + (u - t)} {y = u} (omega arith) ∙ runs))
+
+      go : (g : Going) → run G t 0 k ≡ g → StaysIn G k t trace
+      go (Stopped x a) h = absurd (running_before G k u t wait last x a runs h le)
+      go (Running v s) h =
+          record {
+            wait = v;
+            to = s;
+            runs = h;
+            stays = same_between (runs_stay G t 0 v k s h) (runs_stay G (u - t) v wait s last (rest v s h)) same;
+            begins = prefix_then (events_between G k t u (Running v s) (Running wait last) le h runs) begins;
+          }
+
+module _ {A : Type 0} {declared : Declarations} {G : Image} {unit routine n : ℕ} {c : Computation A} {Results : List Operand → A → Operands} (sim : Simulates declared G unit routine n c Results) (injection : Injection) (memory : Memory) (below : List Operand) (s : meaning.State) (k : State) (enters : Enters declared G unit routine injection memory below s k) where
+  -- in the routine that is entered
+  abbrev In : State → Type 0
+  In l = SameRoutine memory.frames l.frames
+
+  in_frames : k.frames ≡ memory.frames
+  in_frames = ap (λ (l : State). l.frames) enters.is
+
+  in_trace : k.trace ≡ s.trace
+  in_trace = ap (λ (l : State). l.trace) enters.is
+
+  from_entry : (l : State) → In l → SameRoutine k.frames l.frames
+  from_entry l same = subst (λ f. SameRoutine f l.frames) (sym in_frames) same
+
+  -- where the body gives a value the routine is left
+  leaves : (m left : ℕ) (a : A) (t : meaning.State) → Reaches G k m left routine_credit routine_credit (Leaves declared G injection memory (Results below a) t) → (spent : ℕ) → left + spent ≡ suc m → LeavesAfter declared G injection memory (Results below a) k t spent
+  leaves m left a t x spent is =
+      let post = x.post in
+      let lands = post.lands in
+      let pays = x.pays in
+      let same : SameRoutine memory.frames x.to.frames = subst (λ (l : State). SameRoutine memory.frames l.frames) (sym lands.is) lands.post.routine in
+      record {
+        ticks = x.ticks;
+        last = x.to;
+        runs = x.runs;
+        leaves = post;
+        pace = record { slow = omega (arith, pays.slow, pays.all, is); fast = omega (arith, pays.fast, pays.all, is) };
+        until = λ u le. stays_in G k u x.ticks 0 x.to t.trace le x.runs (from_entry x.to same) (subst (λ (l : State). IsPrefix l.trace t.trace) (sym lands.is) (is_prefix t.trace));
+      }
+
+  -- where the body ends the run, it ends
+  ends : (m left : ℕ) (end : meaning.End) (t : meaning.State) → EndsToo In G k m left routine_credit end t.trace → (spent : ℕ) → left + spent ≡ suc m → EndsAfter G k (end_of end) t.trace spent
+  ends m left end t x spent is =
+      let ended : run G (x.ticks + 1) 0 k ≡ Stopped (end_of end) t.trace = ends_after G k x.ticks x.wait x.last (end_of end) t.trace x.runs x.ends in
+      let at_end : run G (suc x.ticks) 0 k ≡ Stopped (end_of end) t.trace = ap (λ u. run G u 0 k) {x = suc x.ticks} {y = x.ticks + 1} (omega arith) ∙ ended in
+      record {
+        ticks = suc x.ticks;
+        ends = record { before = x.ticks; at = omega arith; runs = subst IsRunning {x = Running x.wait x.last} (sym x.runs) tt; ends = at_end };
+        pace = record { slow = omega (arith, x.slow, x.all, is); fast = omega (arith, x.fast, x.all, is) };
+        until = λ u le. stays_in G k u x.ticks x.wait x.last t.trace (omega arith) x.runs (from_entry x.last x.within) (events_between G k x.ticks (suc x.ticks) (Running x.wait x.last) (Stopped (end_of end) t.trace) (omega arith) x.runs at_end);
+      }
+
+  -- where the body is cut the machine stays in the routine
+  stays : (m : ℕ) (t : meaning.State) → RunsOn In G k m routine_credit t.trace → StaysAfter G k t.trace (suc m)
+  stays m t x =
+      record {
+        until = λ ticks few. stays_in G k ticks x.ticks x.wait x.to t.trace (omega (arith, x.slow)) x.runs (from_entry x.to x.within) (subst (λ y. IsPrefix y t.trace) (sym x.same) (is_prefix t.trace));
+        all = λ ticks many. subst (λ y. IsPrefix y (trace_of (run G ticks 0 k))) x.same (events_between G k x.ticks ticks (Running x.wait x.to) (run G ticks 0 k) (omega (arith, x.fast)) x.runs refl);
+      }
+
+  -- with no step the machine is at the entry
+  begins : StaysAfter G k s.trace 0
+  begins =
+      record {
+        until = λ ticks few. stays_in G k ticks 0 0 k s.trace (omega arith) refl (same_routine-refl k.frames) (subst (λ y. IsPrefix y s.trace) (sym in_trace) (is_prefix s.trace));
+        all = λ ticks many. subst (λ y. IsPrefix y (trace_of (run G ticks 0 k))) in_trace (run_grows G ticks (Running 0 k));
+      }
+
+  -- a run from the entry answers the computation with each number of steps
+  answers : (steps : ℕ) → steps ≤ n → AnswersInRoom declared G injection memory (Results below) k steps (spend 1 sim.body steps s)
+  answers zero le = inl begins
+  answers (suc m) le =
+      let follows = sim.follows m (omega arith) injection memory below s k enters in go (sim.body m s) (follows.by m (omega arith))
+    where
+      go : (o : Outcome A) → Met In G k m (λ a. Leaves declared G injection memory (Results below a)) routine_credit (λ a. routine_credit) o → AnswersInRoom declared G injection memory (Results below) k (suc m) o
+      go (Gives left a t) (inl x) = inl (leaves m left a t x)
+      go (Ends left end t) (inl x) = inl (ends m left end t x)
+      go (Cut t) (inl x) = inl (stays m t x)
+      go o (inr x) = inr x
+
+  pub simulation_answers : (steps : ℕ) → steps ≤ n → AnswersInRoom declared G injection memory (Results below) k steps (c steps s)
+  simulation_answers steps le = subst (λ (d : Computation A). AnswersInRoom declared G injection memory (Results below) k steps (d steps s)) (sym sim.called) (answers steps le)
+
+  -- the machine follows the computation, with the step of its call
+  body_follows : (m : ℕ) → m ≤ n → Met In G k m (λ a. Leaves declared G injection memory (Results below a)) (1 + routine_credit) (λ a. routine_credit) (spend 1 sim.body m s)
+  body_follows zero le = inl (record { ticks = 0; wait = 0; to = k; runs = refl; within = within; same = in_trace; slow = omega arith; fast = omega arith })
+    where
+      within : In k
+      within = subst (λ (f : Frames). SameRoutine memory.frames f) (sym in_frames) (same_routine-refl memory.frames)
+  body_follows (suc m) le =
+      let whole = follows_moves 1 (subst (λ (f : Frames). SameRoutine memory.frames f) (sym in_frames) (same_routine-refl memory.frames)) in_trace (sim.follows m (omega arith) injection memory below s k enters) in whole.by (suc m) (omega arith)
+
+  pub simulation_follows : Follows In G n k s c (λ a. Leaves declared G injection memory (Results below a)) (1 + routine_credit) (λ a. routine_credit)
+  simulation_follows = record { by = λ m le. subst (λ (d : Computation A). Met In G k m (λ a. Leaves declared G injection memory (Results below a)) (1 + routine_credit) (λ a. routine_credit) (d m s)) (sym sim.called) (body_follows m le) }
