@@ -1,6 +1,6 @@
-pub mod Alone
 pub mod Branching
 pub mod Compounds
+pub mod Declared
 pub mod Following
 pub mod ItemForms
 pub mod Makes
@@ -12,4 +12,5 @@ pub mod Starts
 pub mod StmtMoves
 pub mod StmtForms
 pub mod StmtStays
+pub mod Units
 pub mod Writing

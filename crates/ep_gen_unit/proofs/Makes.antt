@@ -3,11 +3,12 @@ use Rattle.std.proofs.Common.{◌≡◌, ℕ, ℤ, pos, suc, ◌+◌, ◌≤◌,
 use Rattle.std.proofs.lemmas.Option.{same_Some}
 use Rattle.ep_gen_expr.specs.ExprCode.{instr}
 use Rattle.ep_gen_unit.specs.StmtCode.{type_code, make_code, make_all_code}
+use Rattle.ep_gen_unit.specs.UnitLaws.{AreDeclared}
 use Rattle.ep_gen_unit.proofs.Parts.{code_stands-parts}
 use Rattle.ep_object.specs.Follows.{Fragment, Inside, Bare, SameRoutine}
 use Rattle.ep_object.specs.Matching.{Memory, Injection, IsValueOf, Describes}
 use Rattle.ep_object.specs.Operands.{Operand, Word}
-use Rattle.ep_object.specs.Placing.{Placement, CodeStands}
+use Rattle.ep_object.specs.Placing.{Placement, CodeStands, HasDistinctNames}
 use Rattle.ep_object.specs.State.{Frames}
 use Rattle.ep_object.specs.declared.code.Image.{Image}
 use Rattle.ep_object.specs.declared.code.ImageUnit.{ImageUnit}
@@ -15,7 +16,7 @@ use Rattle.ep_object.specs.declared.code.Reference.{Reference}
 use Rattle.ep_object.proofs.Fragments.{inside_bind, fragment_bind_bare, fragment_give, fragment_from, fragment_to, fragment_less, fragment_one, fragment_waits}
 use Rattle.ep_object.proofs.Growing.{inside_here}
 use Rattle.ep_object.proofs.Losing.{fragment_effect_or_lost}
-use Rattle.ep_object.proofs.MakeRow.{HasDistinctNames, HasTypesOfHosts, make_does}
+use Rattle.ep_object.proofs.MakeRow.{HasTypesOfHosts, make_does}
 use Rattle.ep_object.proofs.NewTypes.{TypeOnTop, ord_does, fragment_change_or_lost}
 use Rattle.ep_object.proofs.Rows.{push_pushes}
 use Rattle.ep_typed.proofs.Steady.{steady_spend, steady_change, grows_made, steady_make_all}
@@ -42,10 +43,6 @@ abbrev pub MovesIn : Declarations → Image → Placement → ℕ → ImageUnit 
 MovesIn declared G p n x at to c =
     (injection : Injection) (memory : Memory) (below : List Operand) (d : ℕ) → 32 ≤ d → slice_get G.units memory.frames.unit ≡ Some x
     → Fragment declared G n injection memory (p.instructions.before + at) below c (p.instructions.before + to) (λ a. Inside injection memory (Bare below a)) d (λ a. d)
-
--- these variables of a unit are declared, from this number on
-abbrev pub AreDeclared : Declarations → List ℕ → ℕ → List UnitVariable → Type 0
-AreDeclared declared unit number vs = (i : ℕ) (v : UnitVariable) → slice_get vs i ≡ Some v → declared unit (number + i) ≡ Some v
 
 -- the bounds of their types are integers
 abbrev pub HaveIntegerBounds : List UnitVariable → Type 0

@@ -3,24 +3,22 @@ use Rattle.std.proofs.Common.{◌≡◌, ℕ, ◌+◌, ◌<◌, false, [], ◌�
 use Rattle.std.proofs.lemmas.Bool.{lt-ltb}
 use Rattle.ep_gen_expr.specs.ExprCode.{bare}
 use Rattle.ep_gen_unit.specs.StmtCode.{make_all_code}
-use Rattle.ep_gen_unit.specs.UnitCode.{IsProgramCode}
-use Rattle.ep_gen_expr.proofs.Following.{place_follows, expression_follows}
-use Rattle.ep_gen_unit.proofs.Alone.{scene_alone, room_alone, makes_alone}
-use Rattle.ep_gen_unit.proofs.Parts.{code_stands-parts}
-use Rattle.ep_gen_unit.proofs.Starts.{start_follows}
-use Rattle.ep_object.proofs.Alone.{placements_alone, code_stands-alone}
+use Rattle.ep_gen_unit.specs.UnitCode.{IsProgramCode, routine_at}
+use Rattle.ep_gen_unit.proofs.Units.{unit_simulates}
+use Rattle.ep_object.proofs.Alone.{placements_alone, stands-alone, distinct-alone}
 use Rattle.ep_object.proofs.Beginning.{first_memory, first_injection, first_matches}
-use Rattle.ep_object.proofs.Bind.{follows_post}
-use Rattle.ep_object.proofs.Fragments.{fragment_bind_bare, fragment_stop}
-use Rattle.ep_object.proofs.Tells.{Never, tells, tells_close}
-use Rattle.ep_object.specs.Tells.{Tells, AreClose, spare_ticks}
+use Rattle.ep_object.proofs.Bind.{follows_bind, follows_from, follows_stop}
 use Rattle.ep_object.proofs.Rows.{return_enters}
-use Rattle.ep_object.specs.Follows.{Follows, Fragment, Inside, SameRoutine}
+use Rattle.ep_object.proofs.Simulating.{simulation_follows}
+use Rattle.ep_object.proofs.Tells.{Never, tells, tells_close}
+use Rattle.ep_object.specs.Follows.{Follows, Bare, SameRoutine}
 use Rattle.ep_object.specs.Laws.{EndsAt}
 use Rattle.ep_object.specs.Matching.{Memory, at as standing}
-use Rattle.ep_object.specs.Placing.{CodeStands, alone, first_placement}
-use Rattle.ep_object.specs.Runs.{begin, outcome, enter, run_from, unit_in}
+use Rattle.ep_object.specs.Placing.{alone, first_placement, moved, placed_routine}
+use Rattle.ep_object.specs.Runs.{begin, outcome, enter, run_from, routine_of}
+use Rattle.ep_object.specs.Simulates.{Enters, Leaves}
 use Rattle.ep_object.specs.State.{State, Frames, End, Running, Stopped, Normal, first_frames}
+use Rattle.ep_object.specs.Tells.{Tells, AreClose, spare_ticks}
 use Rattle.ep_object.specs.declared.code.Object.{Object}
 use Rattle.ep_typed.proofs.Steady.{steady_stop}
 use Rattle.ep_typed.specs.Events.{Trace}
@@ -45,42 +43,34 @@ module _ (u : TypedUnit) (o : Object) (is : IsProgramCode u o) where
   pub begins : begin (alone o) ≡ Running 0 start_state
   begins = rw (is.start, is.routines, lt-ltb 0 (length o.instructions) not_empty) refl
 
-  -- errors tell the program's name
-  pub home : unit_in (alone o) start_frames ≡ u.name
-  home = rw is.routines is.name
-
-  -- behind the block stands the `Return`
-  return_stands : slice_get (alone o).instructions (0 + (length (make_all_code 0 u.variables) + length is.code)) ≡ Some (bare u.line 9)
-  return_stands =
-      let parts = code_stands-parts (alone o) (placements_alone o) (first_placement o) o.references 0 (make_all_code 0 u.variables) (is.code ++ bare u.line 9 ∷ bare u.line 9 ∷ []) (subst (λ k. CodeStands (alone o) (placements_alone o) (first_placement o) o.references 0 k) is.instructions (code_stands-alone o)) in
-      let block = code_stands-parts (alone o) (placements_alone o) (first_placement o) o.references (0 + length (make_all_code 0 u.variables)) is.code (bare u.line 9 ∷ bare u.line 9 ∷ []) parts.1 in
-      let there : 0 + (0 + length (make_all_code 0 u.variables) + length is.code) ≡ 0 + (length (make_all_code 0 u.variables) + length is.code) = omega arith in
-      subst (λ k. slice_get (alone o).instructions k ≡ Some (bare u.line 9)) there block.1.0
+  -- the machine enters the start routine
+  enters : Enters (own u) (alone o) 0 (moved (first_placement o).routines o.start) first_injection (first_memory start_frames) [] meaning.first_state start_state
+  enters =
+      record {
+        image_routine = placed_routine (first_placement o) (routine_at 0);
+        there = rw (is.start, is.routines) refl;
+        is = rw (lt-ltb 0 (length o.instructions) not_empty) refl;
+        runs = rw (is.start, is.routines) refl;
+        in_unit = refl;
+        matches = first_matches (own u) (alone o) start_frames refl;
+      }
 
   -- after the start of the only unit the run ends
-  ends : (memory : Memory) (s : meaning.State) → SameRoutine start_frames memory.frames → outcome (alone o) (standing (0 + (length (make_all_code 0 u.variables) + length is.code)) [] memory s.trace) ≡ record { weight = 0; to = Stopped Normal s.trace }
-  ends memory s routine =
-      return_enters (alone o) (0 + (length (make_all_code 0 u.variables) + length is.code)) u.line [] return_stands memory s.trace
-      ∙ ap (λ turn. record { weight = 0; to = enter (alone o) (turn + 1) (standing (0 + (length (make_all_code 0 u.variables) + length is.code)) [] memory s.trace) }) routine.turn
-
-  -- where the variables are made
-  makes_stand : CodeStands (alone o) (placements_alone o) (first_placement o) o.references 0 (make_all_code 0 u.variables)
-  makes_stand =
-      let parts = code_stands-parts (alone o) (placements_alone o) (first_placement o) o.references 0 (make_all_code 0 u.variables) (is.code ++ bare u.line 9 ∷ bare u.line 9 ∷ []) (subst (λ k. CodeStands (alone o) (placements_alone o) (first_placement o) o.references 0 k) is.instructions (code_stands-alone o)) in
-      parts.0
+  ends : (s : meaning.State) (k : State) (leaves : Leaves (own u) (alone o) first_injection (first_memory start_frames) (Bare [] tt) s k) → let lands = leaves.lands in outcome (alone o) (standing leaves.place lands.operands lands.memory s.trace) ≡ record { weight = 0; to = Stopped Normal s.trace }
+  ends s k leaves =
+      let lands = leaves.lands in
+      let inside = lands.post in
+      let routine : SameRoutine start_frames lands.memory.frames = inside.routine in
+      return_enters (alone o) leaves.place leaves.line lands.operands leaves.stands lands.memory s.trace
+      ∙ ap (λ turn. record { weight = 0; to = enter (alone o) (turn + 1) (standing leaves.place lands.operands lands.memory s.trace) }) routine.turn
 
   module _ (valid : IsValid u) where
     -- the machine follows the meaning of the program
     pub program_follows : (n : ℕ) → Follows (λ k. SameRoutine start_frames k.frames) (alone o) n start_state meaning.first_state (starts_of n (u ∷ [])) Never spare_ticks (λ a. 41)
     program_follows n =
-        let scene = scene_alone u o is valid in
-        let start = start_follows (placements_alone o) (first_placement o) n u o is (code_stands-alone o) (room_alone u o is valid) refl scene
-        (λ k x is_x line at code is_code stands injection memory below d enough home. expression_follows (placements_alone o) (first_placement o) o.texts o.references scene n u.name n k x is_x line at code is_code stands injection memory below d (omega arith) home)
-        (λ of_unit k v is_declared line at code is_code stands injection memory below d enough home. place_follows (placements_alone o) (first_placement o) o.texts o.references scene n u.name n of_unit k v is_declared line at code is_code stands injection memory below d (omega arith) home)
-        valid.start (makes_alone u o is valid n makes_stand) first_injection (first_memory start_frames) [] 42 (omega arith) home refl in
-        let whole : Fragment (own u) (alone o) n first_injection (first_memory start_frames) (0 + 0) [] (starts_of n (u ∷ [])) (0 + (length (make_all_code 0 u.variables) + length is.code)) (λ a. Inside first_injection (first_memory start_frames) (λ injection memory operands. ⊥)) 42 (λ a. 41) =
-        fragment_bind_bare {e = λ a. 41} (λ a. steady_stop meaning.Normal) start (λ a longer after grown routine. fragment_stop {weight = 0} (λ s matches. ends after s routine) (omega arith)) in
-        follows_post (λ a s k lands. absurd lands.post.operands_are) (whole.by meaning.first_state (first_matches (own u) (alone o) start_frames refl))
+        follows_bind {e = λ a. 41} (λ a. steady_stop meaning.Normal)
+        (simulation_follows (unit_simulates u o is (alone o) (placements_alone o) (first_placement o) (stands-alone o) valid (distinct-alone o) n) first_injection (first_memory start_frames) [] meaning.first_state start_state enters)
+        (λ a s k leaves. let lands = leaves.lands in let inside = lands.post in follows_from lands.is (follows_stop {v = 0} inside.routine (ends s k leaves) (omega arith)))
 
     -- What a run of the program's image tells of the meaning of the program.
     pub program_tells : (t : ℕ) → Tells (meaning_of (u ∷ [])) t (run_from (alone o) t (begin (alone o)))

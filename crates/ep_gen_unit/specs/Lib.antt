@@ -3,3 +3,4 @@ pub mod ProgramLaws
 pub mod StmtCode
 pub mod StmtGrowth
 pub mod UnitCode
+pub mod UnitLaws

@@ -2,12 +2,21 @@
 
 ghost use Rattle.ep_gen_unit.specs.Laws.{StmtCodeStays, StmtCodeIsShort};
 ghost use Rattle.ep_gen_unit.specs.ProgramLaws.{ProgramsTell, ProgramsSpend};
+ghost use Rattle.ep_gen_unit.specs.UnitLaws.{StartsAreSimulated, StartsAreSimulatedUnder, StopsAreSimulated};
 
 /// Does nothing: its contract states what holds of the code of every statement. It stays code when the tables grow,
 /// and has at most 32 instructions for each typed node.
 pub fn laws_of_statements()
     ensures stays { StmtCodeStays }
     ensures short { StmtCodeIsShort }
+{}
+
+/// Does nothing: its contract states that wherever the object of a unit stands in an image, its start routine simulates
+/// the meaning of the unit's start, and its stop routine a stop that does nothing.
+pub fn laws_of_units()
+    ensures starts { StartsAreSimulated }
+    ensures starts_under { StartsAreSimulatedUnder }
+    ensures stops { StopsAreSimulated }
 {}
 
 /// Does nothing: its contract states that a run of the image of a program tells what the program means. A run that has

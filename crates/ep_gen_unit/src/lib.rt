@@ -11,7 +11,7 @@ mod laws;
 mod program;
 mod statements;
 
-pub use laws::{laws_of_programs, laws_of_statements};
+pub use laws::{laws_of_programs, laws_of_statements, laws_of_units};
 pub use program::program_code;
 pub use statements::statement_code;
 

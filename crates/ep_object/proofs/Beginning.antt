@@ -19,7 +19,8 @@ first_memory frames = record { frames = frames; segments = first_segments; types
 abbrev pub first_injection : Injection
 first_injection = 1 ∷ 2 ∷ []
 
-map_at : {A B : Type 0} (f : A → B) (xs : List A) (k : ℕ) (x : A) → slice_get xs k ≡ Some x → slice_get (map f xs) k ≡ Some (f x)
+-- an element of a list is mapped in its place
+pub map_at : {A B : Type 0} (f : A → B) (xs : List A) (k : ℕ) (x : A) → slice_get xs k ≡ Some x → slice_get (map f xs) k ≡ Some (f x)
 map_at f [] k x h = cc
 map_at f (y ∷ ys) zero x h = let e : y ≡ x = cc in ap (λ z. Some (f z)) e
 map_at f (y ∷ ys) (suc k) x h = map_at f ys k x h

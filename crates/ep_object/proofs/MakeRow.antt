@@ -10,6 +10,7 @@ use native.Mathlib.Decide.{ℕ_discrete}
 use Rattle.ep_object.specs.Follows.{GivesUp, Bare, Inside}
 use Rattle.ep_object.specs.Matching.{Memory, at, Injection, IsIn, IsPlaceOf, Describes, IsHidden, MatchesSlot, MatchesFrame, Represents, Matches, Grown}
 use Rattle.ep_object.specs.Operands.{Operand, Word}
+use Rattle.ep_object.specs.Placing.{HasDistinctNames}
 use Rattle.ep_object.specs.Runs.{outcome, unit_in}
 use Rattle.ep_object.specs.State.{Frames, Running, Stopped, Error, live_limit, undefined}
 use Rattle.ep_object.specs.Table.{with_slots}
@@ -36,10 +37,6 @@ use Rattle.ep_typed.specs.declared.types.Host.{Host}
 use Rattle.ep_typed.specs.declared.types.TypeValue.{TypeValue}
 use Rattle.ep_typed.specs.declared.types.TypeValue.TheVariants as type
 use Rattle.ep_typed.specs.declared.unit.UnitVariable.{UnitVariable}
-
--- two units of the image that have one name are one
-abbrev pub HasDistinctNames : Image → Type 0
-HasDistinctNames G = (i j : ℕ) (a b : ImageUnit) → slice_get G.units i ≡ Some a → slice_get G.units j ≡ Some b → a.name ≡ b.name → i ≡ j
 
 -- the types of the variables that are declared are those of their hosts
 abbrev pub HasTypesOfHosts : Declarations → Type 0

@@ -163,8 +163,18 @@ abbrev pub CodeStands : Image → List Placement → Placement → List Referenc
 CodeStands G ps p references place [] = ⊤
 CodeStands G ps p references place (i ∷ is) = (slice_get G.instructions (p.instructions.before + place) ≡ Some (placed ps p references i)) × CodeStands G ps p references (place + 1) is
 
+-- the placement is one of the object: the name and the slots are the object's, and so is how many parts it has of its own
+pub record IsPlacementOf (p : Placement) (o : Object) : Type 0 where
+  pub name : p.name ≡ o.name
+  pub slots : p.slots ≡ o.unit_slots
+  pub routines : p.routines.own ≡ length o.routines
+  pub texts : p.texts.own ≡ length o.texts
+  pub constant_types : p.constant_types.own ≡ length o.constant_types
+  pub instructions : p.instructions.own ≡ length o.instructions
+
 -- the object stands in the image, at this placement among those of all objects
 pub record Stands (G : Image) (ps : List Placement) (p : Placement) (o : Object) : Type 0 where
+  pub of_object : IsPlacementOf p o
   pub listed : placement_of ps o.name ≡ Some p
   pub unit : slice_get G.units p.unit ≡ Some (placed_object_unit p o)
   pub code : CodeStands G ps p o.references 0 o.instructions
@@ -177,6 +187,10 @@ pub record Holds (G : Image) (o : Object) : Type 0 where
   pub placements : List Placement
   pub placement : Placement
   pub stands : Stands G placements placement o
+
+-- no two units of the image have the same name
+abbrev pub HasDistinctNames : Image → Type 0
+HasDistinctNames G = (i j : ℕ) (a b : ImageUnit) → slice_get G.units i ≡ Some a → slice_get G.units j ≡ Some b → a.name ≡ b.name → i ≡ j
 
 -- two images, the parts of one after those of the other
 abbrev pub joined : Image → Image → Image

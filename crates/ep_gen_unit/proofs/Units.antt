@@ -1,0 +1,174 @@
+-- The routines of a unit whose object stands in an image simulate the start and the stop of the unit.
+use Rattle.std.proofs.Common.{◌≡◌, ℕ, ◌+◌, ◌≤◌, ◌<◌, List, [], ◌∷◌, ◌++◌, length, length-append, Some, slice_get, refl, sym, ap, ◌∙◌, subst, arith}
+use Rattle.std.proofs.lemmas.Bool.{lt-ltb}
+use Rattle.std.proofs.lemmas.Option.{slice_get_within, same_Some}
+use Rattle.ep_gen_expr.specs.ExprCode.{bare}
+use Rattle.ep_gen_expr.proofs.Following.{place_follows, expression_follows}
+use Rattle.ep_gen_unit.specs.StmtCode.{make_all_code}
+use Rattle.ep_gen_unit.specs.UnitCode.{IsProgramCode, routine_at}
+use Rattle.ep_gen_unit.specs.UnitLaws.{AreDeclared, idle_stop}
+use Rattle.ep_gen_unit.proofs.Declared.{own_is, own_declared, integer_bounds, variables_valid}
+use Rattle.ep_gen_unit.proofs.Makes.{make_all_moves}
+use Rattle.ep_gen_unit.proofs.Parts.{code_stands-parts}
+use Rattle.ep_gen_unit.proofs.Starts.{MakesFollow, body_follows}
+use Rattle.ep_object.proofs.Bind.{follows_less, follows_post, follows_from, follows_give}
+use Rattle.ep_object.proofs.Fragments.{fragment_to}
+use Rattle.ep_object.proofs.Growing.{inside_here}
+use Rattle.ep_object.specs.Follows.{Follows, Fragment, Inside, Bare, SameRoutine}
+use Rattle.ep_object.specs.Matching.{Memory, Injection, at as standing}
+use Rattle.ep_object.specs.Operands.{Operand}
+use Rattle.ep_object.specs.Placing.{Placement, Span, CodeStands, IsPlacementOf, Stands, HasDistinctNames, moved, placed_routine, placed_object_unit}
+use Rattle.ep_object.specs.Runs.{routine_of, unit_in}
+use Rattle.ep_object.specs.Scene.{VariableStands, Scene}
+use Rattle.ep_object.specs.Simulates.{routine_credit, Enters, Leaves, Simulates}
+use Rattle.ep_object.specs.State.{State, Frames}
+use Rattle.ep_object.specs.declared.code.CodeRoutine.{CodeRoutine}
+use Rattle.ep_object.specs.declared.code.Image.{Image}
+use Rattle.ep_object.specs.declared.code.ImageRoutine.{ImageRoutine}
+use Rattle.ep_object.specs.declared.code.Object.{Object}
+use Rattle.ep_typed.specs.Meaning.{make_all, exec, start_of}
+use Rattle.ep_typed.specs.Steps.{Computation, bind, give}
+use Rattle.ep_typed.specs.Steps as meaning
+use Rattle.ep_typed.specs.Valid.{Declarations, AreVariables, IsStmt, IsValid, own}
+use Rattle.ep_typed.specs.Viewed.{stmt_of}
+use Rattle.ep_typed.specs.declared.unit.UnitVariable.{UnitVariable}
+use Rattle.ep_typed.specs.declared.unit.Unit.{Unit as TypedUnit}
+
+-- a number of an object's own stands behind what comes before
+moved_own : (span : Span) (n : ℕ) → n < span.own → moved span n ≡ span.before + n
+moved_own span n h = rw (lt-ltb n span.own h) refl
+
+module _ (u : TypedUnit) (o : Object) (is : IsProgramCode u o) (G : Image) (ps : List Placement) (p : Placement) (stands : Stands G ps p o) where
+  -- the instructions behind the making of the variables
+  abbrev begins_block : ℕ
+  begins_block = length (make_all_code 0 u.variables)
+
+  -- the place of the `Return` of the start, in the object
+  abbrev ends_block : ℕ
+  ends_block = begins_block + length is.code
+
+  of_object : IsPlacementOf p o
+  of_object = stands.of_object
+
+  instructions_own : p.instructions.own ≡ ends_block + 2
+  instructions_own =
+      let whole = of_object in
+      omega (arith, whole.instructions, ap length is.instructions, length-append (make_all_code 0 u.variables) (is.code ++ bare u.line 9 ∷ bare u.line 9 ∷ []), length-append is.code (bare u.line 9 ∷ bare u.line 9 ∷ []))
+
+  all_stands : CodeStands G ps p o.references 0 (make_all_code 0 u.variables ++ (is.code ++ bare u.line 9 ∷ bare u.line 9 ∷ []))
+  all_stands = subst (λ k. CodeStands G ps p o.references 0 k) is.instructions stands.code
+
+  makes_stand : CodeStands G ps p o.references 0 (make_all_code 0 u.variables)
+  makes_stand = let parts = code_stands-parts G ps p o.references 0 (make_all_code 0 u.variables) (is.code ++ bare u.line 9 ∷ bare u.line 9 ∷ []) all_stands in parts.0
+
+  -- the two `Return`s stand behind the block
+  returns_stand : CodeStands G ps p o.references ends_block (bare u.line 9 ∷ bare u.line 9 ∷ [])
+  returns_stand =
+      let parts = code_stands-parts G ps p o.references 0 (make_all_code 0 u.variables) (is.code ++ bare u.line 9 ∷ bare u.line 9 ∷ []) all_stands in
+      let block = code_stands-parts G ps p o.references (0 + begins_block) is.code (bare u.line 9 ∷ bare u.line 9 ∷ []) parts.1 in
+      subst (λ k. CodeStands G ps p o.references k (bare u.line 9 ∷ bare u.line 9 ∷ [])) {x = 0 + begins_block + length is.code} {y = ends_block} (omega arith) block.1
+
+  room : p.instructions.before + p.instructions.own ≤ length G.instructions
+  room =
+      let within = slice_get_within G.instructions (p.instructions.before + (ends_block + 1)) (bare u.line 9) returns_stand.1.0 in
+      omega (arith, instructions_own, within)
+
+  -- a routine of the object is one of the image
+  routine_there : (n : ℕ) (r : CodeRoutine) → slice_get o.routines n ≡ Some r → routine_of G (moved p.routines n) ≡ Some (placed_routine p r)
+  routine_there n r h =
+      let whole = of_object in
+      let within = slice_get_within o.routines n r h in
+      rw (moved_own p.routines n (omega (arith, whole.routines, within)), stands.routines n r h, stands.unit) refl
+
+  -- while it runs errors tell the unit's name
+  home : (n : ℕ) (r : CodeRoutine) → slice_get o.routines n ≡ Some r → (frames : Frames) → frames.routine ≡ moved p.routines n → unit_in G frames ≡ u.name
+  home n r h frames runs =
+      let whole = of_object in
+      let within = slice_get_within o.routines n r h in
+      rw (runs, moved_own p.routines n (omega (arith, whole.routines, within)), stands.routines n r h, stands.unit) is.name
+
+  -- the machine enters a routine of the object at the place of its entry
+  at_entry : {declared : Declarations} {injection : Injection} {memory : Memory} {below : List Operand} {s : meaning.State} {k : State} (n : ℕ) (r : CodeRoutine) → slice_get o.routines n ≡ Some r → r.entry < p.instructions.own → Enters declared G p.unit (moved p.routines n) injection memory below s k → k ≡ standing (p.instructions.before + r.entry) below memory s.trace
+  at_entry {memory = memory} {below = below} {s = s} n r has inside enters =
+      let same : enters.image_routine ≡ placed_routine p r = same_Some enters.image_routine (placed_routine p r) (sym enters.there ∙ routine_there n r has) in
+      enters.is ∙ (ap (λ (x : ImageRoutine). standing x.entry below memory s.trace) same ∙ ap (λ place. standing place below memory s.trace) (moved_own p.instructions r.entry inside))
+
+  start_is : slice_get o.routines o.start ≡ Some (routine_at 0)
+  start_is = rw (is.start, is.routines) refl
+
+  stop_is : slice_get o.routines o.stop ≡ Some (routine_at (ends_block + 1))
+  stop_is = rw (is.stop, is.routines) refl
+
+  -- the stop does nothing
+  pub stop_simulates : (declared : Declarations) (n : ℕ) → Simulates declared G p.unit (moved p.routines o.stop) n idle_stop Bare
+  stop_simulates declared n =
+      record {
+        image_routine = placed_routine p (routine_at (ends_block + 1));
+        there = routine_there o.stop (routine_at (ends_block + 1)) stop_is;
+        of_unit = refl;
+        body = give tt;
+        called = refl;
+        follows = λ m le injection memory below s k enters.
+            follows_from (at_entry o.stop (routine_at (ends_block + 1)) stop_is (omega (arith, instructions_own)) enters) (follows_give tt (omega arith) (record {
+              place = p.instructions.before + (ends_block + 1);
+              line = u.line;
+              stands = returns_stand.1.0;
+              lands = record { injection = injection; memory = memory; operands = below; is = refl; matches = enters.matches; post = inside_here refl };
+            }));
+      }
+
+  module _ (declared : Declarations) (variables : AreVariables u.variables) (are_declared : AreDeclared declared u.name 0 u.variables) (valid : IsStmt declared (stmt_of u.start)) (distinct : HasDistinctNames G) (scene : Scene declared G ps p o.texts) (n : ℕ) where
+    -- the machine makes the variables of the unit
+    makes : MakesFollow declared G p n u
+    makes injection memory below d enough home framed =
+        let there : slice_get G.units memory.frames.unit ≡ Some (placed_object_unit p o) = ap (slice_get G.units) framed ∙ stands.unit in
+        fragment_to {to = p.instructions.before + (0 + begins_block)} (omega arith) (make_all_moves declared G ps p o.references n (placed_object_unit p o) distinct scene.types_valid u.name is.name n 0 0 u.variables are_declared
+        (λ i v h. integer_bounds v.host v.type_value (variables_valid u.variables i v variables h)) (omega (arith, is.unit_slots)) makes_stand injection memory below d enough there)
+
+    -- the start makes the variables and runs the block
+    pub start_simulates : Simulates declared G p.unit (moved p.routines o.start) n (start_of n u) Bare
+    start_simulates =
+        record {
+          image_routine = placed_routine p (routine_at 0);
+          there = routine_there o.start (routine_at 0) start_is;
+          of_unit = refl;
+          body = bind (make_all n u.name 0 u.variables) (λ a. exec n u.name (stmt_of u.start));
+          called = refl;
+          follows = λ m le injection memory below s k enters.
+              let whole = of_object in
+              let body = body_follows ps p n u o is stands.code room whole.instructions scene
+              (λ x_kind x is_x line at code is_code x_stands v1 m1 operands d enough x_home. expression_follows ps p o.texts o.references scene n u.name n x_kind x is_x line at code is_code x_stands v1 m1 operands d (omega arith) x_home)
+              (λ of_unit slot v is_declared line at code is_code x_stands v1 m1 operands d enough x_home. place_follows ps p o.texts o.references scene n u.name n of_unit slot v is_declared line at code is_code x_stands v1 m1 operands d (omega arith) x_home)
+              valid makes injection memory below routine_credit (omega arith) (home o.start (routine_at 0) start_is memory.frames enters.runs) enters.in_unit in
+              follows_from (at_entry o.start (routine_at 0) start_is (omega (arith, instructions_own)) enters)
+              (follows_less {n = n} (omega arith) (follows_post (λ a t l lands. record { place = p.instructions.before + ends_block; line = u.line; stands = returns_stand.0; lands = lands }) (body.by s enters.matches)));
+        }
+
+  -- the variables of the unit have their slots
+  variable_stands : (unit : List ℕ) (k : ℕ) (v : UnitVariable) → own u unit k ≡ Some v → VariableStands G ps unit k
+  variable_stands unit k v h =
+      let w = own_is u unit k v h in
+      let whole = of_object in
+      let named : o.name ≡ unit = is.name ∙ w.0 in
+      let among : k < length u.variables = slice_get_within u.variables k v w.1 in
+      record {
+        number = p.unit;
+        image_unit = placed_object_unit p o;
+        there = stands.unit;
+        named = named;
+        within = omega (arith, is.unit_slots, among);
+        placed = λ i. rw (sym named, stands.listed, lt-ltb k p.slots (omega (arith, whole.slots, is.unit_slots, among))) refl;
+      }
+
+  -- what the code of the unit needs of the image is there
+  scene_of : AreVariables u.variables → Scene (own u) G ps p o.texts
+  scene_of variables =
+      let whole = of_object in
+      record {
+        texts_stand = λ k bytes h. let within = slice_get_within o.texts k bytes h in record { own = lt-ltb k p.texts.own (omega (arith, whole.texts, within)); there = stands.texts k bytes h };
+        variables_stand = variable_stands;
+        types_valid = λ unit k v h. let w = own_is u unit k v h in variables_valid u.variables k v variables w.1;
+      }
+
+  pub unit_simulates : IsValid u → HasDistinctNames G → (n : ℕ) → Simulates (own u) G p.unit (moved p.routines o.start) n (start_of n u) Bare
+  unit_simulates valid distinct n = start_simulates (own u) valid.variables (own_declared u) valid.start distinct (scene_of valid.variables) n
