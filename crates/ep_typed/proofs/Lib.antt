@@ -1,3 +1,4 @@
 pub mod Done
 pub mod Examples
+pub mod Lasting
 pub mod Steady

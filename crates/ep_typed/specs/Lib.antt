@@ -1,5 +1,6 @@
 pub mod Events
 pub mod FirstPrograms
+pub mod Laws
 pub mod Meaning
 pub mod Operations
 pub mod Printing

@@ -1,0 +1,191 @@
+-- With more steps, and more turns of its loops, a computation comes to the same, or goes on from where it was cut.
+use Rattle.std.proofs.Common.{◌≡◌, ℕ, ℤ, pos, negsuc, zero, suc, ◌+◌, List, [], ◌∷◌, Option, Some, None, Bool, true, false, length, refl, arith}
+use Rattle.std.specs.Prelude.{if◌then◌else◌}
+use Rattle.ep_typed.specs.Meaning.{answered, place, eval, write_piece, write_wide, write_item, write_items, assign, turns, exec, exec_all, make, make_all, start_of, starts_of}
+use Rattle.ep_typed.specs.Operations.{Answer, Number, Fault, is_true}
+use Rattle.ep_typed.specs.Printing.{Result, number_of, plain_text, wide_text, piece_events}
+use Rattle.ep_typed.specs.Printing as result
+use Rattle.ep_typed.specs.Steady.{Grows, Steady}
+use Rattle.ep_typed.specs.Steps.{End, Normal, Halted, Error, Word, State, Outcome, Gives, Ends, Cut, state_of, Computation, give, stop, go_on, bind, spend, change, found, fetch, assigned, type_at, is_within, size_of, with_type, made, first_state}
+use Rattle.ep_typed.specs.Trees.{Place, Variable, Expr, Constant, Text, Read, One, Two, Step, Item, Plain, Wide, Stmt, Stmts, Empty, Compound, Assign, If, While, Halt, Write, none, next}
+use Rattle.ep_typed.specs.Viewed.{stmt_of}
+use Rattle.ep_typed.specs.declared.operations.Print.{Print}
+use Rattle.ep_typed.specs.declared.unit.Unit.{Unit as TypedUnit}
+use Rattle.ep_typed.specs.declared.unit.UnitVariable.{UnitVariable}
+use Rattle.ep_typed.specs.Laws.{IsLonger, MeaningsLast}
+use Rattle.ep_typed.proofs.Steady.{grows_trans, grows_quiet, grows_events, grows_type, grows_made, steady_give, steady_stop, steady_bind, steady_spend, steady_change, steady_fetch, steady_turns, steady_assign}
+
+-- What one computation comes to, another one comes to with more steps.
+pub record Lasting {A : Type 0} (c d : Computation A) : Type 0 where
+  pub steady : Steady d
+  pub by : (m k : ℕ) (s : State) → IsLonger k (c m s) (d (m + k) s)
+
+-- ---- computations
+
+-- a value
+lasting_give : {A : Type 0} (a : A) → Lasting (give a) (give a)
+lasting_give a = record { steady = steady_give a; by = λ m k s. refl }
+
+-- an end
+lasting_stop : {A : Type 0} (e : End) → Lasting {A = A} (stop e) (stop e)
+lasting_stop e = record { steady = steady_stop e; by = λ m k s. refl }
+
+-- one after another
+lasting_bind : {A B : Type 0} {c d : Computation A} {f h : A → Computation B} → Lasting c d → ((a : A) → Lasting (f a) (h a)) → Lasting (bind c f) (bind d h)
+lasting_bind {A = A} {B = B} {c = c} {d = d} {f = f} {h = h} p q = record {
+  steady = steady_bind p.steady (λ a. let x = q a in x.steady);
+  by = λ m k s. go k (c m s) (d (m + k) s) (p.by m k s);
+}
+  where
+    after : (t : State) (o : Outcome A) → Grows t (state_of o) → Grows t (state_of (go_on o h))
+    after t (Gives left a u) g =
+        let x = q a in
+        let y = x.steady in
+        grows_trans g (y.by left u)
+    after t (Ends left e u) g = g
+    after t (Cut u) g = g
+
+    go : (k : ℕ) (o r : Outcome A) → IsLonger k o r → IsLonger k (go_on o f) (go_on r h)
+    go k (Gives left a t) r is =
+        let x = q a in
+        rw is (x.by left k t)
+    go k (Ends left e t) r is = rw is refl
+    go k (Cut t) r is = after t r is
+
+-- after some steps
+lasting_spend : {A : Type 0} (n : ℕ) {c d : Computation A} → Lasting c d → Lasting (spend n c) (spend n d)
+lasting_spend n {c = c} {d = d} p = record { steady = steady_spend n p.steady; by = λ m k s. go n m k s }
+  where
+    go : (n m k : ℕ) (s : State) → IsLonger k (spend n c m s) (spend n d (m + k) s)
+    go zero m k s = p.by m k s
+    go (suc n) zero k s =
+        let x = steady_spend (suc n) p.steady in
+        x.by (0 + k) s
+    go (suc n) (suc m) k s =
+        let one : suc m + k ≡ suc (m + k) = omega arith in
+        rw one (go n m k s)
+
+-- a change
+lasting_change : {f : State → State} → ((s : State) → Grows s (f s)) → Lasting (change f) (change f)
+lasting_change h = record { steady = steady_change h; by = λ m k s. refl }
+
+-- what is read
+lasting_fetch : {A : Type 0} (e : End) (f : State → Option A) → Lasting (fetch e f) (fetch e f)
+lasting_fetch {A = A} e f = record { steady = steady_fetch e f; by = λ m k s. go m k s (f s) }
+  where
+    go : (m k : ℕ) (s : State) (o : Option A) → IsLonger k (found e o m s) (found e o (m + k) s)
+    go m k s None = refl
+    go m k s (Some a) = refl
+
+-- one of two
+lasting_if : {A : Type 0} (b : Bool) {x y v w : Computation A} → Lasting x v → Lasting y w → Lasting (if b then x else y) (if b then v else w)
+lasting_if true p q = p
+lasting_if false p q = q
+
+-- a loop that may make more turns
+lasting_turns : (h i g j : ℕ) (unit : List ℕ) {test test2 : Computation Result} {body body2 : Computation (Unit {0})} → Lasting test test2 → Lasting body body2 → Lasting (turns h unit g test body) (turns i unit (g + j) test2 body2)
+lasting_turns h i zero j unit x y =
+    let z = steady_turns i (zero + j) unit x.steady y.steady in
+    record { steady = z; by = λ m k s. z.by (m + k) s }
+lasting_turns h i (suc g) j unit x y =
+    let one : suc g + j ≡ suc (g + j) = omega arith in
+    rw one (lasting_bind x (λ r. lasting_if (is_true (number_of r)) (lasting_bind y (λ _. lasting_spend 1 (lasting_turns h i g j unit x y))) (lasting_spend 1 (lasting_give tt))))
+
+-- ---- the forms
+
+module _ (g j : ℕ) (unit : List ℕ) where
+  -- an answer
+  lasting_answered : (line : ℕ) (a : Answer) → Lasting (answered g unit line a) (answered (g + j) unit line a)
+  lasting_answered line (Number z) = lasting_give z
+  lasting_answered line (Fault error) = lasting_stop (Error error unit line)
+
+  -- a place
+  lasting_place : (line : ℕ) (p : Place) → Lasting (place g unit line p) (place (g + j) unit line p)
+  lasting_place line (Variable u k) = lasting_bind (lasting_fetch _ _) (λ n. lasting_spend 1 (lasting_give n))
+
+  -- an expression
+  lasting_eval : (line : ℕ) (x : Expr) → Lasting (eval g unit line x) (eval (g + j) unit line x)
+  lasting_eval line (Constant z) = lasting_spend 1 (lasting_give (result.Number z))
+  lasting_eval line (Text bytes) = lasting_spend (suc (length bytes)) (lasting_give (result.Bytes bytes))
+  lasting_eval line (Read p) =
+      lasting_bind (lasting_place line p) (λ n. lasting_bind (lasting_fetch _ _) (λ w. lasting_spend 1 (lasting_give (result.Number w))))
+  lasting_eval line (One operation x) =
+      lasting_bind (lasting_eval line x) (λ a. lasting_bind (lasting_answered line _) (λ z. lasting_spend 1 (lasting_give (result.Number z))))
+  lasting_eval line (Two operation x y) =
+      lasting_bind (lasting_eval line x) (λ a. lasting_bind (lasting_eval line y) (λ b. lasting_bind (lasting_answered line _) (λ z. lasting_spend 1 (lasting_give (result.Number z)))))
+  lasting_eval line (Step down low high x y) =
+      lasting_bind (lasting_eval line x) (λ a. lasting_bind (lasting_eval line y) (λ b. lasting_bind (lasting_answered line _) (λ z. lasting_spend 1 (lasting_give (result.Number z)))))
+
+  -- one piece that is written
+  lasting_write_piece : (bytes : List ℕ) → Lasting (write_piece g unit bytes) (write_piece (g + j) unit bytes)
+  lasting_write_piece bytes = lasting_spend (suc (length bytes)) (lasting_change (grows_events (piece_events bytes)))
+
+  -- a value in so many places
+  lasting_write_wide : (line : ℕ) (print : Print) (r : Result) (width : ℤ) → Lasting (write_wide g unit line print r width) (write_wide (g + j) unit line print r width)
+  lasting_write_wide line print r (pos width) = lasting_write_piece (wide_text print width r)
+  lasting_write_wide line print r (negsuc n) = lasting_stop (Error 21 unit line)
+
+  -- an item
+  lasting_write_item : (line : ℕ) (i : Item) → Lasting (write_item g unit line i) (write_item (g + j) unit line i)
+  lasting_write_item line (Plain print x) = lasting_bind (lasting_eval line x) (λ r. lasting_write_piece (plain_text print r))
+  lasting_write_item line (Wide print x w) =
+      lasting_bind (lasting_eval line x) (λ r. lasting_bind (lasting_eval line w) (λ width. lasting_write_wide line print r (number_of width)))
+
+  -- items
+  lasting_write_items : (line : ℕ) (items : List Item) (ends_line : Bool) → Lasting (write_items g unit line items ends_line) (write_items (g + j) unit line items ends_line)
+  lasting_write_items line [] false = lasting_spend 1 (lasting_give tt)
+  lasting_write_items line [] true = lasting_bind (lasting_write_piece (10 ∷ [])) (λ _. lasting_spend 1 (lasting_give tt))
+  lasting_write_items line (i ∷ is) ends_line = lasting_bind (lasting_write_item line i) (λ _. lasting_write_items line is ends_line)
+
+  -- a value that is assigned
+  lasting_assigned : (n : ℕ) (z : ℤ) → Lasting (spend 1 (change (assigned n (Word z)))) (spend 1 (change (assigned n (Word z))))
+  lasting_assigned n z = lasting_spend 1 (lasting_change (λ s. grows_quiet s (assigned n (Word z) s) refl refl))
+
+  -- an assignment
+  lasting_assign : (line n : ℕ) (z : ℤ) → Lasting (assign g unit line n z) (assign (g + j) unit line n z)
+  lasting_assign line n z = record { steady = steady_assign (g + j) unit line n z; by = λ m k s. go m k s (is_within (type_at n s) z) }
+    where
+      go : (m k : ℕ) (s : State) (b : Bool) → IsLonger k ((if b then spend 1 (change (assigned n (Word z))) else stop (Error 2 unit line)) m s) ((if b then spend 1 (change (assigned n (Word z))) else stop (Error 2 unit line)) (m + k) s)
+      go m k s true =
+          let x = lasting_assigned n z in x.by m k s
+      go m k s false = refl
+
+  mutual
+    lasting_exec : (x : Stmt) → Lasting (exec g unit x) (exec (g + j) unit x)
+    lasting_exec Empty = lasting_give tt
+    lasting_exec (Compound ss) = lasting_exec_all ss
+    lasting_exec (Assign line p x) = lasting_bind (lasting_place line p) (λ n. lasting_bind (lasting_eval line x) (λ r. lasting_assign line n (number_of r)))
+    lasting_exec (If line x a b) =
+        lasting_bind (lasting_eval line x) (λ r. lasting_if (is_true (number_of r)) (lasting_bind (lasting_exec a) (λ _. lasting_spend 1 (lasting_give tt))) (lasting_bind (lasting_exec b) (λ _. lasting_spend 1 (lasting_give tt))))
+    lasting_exec (While line x s) = lasting_turns g (g + j) g j unit (lasting_eval line x) (lasting_exec s)
+    lasting_exec (Halt line) = lasting_stop Halted
+    lasting_exec (Write line items ends_line) = lasting_write_items line items ends_line
+
+    lasting_exec_all : (ss : Stmts) → Lasting (exec_all g unit ss) (exec_all (g + j) unit ss)
+    lasting_exec_all none = lasting_give tt
+    lasting_exec_all (next s ss) = lasting_bind (lasting_exec s) (λ _. lasting_exec_all ss)
+
+  -- a variable
+  lasting_make : (number : ℕ) (v : UnitVariable) → Lasting (make g unit number v) (make (g + j) unit number v)
+  lasting_make number v =
+      lasting_spend 1 (lasting_bind {c = change (with_type v.type_value)} {f = λ _. spend (size_of v.type_value) (change (made unit number v.type_value))} (lasting_change (grows_type v.type_value)) (λ _. lasting_spend (size_of v.type_value) (lasting_change (grows_made unit number v.type_value))))
+
+  -- variables
+  lasting_make_all : (number : ℕ) (vs : List UnitVariable) → Lasting (make_all g unit number vs) (make_all (g + j) unit number vs)
+  lasting_make_all number [] = lasting_give tt
+  lasting_make_all number (v ∷ vs) = lasting_bind (lasting_make number v) (λ _. lasting_make_all (suc number) vs)
+
+-- the start of a unit
+lasting_start_of : (g j : ℕ) (u : TypedUnit) → Lasting (start_of g u) (start_of (g + j) u)
+lasting_start_of g j u = lasting_spend 1 (lasting_bind (lasting_make_all g j u.name 0 u.variables) (λ _. lasting_exec g j u.name (stmt_of u.start)))
+
+-- the starts of units
+lasting_starts_of : (g j : ℕ) (us : List TypedUnit) → Lasting (starts_of g us) (starts_of (g + j) us)
+lasting_starts_of g j [] = lasting_stop Normal
+lasting_starts_of g j (u ∷ us) = lasting_bind (lasting_start_of g j u) (λ _. lasting_starts_of g j us)
+
+-- The meaning of units with more steps.
+pub meanings_last : MeaningsLast
+meanings_last units steps more =
+    let x = lasting_starts_of steps more units in
+    x.by steps more first_state
