@@ -42,6 +42,7 @@ impl<'a> Machine<'a> {
         ensures start { IfOk result (λ m. standing m [] ≡ timed 0 (beginning image.now)) }
         ensures image { IfOk result (λ m. image_of m ≡ image.now) }
         ensures ticks { IfOk result (λ m. ticks_of m ≡ 0) }
+        ensures whole { IfOk result (λ m. ended_of m ≢ ended.WriteFault) }
     {
         if image.instructions.items().len() > u32::MAX as usize {
             return Err(AllocError);
