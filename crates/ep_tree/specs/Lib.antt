@@ -1,0 +1,4 @@
+pub mod Built
+pub mod Nesting
+pub mod Nodes
+pub mod Shapes
