@@ -1,0 +1,12 @@
+pub mod Checked
+pub mod Classed
+pub mod Complete
+pub mod Outcomes
+pub mod Passing
+pub mod Sorts
+pub mod Sound
+pub mod Static
+pub mod Knot
+pub mod Like
+pub mod Looks
+pub mod Refusal

@@ -1,0 +1,11 @@
+pub mod Classes
+pub mod Declarations
+pub mod Derived
+pub mod Descriptions
+pub mod Expressions
+pub mod Reading
+pub mod Rules
+pub mod Statements
+pub mod Types
+pub mod Units
+pub mod Refusals
