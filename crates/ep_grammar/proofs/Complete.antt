@@ -5,7 +5,7 @@ use Rattle.std.specs.Prelude.{if◌then◌else◌, ◌⊎◌}
 use Rattle.std.proofs.Common.{inl, inr}
 use Rattle.ep_token.specs.declared.token.Token.{Token}
 use Rattle.ep_grammar.specs.Classes.{Class, classes, has, class_of, line_of}
-use Rattle.ep_grammar.specs.Descriptions.{Nonterminal, Node, Step, More, Last, Syntax, give, token, line, inside, apply, either, switch, row, deeper, shaped}
+use Rattle.ep_grammar.specs.Descriptions.{Nonterminal, Node, Step, More, Last, AlwaysOne, Syntax, give, token, line, inside, apply, either, switch, row, deeper, shaped}
 use Rattle.ep_grammar.specs.Derived.{Family, Steps, no_step, last_step, one_step, derives}
 use Rattle.ep_grammar.specs.Reading.{Outcome, Parser, and_then, taken, read_token, go_on, steps, Inside, read_inside, within, by_shape, refused, read}
 use Rattle.ep_grammar.proofs.Outcomes.{took}
@@ -80,8 +80,8 @@ module _ (e : (n : Nonterminal) → Family (Node n)) (be : (n : Nonterminal) (a 
       (begun_then (first s) (first t) (nullable s) true a d.0 b (begun s g.0 a d.0 d.1 d.4)
       (begun_steps (derives e t) (first t) r (λ a b x k. subst (λ v. Begun (first t) v a b) g.2 (begun t g.1 a b x k)) d.0 b d.2 d.3 d.5))
   begun (deeper cs s) g a b x d = subst (λ v. Begun (first s) v a b) g.1 (begun s g.0 a b x d)
-  begun (shaped s f cs t k u) g a b x (m, y, d, inl w) = begun_more (first s) (first t) (nullable s) (nullable t) a m b g.3 (begun s g.0 a m y d) (begun t g.1 m b w.1 w.3)
-  begun (shaped s f cs t k u) g a b x (m, y, d, inr w) = begun_more (first s) (first u) (nullable s) (nullable u) a m b g.3 (begun s g.0 a m y d) (begun u g.2 m b w.1 w.3)
+  begun (shaped s f cs t k u o) g a b x (m, y, d, inl w) = begun_more (first s) (first t) (nullable s) (nullable t) a m b g.3 (begun s g.0 a m y d) (begun t g.1 m b w.1 w.3)
+  begun (shaped s f cs t k u o) g a b x (m, y, d, inr w) = begun_more (first s) (first u) (nullable s) (nullable u) a m b g.3 (begun s g.0 a m y d) (begun u g.2 m b w.1 w.3)
 
 -- ---- where nothing may stand inside, what needs a level is not derived
 
@@ -102,7 +102,7 @@ module _ (e : (n : Nonterminal) → Family (Node n)) (none : (n : Nonterminal) (
   unneeded (switch cs s t) h a b x (inr d) = unneeded t (both_case (needs s) (needs t) h).1 a b x d.1
   unneeded (row s cs t r) h a b x d = unneeded s h a d.0 d.1 d.4
   unneeded (deeper cs s) h a b x d = unneeded s h a b x d
-  unneeded (shaped s f cs t g u) h a b x (m, y, d, w) = elim (any_case (needs s) (both (needs t) (needs u)) h) [
+  unneeded (shaped s f cs t g u o) h a b x (m, y, d, w) = elim (any_case (needs s) (both (needs t) (needs u)) h) [
     | inl k ↦ unneeded s k a m y d
     | inr k ↦ elim w [
       | inl v ↦ unneeded t (both_case (needs t) (needs u) k).0 m b v.1 v.3
@@ -223,14 +223,14 @@ module _ (e : (n : Nonterminal) → Family (Node n)) (p : Option Inside)
       (steps_took cs (first t) (after s ++ after t) (read p t) (derives e t) r g.3 g.4 bt (λ a b x k l. rt a b x k (out_end (after s) (after t) (class_of b) l)) (length m) xs m b ys q (omega arith) hc both_out st
       ∙ ap (λ w. took w b) (sym eq))
 
-  reads_shaped : {A C D X : Type 0} (s : Syntax A) (f : A → Option C) (cs : List Class) (t : Syntax (C → X)) (k : A → Option D) (u : Syntax (D → X)) → Good (shaped s f cs t k u) → Reads s → Reads t → Reads u → Reads (shaped s f cs t k u)
-  reads_shaped s f cs t k u g rs rt ru a b x (m, y, d, inl w) h =
+  reads_shaped : {A C D X : Type 0} (s : Syntax A) (f : A → Option C) (cs : List Class) (t : Syntax (C → X)) (k : A → Option D) (u : Syntax (D → X)) (o : AlwaysOne f k) → Good (shaped s f cs t k u o) → Reads s → Reads t → Reads u → Reads (shaped s f cs t k u o)
+  reads_shaped s f cs t k u o g rs rt ru a b x (m, y, d, inl w) h =
       let hm = begins_it cs (first t) (nullable t) m b g.4 g.5 (begun e be t g.1 m b w.1 w.3) in
       then_took (read p s a) (λ y j. if has cs (class_of j) then by_shape (f y) (read p t) (by_shape (k y) (read p u) refused) j else by_shape (k y) (read p u) refused j) y m x b
       (rs a m y d (outside (after s) (cs ++ first u) (class_of m) g.7 (in_front cs (first u) (class_of m) hm)))
       (if_true (has cs (class_of m)) (by_shape (f y) (read p t) (by_shape (k y) (read p u) refused) m) (by_shape (k y) (read p u) refused m) (took x b) hm
       (shape_took (f y) (read p t) (by_shape (k y) (read p u) refused) m w.0 w.1 x b w.2 (rt m b w.1 w.3 (out_front (after t) (after u ++ only_if (nullable u) (after s ++ cs)) (class_of b) h)) w.4))
-  reads_shaped s f cs t k u g rs rt ru a b x (m, y, d, inr w) h =
+  reads_shaped s f cs t k u o g rs rt ru a b x (m, y, d, inr w) h =
       let l = out_end (after t) (after u ++ only_if (nullable u) (after s ++ cs)) (class_of b) h in
       let hs = shape_between (after s) cs (first u) (after u) (nullable u) m b g.6 g.7 l (begun e be u g.2 m b w.1 w.3) in
       then_took (read p s a) (λ y j. if has cs (class_of j) then by_shape (f y) (read p t) (by_shape (k y) (read p u) refused) j else by_shape (k y) (read p u) refused j) y m x b
@@ -248,4 +248,4 @@ module _ (e : (n : Nonterminal) → Family (Node n)) (p : Option Inside)
   complete (switch cs s t) g a b x d h = reads_switch cs s t (complete s g.0) (complete t g.1) a b x d h
   complete (row s cs t r) g a b x d h = reads_row s cs t r g (complete s g.0) (complete t g.1) a b x d h
   complete (deeper cs s) g a b x d h = within_some p cs (read p s) a (λ q. unneeded e (ne q) s g.3 a b x d) ∙ complete s g.0 a b x d h
-  complete (shaped s f cs t k u) g a b x d h = reads_shaped s f cs t k u g (complete s g.0) (complete t g.1) (complete u g.2) a b x d h
+  complete (shaped s f cs t k u o) g a b x d h = reads_shaped s f cs t k u o g (complete s g.0) (complete t g.1) (complete u g.2) a b x d h

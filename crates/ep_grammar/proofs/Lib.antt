@@ -1,8 +1,12 @@
 pub mod Checked
 pub mod Classed
 pub mod Complete
+pub mod Completed
+pub mod Ended
+pub mod Ending
 pub mod Outcomes
 pub mod Passing
+pub mod Reach
 pub mod Sorts
 pub mod Sound
 pub mod Static

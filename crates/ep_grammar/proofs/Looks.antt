@@ -22,7 +22,7 @@ use Rattle.ep_grammar.proofs.Sorts.{there}
 use Rattle.ep_grammar.proofs.Passing.{Passes, passes_at}
 
 -- the classes that begin a row's step are no end of a text
-ends_not : (cs ds : List Class) → Alike cs ds → has ds End ≡ false → has cs End ≡ false
+pub ends_not : (cs ds : List Class) → Alike cs ds → has ds End ≡ false → has cs End ≡ false
 ends_not cs ds al h = not_also cs ds End al.0 h
 
 -- how one parser of what stands inside relates to another
@@ -55,7 +55,7 @@ no_end (either cs s t) g = out_both (first s) (first t) End (no_end s g.0) (no_e
 no_end (switch cs s t) g = out_both cs (first t) End (not_also cs (first s) End g.3 (no_end s g.0)) (no_end t g.1)
 no_end (row s cs t r) g = out_both (first s) (only_if (nullable s) (first t)) End (no_end s g.0) (only_if_out (nullable s) (first t) End (no_end t g.1))
 no_end (deeper cs s) g = no_end s g.0
-no_end (shaped s f cs t k u) g = no_end s g.0
+no_end (shaped s f cs t k u o) g = no_end s g.0
 
 module _ (e : (n : Nonterminal) → Family (Node n)) (p : Option Inside) (so : (n : Nonterminal) → Sounds (read_inside p n) (e n)) (be : (n : Nonterminal) (a b : List Token) (x : Node n) → e n a b x → Begun (first_inside n) (nullable_inside n) a b) where
   pub step_takes : {A B : Type 0} (t : d.Syntax (Step A B)) → Good t → nullable t ≡ false → Takes (read p t)
@@ -104,12 +104,12 @@ module _ (v : Bool) (p q : Option Inside) (li : InsideLike v p q)
   looks (switch cs s t) g = like_class v cs (read p s) (read q s) (read p t) (read q t) (looks s g.0) (looks t g.1)
   looks (row s cs t r) g = like_then v (read p s) (read q s) (λ found j. steps cs (read p t) r (length j) found j) (λ found j. steps cs (read q t) r (length j) found j) (looks s g.0) (λ found. like_row v cs (read p t) (read q t) r (looks t g.1) (stp _ _ t g.1 g.2) (stq _ _ t g.1 g.2) (ends_not cs (first t) g.3 (no_end t g.1)) found)
   looks (deeper cs s) g = de _ cs s g (looks s g.0)
-  looks (shaped s f cs t k u) g = like_then v (read p s) (read q s) (λ y j. if has cs (class_of j) then by_shape (f y) (read p t) (by_shape (k y) (read p u) refused) j else by_shape (k y) (read p u) refused j) (λ y j. if has cs (class_of j) then by_shape (f y) (read q t) (by_shape (k y) (read q u) refused) j else by_shape (k y) (read q u) refused j) (looks s g.0)
+  looks (shaped s f cs t k u o) g = like_then v (read p s) (read q s) (λ y j. if has cs (class_of j) then by_shape (f y) (read p t) (by_shape (k y) (read p u) refused) j else by_shape (k y) (read p u) refused j) (λ y j. if has cs (class_of j) then by_shape (f y) (read q t) (by_shape (k y) (read q u) refused) j else by_shape (k y) (read q u) refused j) (looks s g.0)
       (λ y. let l = like_shape v (k y) (read p u) (read q u) refused refused (looks u g.2) (like_stop v Syntax) in
       like_class v cs (by_shape (f y) (read p t) (by_shape (k y) (read p u) refused)) (by_shape (f y) (read q t) (by_shape (k y) (read q u) refused)) (by_shape (k y) (read p u) refused) (by_shape (k y) (read q u) refused)
       (like_shape v (f y) (read p t) (read q t) (by_shape (k y) (read p u) refused) (by_shape (k y) (read q u) refused) (looks t g.1) l) l)
 
-step_takes_at : (k : ℕ) (A B : Type 0) (t : d.Syntax (Step A B)) → Good t → nullable t ≡ false → Takes (read (inside_at k) t)
+pub step_takes_at : (k : ℕ) (A B : Type 0) (t : d.Syntax (Step A B)) → Good t → nullable t ≡ false → Takes (read (inside_at k) t)
 step_takes_at k A B t g h = step_takes (derived_at k) (inside_at k) (sound_at k) (begun_at k) t g h
 
 -- ---- at one number of levels
@@ -140,7 +140,7 @@ grow_within zero (suc m) le X cs s g l = like_deeper cs (read (inside_at (suc m)
 grow_within (suc k) zero le X cs s g l = absurd (omega arith)
 grow_within (suc k) (suc m) le X cs s g l = l
 
-grows_at : (k m : ℕ) → k ≤ m → {X : Type 0} (s : d.Syntax X) → Good s → InsideLike false (inside_at k) (inside_at m) → Like false (read (inside_at k) s) (read (inside_at m) s)
+pub grows_at : (k m : ℕ) → k ≤ m → {X : Type 0} (s : d.Syntax X) → Good s → InsideLike false (inside_at k) (inside_at m) → Like false (read (inside_at k) s) (read (inside_at m) s)
 grows_at k m le s g li = looks false (inside_at k) (inside_at m) li (step_takes_at k) (step_takes_at m) (grow_within k m le) s g
 
 pub grows : (k m : ℕ) → k ≤ m → InsideLike false (inside_at k) (inside_at m)

@@ -33,7 +33,7 @@ any_true : (v : Bool) → any v true ≡ true
 any_true true = refl
 any_true false = refl
 
-any_false : (v : Bool) → any v false ≡ true → v ≡ true
+pub any_false : (v : Bool) → any v false ≡ true → v ≡ true
 any_false true h = refl
 any_false false h = absurd (cc)
 
@@ -94,7 +94,7 @@ module _ (p : Option Inside) (ins : there p ≡ true → (n : Nonterminal) (a : 
       passes_row (nullable s) (first s) (first t) cs (read p s a) (read p t) r a g.3.0 h (passes s g.0 u.0 a (out_front (first s) (only_if (nullable s) (first t)) (class_of a) h))
   passes (deeper cs s) g r a h =
       passes_within p cs (read p s) a (not_also cs (first s) (class_of a) g.2.0 h) (λ v. subst (λ z. Passes z (read p s a) a) g.1 (passes s g.0 (ap (λ z. any z (guarded s)) v) a h))
-  passes (shaped s f cs t k u) g r a h =
+  passes (shaped s f cs t k u o) g r a h =
       let w = any_both (there p) (guarded s) (both (guarded t) (guarded u)) r in
       ap (λ z. and_then z (λ y j. if has cs (class_of j) then by_shape (f y) (read p t) (by_shape (k y) (read p u) refused) j else by_shape (k y) (read p u) refused j)) (subst (λ z. Passes z (read p s a) a) g.3 (passes s g.0 w.0 a h))
 

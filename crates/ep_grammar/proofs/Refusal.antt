@@ -6,10 +6,14 @@ use Rattle.ep_grammar.specs.declared.stop.Stop.{Stop}
 use Rattle.ep_grammar.specs.declared.stop.Stop.TheVariants.{NoMemory, Syntax, Nested}
 use Rattle.ep_grammar.specs.Reading.{Outcome}
 use Rattle.ep_grammar.specs.Rules.{Grammar, Begins, read_components}
-use Rattle.ep_grammar.specs.Refusals.{RefusedAt, SyntaxRefusedAt, RefusedFor, place_of}
+use Rattle.ep_grammar.specs.Refusals.{RefusedAt, SyntaxRefusedAt, NestingRefusedAt, RefusedFor, place_of}
+use Rattle.ep_grammar.specs.Units.{components}
 use Rattle.ep_grammar.proofs.Outcomes.{took, stopped, never, same_took}
 use Rattle.ep_grammar.proofs.Like.{Calm, rest_of, with_rest}
 use Rattle.ep_grammar.proofs.Looks.{components_look, components_grow}
+use Rattle.ep_grammar.proofs.Completed.{Completed, components_complete}
+use Rattle.ep_grammar.proofs.Ended.{components_beyond}
+use Rattle.ep_grammar.proofs.Ending.{beyond}
 use Rattle.ep_grammar.proofs.Knot.{grammar_sound, grammar_complete, one_tree_at}
 
 -- an outcome that leaves a token is none that reads a text to its end
@@ -77,12 +81,32 @@ refused_anywhere k ts o h calm none m =
     less_refused m (m + k) ts (place_of ts (rest_of o)) (omega arith)
     (refused_at (m + k) ts o ((components_grow k (m + k) (omega arith)).more ts (subst (Calm false) (sym h) calm) ∙ h) none (place_of ts (rest_of o)) refl)
 
+-- ---- for want of levels
+
+take_up : (up later : List Token) → take (length up) (up ++ later) ≡ up
+take_up [] later = refl
+take_up (t ∷ up) later = ap (λ w. t ∷ w) (take_up up later)
+
+up_to : (ts up later : List Token) (n : ℕ) → ts ≡ up ++ later → n ≡ length up → take n ts ≡ up
+up_to ts up later n e h = ap (take n) e ∙ ap (λ m. take m (up ++ later)) h ∙ take_up up later
+
+-- a text that a parser with more levels reads on
+nesting_refused : (k : ℕ) (ts left : List Token) → read_components k ts ≡ stopped Nested left → Completed (read_components (suc (suc k))) (beyond components) ts left → NestingRefusedAt k ts (place_of ts left)
+nesting_refused k ts left h c =
+    let whole = c.reach.reads [] components_beyond in
+    let up_is : take (place_of ts left + 1) ts ≡ c.up = up_to ts c.up c.later (place_of ts left + 1) c.is (omega (arith, ap length c.is, length-append c.up c.later, c.left, c.some)) in
+    record {
+      refused = refused_at k ts (stopped Nested left) h (λ cs e. never e) (place_of ts left) refl;
+      at_token = omega (arith, ap length c.is, length-append c.up c.later, c.left, c.some);
+      deeper_text = (suc (suc k), (c.reach.rest ++ [], whole.0, subst (λ w. Grammar (suc (suc k)) (w ++ (c.reach.rest ++ [])) whole.0) (sym up_is) (grammar_sound (suc (suc k)) (c.up ++ (c.reach.rest ++ [])) whole.0 whole.1)));
+    }
+
 -- ---- the laws
 
 pub stop_refused : (k : ℕ) (ts : List Token) (cause : Stop) (left : List Token) → read_components k ts ≡ stopped cause left → RefusedFor cause k ts (place_of ts left)
 stop_refused k ts NoMemory left h = tt
 stop_refused k ts Syntax left h = refused_anywhere k ts (stopped Syntax left) h tt (λ cs e. never e)
-stop_refused k ts Nested left h = refused_at k ts (stopped Nested left) h (λ cs e. never e) (place_of ts left) refl
+stop_refused k ts Nested left h = nesting_refused k ts left h (components_complete k ts left h)
 
 pub left_refused : (k : ℕ) (ts : List Token) (cs : List Component) (left : List Token) → read_components k ts ≡ took cs left → 0 < length left → SyntaxRefusedAt ts (place_of ts left)
 left_refused k ts cs left h some = refused_anywhere k ts (took cs left) h tt (λ ds e. absurd (omega (arith, ap length (same_took e).1)))

@@ -5,7 +5,7 @@ use Rattle.std.specs.Prelude.{if◌then◌else◌, ◌⊎◌}
 use Rattle.std.proofs.Common.{inl, inr}
 use Rattle.ep_token.specs.declared.token.Token.{Token}
 use Rattle.ep_grammar.specs.Classes.{Class, Sort, carried, has, class_of, after_first, meaning}
-use Rattle.ep_grammar.specs.Descriptions.{Nonterminal, Node, Step, More, Last, Syntax, give, token, line, inside, apply, either, switch, row, deeper, shaped}
+use Rattle.ep_grammar.specs.Descriptions.{Nonterminal, Node, Step, More, Last, AlwaysOne, Syntax, give, token, line, inside, apply, either, switch, row, deeper, shaped}
 use Rattle.ep_grammar.specs.Derived.{Family, Steps, no_step, last_step, one_step, derives}
 use Rattle.ep_grammar.specs.Reading.{Outcome, Parser, and_then, taken, read_token, go_on, steps, Inside, read_inside, within, by_shape, refused, read}
 use Rattle.ep_grammar.proofs.Outcomes.{took, never, bind_ok, same_took}
@@ -66,8 +66,8 @@ module _ (e : (n : Nonterminal) → Family (Node n)) (p : Option Inside) (so : (
   second_sound : {A D X : Type 0} (y : A) (g : A → Option D) (u : Syntax (D → X)) → Sounds (read p u) (derives e u) → (m : List Token) (x : X) (b : List Token) → by_shape (g y) (read p u) refused m ≡ took x b → (c : D) × (h : D → X) × (g y ≡ Some c) × derives e u m b h × (x ≡ h c)
   second_sound y g u so-u m x b h = elim (by_shape_ok (g y) (read p u) refused m x b h) [ inl w ↦ (w.0, w.1, w.2, so-u m w.1 b w.3, w.4) | inr w ↦ never w ]
 
-  shaped_sound : {A C D X : Type 0} (s : Syntax A) (f : A → Option C) (cs : List Class) (t : Syntax (C → X)) (g : A → Option D) (u : Syntax (D → X)) → Sounds (read p s) (derives e s) → Sounds (read p t) (derives e t) → Sounds (read p u) (derives e u) → (a : List Token) (x : X) (b : List Token) → read p (shaped s f cs t g u) a ≡ took x b → derives e (shaped s f cs t g u) a b x
-  shaped_sound s f cs t g u so-s so-t so-u a x b h =
+  shaped_sound : {A C D X : Type 0} (s : Syntax A) (f : A → Option C) (cs : List Class) (t : Syntax (C → X)) (g : A → Option D) (u : Syntax (D → X)) (o : AlwaysOne f g) → Sounds (read p s) (derives e s) → Sounds (read p t) (derives e t) → Sounds (read p u) (derives e u) → (a : List Token) (x : X) (b : List Token) → read p (shaped s f cs t g u o) a ≡ took x b → derives e (shaped s f cs t g u o) a b x
+  shaped_sound s f cs t g u o so-s so-t so-u a x b h =
       let v = bind_ok (read p s a) (λ y j. if has cs (class_of j) then by_shape (f y) (read p t) (by_shape (g y) (read p u) refused) j else by_shape (g y) (read p u) refused j) h in
       let d = so-s a v.0 v.1 v.2 in
       elim (chosen (has cs (class_of v.1)) (by_shape (f v.0) (read p t) (by_shape (g v.0) (read p u) refused) v.1) (by_shape (g v.0) (read p u) refused v.1) v.3) [
@@ -95,4 +95,4 @@ module _ (e : (n : Nonterminal) → Family (Node n)) (p : Option Inside) (so : (
       let w = steps_ok cs (read p t) (derives e t) (λ a x b k. sound t a x b k) r (length u.1) u.0 u.1 x b u.3 in
       (u.1, u.0, w.0, w.1, sound s a u.0 u.1 u.2, w.2, w.3)
   sound (deeper cs s) a x b h = sound s a x b (within_ok p cs (read p s) a x b h)
-  sound (shaped s f cs t g u) a x b h = shaped_sound s f cs t g u (λ a x b k. sound s a x b k) (λ a x b k. sound t a x b k) (λ a x b k. sound u a x b k) a x b h
+  sound (shaped s f cs t g u o) a x b h = shaped_sound s f cs t g u o (λ a x b k. sound s a x b k) (λ a x b k. sound t a x b k) (λ a x b k. sound u a x b k) a x b h

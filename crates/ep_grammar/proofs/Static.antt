@@ -39,7 +39,7 @@ nullable (either cs s t) = nullable t
 nullable (switch cs s t) = nullable t
 nullable (row s cs t r) = nullable s
 nullable (deeper cs s) = false
-nullable (shaped s f cs t g u) = false
+nullable (shaped s f cs t g u o) = false
 
 -- ---- the classes with which it begins
 
@@ -64,7 +64,7 @@ first (either cs s t) = first s ++ first t
 first (switch cs s t) = cs ++ first t
 first (row s cs t r) = first s ++ only_if (nullable s) (first t)
 first (deeper cs s) = first s
-first (shaped s f cs t g u) = first s
+first (shaped s f cs t g u o) = first s
 
 -- ---- the classes that must not follow it, since a parser would go on with them
 
@@ -92,7 +92,7 @@ after (either cs s t) = after s ++ (after t ++ only_if (nullable t) cs)
 after (switch cs s t) = after s ++ after t
 after (row s cs t r) = after s ++ (after t ++ cs)
 after (deeper cs s) = after s
-after (shaped s f cs t g u) = after t ++ (after u ++ only_if (nullable u) (after s ++ cs))
+after (shaped s f cs t g u o) = after t ++ (after u ++ only_if (nullable u) (after s ++ cs))
 
 -- ---- whether it needs a level
 
@@ -106,7 +106,7 @@ needs (either cs s t) = both (needs s) (needs t)
 needs (switch cs s t) = both (needs s) (needs t)
 needs (row s cs t r) = needs s
 needs (deeper cs s) = needs s
-needs (shaped s f cs t g u) = any (needs s) (both (needs t) (needs u))
+needs (shaped s f cs t g u o) = any (needs s) (both (needs t) (needs u))
 
 -- ---- whether what may stand inside is read only behind a test of the levels
 
@@ -120,7 +120,7 @@ guarded (either cs s t) = both (guarded s) (guarded t)
 guarded (switch cs s t) = both (guarded s) (guarded t)
 guarded (row s cs t r) = both (guarded s) (guarded t)
 guarded (deeper cs s) = true
-guarded (shaped s f cs t g u) = both (guarded s) (both (guarded t) (guarded u))
+guarded (shaped s f cs t g u o) = both (guarded s) (both (guarded t) (guarded u))
 
 -- ---- whether a token decides each choice
 
@@ -137,7 +137,7 @@ Good (either cs s t) = Good s × Good t × (nullable s ≡ false) × Alike cs (f
 Good (switch cs s t) = Good s × Good t × (nullable s ≡ false) × (within_list cs (first s) ≡ true)
 Good (row s cs t r) = Good s × Good t × (nullable t ≡ false) × Alike cs (first t) × (disjoint (after s ++ after t) cs ≡ true)
 Good (deeper cs s) = Good s × (nullable s ≡ false) × Alike cs (first s) × (needs s ≡ true)
-Good (shaped s f cs t g u) = Good s × Good t × Good u × (nullable s ≡ false) × (nullable t ≡ false) × Alike cs (first t) × (disjoint cs (first u) ≡ true) × (disjoint (after s) (cs ++ first u) ≡ true)
+Good (shaped s f cs t g u o) = Good s × Good t × Good u × (nullable s ≡ false) × (nullable t ≡ false) × Alike cs (first t) × (disjoint cs (first u) ≡ true) × (disjoint (after s) (cs ++ first u) ≡ true)
 
 -- the same as a Boolean
 abbrev pub opposite : Bool → Bool
@@ -157,7 +157,7 @@ check (either cs s t) = both (check s) (both (check t) (both (opposite (nullable
 check (switch cs s t) = both (check s) (both (check t) (both (opposite (nullable s)) (within_list cs (first s))))
 check (row s cs t r) = both (check s) (both (check t) (both (opposite (nullable t)) (both (alike cs (first t)) (disjoint (after s ++ after t) cs))))
 check (deeper cs s) = both (check s) (both (opposite (nullable s)) (both (alike cs (first s)) (needs s)))
-check (shaped s f cs t g u) = both (check s) (both (check t) (both (check u) (both (opposite (nullable s)) (both (opposite (nullable t)) (both (alike cs (first t)) (both (disjoint cs (first u)) (disjoint (after s) (cs ++ first u))))))))
+check (shaped s f cs t g u o) = both (check s) (both (check t) (both (check u) (both (opposite (nullable s)) (both (opposite (nullable t)) (both (alike cs (first t)) (both (disjoint cs (first u)) (disjoint (after s) (cs ++ first u))))))))
 
 pub both_case : (a b : Bool) → both a b ≡ true → (a ≡ true) × (b ≡ true)
 both_case true b h = (refl, h)
@@ -201,7 +201,7 @@ checked (deeper cs s) h =
     let v = both_case (opposite (nullable s)) (both (alike cs (first s)) (needs s)) u.1 in
     let w = both_case (alike cs (first s)) (needs s) v.1 in
     (checked s u.0, flipped (nullable s) v.0, alike_is cs (first s) w.0, w.1)
-checked (shaped s f cs t g u) h =
+checked (shaped s f cs t g u o) h =
     let a = both_case (check s) (both (check t) (both (check u) (both (opposite (nullable s)) (both (opposite (nullable t)) (both (alike cs (first t)) (both (disjoint cs (first u)) (disjoint (after s) (cs ++ first u)))))))) h in
     let b = both_case (check t) (both (check u) (both (opposite (nullable s)) (both (opposite (nullable t)) (both (alike cs (first t)) (both (disjoint cs (first u)) (disjoint (after s) (cs ++ first u))))))) a.1 in
     let c = both_case (check u) (both (opposite (nullable s)) (both (opposite (nullable t)) (both (alike cs (first t)) (both (disjoint cs (first u)) (disjoint (after s) (cs ++ first u)))))) b.1 in

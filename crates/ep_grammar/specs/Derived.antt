@@ -24,4 +24,4 @@ derives e (either cs s t) a b x = derives e s a b x ⊎ derives e t a b x
 derives e (switch cs s t) a b x = ((has cs (class_of a) ≡ true) × derives e s a b x) ⊎ ((has cs (class_of a) ≡ false) × derives e t a b x)
 derives e (row s cs t r) a b x = (m : List Token) × (xs : _) × (ys : _) × (q : _) × derives e s a m xs × Steps (derives e t) r m b ys q × (x ≡ (xs ++ ys, q))
 derives e (deeper cs s) a b x = derives e s a b x
-derives e (shaped s f cs t g u) a b x = (m : List Token) × (y : _) × derives e s a m y × (((c : _) × (h : _) × (f y ≡ Some c) × derives e t m b h × (x ≡ h c)) ⊎ ((c : _) × (h : _) × (g y ≡ Some c) × derives e u m b h × (x ≡ h c)))
+derives e (shaped s f cs t g u o) a b x = (m : List Token) × (y : _) × derives e s a m y × (((c : _) × (h : _) × (f y ≡ Some c) × derives e t m b h × (x ≡ h c)) ⊎ ((c : _) × (h : _) × (g y ≡ Some c) × derives e u m b h × (x ≡ h c)))

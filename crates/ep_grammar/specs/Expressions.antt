@@ -23,7 +23,7 @@ use Rattle.ep_tree.specs.declared.expression.Element.{Element}
 use Rattle.ep_tree.specs.declared.expression.Element.TheVariants as element_is
 use Rattle.ep_grammar.specs.Classes.{Class, Word, Symbol, Name, Number, Text, Interface, Implementation, Forward, classes}
 use Rattle.ep_grammar.specs.Classes.{Sort as sort}
-use Rattle.ep_grammar.specs.Descriptions.{expressions, factors, component_values, elements, bracketed_values, Syntax, give, token, line, inside, either, switch, row, deeper, shaped, ◌&◌, ◌/◌, symbol, keyword, optional, many, separated, item_or_end, first_of_pair}
+use Rattle.ep_grammar.specs.Descriptions.{expressions, factors, component_values, elements, bracketed_values, Syntax, give, token, line, inside, either, switch, row, deeper, always_first, shaped, ◌&◌, ◌/◌, symbol, keyword, optional, many, separated, item_or_end, first_of_pair}
 use Rattle.ep_tree.specs.Shapes.{all_single, as_identifier}
 use Rattle.ep_tree.specs.Nodes.{qualified_node, expression_node, comparison_node, simple_node, addend_node, term_node, multiplier_node, access_node, argument_node, label_node, values_node}
 
@@ -170,7 +170,7 @@ abbrev pub single_labels : ℕ × List Label → Option (List Expression)
 single_labels p = all_single p.1
 
 unfoldable pub bracket_labels : Syntax (ℕ → Called)
-bracket_labels = shaped labels_start Some (on sym.COLON) structured_tail single_labels index_tail
+bracket_labels = shaped labels_start Some (on sym.COLON) structured_tail single_labels index_tail (always_first (λ p. tt {0}))
 
 unfoldable pub bracket_values : Syntax (ℕ → Called)
 bracket_values = give structured & inside bracketed_values / symbol sym.RIGHT_BRACKET
@@ -305,7 +305,7 @@ unfoldable pub case_tagged : Syntax (List ℕ → ℕ → Element)
 case_tagged = give (λ e vs n at. element_is.Variant at (Some n) e vs) / symbol sym.COLON & expression & case_values
 
 unfoldable pub case_tail : Syntax (ℕ → Element)
-case_tail = shaped expression Some (on_word word.OF) case_plain as_identifier case_tagged
+case_tail = shaped expression Some (on_word word.OF) case_plain as_identifier case_tagged (always_first (λ e. tt {0}))
 
 unfoldable pub case_element : Syntax Element
 case_element = give (λ at t. t at) & line / keyword word.CASE & case_tail

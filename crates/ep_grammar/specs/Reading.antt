@@ -74,7 +74,7 @@ read e (either cs s t) = λ i. if has cs (class_of i) then read e s i else read 
 read e (switch cs s t) = λ i. if has cs (class_of i) then read e s i else read e t i
 read e (row s cs t r) = λ i. and_then (read e s i) (λ found j. steps cs (read e t) r (length j) found j)
 read e (deeper cs s) = within e cs (read e s)
-read e (shaped s f cs t g u) = λ i. and_then (read e s i) (λ y j. if has cs (class_of j) then by_shape (f y) (read e t) (by_shape (g y) (read e u) refused) j else by_shape (g y) (read e u) refused j)
+read e (shaped s f cs t g u o) = λ i. and_then (read e s i) (λ y j. if has cs (class_of j) then by_shape (f y) (read e t) (by_shape (g y) (read e u) refused) j else by_shape (g y) (read e u) refused j)
 
 -- what a function that parses ensures: the outcome, unless memory is wanting
 abbrev pub Reads : {A : Type 0} → Outcome A → Result A Stop → List Token → Type 0

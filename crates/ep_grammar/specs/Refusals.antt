@@ -16,11 +16,17 @@ pub record RefusedAt (k : ℕ) (ts : List Token) (place : ℕ) : Type 0 where
 abbrev pub SyntaxRefusedAt : List Token → ℕ → Type 0
 SyntaxRefusedAt ts place = (k : ℕ) → RefusedAt k ts place
 
+-- There is a token, which cannot stand there in a text in which at most k levels nest, and can in one that nests deeper.
+pub record NestingRefusedAt (k : ℕ) (ts : List Token) (place : ℕ) : Type 0 where
+  pub refused : RefusedAt k ts place
+  pub at_token : place < length ts
+  pub deeper_text : (m : ℕ) × Begins m (take (place + 1) ts)
+
 -- what the answer that the text is refused for this cause at this place says of it, where k levels may nest
 abbrev pub RefusedFor : Stop → ℕ → List Token → ℕ → Type 0
 RefusedFor stop.NoMemory k ts place = Unit {0}
 RefusedFor stop.Syntax k ts place = SyntaxRefusedAt ts place
-RefusedFor stop.Nested k ts place = RefusedAt k ts place
+RefusedFor stop.Nested k ts place = NestingRefusedAt k ts place
 
 -- the place of the first of the tokens that are left
 abbrev pub place_of : List Token → List Token → ℕ

@@ -18,7 +18,7 @@ use Rattle.ep_tree.specs.declared.types.Core.TheVariants as core_is
 use Rattle.ep_tree.specs.declared.types.Structure.TheVariants as structure_is
 use Rattle.ep_tree.specs.declared.types.VariantSelector.TheVariants as selector_is
 use Rattle.ep_grammar.specs.Classes.{Class, Word}
-use Rattle.ep_grammar.specs.Descriptions.{plains, field_lists, Syntax, give, line, inside, either, switch, row, deeper, shaped, ◌&◌, ◌/◌, symbol, keyword, optional, flag, separated, closed, More, Last, single, Step}
+use Rattle.ep_grammar.specs.Descriptions.{plains, field_lists, Syntax, give, line, inside, either, switch, row, deeper, always_first, always_second, shaped, ◌&◌, ◌/◌, symbol, keyword, optional, flag, separated, closed, More, Last, single, Step}
 use Rattle.ep_tree.specs.Nodes.{type_denoter_node, plain_node, fields_node, field_section_node, variant_part_node, variant_node}
 use Rattle.ep_tree.specs.Shapes.{as_named}
 use Rattle.ep_grammar.specs.Expressions.{name, on, on_word, of_name, of_expression, qualified_name, expression, component_value, labels}
@@ -60,7 +60,7 @@ abbrev pub named_core : QualifiedName × List Expression → ℕ → Core
 named_core p at = core_is.Named at p.0 p.1
 
 unfoldable pub named_or_range : Syntax Core
-named_or_range = give (λ at r. r at) & line & shaped expression Some (on sym.RANGE) range_end as_named (give named_core)
+named_or_range = give (λ at r. r at) & line & shaped expression Some (on sym.RANGE) range_end as_named (give named_core) (always_first (λ e. tt {0}))
 
 unfoldable pub inner_plains : Syntax (List Plain)
 inner_plains = separated sym.COMMA (inside plains)
@@ -141,7 +141,7 @@ unfoldable pub sections_end : Syntax (List FieldSection → ℕ → Fields)
 sections_end = give (λ v fs at. fields_node at fs (Some v)) & variant_part
 
 unfoldable pub section_fields : Syntax Fields
-section_fields = give (λ at r. r at) & line & shaped sections ended (on_word word.CASE) sections_end listed (give (λ fs at. fields_node at fs None))
+section_fields = give (λ at r. r at) & line & shaped sections ended (on_word word.CASE) sections_end listed (give (λ fs at. fields_node at fs None)) (always_second (λ p. tt {0}))
 
 unfoldable pub variant_fields : Syntax Fields
 variant_fields = give (λ at v. fields_node at [] (Some v)) & line & variant_part

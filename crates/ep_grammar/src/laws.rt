@@ -11,9 +11,9 @@ pub fn laws_of_the_grammar()
     ensures more_levels { MoreLevels }
 {}
 
-/// Does nothing: its contract states what holds of every text that a parser does not read to the end. Where it stops,
-/// or where it leaves tokens, no text begins with the tokens up to and with that place: none at all, or for a stop for
-/// want of levels none in which so few levels nest.
+/// Does nothing: its contract states what holds of every text that a parser does not read to the end. Where it stops
+/// or leaves tokens, no text of any nesting begins with the tokens up to and with that place; but where it stops for
+/// want of levels, there is a token that only texts of deeper nesting have there, and there are such texts.
 pub fn laws_of_refusals()
     ensures stop { StopIsRefused }
     ensures left { LeftIsRefused }
