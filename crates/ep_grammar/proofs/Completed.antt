@@ -12,11 +12,11 @@ use Rattle.ep_grammar.specs.Rules.{rule, inside_at, read_components}
 use Rattle.ep_grammar.specs.Units.{components}
 use Rattle.ep_grammar.proofs.Outcomes.{took, stopped, never_stops}
 use Rattle.ep_grammar.proofs.Classed.{true_false, also, not_also, out_front, out_end}
-use Rattle.ep_grammar.proofs.Static.{both, any, nullable, first, first_inside, guarded, Good, both_case}
+use Rattle.ep_grammar.proofs.Static.{both, any, only_if, nullable, first, first_inside, guarded, Good, both_case}
 use Rattle.ep_grammar.proofs.Checked.{good_rule, good_components, rule_guarded, components_guarded}
 use Rattle.ep_grammar.proofs.Sorts.{there}
 use Rattle.ep_grammar.proofs.Complete.{if_true, if_false}
-use Rattle.ep_grammar.proofs.Ending.{beyond, beyond_inside, beyond_nothing, much_room, opens, opens_inside, ends, all_open, clear, closes}
+use Rattle.ep_grammar.proofs.Ending.{beyond, beyond_inside, much_room, opens, opens_inside, ends, all_open, clear, closes}
 use Rattle.ep_grammar.proofs.Ended.{rule_closes, rule_beyond, components_close}
 use Rattle.ep_grammar.proofs.Like.{Calm, rest_of, with_rest, Like, Takes, enough}
 use Rattle.ep_grammar.proofs.Looks.{ends_not, no_end, step_takes_at, grows_at, grows}
@@ -228,12 +228,12 @@ module _ (p q : Option Inside) (levels : there q ≡ true) (li : (X : Type 0) (s
       let w = both_case (clear (beyond s) t) (ends t much_room) v.1 in
       completed_then (read p s) (read q s) (λ f j. and_then (read p t j) (λ x k. took (f x) k)) (λ f j. and_then (read q t j) (λ x k. took (f x) k)) (beyond s) (beyond (apply s t)) (li _ s g.0)
       (onward_apply q much_room (λ h. levels) ps ri s t g.1 (at_hand t) w.0 w.1 (begins_there t g.1 v.0)) a b (vs a b)
-      (λ f m k. completed_map (read q t) f (beyond (apply s t)) m b (completed_wider (read q t) (beyond t) (beyond (apply s t)) m b (out_front (beyond t) (beyond_nothing t (beyond s))) (vt m b (map_stop (read p t m) f k)))) h
+      (λ f m k. completed_map (read q t) f (beyond (apply s t)) m b (completed_wider (read q t) (beyond t) (beyond (apply s t)) m b (out_front (beyond t) (only_if (nullable t) (beyond s))) (vt m b (map_stop (read p t m) f k)))) h
 
-  completes_choice : {X : Type 0} (cs : List Class) (s t : d.Syntax X) → Completes s → Completes t → (a b : List Token) → (if has cs (class_of a) then read p s a else read p t a) ≡ stopped Nested b → Completed (λ i. if has cs (class_of i) then read q s i else read q t i) (beyond s ++ beyond t) a b
-  completes_choice cs s t vs vt a b h = completed_if cs (beyond s ++ beyond t) (read q s) (read q t) a b (elim (which (has cs (class_of a)) (read p s a) (read p t a) h) [
-    | inl w ↦ inl (w.0, completed_wider (read q s) (beyond s) (beyond s ++ beyond t) a b (out_front (beyond s) (beyond t)) (vs a b w.1))
-    | inr w ↦ inr (w.0, completed_wider (read q t) (beyond t) (beyond s ++ beyond t) a b (out_end (beyond s) (beyond t)) (vt a b w.1))
+  completes_choice : {X : Type 0} (cs : List Class) (s t : d.Syntax X) → Completes s → Completes t → (a b : List Token) → (if has cs (class_of a) then read p s a else read p t a) ≡ stopped Nested b → Completed (λ i. if has cs (class_of i) then read q s i else read q t i) (beyond s ++ (beyond t ++ only_if (nullable t) cs)) a b
+  completes_choice cs s t vs vt a b h = completed_if cs (beyond s ++ (beyond t ++ only_if (nullable t) cs)) (read q s) (read q t) a b (elim (which (has cs (class_of a)) (read p s a) (read p t a) h) [
+    | inl w ↦ inl (w.0, completed_wider (read q s) (beyond s) (beyond s ++ (beyond t ++ only_if (nullable t) cs)) a b (out_front (beyond s) (beyond t ++ only_if (nullable t) cs)) (vs a b w.1))
+    | inr w ↦ inr (w.0, completed_wider (read q t) (beyond t) (beyond s ++ (beyond t ++ only_if (nullable t) cs)) a b (λ c o. out_front (beyond t) (only_if (nullable t) cs) c (out_end (beyond s) (beyond t ++ only_if (nullable t) cs) c o)) (vt a b w.1))
   ])
 
   completes_row : {A B : Type 0} (s : d.Syntax (List A)) (cs : List Class) (t : d.Syntax (Step A B)) (r : B) → Good (row s cs t r) → Completes s → Completes t → Completes (row s cs t r)
@@ -261,16 +261,16 @@ module _ (p q : Option Inside) (levels : there q ≡ true) (li : (X : Type 0) (s
       (onward_shaped s f cs t k u o g c) a b (vs a b) behind h
     where
       ds : List Class
-      ds = beyond t ++ (beyond u ++ beyond_nothing u (beyond s ++ cs))
+      ds = beyond t ++ (beyond u ++ only_if (nullable u) (beyond s ++ cs))
 
       of_second : (y : A) (m : List Token) → by_shape (k y) (read p u) refused m ≡ stopped Nested b → Completed (by_shape (k y) (read q u) refused) ds m b
       of_second y m h = completed_shape (k y) (read p u) (read q u) refused refused ds m b
-          (λ h. completed_wider (read q u) (beyond u) ds m b (λ c o. out_front (beyond u) (beyond_nothing u (beyond s ++ cs)) c (out_end (beyond t) (beyond u ++ beyond_nothing u (beyond s ++ cs)) c o)) (vu m b h))
+          (λ h. completed_wider (read q u) (beyond u) ds m b (λ c o. out_front (beyond u) (only_if (nullable u) (beyond s ++ cs)) c (out_end (beyond t) (beyond u ++ only_if (nullable u) (beyond s ++ cs)) c o)) (vu m b h))
           (λ h. refused_not_nested m b h) h
 
       of_first : (y : A) (m : List Token) → by_shape (f y) (read p t) (by_shape (k y) (read p u) refused) m ≡ stopped Nested b → Completed (by_shape (f y) (read q t) (by_shape (k y) (read q u) refused)) ds m b
       of_first y m h = completed_shape (f y) (read p t) (read q t) (by_shape (k y) (read p u) refused) (by_shape (k y) (read q u) refused) ds m b
-          (λ h. completed_wider (read q t) (beyond t) ds m b (λ c o. out_front (beyond t) (beyond u ++ beyond_nothing u (beyond s ++ cs)) c o) (vt m b h))
+          (λ h. completed_wider (read q t) (beyond t) ds m b (λ c o. out_front (beyond t) (beyond u ++ only_if (nullable u) (beyond s ++ cs)) c o) (vt m b h))
           (λ h. of_second y m h) h
 
       behind : (y : A) (m : List Token) → (if has cs (class_of m) then by_shape (f y) (read p t) (by_shape (k y) (read p u) refused) m else by_shape (k y) (read p u) refused m) ≡ stopped Nested b → Completed (λ j. if has cs (class_of j) then by_shape (f y) (read q t) (by_shape (k y) (read q u) refused) j else by_shape (k y) (read q u) refused j) ds m b

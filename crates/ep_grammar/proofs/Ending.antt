@@ -43,27 +43,23 @@ abbrev pub lead : List Class → Class
 lead [] = End
 lead (c ∷ cs) = c
 
--- ---- the classes that must not follow what was added
+-- ---- the classes that must not follow what was added, since a parser would go on with them
 
 abbrev pub beyond_inside : Nonterminal → List Class
 beyond_inside statements = Word word.ELSE ∷ after_inside statements
 beyond_inside n = after_inside n
-
--- what follows a description that is left out, behind another
-abbrev pub beyond_nothing : {X : Type 0} → Syntax X → List Class → List Class
-beyond_nothing t cs = only_if (nullable t) (first t ++ cs)
 
 abbrev pub beyond : {X : Type 0} → Syntax X → List Class
 beyond (give x) = []
 beyond (token s) = []
 beyond line = []
 beyond (inside n) = beyond_inside n
-beyond (apply s t) = beyond t ++ beyond_nothing t (beyond s)
-beyond (either cs s t) = beyond s ++ beyond t
-beyond (switch cs s t) = beyond s ++ beyond t
+beyond (apply s t) = beyond t ++ only_if (nullable t) (beyond s)
+beyond (either cs s t) = beyond s ++ (beyond t ++ only_if (nullable t) cs)
+beyond (switch cs s t) = beyond s ++ (beyond t ++ only_if (nullable t) cs)
 beyond (row s cs t r) = beyond s ++ (beyond t ++ cs)
 beyond (deeper cs s) = beyond s
-beyond (shaped s f cs t g u o) = beyond t ++ (beyond u ++ beyond_nothing u (beyond s ++ cs))
+beyond (shaped s f cs t g u o) = beyond t ++ (beyond u ++ only_if (nullable u) (beyond s ++ cs))
 
 -- ---- whether a token can be followed by more, up to the end
 

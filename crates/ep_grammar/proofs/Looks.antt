@@ -40,7 +40,7 @@ no_end_inside d.field_lists = refl
 no_end_inside d.statements = refl
 no_end_inside d.routines = refl
 
-only_if_out : (v : Bool) (cs : List Class) (c : Class) → has cs c ≡ false → has (only_if v cs) c ≡ false
+pub only_if_out : (v : Bool) (cs : List Class) (c : Class) → has cs c ≡ false → has (only_if v cs) c ≡ false
 only_if_out true cs c h = h
 only_if_out false cs c h = refl
 

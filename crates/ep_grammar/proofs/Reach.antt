@@ -3,18 +3,18 @@ use Rattle.std.proofs.Common.{◌≡◌, ℕ, zero, suc, ◌<◌, Bool, true, fa
 use Rattle.std.specs.Prelude.{if◌then◌else◌, ◌⊎◌}
 use Rattle.ep_token.specs.declared.token.Token.{Token}
 use Rattle.ep_grammar.specs.Classes.{Class, Sort, classes, has, same, class_of, class_of_kind, after_first, End, meaning}
-use Rattle.ep_grammar.specs.Descriptions.{Nonterminal, Step, More, Last, HasShape, AlwaysOne, always_first, always_second, Syntax, give, token, line, inside, apply, either, switch, row, deeper, shaped}
+use Rattle.ep_grammar.specs.Descriptions.{Nonterminal, field_lists, statements, Step, More, Last, HasShape, AlwaysOne, always_first, always_second, Syntax, give, token, line, inside, apply, either, switch, row, deeper, shaped}
 use Rattle.ep_grammar.specs.Reading.{Parser, and_then, taken, read_token, go_on, steps, Inside, read_inside, within, by_shape, refused, read}
 use Rattle.ep_grammar.specs.Rules.{rule, inside_at}
 use Rattle.ep_grammar.proofs.Outcomes.{took}
-use Rattle.ep_grammar.proofs.Classed.{by_cases, true_false, same_true, also, not_also, out_front, out_end, in_either}
+use Rattle.ep_grammar.proofs.Classed.{by_cases, true_false, same_true, also, not_also, out_front, out_end, out_both, in_either}
 use Rattle.ep_grammar.proofs.Static.{both, any, opposite, only_if, nullable, nullable_inside, first, first_inside, guarded, Good, both_case, flipped}
-use Rattle.ep_grammar.proofs.Ending.{lead, token_for, kind_for, kind_class, beyond, beyond_inside, beyond_nothing, Room, no_room, little_room, much_room, room_at, some_room, pick, opens, opens_inside, ends, all_open, clear, closes}
+use Rattle.ep_grammar.proofs.Ending.{lead, token_for, kind_for, kind_class, beyond, beyond_inside, Room, no_room, little_room, much_room, room_at, some_room, pick, opens, opens_inside, ends, all_open, clear, closes}
 use Rattle.ep_grammar.proofs.Ended.{rule_closes, rule_ends, rule_opens, rule_opens_more, rule_begins, rule_beyond}
 use Rattle.ep_grammar.proofs.Checked.{good_rule, rule_guarded}
 use Rattle.ep_grammar.proofs.Sorts.{there, sort_class}
 use Rattle.ep_grammar.proofs.Complete.{if_true, if_false}
-use Rattle.ep_grammar.proofs.Looks.{no_end}
+use Rattle.ep_grammar.proofs.Looks.{only_if_out, no_end}
 use Rattle.ep_grammar.proofs.Passing.{Passes, Ready, any_both, no_steps, passes_at, ready}
 
 -- Tokens can be added to these so that the parser takes them all, where none of these classes follows.
@@ -78,6 +78,37 @@ each_opens s l (d ∷ cs) c h k =
 lead_class : {X : Type 0} (t : Syntax X) → Good t → has (first t) (lead (first t)) ≡ true → class_of_kind (kind_for (lead (first t))) ≡ lead (first t)
 lead_class t g h = kind_class (lead (first t)) (by_cases (same (lead (first t)) End) (λ e. true_false (subst (λ c. has (first t) c ≡ true) (same_true (lead (first t)) End e) h) (no_end t g)) (λ e. e))
 
+behind_nothing : {v : Bool} → v ≡ true → (cs : List Class) (c : Class) → has (only_if v cs) c ≡ false → has cs c ≡ false
+behind_nothing h cs c o = subst (λ v. has (only_if v cs) c ≡ false) h o
+
+nothing_begins_inside : (n : Nonterminal) → nullable_inside n ≡ true → (c : Class) → has (beyond_inside n) c ≡ false → has (first_inside n) c ≡ false
+nothing_begins_inside field_lists h c o = not_also (first_inside field_lists) (beyond_inside field_lists) c refl o
+nothing_begins_inside statements h c o = not_also (first_inside statements) (beyond_inside statements) c refl o
+nothing_begins_inside n h c o = absurd (cc)
+
+-- what must not follow a description that can be nothing has all with which it begins
+pub nothing_begins : {X : Type 0} (s : Syntax X) → Good s → nullable s ≡ true → (c : Class) → has (beyond s) c ≡ false → has (first s) c ≡ false
+nothing_begins (give x) g v c o = refl
+nothing_begins (token s) g v c o = absurd (cc)
+nothing_begins line g v c o = refl
+nothing_begins (inside n) g v c o = nothing_begins_inside n v c o
+nothing_begins (apply s t) g v c o =
+    let u = both_case (nullable s) (nullable t) v in
+    out_both (first s) (only_if (nullable s) (first t)) c
+    (nothing_begins s g.0 u.0 c (behind_nothing u.1 (beyond s) c (out_end (beyond t) (only_if (nullable t) (beyond s)) c o)))
+    (only_if_out (nullable s) (first t) c (nothing_begins t g.1 u.1 c (out_front (beyond t) (only_if (nullable t) (beyond s)) c o)))
+nothing_begins (either cs s t) g v c o =
+    let u = out_end (beyond s) (beyond t ++ only_if (nullable t) cs) c o in
+    out_both (first s) (first t) c (not_also (first s) cs c g.3.1 (behind_nothing v cs c (out_end (beyond t) (only_if (nullable t) cs) c u))) (nothing_begins t g.1 v c (out_front (beyond t) (only_if (nullable t) cs) c u))
+nothing_begins (switch cs s t) g v c o =
+    let u = out_end (beyond s) (beyond t ++ only_if (nullable t) cs) c o in
+    out_both cs (first t) c (behind_nothing v cs c (out_end (beyond t) (only_if (nullable t) cs) c u)) (nothing_begins t g.1 v c (out_front (beyond t) (only_if (nullable t) cs) c u))
+nothing_begins (row s cs t r) g v c o =
+    out_both (first s) (only_if (nullable s) (first t)) c (nothing_begins s g.0 v c (out_front (beyond s) (beyond t ++ cs) c o))
+    (only_if_out (nullable s) (first t) c (not_also (first t) cs c g.3.1 (out_end (beyond t) cs c (out_end (beyond s) (beyond t ++ cs) c o))))
+nothing_begins (deeper cs s) g v c o = absurd (cc)
+nothing_begins (shaped s f cs t k u e) g v c o = absurd (cc)
+
 -- ---- one step of a row, and the end
 
 abbrev pub one_step_more : {A B : Type 0} → List A → B → Step A B → List A × B
@@ -131,15 +162,12 @@ module _ (p : Option Inside) (l : Room) (room : some_room l ≡ true → there p
   abbrev Reaches : {X : Type 0} → Syntax X → Type 0
   Reaches s = (t : Token) → has (first s) (class_of_kind t.kind) ≡ true → opens s l (class_of_kind t.kind) ≡ true → Reach (read p s) (beyond s) (t ∷ [])
 
-  finish_nothing : {X : Type 0} (t : Syntax X) (cs : List Class) → Good t → Ready p t → nullable t ≡ true → Finish (read p t) cs (beyond t ++ beyond_nothing t cs)
+  finish_nothing : {X : Type 0} (t : Syntax X) (cs : List Class) → Good t → Ready p t → nullable t ≡ true → Finish (read p t) cs (beyond t ++ only_if (nullable t) cs)
   finish_nothing t cs g r v = record {
     rest = [];
-    begins = λ z o. out_end (first t) cs (class_of z) (outside z o);
-    reads = λ z o. subst (λ w. Passes w (read p t z) z) v (ps _ t g r z (out_front (first t) cs (class_of z) (outside z o)));
+    begins = λ z o. behind_nothing v cs (class_of z) (out_end (beyond t) (only_if (nullable t) cs) (class_of z) o);
+    reads = λ z o. subst (λ w. Passes w (read p t z) z) v (ps _ t g r z (nothing_begins t g v (class_of z) (out_front (beyond t) (only_if (nullable t) cs) (class_of z) o)));
   }
-    where
-      outside : (z : List Token) → has (beyond t ++ beyond_nothing t cs) (class_of z) ≡ false → has (first t ++ cs) (class_of z) ≡ false
-      outside z o = subst (λ w. has (only_if w (first t ++ cs)) (class_of z) ≡ false) v (out_end (beyond t) (beyond_nothing t cs) (class_of z) o)
 
   ends_some : {X : Type 0} (t : Syntax X) → ends t l ≡ true → nullable t ≡ false → opens t l (lead (first t)) ≡ true
   ends_some t e v = elim (picked (nullable t) (λ y. true) (λ y. opens t l (lead (first t))) e) [ inl w ↦ true_false w.0 v | inr w ↦ w.1 ]
@@ -150,17 +178,17 @@ module _ (p : Option Inside) (l : Room) (room : some_room l ≡ true → there p
       let c = sym (lead_class t g h) in
       k (token_for (lead (first t))) (subst (λ d. has (first t) d ≡ true) c h) (subst (λ d. opens t l d ≡ true) c (ends_some t e v))
 
-  finish_some : {X : Type 0} (t : Syntax X) (cs : List Class) → Good t → clear cs t ≡ true → ends t l ≡ true → nullable t ≡ false → Reaches t → Finish (read p t) cs (beyond t ++ beyond_nothing t cs)
+  finish_some : {X : Type 0} (t : Syntax X) (cs : List Class) → Good t → clear cs t ≡ true → ends t l ≡ true → nullable t ≡ false → Reaches t → Finish (read p t) cs (beyond t ++ only_if (nullable t) cs)
   finish_some t cs g c e v k =
       let u = cleared cs t c v in
       let r = reach_lead t g u.0 e v k in
       record {
         rest = token_for (lead (first t)) ∷ r.rest;
         begins = λ z o. ap (has cs) (lead_class t g u.0) ∙ u.1;
-        reads = λ z o. r.reads z (out_front (beyond t) (beyond_nothing t cs) (class_of z) o);
+        reads = λ z o. r.reads z (out_front (beyond t) (only_if (nullable t) cs) (class_of z) o);
       }
 
-  pub finish : {X : Type 0} (t : Syntax X) (cs : List Class) → Good t → Ready p t → clear cs t ≡ true → ends t l ≡ true → Reaches t → Finish (read p t) cs (beyond t ++ beyond_nothing t cs)
+  pub finish : {X : Type 0} (t : Syntax X) (cs : List Class) → Good t → Ready p t → clear cs t ≡ true → ends t l ≡ true → Reaches t → Finish (read p t) cs (beyond t ++ only_if (nullable t) cs)
   finish t cs g r c e k = by_cases (nullable t) (λ v. finish_nothing t cs g r v) (λ v. finish_some t cs g c e v k)
 
   -- ---- what stands behind a first part
@@ -192,14 +220,14 @@ module _ (p : Option Inside) (l : Room) (room : some_room l ≡ true → there p
         begins = λ z o. ap (has (beyond s)) is_lead ∙ h.1;
         reads = λ y z o.
             let i = token_for (lead (first t)) ∷ (r.rest ++ z) in
-            let w = shape_first (f y) (read p t) (by_shape (k y) (read p u) refused) i z (a y) (r.reads z (out_front (beyond t) (beyond u ++ beyond_nothing u (beyond s ++ cs)) (class_of z) o)) in
+            let w = shape_first (f y) (read p t) (by_shape (k y) (read p u) refused) i z (a y) (r.reads z (out_front (beyond t) (beyond u ++ only_if (nullable u) (beyond s ++ cs)) (class_of z) o)) in
             (w.0, if_true (has cs (class_of i)) (by_shape (f y) (read p t) (by_shape (k y) (read p u) refused) i) (by_shape (k y) (read p u) refused i) (took w.0 z) (ap (has cs) is_lead ∙ also (first t) cs (lead (first t)) g.5.1 h.0) w.1);
       }
 
   pub onward_second : {A C D X : Type 0} (s : Syntax A) (f : A → Option C) (cs : List Class) (t : Syntax (C → X)) (k : A → Option D) (u : Syntax (D → X)) (a : (y : A) → HasShape (k y)) → Good (shaped s f cs t k u (always_second a)) → Ready p u → clear (beyond s ++ cs) u ≡ true → ends u l ≡ true → Reaches u → Onward (onward_by f cs t k u) (beyond s) (beyond (shaped s f cs t k u (always_second a)))
   onward_second s f cs t k u a g r c e ru =
       let h = finish u (beyond s ++ cs) g.2 r c e ru in
-      let out = λ (z : List Token) (o : has (beyond t ++ (beyond u ++ beyond_nothing u (beyond s ++ cs))) (class_of z) ≡ false). out_end (beyond t) (beyond u ++ beyond_nothing u (beyond s ++ cs)) (class_of z) o in
+      let out = λ (z : List Token) (o : has (beyond t ++ (beyond u ++ only_if (nullable u) (beyond s ++ cs))) (class_of z) ≡ false). out_end (beyond t) (beyond u ++ only_if (nullable u) (beyond s ++ cs)) (class_of z) o in
       record {
         rest = h.rest;
         begins = λ z o. out_front (beyond s) cs (class_of (h.rest ++ z)) (h.begins z (out z o));
@@ -229,14 +257,14 @@ module _ (p : Option Inside) (l : Room) (room : some_room l ≡ true → there p
             reach_then (read p s) (λ f j. and_then (read p t j) (λ x k. took (f x) k)) (beyond s) (beyond (apply s t)) (k ∷ []) (onward_apply s t g.1 q.1 v.0 e.1 rt) (rs k w.0 e.0)
         | inr w ↦ let e = second (first s) (first t) (nullable s) (class_of_kind k.kind) h w.0 in let f = rt k e.1 w.1 in record {
           rest = f.rest;
-          reads = λ z o. let x = passed s g.0 q.0 k w.0 e.0 (f.rest ++ z) in let y = f.reads z (out_front (beyond t) (beyond_nothing t (beyond s)) (class_of z) o) in
+          reads = λ z o. let x = passed s g.0 q.0 k w.0 e.0 (f.rest ++ z) in let y = f.reads z (out_front (beyond t) (only_if (nullable t) (beyond s)) (class_of z) o) in
               (x.0 y.0, ap (λ v. and_then v (λ f j. and_then (read p t j) (λ x k. took (f x) k))) x.1 ∙ ap (λ v. and_then v (λ y k. took (x.0 y) k)) y.1);
         }
       ]
 
-  reach_choice : {X : Type 0} (cs : List Class) (s t : Syntax X) (k : Token) → ((has cs (class_of_kind k.kind) ≡ true) × Reach (read p s) (beyond s) (k ∷ [])) ⊎ ((has cs (class_of_kind k.kind) ≡ false) × Reach (read p t) (beyond t) (k ∷ [])) → Reach (λ i. if has cs (class_of i) then read p s i else read p t i) (beyond s ++ beyond t) (k ∷ [])
-  reach_choice cs s t k (inl w) = reach_as (read p s) (λ i. if has cs (class_of i) then read p s i else read p t i) (beyond s ++ beyond t) (k ∷ []) (λ z. if_true (has cs (class_of_kind k.kind)) (read p s (k ∷ z)) (read p t (k ∷ z)) (read p s (k ∷ z)) w.0 refl) (reach_wider (read p s) (beyond s) (beyond s ++ beyond t) (k ∷ []) (out_front (beyond s) (beyond t)) w.1)
-  reach_choice cs s t k (inr w) = reach_as (read p t) (λ i. if has cs (class_of i) then read p s i else read p t i) (beyond s ++ beyond t) (k ∷ []) (λ z. if_false (has cs (class_of_kind k.kind)) (read p s (k ∷ z)) (read p t (k ∷ z)) (read p t (k ∷ z)) w.0 refl) (reach_wider (read p t) (beyond t) (beyond s ++ beyond t) (k ∷ []) (out_end (beyond s) (beyond t)) w.1)
+  reach_choice : {X : Type 0} (cs : List Class) (s t : Syntax X) (k : Token) → ((has cs (class_of_kind k.kind) ≡ true) × Reach (read p s) (beyond s) (k ∷ [])) ⊎ ((has cs (class_of_kind k.kind) ≡ false) × Reach (read p t) (beyond t) (k ∷ [])) → Reach (λ i. if has cs (class_of i) then read p s i else read p t i) (beyond s ++ (beyond t ++ only_if (nullable t) cs)) (k ∷ [])
+  reach_choice cs s t k (inl w) = reach_as (read p s) (λ i. if has cs (class_of i) then read p s i else read p t i) (beyond s ++ (beyond t ++ only_if (nullable t) cs)) (k ∷ []) (λ z. if_true (has cs (class_of_kind k.kind)) (read p s (k ∷ z)) (read p t (k ∷ z)) (read p s (k ∷ z)) w.0 refl) (reach_wider (read p s) (beyond s) (beyond s ++ (beyond t ++ only_if (nullable t) cs)) (k ∷ []) (out_front (beyond s) (beyond t ++ only_if (nullable t) cs)) w.1)
+  reach_choice cs s t k (inr w) = reach_as (read p t) (λ i. if has cs (class_of i) then read p s i else read p t i) (beyond s ++ (beyond t ++ only_if (nullable t) cs)) (k ∷ []) (λ z. if_false (has cs (class_of_kind k.kind)) (read p s (k ∷ z)) (read p t (k ∷ z)) (read p t (k ∷ z)) w.0 refl) (reach_wider (read p t) (beyond t) (beyond s ++ (beyond t ++ only_if (nullable t) cs)) (k ∷ []) (λ c o. out_front (beyond t) (only_if (nullable t) cs) c (out_end (beyond s) (beyond t ++ only_if (nullable t) cs) c o)) w.1)
 
   reach_either : {X : Type 0} (cs : List Class) (s t : Syntax X) → Good (either cs s t) → Reaches s → Reaches t → Reaches (either cs s t)
   reach_either cs s t g rs rt k h o = reach_choice cs s t k (elim (picked (has cs (class_of_kind k.kind)) (λ y. opens s l (class_of_kind k.kind)) (λ y. opens t l (class_of_kind k.kind)) o) [
