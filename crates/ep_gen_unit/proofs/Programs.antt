@@ -1,5 +1,5 @@
 -- The machine follows a whole program.
-use Rattle.std.proofs.Common.{◌≡◌, ℕ, ◌+◌, ◌<◌, false, [], ◌∷◌, ◌++◌, length, length-append, Some, slice_get, refl, sym, ap, ◌∙◌, subst, arith}
+use Rattle.std.proofs.Common.{◌≡◌, ℕ, ◌+◌, ◌<◌, false, [], ◌∷◌, ◌++◌, length, length-append, refl, sym, ap, ◌∙◌, subst, arith}
 use Rattle.std.proofs.lemmas.Bool.{lt-ltb}
 use Rattle.ep_gen_expr.specs.ExprCode.{bare}
 use Rattle.ep_gen_unit.specs.StmtCode.{make_all_code}
@@ -13,9 +13,9 @@ use Rattle.ep_object.proofs.Simulating.{simulation_follows}
 use Rattle.ep_object.proofs.Tells.{Never, tells, tells_close}
 use Rattle.ep_object.specs.Follows.{Follows, Bare, SameRoutine}
 use Rattle.ep_object.specs.Laws.{EndsAt}
-use Rattle.ep_object.specs.Matching.{Memory, at as standing}
+use Rattle.ep_object.specs.Matching.{at as standing}
 use Rattle.ep_object.specs.Placing.{alone, first_placement, moved, placed_routine}
-use Rattle.ep_object.specs.Runs.{begin, outcome, enter, run_from, routine_of}
+use Rattle.ep_object.specs.Runs.{begin, outcome, enter, run_from}
 use Rattle.ep_object.specs.Simulates.{Enters, Leaves}
 use Rattle.ep_object.specs.State.{State, Frames, End, Running, Stopped, Normal, first_frames}
 use Rattle.ep_object.specs.Tells.{Tells, AreClose, spare_ticks}

@@ -1,5 +1,5 @@
 -- The machine follows what the start of a unit does after the step of its call.
-use Rattle.std.proofs.Common.{◌≡◌, ℕ, suc, ◌+◌, ◌-◌, ◌≤◌, List, [], ◌∷◌, ◌++◌, length, length-append, ap, ◌∙◌, subst, arith}
+use Rattle.std.proofs.Common.{◌≡◌, ℕ, ◌+◌, ◌≤◌, List, [], ◌∷◌, ◌++◌, length, length-append, ap, ◌∙◌, subst, arith}
 use Rattle.ep_gen_expr.specs.ExprCode.{bare}
 use Rattle.ep_gen_unit.specs.StmtCode.{make_all_code}
 use Rattle.ep_gen_unit.specs.UnitCode.{IsProgramCode}

@@ -14,13 +14,13 @@ use Rattle.ep_gen_unit.proofs.Starts.{MakesFollow, body_follows}
 use Rattle.ep_object.proofs.Bind.{follows_less, follows_post, follows_from, follows_give}
 use Rattle.ep_object.proofs.Fragments.{fragment_to}
 use Rattle.ep_object.proofs.Growing.{inside_here}
-use Rattle.ep_object.specs.Follows.{Follows, Fragment, Inside, Bare, SameRoutine}
+use Rattle.ep_object.specs.Follows.{Bare}
 use Rattle.ep_object.specs.Matching.{Memory, Injection, at as standing}
 use Rattle.ep_object.specs.Operands.{Operand}
 use Rattle.ep_object.specs.Placing.{Placement, Span, CodeStands, IsPlacementOf, Stands, HasDistinctNames, moved, placed_routine, placed_object_unit}
 use Rattle.ep_object.specs.Runs.{routine_of, unit_in}
 use Rattle.ep_object.specs.Scene.{VariableStands, Scene}
-use Rattle.ep_object.specs.Simulates.{routine_credit, Enters, Leaves, Simulates}
+use Rattle.ep_object.specs.Simulates.{routine_credit, Enters, Simulates}
 use Rattle.ep_object.specs.State.{State, Frames}
 use Rattle.ep_object.specs.declared.code.CodeRoutine.{CodeRoutine}
 use Rattle.ep_object.specs.declared.code.Image.{Image}

@@ -1,5 +1,5 @@
 -- What holds of the code of every program: a run of its image tells what the program means, and its ticks and the steps of the meaning bound one another.
-use Rattle.std.specs.Prelude.{◌≡◌, ℕ, ◌+◌, false, List, [], ◌∷◌}
+use Rattle.std.specs.Prelude.{◌≡◌, ℕ, ◌+◌, false, [], ◌∷◌}
 use Rattle.ep_gen_unit.specs.UnitCode.{IsProgramCode}
 use Rattle.ep_object.specs.Laws.{EndsAt}
 use Rattle.ep_object.specs.Placing.{alone}
