@@ -7,9 +7,8 @@ use Rattle.ep_gen_unit.specs.UnitCode.{IsProgramCode, routine_at}
 use Rattle.ep_gen_unit.proofs.Units.{unit_simulates}
 use Rattle.ep_object.proofs.Alone.{placements_alone, stands-alone, distinct-alone}
 use Rattle.ep_object.proofs.Beginning.{first_memory, first_injection, first_matches}
-use Rattle.ep_object.proofs.Bind.{follows_bind, follows_from, follows_stop}
-use Rattle.ep_object.proofs.Rows.{return_enters}
-use Rattle.ep_object.proofs.Simulating.{simulation_follows}
+use Rattle.ep_object.proofs.Bind.{follows_bind, follows_stop}
+use Rattle.ep_object.proofs.Simulating.{simulation_follows, leaves_enters}
 use Rattle.ep_object.proofs.Tells.{Never, tells, tells_close}
 use Rattle.ep_object.specs.Follows.{Follows, Bare, SameRoutine}
 use Rattle.ep_object.specs.Laws.{EndsAt}
@@ -56,13 +55,13 @@ module _ (u : TypedUnit) (o : Object) (is : IsProgramCode u o) where
       }
 
   -- after the start of the only unit the run ends
-  ends : (s : meaning.State) (k : State) (leaves : Leaves (own u) (alone o) first_injection (first_memory start_frames) (Bare [] tt) s k) → let lands = leaves.lands in outcome (alone o) (standing leaves.place lands.operands lands.memory s.trace) ≡ record { weight = 0; to = Stopped Normal s.trace }
+  ends : (s : meaning.State) (k : State) → Leaves (own u) (alone o) first_injection (first_memory start_frames) (Bare [] tt) s k → outcome (alone o) k ≡ record { weight = 0; to = Stopped Normal s.trace }
   ends s k leaves =
       let lands = leaves.lands in
       let inside = lands.post in
       let routine : SameRoutine start_frames lands.memory.frames = inside.routine in
-      return_enters (alone o) leaves.place leaves.line lands.operands leaves.stands lands.memory s.trace
-      ∙ ap (λ turn. record { weight = 0; to = enter (alone o) (turn + 1) (standing leaves.place lands.operands lands.memory s.trace) }) routine.turn
+      let turn : k.frames.turn ≡ 0 = ap (λ (l : State). l.frames.turn) lands.is ∙ routine.turn in
+      leaves_enters leaves ∙ (ap (λ n. record { weight = 0; to = enter (alone o) (n + 1) k }) turn ∙ ap (λ (l : State). record { weight = 0; to = Stopped Normal l.trace }) lands.is)
 
   module _ (valid : IsValid u) where
     -- the machine follows the meaning of the program
@@ -70,7 +69,7 @@ module _ (u : TypedUnit) (o : Object) (is : IsProgramCode u o) where
     program_follows n =
         follows_bind {e = λ a. 41} (λ a. steady_stop meaning.Normal)
         (simulation_follows (unit_simulates u o is (alone o) (placements_alone o) (first_placement o) (stands-alone o) valid (distinct-alone o) n) first_injection (first_memory start_frames) [] meaning.first_state start_state enters)
-        (λ a s k leaves. let lands = leaves.lands in let inside = lands.post in follows_from lands.is (follows_stop {v = 0} inside.routine (ends s k leaves) (omega arith)))
+        (λ a s k leaves. let lands = leaves.lands in let inside = lands.post in follows_stop {v = 0} (subst (λ (l : State). SameRoutine start_frames l.frames) (sym lands.is) inside.routine) (ends s k leaves) (omega arith))
 
     -- What a run of the program's image tells of the meaning of the program.
     pub program_tells : (t : ℕ) → Tells (meaning_of (u ∷ [])) t (run_from (alone o) t (begin (alone o)))

@@ -111,8 +111,9 @@ module _ (u : TypedUnit) (o : Object) (is : IsProgramCode u o) (G : Image) (ps :
         follows = λ m le injection memory below s k enters.
             follows_from (at_entry o.stop (routine_at (ends_block + 1)) stop_is (omega (arith, instructions_own)) enters) (follows_give tt (omega arith) (record {
               place = p.instructions.before + (ends_block + 1);
-              line = u.line;
+              instruction = bare u.line 9;
               stands = returns_stand.1.0;
+              returns = refl;
               lands = record { injection = injection; memory = memory; operands = below; is = refl; matches = enters.matches; post = inside_here refl };
             }));
       }
@@ -141,7 +142,7 @@ module _ (u : TypedUnit) (o : Object) (is : IsProgramCode u o) (G : Image) (ps :
               (λ of_unit slot v is_declared line at code is_code x_stands v1 m1 operands d enough x_home. place_follows ps p o.texts o.references scene n u.name n of_unit slot v is_declared line at code is_code x_stands v1 m1 operands d (omega arith) x_home)
               valid makes injection memory below routine_credit (omega arith) (home o.start (routine_at 0) start_is memory.frames enters.runs) enters.in_unit in
               follows_from (at_entry o.start (routine_at 0) start_is (omega (arith, instructions_own)) enters)
-              (follows_less {n = n} (omega arith) (follows_post (λ a t l lands. record { place = p.instructions.before + ends_block; line = u.line; stands = returns_stand.0; lands = lands }) (body.by s enters.matches)));
+              (follows_less {n = n} (omega arith) (follows_post (λ a t l lands. record { place = p.instructions.before + ends_block; instruction = bare u.line 9; stands = returns_stand.0; returns = refl; lands = lands }) (body.by s enters.matches)));
         }
 
   -- the variables of the unit have their slots

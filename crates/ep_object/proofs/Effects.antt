@@ -15,78 +15,78 @@ use Rattle.ep_typed.specs.Events.{Trace}
 
 module _ (Holds : State → Type 0) where
   -- it holds of the state that the effect leaves, where there is one
-  abbrev pub Leaves : Effect State → Type 0
-  Leaves (Continues t) = Holds t
-  Leaves (Jumps target t) = Holds t
-  Leaves Returns = Unit {0}
-  Leaves (Fails n) = Unit {0}
-  Leaves Halts = Unit {0}
-  Leaves Breaks = Unit {0}
+  abbrev pub HoldsAfter : Effect State → Type 0
+  HoldsAfter (Continues t) = Holds t
+  HoldsAfter (Jumps target t) = Holds t
+  HoldsAfter Returns = Unit {0}
+  HoldsAfter (Fails n) = Unit {0}
+  HoldsAfter Halts = Unit {0}
+  HoldsAfter Breaks = Unit {0}
 
-  mapped_leaves : {A : Type 0} (f : A → State) → ((a : A) → Holds (f a)) → (e : Effect A) → Leaves (mapped f e)
-  mapped_leaves f h (Continues a) = h a
-  mapped_leaves f h (Jumps target a) = h a
-  mapped_leaves f h Returns = tt
-  mapped_leaves f h (Fails n) = tt
-  mapped_leaves f h Halts = tt
-  mapped_leaves f h Breaks = tt
+  mapped_keeps : {A : Type 0} (f : A → State) → ((a : A) → Holds (f a)) → (e : Effect A) → HoldsAfter (mapped f e)
+  mapped_keeps f h (Continues a) = h a
+  mapped_keeps f h (Jumps target a) = h a
+  mapped_keeps f h Returns = tt
+  mapped_keeps f h (Fails n) = tt
+  mapped_keeps f h Halts = tt
+  mapped_keeps f h Breaks = tt
 
-  halts : (b : Bool) → Leaves (provided b Halts)
+  halts : (b : Bool) → HoldsAfter (provided b Halts)
   halts true = tt
   halts false = tt
 
-  returns : (b : Bool) → Leaves (provided b Returns)
+  returns : (b : Bool) → HoldsAfter (provided b Returns)
   returns true = tt
   returns false = tt
 
   module _ (s : State) (operands : (st : List Operand) → Holds (record s { operands = st })) (segments : (p : List Operand × List (Option Segment)) → Holds (in_segments s p)) (makes : (m : Making) → Holds (with_making s m)) (types : (t : Typing) → Holds (with_typing s t)) (events : (p : List Operand × Trace) → Holds (with_events s p)) where
-    kept : (e : Effect (List Operand)) → Leaves (on_operands s e)
-    kept e = mapped_leaves (λ st. record s { operands = st }) operands e
+    kept : (e : Effect (List Operand)) → HoldsAfter (on_operands s e)
+    kept e = mapped_keeps (λ st. record s { operands = st }) operands e
 
-    in_frame : (row : List (Option Place) → Work Making) (o : Option (List (Option Place))) → Leaves (having_weighed o (λ slots. mapped_work (with_making s) (row slots))).effect
+    in_frame : (row : List (Option Place) → Work Making) (o : Option (List (Option Place))) → HoldsAfter (having_weighed o (λ slots. mapped_work (with_making s) (row slots))).effect
     in_frame row None = tt
-    in_frame row (Some slots) = mapped_leaves (with_making s) makes (row slots).effect
+    in_frame row (Some slots) = mapped_keeps (with_making s) makes (row slots).effect
 
-    abbrev WorkLeaves : Work State → Type 0
-    WorkLeaves w = Leaves w.effect
+    abbrev HoldsAfterWork : Work State → Type 0
+    HoldsAfterWork w = HoldsAfter w.effect
 
-    op_leaves : (G : Image) (i : Instr) (o : Option Op) → WorkLeaves (obey_op G i o s)
-    op_leaves G i None = tt
-    op_leaves G i (Some table.Push) = kept _
-    op_leaves G i (Some table.Jump) = kept _
-    op_leaves G i (Some table.JumpFalse) = kept _
-    op_leaves G i (Some table.Unit) = kept _
-    op_leaves G i (Some table.Load) = kept _
-    op_leaves G i (Some table.Add) = kept _
-    op_leaves G i (Some table.Sub) = kept _
-    op_leaves G i (Some table.Mul) = kept _
-    op_leaves G i (Some table.Div) = kept _
-    op_leaves G i (Some table.Mod) = kept _
-    op_leaves G i (Some table.Neg) = kept _
-    op_leaves G i (Some table.Abs) = kept _
-    op_leaves G i (Some table.Sqr) = kept _
-    op_leaves G i (Some table.Odd) = kept _
-    op_leaves G i (Some table.Not) = kept _
-    op_leaves G i (Some table.And) = kept _
-    op_leaves G i (Some table.Or) = kept _
-    op_leaves G i (Some table.Cmp) = kept _
-    op_leaves G i (Some table.Between) = kept _
-    op_leaves G i (Some table.Check) = kept _
-    op_leaves G i (Some table.Step) = kept _
-    op_leaves G i (Some table.Text) = kept _
-    op_leaves G i (Some table.Drop) = kept _
-    op_leaves G i (Some table.Dup) = kept _
-    op_leaves G i (Some table.Chars) = kept _
-    op_leaves G i (Some table.Form) = kept _
-    op_leaves G i (Some table.Halt) = halts (has_no_field i)
-    op_leaves G i (Some table.Return) = returns (has_no_field i)
-    op_leaves G i (Some table.Slot) = kept _
-    op_leaves G i (Some table.Make) = in_frame (λ slots. only_a_weighed i (make_row s.types i.a (making s slots))) (slots_of s.frames)
-    op_leaves G i (Some table.Store) = mapped_leaves (in_segments s) segments _
-    op_leaves G i (Some table.TOrd) = mapped_leaves (with_typing s) types _
-    op_leaves G i (Some table.Put) = mapped_leaves (with_events s) events _
-    op_leaves G i (Some _) = tt
+    op_keeps : (G : Image) (i : Instr) (o : Option Op) → HoldsAfterWork (obey_op G i o s)
+    op_keeps G i None = tt
+    op_keeps G i (Some table.Push) = kept _
+    op_keeps G i (Some table.Jump) = kept _
+    op_keeps G i (Some table.JumpFalse) = kept _
+    op_keeps G i (Some table.Unit) = kept _
+    op_keeps G i (Some table.Load) = kept _
+    op_keeps G i (Some table.Add) = kept _
+    op_keeps G i (Some table.Sub) = kept _
+    op_keeps G i (Some table.Mul) = kept _
+    op_keeps G i (Some table.Div) = kept _
+    op_keeps G i (Some table.Mod) = kept _
+    op_keeps G i (Some table.Neg) = kept _
+    op_keeps G i (Some table.Abs) = kept _
+    op_keeps G i (Some table.Sqr) = kept _
+    op_keeps G i (Some table.Odd) = kept _
+    op_keeps G i (Some table.Not) = kept _
+    op_keeps G i (Some table.And) = kept _
+    op_keeps G i (Some table.Or) = kept _
+    op_keeps G i (Some table.Cmp) = kept _
+    op_keeps G i (Some table.Between) = kept _
+    op_keeps G i (Some table.Check) = kept _
+    op_keeps G i (Some table.Step) = kept _
+    op_keeps G i (Some table.Text) = kept _
+    op_keeps G i (Some table.Drop) = kept _
+    op_keeps G i (Some table.Dup) = kept _
+    op_keeps G i (Some table.Chars) = kept _
+    op_keeps G i (Some table.Form) = kept _
+    op_keeps G i (Some table.Halt) = halts (has_no_field i)
+    op_keeps G i (Some table.Return) = returns (has_no_field i)
+    op_keeps G i (Some table.Slot) = kept _
+    op_keeps G i (Some table.Make) = in_frame (λ slots. only_a_weighed i (make_row s.types i.a (making s slots))) (slots_of s.frames)
+    op_keeps G i (Some table.Store) = mapped_keeps (in_segments s) segments _
+    op_keeps G i (Some table.TOrd) = mapped_keeps (with_typing s) types _
+    op_keeps G i (Some table.Put) = mapped_keeps (with_events s) events _
+    op_keeps G i (Some _) = tt
 
     -- it holds of what an instruction leaves
-    pub obey_leaves : (G : Image) (i : Instr) → Leaves (obey G i s).effect
-    obey_leaves G i = op_leaves G i (op_of i.op)
+    pub obey_keeps : (G : Image) (i : Instr) → HoldsAfter (obey G i s).effect
+    obey_keeps G i = op_keeps G i (op_of i.op)

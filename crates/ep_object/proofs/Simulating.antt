@@ -1,15 +1,16 @@
 -- What runs from the entry of a routine do that simulates a computation.
-use Rattle.std.proofs.Common.{◌≡◌, ℕ, zero, suc, ◌+◌, ◌-◌, ◌≤◌, inl, inr, List, refl, sym, ap, ◌∙◌, subst, arith}
+use Rattle.std.proofs.Common.{◌≡◌, ℕ, zero, suc, ◌+◌, ◌-◌, ◌≤◌, inl, inr, List, Some, slice_get, refl, sym, ap, ◌∙◌, subst, arith}
 use Rattle.ep_outside.specs.Known.{IsPrefix}
 use Rattle.ep_typed.specs.Events.{Trace}
 use Rattle.ep_typed.specs.Steps.{Outcome, Gives, Ends, Cut, Computation, spend, state_of}
 use Rattle.ep_typed.specs.Steps as meaning
 use Rattle.ep_typed.specs.Valid.{Declarations}
+use Rattle.ep_object.specs.Effects.{Work}
 use Rattle.ep_object.specs.Follows.{end_of, Reaches, EndsToo, RunsOn, Follows, Operands, SameRoutine}
 use Rattle.ep_object.specs.Laws.{IsRunning}
 use Rattle.ep_object.specs.Matching.{Memory, Injection}
 use Rattle.ep_object.specs.Operands.{Operand}
-use Rattle.ep_object.specs.Runs.{run, run_from, trace_of}
+use Rattle.ep_object.specs.Runs.{run, run_from, trace_of, outcome, outcome_of, after, enter}
 use Rattle.ep_object.specs.Simulates.{routine_credit, Enters, Leaves, Simulates, StaysIn, LeavesAfter, EndsAfter, StaysAfter, AnswersInRoom}
 use Rattle.ep_object.specs.State.{State, Frames, Going, Running, Stopped}
 use Rattle.ep_object.specs.declared.code.Image.{Image}
@@ -123,3 +124,10 @@ module _ {A : Type 0} {declared : Declarations} {G : Image} {unit routine n : �
 
   pub simulation_follows : Follows In G n k s c (λ a. Leaves declared G injection memory (Results below a)) (1 + routine_credit) (λ a. routine_credit)
   simulation_follows = record { by = λ m le. subst (λ (d : Computation A). Met In G k m (λ a. Leaves declared G injection memory (Results below a)) (1 + routine_credit) (λ a. routine_credit) (d m s)) (sym sim.called) (body_follows m le) }
+
+-- what the instruction that leaves a routine leads to
+pub leaves_enters : {declared : Declarations} {G : Image} {injection : Injection} {memory : Memory} {Then : Operands} {s : meaning.State} {k : State} → Leaves declared G injection memory Then s k → outcome G k ≡ record { weight = 0; to = enter G (k.frames.turn + 1) k }
+leaves_enters {G = G} {k = k} leaves =
+    let lands = leaves.lands in
+    let has : slice_get G.instructions k.place ≡ Some leaves.instruction = ap (λ (l : State). slice_get G.instructions l.place) lands.is ∙ leaves.stands in
+    ap (λ o. outcome_of G o k) has ∙ ap (λ (w : Work State). record { weight = w.weight; to = after G leaves.instruction k w.effect }) leaves.returns

@@ -8,7 +8,7 @@ use Rattle.ep_object.specs.Table.{obey}
 use Rattle.ep_object.specs.declared.code.Image.{Image}
 use Rattle.ep_object.specs.declared.code.ImageRoutine.{ImageRoutine}
 use Rattle.ep_object.specs.declared.code.Instr.{Instr}
-use Rattle.ep_object.proofs.Effects.{Leaves, obey_leaves}
+use Rattle.ep_object.proofs.Effects.{HoldsAfter, obey_keeps}
 use Rattle.ep_object.proofs.Growing.{same_routine-refl, same_routine-trans}
 
 -- the same routine, or a later turn
@@ -35,12 +35,12 @@ entering_next_stays G s None = tt
 entering_next_stays G s (Some x) = entering_stays s x (routine_of G x.routine)
 
 -- what an instruction leaves is in the frames of the same routine
-obey_stays : (G : Image) (i : Instr) (s : State) → Leaves (λ t. SameRoutine s.frames t.frames) (obey G i s).effect
+obey_stays : (G : Image) (i : Instr) (s : State) → HoldsAfter (λ t. SameRoutine s.frames t.frames) (obey G i s).effect
 obey_stays G i s =
     let same : SameRoutine s.frames s.frames = same_routine-refl s.frames in
-    obey_leaves (λ t. SameRoutine s.frames t.frames) s (λ st. same) (λ p. same) (λ m. record { turn = refl; routine = refl; unit = refl }) (λ t. same) (λ p. same) G i
+    obey_keeps (λ t. SameRoutine s.frames t.frames) s (λ st. same) (λ p. same) (λ m. record { turn = refl; routine = refl; unit = refl }) (λ t. same) (λ p. same) G i
 
-after_stays : (G : Image) (i : Instr) (s : State) (e : Effect State) → Leaves (λ t. SameRoutine s.frames t.frames) e → GoesOnIn s.frames (after G i s e)
+after_stays : (G : Image) (i : Instr) (s : State) (e : Effect State) → HoldsAfter (λ t. SameRoutine s.frames t.frames) e → GoesOnIn s.frames (after G i s e)
 after_stays G i s (Continues t) h = inl (record { turn = h.turn; routine = h.routine; unit = h.unit })
 after_stays G i s (Jumps target t) h = inl (record { turn = h.turn; routine = h.routine; unit = h.unit })
 after_stays G i s Returns h = entering_next_stays G s (activation G (s.frames.turn + 1))

@@ -38,7 +38,7 @@ pub record Reaches (G : Image) (k : State) (m left d e : ℕ) (Post : State → 
   pub pays : Pays m left ticks d e
   pub post : Post to
 
--- The machine ends so, and at no earlier tick; until then it is within such states. Of m steps all but those left were spent, at most 64 for each tick but the last.
+-- The machine ends so, from such a state, and at no earlier tick. Of m steps all but those left were spent; the last tick pays for none of them.
 pub record EndsToo (Within : State → Type 0) (G : Image) (k : State) (m left d : ℕ) (e : meaning.End) (trace : Trace) : Type 0 where
   pub ticks : ℕ
   pub wait : ℕ
@@ -51,7 +51,7 @@ pub record EndsToo (Within : State → Type 0) (G : Image) (k : State) (m left d
   pub slow : spent ≤ 64 * ticks + d
   pub fast : suc ticks ≤ 64 * spent + d
 
--- the machine is still running, within such states, at a point at which its events are those
+-- the machine is still running, in such a state, at a point at which its events are those
 pub record RunsOn (Within : State → Type 0) (G : Image) (k : State) (m d : ℕ) (trace : Trace) : Type 0 where
   pub ticks : ℕ
   pub wait : ℕ
@@ -81,7 +81,7 @@ pub record GivesUp (G : Image) (k : State) (s : meaning.State) : Type 0 where
   pub runs : run G ticks 0 k ≡ Stopped (Error number unit line) trace
   pub begins : IsPrefix trace s.trace
 
--- the machine follows the computation with up to n steps, within such states until it comes to where it leads
+-- the machine follows the computation with up to n steps, and is in such a state where that is cut or ends the run
 pub record Follows {A : Type 0} (Within : State → Type 0) (G : Image) (n : ℕ) (k : State) (s : meaning.State) (c : Computation A) (Post : A → meaning.State → State → Type 0) (d : ℕ) (e : A → ℕ) : Type 0 where
   pub by : (m : ℕ) → m ≤ n → Meets Within G k m Post d e (c m s) ⊎ GivesUp G k (state_of (c m s))
 

@@ -1,22 +1,24 @@
 -- What it means that a routine of an image simulates a computation, and what runs from the entry of the routine then do, in ticks and steps.
-use Rattle.std.specs.Prelude.{◌≡◌, ℕ, pos, suc, ◌+◌, ◌*◌, ◌≤◌, ◌<◌, ◌⊎◌, List, Some, slice_get}
+use Rattle.std.specs.Prelude.{◌≡◌, ℕ, suc, ◌+◌, ◌*◌, ◌≤◌, ◌<◌, ◌⊎◌, List, Some, slice_get}
 use Rattle.ep_outside.specs.Known.{IsPrefix}
 use Rattle.ep_typed.specs.Events.{Trace}
 use Rattle.ep_typed.specs.Printing.{Result}
 use Rattle.ep_typed.specs.Steps.{Outcome, Gives, Ends, Cut, Computation, spend, state_of}
 use Rattle.ep_typed.specs.Steps as meaning
 use Rattle.ep_typed.specs.Valid.{Declarations, Kind}
+use Rattle.ep_object.specs.Effects.{Returns, light}
 use Rattle.ep_object.specs.Follows.{end_of, Follows, GivesUp, Lands, Operands, Bare, OnTop, SameRoutine, Inside}
 use Rattle.ep_object.specs.Laws.{EndsAt}
 use Rattle.ep_object.specs.Matching.{Memory, at, Injection, Matches}
 use Rattle.ep_object.specs.Operands.{Operand}
 use Rattle.ep_object.specs.Runs.{run, routine_of, trace_of}
 use Rattle.ep_object.specs.State.{State, End, Running}
-use Rattle.ep_object.specs.Table.{instr}
+use Rattle.ep_object.specs.Table.{obey}
 use Rattle.ep_object.specs.declared.code.Image.{Image}
 use Rattle.ep_object.specs.declared.code.ImageRoutine.{ImageRoutine}
+use Rattle.ep_object.specs.declared.code.Instr.{Instr}
 
--- The credit with which the code of a routine begins, and which is there again where the routine is left: so the step of its call and the tick of its `Return` pay for each other.
+-- The credit with which the code of a routine begins, and which is there again where the routine is left: so the step of its call and the tick of the instruction that leaves it pay for each other.
 abbrev pub routine_credit : ℕ
 routine_credit = 41
 
@@ -29,11 +31,12 @@ pub record Enters (declared : Declarations) (G : Image) (unit routine : ℕ) (in
   pub in_unit : memory.frames.unit ≡ unit
   pub matches : Matches declared G injection s memory
 
--- The machine stands at a `Return` of the same routine in the same unit's frame, with these operands, and matches again by a longer injection; hidden segments are what they were.
+-- The machine stands at an instruction that leaves the routine, in the same unit's frame and with these operands, and matches again by a longer injection; hidden segments are what they were.
 pub record Leaves (declared : Declarations) (G : Image) (injection : Injection) (memory : Memory) (Then : Operands) (s : meaning.State) (k : State) : Type 0 where
   pub place : ℕ
-  pub line : ℕ
-  pub stands : slice_get G.instructions place ≡ Some (instr 9 (pos 0) 0 line)
+  pub instruction : Instr
+  pub stands : slice_get G.instructions place ≡ Some instruction
+  pub returns : obey G instruction k ≡ light Returns
   pub lands : Lands declared G place (Inside injection memory Then) s k
 
 -- The routine of this number, of the unit at this place of the image, simulates the computation with up to n steps: the computation spends the step of a call and then goes on as a body, and wherever the machine enters the routine it follows the body within the routine, and where that gives a value it leaves the routine with these results on the operands below.
@@ -61,7 +64,7 @@ pub record StaysIn (G : Image) (k : State) (ticks : ℕ) (trace : Trace) : Type 
   pub stays : SameRoutine k.frames to.frames
   pub begins : IsPrefix to.trace trace
 
--- A value is given after so many steps: the machine comes to a `Return` with which it leaves the routine, its ticks with that of the `Return` keep pace with the steps, and until then it stays in the routine.
+-- A value is given after so many steps: the machine comes to the instruction that leaves the routine, its ticks with the one of that instruction keep pace with the steps, and until then it stays in the routine.
 pub record LeavesAfter (declared : Declarations) (G : Image) (injection : Injection) (memory : Memory) (Then : Operands) (k : State) (s : meaning.State) (steps : ℕ) : Type 0 where
   pub ticks : ℕ
   pub last : State
