@@ -153,7 +153,7 @@ shape_between xs cs ys zs v m b h k l (inr w) =
     let to_b = (λ (ds : List Class). ap (λ z. has ds (class_of z)) w.1) in
     (to_b xs ∙ out_front xs cs (class_of b) o, to_b cs ∙ out_end xs cs (class_of b) o)
 
-shape_took : {C X : Type 0} (o : Option C) (p : Parser (C → X)) (q : Parser X) (m : List Token) (c : C) (g : C → X) (x : X) (b : List Token) → o ≡ Some c → p m ≡ took g b → x ≡ g c → by_shape o p q m ≡ took x b
+pub shape_took : {C X : Type 0} (o : Option C) (p : Parser (C → X)) (q : Parser X) (m : List Token) (c : C) (g : C → X) (x : X) (b : List Token) → o ≡ Some c → p m ≡ took g b → x ≡ g c → by_shape o p q m ≡ took x b
 shape_took o p q m c g x b h k l = ap (λ z. by_shape z p q m) h ∙ then_took (p m) (λ g k. took (g c) k) g b x b k (ap (λ z. took z b) (sym l))
 
 -- ---- rows

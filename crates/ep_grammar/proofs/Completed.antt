@@ -1,55 +1,30 @@
 -- A text at which a parser stops for want of levels can be completed so that a parser with two more levels takes it all.
-use Rattle.std.proofs.Common.{◌≡◌, ℕ, zero, suc, ◌≤◌, ◌<◌, Bool, true, false, List, [], ◌∷◌, ◌++◌, length, Ok, Err, Option, Some, None, refl, sym, ap, ◌∙◌, subst, append_assoc, arith, inl, inr, length-append}
+use Rattle.std.proofs.Common.{◌≡◌, ℕ, zero, suc, Bool, true, false, List, [], ◌∷◌, ◌++◌, length, Option, Some, None, refl, ap, arith, inl, inr}
 use Rattle.std.specs.Prelude.{if◌then◌else◌, ◌⊎◌}
 use Rattle.ep_token.specs.declared.token.Token.{Token}
-use Rattle.ep_grammar.specs.declared.stop.Stop.{Stop}
 use Rattle.ep_grammar.specs.declared.stop.Stop.TheVariants.{Syntax, Nested}
 use Rattle.ep_grammar.specs.Classes.{Class, has, class_of, class_of_kind, End}
 use Rattle.ep_grammar.specs.Descriptions.{Nonterminal, Node, Step, More, Last, HasShape, AlwaysOne, always_first, always_second, give, token, line, inside, apply, either, switch, row, deeper, shaped}
 use Rattle.ep_grammar.specs.Descriptions as d
-use Rattle.ep_grammar.specs.Reading.{Outcome, Parser, and_then, taken, peek, go_on, steps, Inside, read_inside, cause, within, by_shape, refused, read}
+use Rattle.ep_grammar.specs.Reading.{Parser, and_then, taken, peek, go_on, steps, Inside, read_inside, cause, within, by_shape, refused, read}
 use Rattle.ep_grammar.specs.Rules.{rule, inside_at, read_components}
 use Rattle.ep_grammar.specs.Units.{components}
 use Rattle.ep_grammar.proofs.Outcomes.{took, stopped, never_stops}
 use Rattle.ep_grammar.proofs.Classed.{true_false, also, not_also, out_front, out_end}
 use Rattle.ep_grammar.proofs.Static.{both, any, only_if, nullable, first, first_inside, guarded, Good, both_case}
+use Rattle.ep_grammar.proofs.Ahead.{Ahead, stopped_same, bind_stop, map_stop, which, ahead_wider, ahead_as, ahead_map, ahead_if, ahead_second, row_first, row_second}
 use Rattle.ep_grammar.proofs.Checked.{good_rule, good_components, rule_guarded, components_guarded}
 use Rattle.ep_grammar.proofs.Sorts.{there}
-use Rattle.ep_grammar.proofs.Complete.{if_true, if_false}
 use Rattle.ep_grammar.proofs.Ending.{beyond, beyond_inside, much_room, opens, opens_inside, ends, all_open, clear, closes}
 use Rattle.ep_grammar.proofs.Ended.{rule_closes, rule_beyond, components_close}
-use Rattle.ep_grammar.proofs.Like.{Calm, rest_of, with_rest, Like, Takes, enough}
+use Rattle.ep_grammar.proofs.Like.{Like, Takes}
 use Rattle.ep_grammar.proofs.Looks.{ends_not, no_end, step_takes_at, grows_at, grows}
 use Rattle.ep_grammar.proofs.Passing.{Passes, Ready, any_both, any_false, passes_at, ready}
-use Rattle.ep_grammar.proofs.Reach.{Reach, Onward, one_step_more, one_step_ends, reach_wider, reach_as, reach_then, reach_map, within_there, each_opens, shaped_rest, shaped_close, reaches, reaches_inside, onward_apply, onward_row, onward_first, onward_second}
+use Rattle.ep_grammar.proofs.Reach.{Reach, Onward, reach_then, within_there, each_opens, shaped_rest, shaped_close, reaches, reaches_inside, onward_apply, onward_row, onward_first, onward_second}
 
--- The parser stopped at b, of which the first token can be taken, and tokens added: up to and with it these were given.
-pub record Completed {X : Type 0} (q : Parser X) (cs : List Class) (a b : List Token) : Type 0 where
-  pub up : List Token
-  pub later : List Token
-  pub is : a ≡ up ++ later
-  pub left : length b ≡ suc (length later)
-  pub some : 0 < length up
-  pub reach : Reach q cs up
-
--- ---- how a parser stops
-
-stopped_same : {A : Type 0} {e f : Stop} {b c : List Token} → stopped {A = A} e b ≡ stopped f c → (e ≡ f) × (b ≡ c)
-stopped_same {A} {e} {f} {b} {c} h =
-    let q : (e, b) ≡ (f, c) = cc in
-    (ap (λ (w : Stop × List Token). w.0) q, ap (λ (w : Stop × List Token). w.1) q)
-
-bind_stop : {A B : Type 0} {e : Stop} {b : List Token} (o : Outcome A) (f : A → Parser B) → and_then o f ≡ stopped e b → (o ≡ stopped e b) ⊎ ((x : A) × (m : List Token) × (o ≡ took x m) × (f x m ≡ stopped e b))
-bind_stop (Ok p) f h = inr (p.0, p.1, refl, h)
-bind_stop (Err p) f h = let q = stopped_same h in inl (ap (λ e. stopped e p.1) q.0 ∙ ap (stopped _) q.1)
-
-map_stop : {A B : Type 0} (o : Outcome A) (f : A → B) {e : Stop} {b : List Token} → and_then o (λ x k. took (f x) k) ≡ stopped e b → o ≡ stopped e b
-map_stop o f h = elim (bind_stop o (λ x k. took (f x) k) h) [ inl w ↦ w | inr w ↦ never_stops w.3 ]
-
--- the one of two that stopped
-which : {A : Type 0} (v : Bool) (p q : Outcome A) {e : Stop} {b : List Token} → (if v then p else q) ≡ stopped e b → ((v ≡ true) × (p ≡ stopped e b)) ⊎ ((v ≡ false) × (q ≡ stopped e b))
-which true p q h = inl (refl, h)
-which false p q h = inr (refl, h)
+-- The parser stopped at b, and the text can be completed from behind the first token of b on.
+abbrev pub Completed : {X : Type 0} → Parser X → List Class → List Token → List Token → Type 0
+Completed q cs a b = Ahead q cs a (λ later. length b ≡ suc (length later))
 
 syntax_only : {A : Type 0} {X : Type 0} (o : Option A) (i b : List Token) → taken o i ≡ stopped Nested b → X
 syntax_only None i b h = absurd (let q = (stopped_same h).0 in cc)
@@ -57,125 +32,35 @@ syntax_only (Some x) i b h = never_stops h
 
 -- ---- the parts
 
-class_up : (up u v : List Token) → 0 < length up → class_of (up ++ u) ≡ class_of (up ++ v)
-class_up [] u v h = absurd (omega arith)
-class_up (t ∷ up) u v h = refl
-
-completed_wider : {X : Type 0} (q : Parser X) (cs ds : List Class) (a b : List Token) → ((c : Class) → has ds c ≡ false → has cs c ≡ false) → Completed q cs a b → Completed q ds a b
-completed_wider q cs ds a b f c = record { up = c.up; later = c.later; is = c.is; left = c.left; some = c.some; reach = reach_wider q cs ds c.up f c.reach }
-
-completed_as : {X : Type 0} (q p : Parser X) (cs : List Class) (a b : List Token) → ((i : List Token) → class_of i ≡ class_of a → p i ≡ q i) → Completed q cs a b → Completed p cs a b
-completed_as q p cs a b f c = record { up = c.up; later = c.later; is = c.is; left = c.left; some = c.some; reach = reach_as q p cs c.up (λ z. f (c.up ++ z) (class_up c.up z c.later c.some ∙ ap class_of (sym c.is))) c.reach }
-
-completed_map : {A B : Type 0} (q : Parser A) (h : A → B) (cs : List Class) (a b : List Token) → Completed q cs a b → Completed (λ i. and_then (q i) (λ x k. took (h x) k)) cs a b
-completed_map q h cs a b c = record { up = c.up; later = c.later; is = c.is; left = c.left; some = c.some; reach = reach_map q h cs c.up c.reach }
-
--- the one of two that a class decides
-completed_if : {X : Type 0} (cs ds : List Class) (p q : Parser X) (a b : List Token) → ((has cs (class_of a) ≡ true) × Completed p ds a b) ⊎ ((has cs (class_of a) ≡ false) × Completed q ds a b) → Completed (λ i. if has cs (class_of i) then p i else q i) ds a b
-completed_if cs ds p q a b (inl w) = completed_as p (λ i. if has cs (class_of i) then p i else q i) ds a b (λ i e. if_true (has cs (class_of i)) (p i) (q i) (p i) (ap (has cs) e ∙ w.0) refl) w.1
-completed_if cs ds p q a b (inr w) = completed_as q (λ i. if has cs (class_of i) then p i else q i) ds a b (λ i e. if_false (has cs (class_of i)) (p i) (q i) (q i) (ap (has cs) e ∙ w.0) refl) w.1
-
 -- the one of two that a shape decides
 completed_shape : {C X : Type 0} (o : Option C) (p p' : Parser (C → X)) (q q' : Parser X) (ds : List Class) (a b : List Token) → (p a ≡ stopped Nested b → Completed p' ds a b) → (q a ≡ stopped Nested b → Completed q' ds a b) → by_shape o p q a ≡ stopped Nested b → Completed (by_shape o p' q') ds a b
 completed_shape None p p' q q' ds a b f k h = k h
-completed_shape (Some c) p p' q q' ds a b f k h = completed_map p' (λ h. h c) ds a b (f (map_stop (p a) (λ h. h c) h))
-
--- what a parser took, one with more levels takes whatever follows the token at which it stopped
-pub moved : {A : Type 0} (p q : Parser A) → Like false p q → (a m : List Token) (x : A) → p a ≡ took x m → (up later : List Token) → m ≡ up ++ later → 0 < length up → (pre : List Token) × (a ≡ pre ++ m) × ((y : List Token) → q (pre ++ (up ++ y)) ≡ took x (up ++ y))
-moved p q l a m x e [] later f some = absurd (omega arith)
-moved p q l a m x e (t ∷ up) later f some =
-    let r = l.front a in
-    let cut : a ≡ r.0 ++ m = r.1 ∙ ap (λ o. r.0 ++ rest_of o) e in
-    let here : p (r.0 ++ t ∷ (up ++ later)) ≡ took x (t ∷ (up ++ later)) = ap p (ap (λ w. r.0 ++ w) (sym f) ∙ sym cut) ∙ e ∙ ap (took x) f in
-    (r.0, cut, λ y. l.same r.0 t (up ++ later) (up ++ y) (ap rest_of here) (subst (Calm false) (sym here) tt) ∙ ap (λ o. with_rest o (t ∷ (up ++ y))) here)
-
-longer : (pre up : List Token) → 0 < length up → 0 < length (pre ++ up)
-longer pre up h = omega (arith, length-append pre up)
-
--- the second of two stopped
-completed_second : {A B : Type 0} (p q : Parser A) (h : A → Parser B) (ds : List Class) → Like false p q → (a m b : List Token) (x : A) → p a ≡ took x m → Completed (h x) ds m b → Completed (λ i. and_then (q i) h) ds a b
-completed_second p q h ds l a m b x e c =
-    let v = moved p q l a m x e c.up c.later c.is c.some in
-    record {
-      up = v.0 ++ c.up;
-      later = c.later;
-      is = v.1 ∙ ap (λ w. v.0 ++ w) c.is ∙ sym (append_assoc v.0 c.up c.later);
-      left = c.left;
-      some = longer v.0 c.up c.some;
-      reach = record {
-        rest = c.reach.rest;
-        reads = λ z o.
-            let w = c.reach.reads z o in
-            (w.0, ap (λ i. and_then (q i) h) (append_assoc v.0 c.up (c.reach.rest ++ z)) ∙ ap (λ o. and_then o h) (v.2 (c.reach.rest ++ z)) ∙ w.1);
-      };
-    }
+completed_shape (Some c) p p' q q' ds a b f k h = ahead_map p' (λ h. h c) ds a (λ later. length b ≡ suc (length later)) (f (map_stop (p a) (λ h. h c) h))
 
 -- one after the other
 completed_then : {A B : Type 0} (p q : Parser A) (g h : A → Parser B) (cs ds : List Class) → Like false p q → Onward h cs ds → (a b : List Token) → (p a ≡ stopped Nested b → Completed q cs a b) → ((x : A) (m : List Token) → g x m ≡ stopped Nested b → Completed (h x) ds m b) → and_then (p a) g ≡ stopped Nested b → Completed (λ i. and_then (q i) h) ds a b
 completed_then p q g h cs ds l n a b f k e = elim (bind_stop (p a) g e) [
   | inl w ↦ let c = f w in record { up = c.up; later = c.later; is = c.is; left = c.left; some = c.some; reach = reach_then q h cs ds c.up n c.reach }
-  | inr w ↦ completed_second p q h ds l a w.1 b w.0 w.2 (k w.0 w.1 w.3)
+  | inr w ↦ ahead_second false p q h ds l a w.1 (λ later. length b ≡ suc (length later)) w.0 w.2 (k w.0 w.1 w.3)
 ]
 
 -- ---- rows
 
 module _ {A B : Type 0} (cs ds : List Class) (p q : Parser (Step A B)) (r : B) (l : Like false p q) (tq : Takes q) (e : has cs End ≡ false) (v : (a b : List Token) → p a ≡ stopped Nested b → Completed q ds a b) where
-  abbrev Row : List A → List Token → List Token → Type 0
-  Row found a b = Completed (λ j. steps cs q r (length j) found j) (ds ++ cs) a b
+  abbrev Nests : List A → List Token → List Token → Type 0
+  Nests found a b = Completed (λ j. steps cs q r (length j) found j) (ds ++ cs) a b
 
-  -- a step stopped
-  row_first : (found : List A) (a b : List Token) → has cs (class_of a) ≡ true → p a ≡ stopped Nested b → Row found a b
-  row_first found a b h k = let c = v a b k in record {
-    up = c.up;
-    later = c.later;
-    is = c.is;
-    left = c.left;
-    some = c.some;
-    reach = record {
-      rest = c.reach.rest;
-      reads = λ z o.
-          let i = c.up ++ (c.reach.rest ++ z) in
-          let w = c.reach.reads z (out_front ds cs (class_of z) o) in
-          (one_step_more found r w.0, one_step_ends cs q r (length i) found i z w.0 (omega (arith, length-append c.up (c.reach.rest ++ z), c.some)) (ap (has cs) (class_up c.up (c.reach.rest ++ z) c.later c.some ∙ ap class_of (sym c.is)) ∙ h) w.1 (out_end ds cs (class_of z) o));
-    };
-  }
-
-  -- a step took an item, and the next ones go on
-  next_steps : (n : ℕ) (found : List A) (i k : List Token) (x : A) → length i ≤ n → has cs (class_of i) ≡ true → q i ≡ took (More x) k → steps cs q r n found i ≡ steps cs q r (length k) (found ++ x ∷ []) k
-  unfolding steps
-  next_steps zero found i k x le h f = absurd (let less = tq i (More x) k f in omega arith)
-  next_steps (suc n) found i k x le h f =
-      if_true (has cs (class_of i)) (and_then (q i) (go_on (steps cs q r n) found)) (took (found, r) i) (steps cs q r (length k) (found ++ x ∷ []) k) h
-      (ap (λ o. and_then o (go_on (steps cs q r n) found)) f ∙ enough cs q r tq e n (length k) (found ++ x ∷ []) k (let less = tq i (More x) k f in omega arith) (omega arith))
-
-  row_second : (found : List A) (a m b : List Token) (x : A) → has cs (class_of a) ≡ true → p a ≡ took (More x) m → Row (found ++ x ∷ []) m b → Row found a b
-  row_second found a m b x h k c = let f = moved p q l a m (More x) k c.up c.later c.is c.some in record {
-    up = f.0 ++ c.up;
-    later = c.later;
-    is = f.1 ∙ ap (λ w. f.0 ++ w) c.is ∙ sym (append_assoc f.0 c.up c.later);
-    left = c.left;
-    some = longer f.0 c.up c.some;
-    reach = record {
-      rest = c.reach.rest;
-      reads = λ z o.
-          let u = c.reach.rest ++ z in
-          let w = c.reach.reads z o in
-          let begun : class_of (f.0 ++ (c.up ++ u)) ≡ class_of a = ap class_of (sym (append_assoc f.0 c.up u)) ∙ class_up (f.0 ++ c.up) u c.later (longer f.0 c.up c.some) ∙ ap class_of (append_assoc f.0 c.up c.later ∙ ap (λ w. f.0 ++ w) (sym c.is) ∙ sym f.1) in
-          (w.0, ap (λ i. steps cs q r (length i) found i) (append_assoc f.0 c.up u) ∙ next_steps (length (f.0 ++ (c.up ++ u))) found (f.0 ++ (c.up ++ u)) (c.up ++ u) x (omega arith) (ap (has cs) begun ∙ h) (f.2 u) ∙ w.1);
-    };
-  }
-
-  row_step : (more : List A → Parser (List A × B)) → ((found : List A) (a b : List Token) → more found a ≡ stopped Nested b → Row found a b) → (found : List A) (s : Step A B) (a m b : List Token) → has cs (class_of a) ≡ true → p a ≡ took s m → go_on more found s m ≡ stopped Nested b → Row found a b
-  row_step more rec found (More x) a m b h k f = row_second found a m b x h k (rec (found ++ x ∷ []) m b f)
+  row_step : (more : List A → Parser (List A × B)) → ((found : List A) (a b : List Token) → more found a ≡ stopped Nested b → Nests found a b) → (found : List A) (s : Step A B) (a m b : List Token) → has cs (class_of a) ≡ true → p a ≡ took s m → go_on more found s m ≡ stopped Nested b → Nests found a b
+  row_step more rec found (More x) a m b h k f = row_second cs ds false p q r l tq e found a m (λ later. length b ≡ suc (length later)) x h k (rec (found ++ x ∷ []) m b f)
   row_step more rec found (Last x) a m b h k f = never_stops f
 
-  row_turn : (more : List A → Parser (List A × B)) → ((found : List A) (a b : List Token) → more found a ≡ stopped Nested b → Row found a b) → (found : List A) (a b : List Token) → has cs (class_of a) ≡ true → and_then (p a) (go_on more found) ≡ stopped Nested b → Row found a b
+  row_turn : (more : List A → Parser (List A × B)) → ((found : List A) (a b : List Token) → more found a ≡ stopped Nested b → Nests found a b) → (found : List A) (a b : List Token) → has cs (class_of a) ≡ true → and_then (p a) (go_on more found) ≡ stopped Nested b → Nests found a b
   row_turn more rec found a b h k = elim (bind_stop (p a) (go_on more found) k) [
-    | inl w ↦ row_first found a b h w
+    | inl w ↦ row_first cs ds false p q r l tq e found a (λ later. length b ≡ suc (length later)) h (v a b w)
     | inr w ↦ row_step more rec found w.0 a w.1 b h w.2 w.3
   ]
 
-  rows : (n : ℕ) (found : List A) (a b : List Token) → steps cs p r n found a ≡ stopped Nested b → Row found a b
+  rows : (n : ℕ) (found : List A) (a b : List Token) → steps cs p r n found a ≡ stopped Nested b → Nests found a b
   unfolding steps
   rows zero found a b h = never_stops h
   rows (suc n) found a b h = elim (which (has cs (class_of a)) (and_then (p a) (go_on (steps cs p r n) found)) (took (found, r) a) h) [
@@ -228,25 +113,25 @@ module _ (p q : Option Inside) (levels : there q ≡ true) (li : (X : Type 0) (s
       let w = both_case (clear (beyond s) t) (ends t much_room) v.1 in
       completed_then (read p s) (read q s) (λ f j. and_then (read p t j) (λ x k. took (f x) k)) (λ f j. and_then (read q t j) (λ x k. took (f x) k)) (beyond s) (beyond (apply s t)) (li _ s g.0)
       (onward_apply q much_room (λ h. levels) ps ri s t g.1 (at_hand t) w.0 w.1 (begins_there t g.1 v.0)) a b (vs a b)
-      (λ f m k. completed_map (read q t) f (beyond (apply s t)) m b (completed_wider (read q t) (beyond t) (beyond (apply s t)) m b (out_front (beyond t) (only_if (nullable t) (beyond s))) (vt m b (map_stop (read p t m) f k)))) h
+      (λ f m k. ahead_map (read q t) f (beyond (apply s t)) m (λ later. length b ≡ suc (length later)) (ahead_wider (read q t) (beyond t) (beyond (apply s t)) m (λ later. length b ≡ suc (length later)) (out_front (beyond t) (only_if (nullable t) (beyond s))) (vt m b (map_stop (read p t m) f k)))) h
 
   completes_choice : {X : Type 0} (cs : List Class) (s t : d.Syntax X) → Completes s → Completes t → (a b : List Token) → (if has cs (class_of a) then read p s a else read p t a) ≡ stopped Nested b → Completed (λ i. if has cs (class_of i) then read q s i else read q t i) (beyond s ++ (beyond t ++ only_if (nullable t) cs)) a b
-  completes_choice cs s t vs vt a b h = completed_if cs (beyond s ++ (beyond t ++ only_if (nullable t) cs)) (read q s) (read q t) a b (elim (which (has cs (class_of a)) (read p s a) (read p t a) h) [
-    | inl w ↦ inl (w.0, completed_wider (read q s) (beyond s) (beyond s ++ (beyond t ++ only_if (nullable t) cs)) a b (out_front (beyond s) (beyond t ++ only_if (nullable t) cs)) (vs a b w.1))
-    | inr w ↦ inr (w.0, completed_wider (read q t) (beyond t) (beyond s ++ (beyond t ++ only_if (nullable t) cs)) a b (λ c o. out_front (beyond t) (only_if (nullable t) cs) c (out_end (beyond s) (beyond t ++ only_if (nullable t) cs) c o)) (vt a b w.1))
+  completes_choice cs s t vs vt a b h = ahead_if cs (beyond s ++ (beyond t ++ only_if (nullable t) cs)) (read q s) (read q t) a (λ later. length b ≡ suc (length later)) (elim (which (has cs (class_of a)) (read p s a) (read p t a) h) [
+    | inl w ↦ inl (w.0, ahead_wider (read q s) (beyond s) (beyond s ++ (beyond t ++ only_if (nullable t) cs)) a (λ later. length b ≡ suc (length later)) (out_front (beyond s) (beyond t ++ only_if (nullable t) cs)) (vs a b w.1))
+    | inr w ↦ inr (w.0, ahead_wider (read q t) (beyond t) (beyond s ++ (beyond t ++ only_if (nullable t) cs)) a (λ later. length b ≡ suc (length later)) (λ c o. out_front (beyond t) (only_if (nullable t) cs) c (out_end (beyond s) (beyond t ++ only_if (nullable t) cs) c o)) (vt a b w.1))
   ])
 
   completes_row : {A B : Type 0} (s : d.Syntax (List A)) (cs : List Class) (t : d.Syntax (Step A B)) (r : B) → Good (row s cs t r) → Completes s → Completes t → Completes (row s cs t r)
   completes_row s cs t r g vs vt a b h =
       completed_then (read p s) (read q s) (λ found j. steps cs (read p t) r (length j) found j) (λ found j. steps cs (read q t) r (length j) found j) (beyond s) (beyond (row s cs t r)) (li _ s g.0)
       (onward_row q much_room (λ h. levels) ps ri s cs t r) a b (vs a b)
-      (λ found m k. completed_wider (λ j. steps cs (read q t) r (length j) found j) (beyond t ++ cs) (beyond (row s cs t r)) m b (out_end (beyond s) (beyond t ++ cs))
+      (λ found m k. ahead_wider (λ j. steps cs (read q t) r (length j) found j) (beyond t ++ cs) (beyond (row s cs t r)) m (λ later. length b ≡ suc (length later)) (out_end (beyond s) (beyond t ++ cs))
       (rows cs (beyond t) (read p t) (read q t) r (li _ t g.1) (tq _ _ t g.1 g.2) (ends_not cs (first t) g.3 (no_end t g.1)) vt (length m) found m b k)) h
 
   completes_deeper : {X : Type 0} (cs : List Class) (s : d.Syntax X) → Good (deeper cs s) → closes (deeper cs s) ≡ true → (there p ≡ true → Completes s) → Completes (deeper cs s)
   completes_deeper cs s g c vs a b h =
       let u = both_case (closes s) (all_open s much_room cs) c in
-      completed_as (read q s) (within q cs (read q s)) (beyond s) a b (λ i e. within_there q cs (read q s) i levels) (elim (within_stop p cs (read p s) a b h) [
+      ahead_as (read q s) (within q cs (read q s)) (beyond s) a (λ later. length b ≡ suc (length later)) (λ i e. within_there q cs (read q s) i levels) (elim (within_stop p cs (read p s) a b h) [
         | inl w ↦ vs w.0 a b w.1
         | inr w ↦ opened (read q s) cs (beyond s) (ends_not cs (first s) g.2 (no_end s g.0)) (λ t k. begins_there s g.0 u.0 t (also cs (first s) (class_of_kind t.kind) g.2.0 k) (each_opens s much_room cs (class_of_kind t.kind) u.1 k)) a b w.0 w.1
       ])
@@ -265,16 +150,16 @@ module _ (p q : Option Inside) (levels : there q ≡ true) (li : (X : Type 0) (s
 
       of_second : (y : A) (m : List Token) → by_shape (k y) (read p u) refused m ≡ stopped Nested b → Completed (by_shape (k y) (read q u) refused) ds m b
       of_second y m h = completed_shape (k y) (read p u) (read q u) refused refused ds m b
-          (λ h. completed_wider (read q u) (beyond u) ds m b (λ c o. out_front (beyond u) (only_if (nullable u) (beyond s ++ cs)) c (out_end (beyond t) (beyond u ++ only_if (nullable u) (beyond s ++ cs)) c o)) (vu m b h))
+          (λ h. ahead_wider (read q u) (beyond u) ds m (λ later. length b ≡ suc (length later)) (λ c o. out_front (beyond u) (only_if (nullable u) (beyond s ++ cs)) c (out_end (beyond t) (beyond u ++ only_if (nullable u) (beyond s ++ cs)) c o)) (vu m b h))
           (λ h. refused_not_nested m b h) h
 
       of_first : (y : A) (m : List Token) → by_shape (f y) (read p t) (by_shape (k y) (read p u) refused) m ≡ stopped Nested b → Completed (by_shape (f y) (read q t) (by_shape (k y) (read q u) refused)) ds m b
       of_first y m h = completed_shape (f y) (read p t) (read q t) (by_shape (k y) (read p u) refused) (by_shape (k y) (read q u) refused) ds m b
-          (λ h. completed_wider (read q t) (beyond t) ds m b (λ c o. out_front (beyond t) (beyond u ++ only_if (nullable u) (beyond s ++ cs)) c o) (vt m b h))
+          (λ h. ahead_wider (read q t) (beyond t) ds m (λ later. length b ≡ suc (length later)) (λ c o. out_front (beyond t) (beyond u ++ only_if (nullable u) (beyond s ++ cs)) c o) (vt m b h))
           (λ h. of_second y m h) h
 
       behind : (y : A) (m : List Token) → (if has cs (class_of m) then by_shape (f y) (read p t) (by_shape (k y) (read p u) refused) m else by_shape (k y) (read p u) refused m) ≡ stopped Nested b → Completed (λ j. if has cs (class_of j) then by_shape (f y) (read q t) (by_shape (k y) (read q u) refused) j else by_shape (k y) (read q u) refused j) ds m b
-      behind y m h = completed_if cs ds (by_shape (f y) (read q t) (by_shape (k y) (read q u) refused)) (by_shape (k y) (read q u) refused) m b (elim (which (has cs (class_of m)) (by_shape (f y) (read p t) (by_shape (k y) (read p u) refused) m) (by_shape (k y) (read p u) refused m) h) [
+      behind y m h = ahead_if cs ds (by_shape (f y) (read q t) (by_shape (k y) (read q u) refused)) (by_shape (k y) (read q u) refused) m (λ later. length b ≡ suc (length later)) (elim (which (has cs (class_of m)) (by_shape (f y) (read p t) (by_shape (k y) (read p u) refused) m) (by_shape (k y) (read p u) refused m) h) [
         | inl w ↦ inl (w.0, of_first y m w.1)
         | inr w ↦ inr (w.0, of_second y m w.1)
       ])
@@ -324,7 +209,7 @@ completes_by k vi s g c r a b h =
 completes_inside : (k : ℕ) → CompletesInside k
 unfolding inside_at
 completes_inside zero v n a b h = absurd (cc)
-completes_inside (suc k) v n a b h = completed_wider (read (inside_at (suc (suc k))) (rule n)) (beyond (rule n)) (beyond_inside n) a b (λ c o. not_also (beyond (rule n)) (beyond_inside n) c (rule_beyond n) o) (completes_by k (completes_inside k) (rule n) (good_rule n) (rule_closes n) (rule_guarded n) a b h)
+completes_inside (suc k) v n a b h = ahead_wider (read (inside_at (suc (suc k))) (rule n)) (beyond (rule n)) (beyond_inside n) a (λ later. length b ≡ suc (length later)) (λ c o. not_also (beyond (rule n)) (beyond_inside n) c (rule_beyond n) o) (completes_by k (completes_inside k) (rule n) (good_rule n) (rule_closes n) (rule_guarded n) a b h)
 
 -- a text at which a parser stops for want of levels
 pub components_complete : (k : ℕ) (ts left : List Token) → read_components k ts ≡ stopped Nested left → Completed (read_components (suc (suc k))) (beyond components) ts left

@@ -6,7 +6,7 @@ use Rattle.ep_token.specs.declared.token.Token.{Token}
 use Rattle.ep_token.specs.declared.token.TokenKind.{TokenKind}
 use Rattle.ep_token.specs.declared.token.TokenKind.TheVariants as kind
 use Rattle.ep_grammar.specs.Classes.{Class, Word, Symbol, Name, Number, Text, Interface, Implementation, Forward, End, same, has, class_of_kind, class_of_name, interface_bytes, implementation_bytes, forward_bytes}
-use Rattle.ep_grammar.specs.Descriptions.{Nonterminal, statements, Syntax, give, token, line, inside, apply, either, switch, row, deeper, shaped, always_first, always_second}
+use Rattle.ep_grammar.specs.Descriptions.{Nonterminal, field_lists, statements, Syntax, give, token, line, inside, apply, either, switch, row, deeper, shaped, always_first, always_second}
 use Rattle.ep_grammar.proofs.Static.{both, any, opposite, only_if, nullable, nullable_inside, first, first_inside, after_inside}
 
 -- ---- a token of a class
@@ -128,3 +128,41 @@ closes (row s cs t r) = both (closes s) (closes t)
 closes (deeper cs s) = both (closes s) (all_open s much_room cs)
 closes (shaped s f cs t g u (always_first h)) = both (closes s) (both (closes t) (both (closes u) (both (clear (beyond s) t) (ends t much_room))))
 closes (shaped s f cs t g u (always_second h)) = both (closes s) (both (closes t) (both (closes u) (both (clear (beyond s ++ cs) u) (ends u much_room))))
+
+-- ---- whether what was taken can be brought to its end with no level more
+
+-- the meaning holds no line of a token that follows
+abbrev pub steady_inside : Nonterminal → Bool
+steady_inside field_lists = false
+steady_inside statements = false
+steady_inside n = true
+
+abbrev pub steady : {X : Type 0} → Syntax X → Bool
+steady (give x) = true
+steady (token s) = true
+steady line = false
+steady (inside n) = steady_inside n
+steady (apply s t) = both (steady t) (any (opposite (nullable t)) (steady s))
+steady (either cs s t) = both (steady s) (steady t)
+steady (switch cs s t) = both (steady s) (steady t)
+steady (row s cs t r) = both (steady s) (steady t)
+steady (deeper cs s) = steady s
+steady (shaped s f cs t g u o) = both (steady t) (both (steady u) (any (opposite (nullable u)) (steady s)))
+
+abbrev pub none : List Class → Bool
+none [] = true
+none (c ∷ cs) = false
+
+-- behind each part that has tokens, the next one can be added; and where the second of two shapes may be nothing, the shape does not depend on what follows
+abbrev pub lasts : {X : Type 0} → Syntax X → Room → Bool
+lasts (give x) l = true
+lasts (token s) l = true
+lasts line l = true
+lasts (inside n) l = true
+lasts (apply s t) l = both (lasts s l) (both (lasts t l) (any (none (first s)) (ends t l)))
+lasts (either cs s t) l = both (lasts s l) (lasts t l)
+lasts (switch cs s t) l = both (lasts s l) (lasts t l)
+lasts (row s cs t r) l = both (lasts s l) (lasts t l)
+lasts (deeper cs s) l = any (opposite (some_room l)) (lasts s l)
+lasts (shaped s f cs t g u (always_first h)) l = both (lasts s l) (both (lasts t l) (both (lasts u l) (both (ends t l) (any (opposite (nullable u)) (steady s)))))
+lasts (shaped s f cs t g u (always_second h)) l = both (lasts s l) (both (lasts t l) (both (lasts u l) (ends u l)))

@@ -1,3 +1,5 @@
+pub mod Ahead
+pub mod Before
 pub mod Checked
 pub mod Classed
 pub mod Complete
@@ -11,6 +13,7 @@ pub mod Sorts
 pub mod Sound
 pub mod Static
 pub mod Knot
+pub mod Kept
 pub mod Like
 pub mod Looks
 pub mod Refusal

@@ -111,7 +111,7 @@ then_more : {A B : Type 0} (v : Bool) (o : Outcome A) (g h : A → Parser B) →
 then_more v (Ok w) g h l c = (l w.0).more w.1 c
 then_more v (Err e) g h l c = refl
 
-calm_ok : {A : Type 0} (v : Bool) (x : A) (b : List Token) → Calm v (took x b)
+pub calm_ok : {A : Type 0} (v : Bool) (x : A) (b : List Token) → Calm v (took x b)
 calm_ok true x b = tt
 calm_ok false x b = tt
 

@@ -114,7 +114,7 @@ step_takes_at k A B t g h = step_takes (derived_at k) (inside_at k) (sound_at k)
 
 -- ---- at one number of levels
 
-alike_at : (v : Bool) (k : ℕ) {X : Type 0} (s : d.Syntax X) → Good s → InsideLike v (inside_at k) (inside_at k) → Like v (read (inside_at k) s) (read (inside_at k) s)
+pub alike_at : (v : Bool) (k : ℕ) {X : Type 0} (s : d.Syntax X) → Good s → InsideLike v (inside_at k) (inside_at k) → Like v (read (inside_at k) s) (read (inside_at k) s)
 alike_at v k s g li = looks v (inside_at k) (inside_at k) li (step_takes_at k) (step_takes_at k) (λ X cs s g l. like_within v (inside_at k) cs (read (inside_at k) s) l) s g
 
 pub looks_at : (v : Bool) (k : ℕ) → InsideLike v (inside_at k) (inside_at k)

@@ -78,7 +78,7 @@ each_opens s l (d ∷ cs) c h k =
 lead_class : {X : Type 0} (t : Syntax X) → Good t → has (first t) (lead (first t)) ≡ true → class_of_kind (kind_for (lead (first t))) ≡ lead (first t)
 lead_class t g h = kind_class (lead (first t)) (by_cases (same (lead (first t)) End) (λ e. true_false (subst (λ c. has (first t) c ≡ true) (same_true (lead (first t)) End e) h) (no_end t g)) (λ e. e))
 
-behind_nothing : {v : Bool} → v ≡ true → (cs : List Class) (c : Class) → has (only_if v cs) c ≡ false → has cs c ≡ false
+pub behind_nothing : {v : Bool} → v ≡ true → (cs : List Class) (c : Class) → has (only_if v cs) c ≡ false → has cs c ≡ false
 behind_nothing h cs c o = subst (λ v. has (only_if v cs) c ≡ false) h o
 
 nothing_begins_inside : (n : Nonterminal) → nullable_inside n ≡ true → (c : Class) → has (beyond_inside n) c ≡ false → has (first_inside n) c ≡ false
@@ -337,7 +337,7 @@ module _ (p : Option Inside) (l : Room) (room : some_room l ≡ true → there p
 
 -- ---- at each number of levels
 
-rooms_there : (k : ℕ) → some_room (room_at k) ≡ true → there (inside_at k) ≡ true
+pub rooms_there : (k : ℕ) → some_room (room_at k) ≡ true → there (inside_at k) ≡ true
 unfolding inside_at
 rooms_there zero h = absurd (cc)
 rooms_there (suc k) h = refl

@@ -1,5 +1,5 @@
 -- What the outcome of a parser of texts says of the text.
-use Rattle.std.proofs.Common.{◌≡◌, ℕ, suc, ◌+◌, ◌-◌, ◌<◌, ◌≤◌, true, false, List, [], ◌∷◌, ◌++◌, length, take, Ok, Err, refl, sym, ap, ◌∙◌, subst, append_assoc, arith, length-append}
+use Rattle.std.proofs.Common.{◌≡◌, ℕ, zero, suc, ◌+◌, ◌-◌, ◌<◌, ◌≤◌, true, false, List, [], ◌∷◌, ◌++◌, length, take, Ok, Err, refl, sym, ap, ◌∙◌, subst, append_assoc, arith, length-append, inl, inr}
 use Rattle.ep_token.specs.declared.token.Token.{Token}
 use Rattle.ep_tree.specs.declared.component.Component.{Component}
 use Rattle.ep_grammar.specs.declared.stop.Stop.{Stop}
@@ -10,7 +10,11 @@ use Rattle.ep_grammar.specs.Refusals.{RefusedAt, SyntaxRefusedAt, NestingRefused
 use Rattle.ep_grammar.specs.Units.{components}
 use Rattle.ep_grammar.proofs.Outcomes.{took, stopped, never, same_took}
 use Rattle.ep_grammar.proofs.Like.{Calm, rest_of, with_rest}
-use Rattle.ep_grammar.proofs.Looks.{components_look, components_grow}
+use Rattle.ep_grammar.proofs.Looks.{components_look, components_grow, only_if_out}
+use Rattle.ep_grammar.specs.Classes.{End}
+use Rattle.ep_grammar.proofs.Before.{components_before, components_kept, components_finish}
+use Rattle.ep_grammar.proofs.Classed.{out_both}
+use Rattle.ep_grammar.proofs.Static.{only_if, nullable}
 use Rattle.ep_grammar.proofs.Completed.{Completed, components_complete}
 use Rattle.ep_grammar.proofs.Ended.{components_beyond}
 use Rattle.ep_grammar.proofs.Ending.{beyond}
@@ -76,12 +80,12 @@ less_refused k m ts n le f = record {
 }
 
 -- an outcome that is not for want of levels is the outcome at each number of levels
-refused_anywhere : (k : ℕ) (ts : List Token) (o : Outcome (List Component)) → read_components k ts ≡ o → Calm false o → ((cs : List Component) → o ≡ took cs [] → ⊥) → SyntaxRefusedAt ts (place_of ts (rest_of o))
+refused_anywhere : (k : ℕ) (ts : List Token) (o : Outcome (List Component)) → read_components k ts ≡ o → Calm false o → ((cs : List Component) → o ≡ took cs [] → ⊥) → (m : ℕ) → RefusedAt m ts (place_of ts (rest_of o))
 refused_anywhere k ts o h calm none m =
     less_refused m (m + k) ts (place_of ts (rest_of o)) (omega arith)
     (refused_at (m + k) ts o ((components_grow k (m + k) (omega arith)).more ts (subst (Calm false) (sym h) calm) ∙ h) none (place_of ts (rest_of o)) refl)
 
--- ---- for want of levels
+-- ---- the tokens that a parser took
 
 take_up : (up later : List Token) → take (length up) (up ++ later) ≡ up
 take_up [] later = refl
@@ -90,23 +94,57 @@ take_up (t ∷ up) later = ap (λ w. t ∷ w) (take_up up later)
 up_to : (ts up later : List Token) (n : ℕ) → ts ≡ up ++ later → n ≡ length up → take n ts ≡ up
 up_to ts up later n e h = ap (take n) e ∙ ap (λ m. take m (up ++ later)) h ∙ take_up up later
 
+-- the tokens to a place begin a text where they can be completed
+begins_with : (k : ℕ) (ts up later rest : List Token) (n : ℕ) (cs : List Component) → ts ≡ up ++ later → n ≡ length up → read_components k (up ++ rest) ≡ took cs [] → Begins k (take n ts)
+begins_with k ts up later rest n cs e h r = (rest, cs, subst (λ w. Grammar k (w ++ rest) cs) (sym (up_to ts up later n e h)) (grammar_sound k (up ++ rest) cs r))
+
+begun_text : (k : ℕ) (ts left : List Token) → ts ≡ left → Begins (suc k) (take (place_of ts left) ts)
+begun_text k ts left i =
+    let f = components_finish k in
+    let whole = f.reads [] (out_both (beyond components) (only_if (nullable components) []) End components_beyond (only_if_out (nullable components) [] End refl)) in
+    begins_with (suc k) ts [] ts (f.rest ++ []) (place_of ts left) whole.0 refl (omega (arith, ap length i)) whole.1
+
+begun_before : (k : ℕ) (ts left : List Token) (e : Stop) → read_components k ts ≡ stopped e left → 0 < k → Begins k (take (place_of ts left) ts)
+begun_before zero ts left e h some = absurd (omega arith)
+begun_before (suc k) ts left e h some = elim (components_before k ts left e h) [
+  | inl i ↦ begun_text k ts left i
+  | inr c ↦ let whole = c.reach.reads [] components_beyond in
+      begins_with (suc k) ts c.up c.later (c.reach.rest ++ []) (place_of ts left) whole.0 c.is (omega (arith, ap length c.is, length-append c.up c.later, ap length c.left)) whole.1
+]
+
+begun_left : (k : ℕ) (ts left : List Token) (cs : List Component) → read_components k ts ≡ took cs left → 0 < k → Begins k (take (place_of ts left) ts)
+begun_left zero ts left cs h some = absurd (omega arith)
+begun_left (suc k) ts left cs h some =
+    let c = components_kept k ts left cs h in
+    let whole = c.reads [] components_beyond in
+    begins_with (suc k) ts c.up left [] (place_of ts left) whole.0 c.is (omega (arith, ap length c.is, length-append c.up left)) whole.2
+
+-- ---- the laws
+
+syntax_refused : (k : ℕ) (ts left : List Token) → read_components k ts ≡ stopped Syntax left → SyntaxRefusedAt k ts (place_of ts left)
+syntax_refused k ts left h = record {
+  refused = refused_anywhere k ts (stopped Syntax left) h tt (λ cs e. never e);
+  begun_before = begun_before k ts left Syntax h;
+}
+
 -- a text that a parser with more levels reads on
 nesting_refused : (k : ℕ) (ts left : List Token) → read_components k ts ≡ stopped Nested left → Completed (read_components (suc (suc k))) (beyond components) ts left → NestingRefusedAt k ts (place_of ts left)
 nesting_refused k ts left h c =
     let whole = c.reach.reads [] components_beyond in
-    let up_is : take (place_of ts left + 1) ts ≡ c.up = up_to ts c.up c.later (place_of ts left + 1) c.is (omega (arith, ap length c.is, length-append c.up c.later, c.left, c.some)) in
     record {
       refused = refused_at k ts (stopped Nested left) h (λ cs e. never e) (place_of ts left) refl;
+      begun_before = begun_before k ts left Nested h;
       at_token = omega (arith, ap length c.is, length-append c.up c.later, c.left, c.some);
-      deeper_text = (suc (suc k), (c.reach.rest ++ [], whole.0, subst (λ w. Grammar (suc (suc k)) (w ++ (c.reach.rest ++ [])) whole.0) (sym up_is) (grammar_sound (suc (suc k)) (c.up ++ (c.reach.rest ++ [])) whole.0 whole.1)));
+      deeper_text = (suc (suc k), begins_with (suc (suc k)) ts c.up c.later (c.reach.rest ++ []) (place_of ts left + 1) whole.0 c.is (omega (arith, ap length c.is, length-append c.up c.later, c.left, c.some)) whole.1);
     }
-
--- ---- the laws
 
 pub stop_refused : (k : ℕ) (ts : List Token) (cause : Stop) (left : List Token) → read_components k ts ≡ stopped cause left → RefusedFor cause k ts (place_of ts left)
 stop_refused k ts NoMemory left h = tt
-stop_refused k ts Syntax left h = refused_anywhere k ts (stopped Syntax left) h tt (λ cs e. never e)
+stop_refused k ts Syntax left h = syntax_refused k ts left h
 stop_refused k ts Nested left h = nesting_refused k ts left h (components_complete k ts left h)
 
-pub left_refused : (k : ℕ) (ts : List Token) (cs : List Component) (left : List Token) → read_components k ts ≡ took cs left → 0 < length left → SyntaxRefusedAt ts (place_of ts left)
-left_refused k ts cs left h some = refused_anywhere k ts (took cs left) h tt (λ ds e. absurd (omega (arith, ap length (same_took e).1)))
+pub left_refused : (k : ℕ) (ts : List Token) (cs : List Component) (left : List Token) → read_components k ts ≡ took cs left → 0 < length left → SyntaxRefusedAt k ts (place_of ts left)
+left_refused k ts cs left h some = record {
+  refused = refused_anywhere k ts (took cs left) h tt (λ ds e. absurd (omega (arith, ap length (same_took e).1)));
+  begun_before = begun_left k ts left cs h;
+}

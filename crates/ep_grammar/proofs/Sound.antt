@@ -14,20 +14,20 @@ taken_ok : {A : Type 0} (o : Option A) (i : List Token) (x : A) (b : List Token)
 taken_ok None i x b h = never h
 taken_ok (Some y) i x b h = let q = same_took h in (ap Some q.0, q.1)
 
-token_ok : (s : Sort) (a : List Token) (x : carried s) (b : List Token) → read_token s a ≡ took x b → (t : Token) × (a ≡ t ∷ b) × (meaning s t.kind ≡ Some x)
+pub token_ok : (s : Sort) (a : List Token) (x : carried s) (b : List Token) → read_token s a ≡ took x b → (t : Token) × (a ≡ t ∷ b) × (meaning s t.kind ≡ Some x)
 token_ok s [] x b h = never h
 token_ok s (t ∷ ts) x b h = let q = taken_ok (meaning s t.kind) (t ∷ ts) x b h in (t, ap (λ w. t ∷ w) q.1, q.0)
 
 -- the one of two that was read
-chosen : {A : Type 0} (v : Bool) (p q : Outcome A) {x : A} {b : List Token} → (if v then p else q) ≡ took x b → ((v ≡ true) × (p ≡ took x b)) ⊎ ((v ≡ false) × (q ≡ took x b))
+pub chosen : {A : Type 0} (v : Bool) (p q : Outcome A) {x : A} {b : List Token} → (if v then p else q) ≡ took x b → ((v ≡ true) × (p ≡ took x b)) ⊎ ((v ≡ false) × (q ≡ took x b))
 chosen true p q h = inl (refl, h)
 chosen false p q h = inr (refl, h)
 
-within_ok : {X : Type 0} (p : Option Inside) (cs : List Class) (q : Parser X) (a : List Token) (x : X) (b : List Token) → within p cs q a ≡ took x b → q a ≡ took x b
+pub within_ok : {X : Type 0} (p : Option Inside) (cs : List Class) (q : Parser X) (a : List Token) (x : X) (b : List Token) → within p cs q a ≡ took x b → q a ≡ took x b
 within_ok None cs q a x b h = never h
 within_ok (Some e) cs q a x b h = h
 
-by_shape_ok : {C X : Type 0} (o : Option C) (p : Parser (C → X)) (q : Parser X) (j : List Token) (x : X) (b : List Token) → by_shape o p q j ≡ took x b → ((c : C) × (h : C → X) × (o ≡ Some c) × (p j ≡ took h b) × (x ≡ h c)) ⊎ (q j ≡ took x b)
+pub by_shape_ok : {C X : Type 0} (o : Option C) (p : Parser (C → X)) (q : Parser X) (j : List Token) (x : X) (b : List Token) → by_shape o p q j ≡ took x b → ((c : C) × (h : C → X) × (o ≡ Some c) × (p j ≡ took h b) × (x ≡ h c)) ⊎ (q j ≡ took x b)
 by_shape_ok None p q j x b h = inr h
 by_shape_ok (Some c) p q j x b h =
     let v = bind_ok (p j) (λ g k. took (g c) k) h in

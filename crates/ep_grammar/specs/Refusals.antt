@@ -12,20 +12,22 @@ pub record RefusedAt (k : ℕ) (ts : List Token) (place : ℕ) : Type 0 where
   pub not_derived : (cs : List Component) → Grammar k ts cs → ⊥
   pub no_text : place < length ts → Begins k (take (place + 1) ts) → ⊥
 
--- The token cannot stand there, however deep a text may nest.
-abbrev pub SyntaxRefusedAt : List Token → ℕ → Type 0
-SyntaxRefusedAt ts place = (k : ℕ) → RefusedAt k ts place
+-- The token cannot stand there, however deep a text may nest, and the tokens before it begin a text in which at most k levels nest. (With no level there is no text.)
+pub record SyntaxRefusedAt (k : ℕ) (ts : List Token) (place : ℕ) : Type 0 where
+  pub refused : (m : ℕ) → RefusedAt m ts place
+  pub begun_before : 0 < k → Begins k (take place ts)
 
--- There is a token, which cannot stand there in a text in which at most k levels nest, and can in one that nests deeper.
+-- There is a token, which cannot stand there in a text in which at most k levels nest, and can in one that nests deeper. The tokens before it begin a text in which at most k levels nest.
 pub record NestingRefusedAt (k : ℕ) (ts : List Token) (place : ℕ) : Type 0 where
   pub refused : RefusedAt k ts place
+  pub begun_before : 0 < k → Begins k (take place ts)
   pub at_token : place < length ts
   pub deeper_text : (m : ℕ) × Begins m (take (place + 1) ts)
 
 -- what the answer that the text is refused for this cause at this place says of it, where k levels may nest
 abbrev pub RefusedFor : Stop → ℕ → List Token → ℕ → Type 0
 RefusedFor stop.NoMemory k ts place = Unit {0}
-RefusedFor stop.Syntax k ts place = SyntaxRefusedAt ts place
+RefusedFor stop.Syntax k ts place = SyntaxRefusedAt k ts place
 RefusedFor stop.Nested k ts place = NestingRefusedAt k ts place
 
 -- the place of the first of the tokens that are left
@@ -58,4 +60,4 @@ StopIsRefused = (k : ℕ) (ts : List Token) (cause : Stop) (left : List Token) �
 
 -- where a parser leaves tokens, the first of them cannot stand there
 abbrev pub LeftIsRefused : Type 0
-LeftIsRefused = (k : ℕ) (ts : List Token) (cs : List Component) (left : List Token) → read_components k ts ≡ Ok (cs, left) → 0 < length left → SyntaxRefusedAt ts (place_of ts left)
+LeftIsRefused = (k : ℕ) (ts : List Token) (cs : List Component) (left : List Token) → read_components k ts ≡ Ok (cs, left) → 0 < length left → SyntaxRefusedAt k ts (place_of ts left)

@@ -13,7 +13,8 @@ pub fn laws_of_the_grammar()
 
 /// Does nothing: its contract states what holds of every text that a parser does not read to the end. Where it stops
 /// or leaves tokens, no text of any nesting begins with the tokens up to and with that place; but where it stops for
-/// want of levels, there is a token that only texts of deeper nesting have there, and there are such texts.
+/// want of levels, there is a token that only texts of deeper nesting have there, and there are such texts. The tokens
+/// before the place begin a text that nests no deeper than it may.
 pub fn laws_of_refusals()
     ensures stop { StopIsRefused }
     ensures left { LeftIsRefused }
