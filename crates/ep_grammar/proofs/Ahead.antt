@@ -42,16 +42,20 @@ which false p q h = inr (refl, h)
 
 -- ---- the parts
 
+-- the first token is among those that were taken
 pub class_up : (up u v : List Token) → 0 < length up → class_of (up ++ u) ≡ class_of (up ++ v)
 class_up [] u v h = absurd (omega arith)
 class_up (t ∷ up) u v h = refl
 
+-- with more classes that must not follow
 pub ahead_wider : {X : Type 0} (q : Parser X) (cs ds : List Class) (a : List Token) (P : List Token → Type 0) → ((c : Class) → has ds c ≡ false → has cs c ≡ false) → Ahead q cs a P → Ahead q ds a P
 ahead_wider q cs ds a P f c = record { up = c.up; later = c.later; is = c.is; left = c.left; some = c.some; reach = reach_wider q cs ds c.up f c.reach }
 
+-- another parser that answers the same to texts that begin so
 pub ahead_as : {X : Type 0} (q p : Parser X) (cs : List Class) (a : List Token) (P : List Token → Type 0) → ((i : List Token) → class_of i ≡ class_of a → p i ≡ q i) → Ahead q cs a P → Ahead p cs a P
 ahead_as q p cs a P f c = record { up = c.up; later = c.later; is = c.is; left = c.left; some = c.some; reach = reach_as q p cs c.up (λ z. f (c.up ++ z) (class_up c.up z c.later c.some ∙ ap class_of (sym c.is))) c.reach }
 
+-- with another meaning
 pub ahead_map : {A B : Type 0} (q : Parser A) (h : A → B) (cs : List Class) (a : List Token) (P : List Token → Type 0) → Ahead q cs a P → Ahead (λ i. and_then (q i) (λ x k. took (h x) k)) cs a P
 ahead_map q h cs a P c = record { up = c.up; later = c.later; is = c.is; left = c.left; some = c.some; reach = reach_map q h cs c.up c.reach }
 

@@ -22,9 +22,13 @@ use Rattle.ep_grammar.proofs.Reach.{Reach, Onward, Finish, within_there, shaped_
 use Rattle.ep_grammar.proofs.Ahead.{Ahead, stopped_same, bind_stop, map_stop, which, ahead_wider, ahead_as, ahead_map, ahead_if, ahead_second, row_first, row_second}
 use Rattle.ep_grammar.proofs.Kept.{Kept, if_any, row_last, shaped_last, room_there, rule_lasts, keeps_at}
 
+-- from these tokens on
+abbrev pub From : List Token → List Token → Type 0
+From b later = later ≡ b
+
 -- the parser took tokens up to b, and the text can be completed from there on
 abbrev pub Started : {X : Type 0} → Parser X → List Class → List Token → List Token → Type 0
-Started q cs a b = Ahead q cs a (λ later. later ≡ b)
+Started q cs a b = Ahead q cs a (From b)
 
 -- or it took none
 abbrev pub Before : {X : Type 0} → Parser X → List Class → List Token → List Token → Type 0
@@ -36,14 +40,17 @@ before_on : {X Y : Type 0} (q : Parser X) (p : Parser Y) (cs ds : List Class) (a
 before_on q p cs ds a b f (inl e) = inl e
 before_on q p cs ds a b f (inr c) = inr (f c)
 
+-- what is left after some tokens is shorter
 up_shorter : (up a b : List Token) → a ≡ up ++ b → 0 < length up → length b < length a
 up_shorter up a b e h = omega (arith, ap length e, length-append up b)
 
+-- what was taken needs nothing more
 started_of : {X : Type 0} (q : Parser X) (cs : List Class) (v : Bool) (x : X) (a b : List Token) (k : Kept q cs v x a b) → 0 < length k.up → Started q cs a b
 started_of q cs v x a b k h = record { up = k.up; later = b; is = k.is; left = refl; some = h; reach = record { rest = []; reads = λ z o. let r = k.reads z o in (r.0, r.2) } }
 
 -- one after the other
 module _ {A B : Type 0} (q : Parser A) (h : A → Parser B) (cs ds : List Class) (v : Bool) (l : Like true q q) (a b : List Token) (e : Stop) (n : length (rest_of (q a)) < length a → Onward h cs ds) where
+  -- the first stopped
   before_first : q a ≡ stopped e b → Started q cs a b → Started (λ i. and_then (q i) h) ds a b
   before_first f c = record {
     up = c.up;
@@ -54,6 +61,7 @@ module _ {A B : Type 0} (q : Parser A) (h : A → Parser B) (cs ds : List Class)
     reach = reach_then q h cs ds c.up (n (omega (arith, ap length (ap rest_of f), ap length c.left, up_shorter c.up a c.later c.is c.some))) c.reach;
   }
 
+  -- the second took nothing
   before_next : (x : A) (m : List Token) → q a ≡ took x m → m ≡ b → (k : Kept q cs v x a m) → (up : List Token) → k.up ≡ up → Before (λ i. and_then (q i) h) ds a b
   before_next x m f g k [] u = inl (k.is ∙ ap (λ w. w ++ m) u ∙ g)
   before_next x m f g k (t ∷ up) u =
@@ -76,7 +84,7 @@ module _ {A B : Type 0} (q : Parser A) (h : A → Parser B) (cs ds : List Class)
 
   before_second : (x : A) (m : List Token) → q a ≡ took x m → Kept q cs v x a m → Before (h x) ds m b → Before (λ i. and_then (q i) h) ds a b
   before_second x m f k (inl g) = before_next x m f g k k.up refl
-  before_second x m f k (inr c) = inr (ahead_second true q q h ds l a m (λ later. later ≡ b) x f c)
+  before_second x m f k (inr c) = inr (ahead_second true q q h ds l a m (From b) x f c)
 
   pub before_then : (q a ≡ stopped e b → Before q cs a b) → ((x : A) (m : List Token) → q a ≡ took x m → Kept q cs v x a m) → ((x : A) (m : List Token) → h x m ≡ stopped e b → Before (h x) ds m b) → and_then (q a) h ≡ stopped e b → Before (λ i. and_then (q i) h) ds a b
   before_then f kp k g = elim (bind_stop (q a) h g) [
@@ -86,13 +94,13 @@ module _ {A B : Type 0} (q : Parser A) (h : A → Parser B) (cs ds : List Class)
 
 -- the one of two that a class decides
 before_if : {X : Type 0} (cs ds : List Class) (p q : Parser X) (a b : List Token) → ((has cs (class_of a) ≡ true) × Before p ds a b) ⊎ ((has cs (class_of a) ≡ false) × Before q ds a b) → Before (λ i. if has cs (class_of i) then p i else q i) ds a b
-before_if cs ds p q a b (inl w) = before_on p (λ i. if has cs (class_of i) then p i else q i) ds ds a b (λ c. ahead_if cs ds p q a (λ later. later ≡ b) (inl (w.0, c))) w.1
-before_if cs ds p q a b (inr w) = before_on q (λ i. if has cs (class_of i) then p i else q i) ds ds a b (λ c. ahead_if cs ds p q a (λ later. later ≡ b) (inr (w.0, c))) w.1
+before_if cs ds p q a b (inl w) = before_on p (λ i. if has cs (class_of i) then p i else q i) ds ds a b (λ c. ahead_if cs ds p q a (From b) (inl (w.0, c))) w.1
+before_if cs ds p q a b (inr w) = before_on q (λ i. if has cs (class_of i) then p i else q i) ds ds a b (λ c. ahead_if cs ds p q a (From b) (inr (w.0, c))) w.1
 
 -- the one of two that a shape decides
 before_shape : {C X : Type 0} (o : Option C) (p : Parser (C → X)) (q : Parser X) (ds : List Class) (a b : List Token) (e : Stop) → (p a ≡ stopped e b → Before p ds a b) → (q a ≡ stopped e b → Before q ds a b) → by_shape o p q a ≡ stopped e b → Before (by_shape o p q) ds a b
 before_shape None p q ds a b e f k h = k h
-before_shape (Some c) p q ds a b e f k h = before_on p (λ i. and_then (p i) (λ h k. took (h c) k)) ds ds a b (ahead_map p (λ h. h c) ds a (λ later. later ≡ b)) (f (map_stop (p a) (λ h. h c) h))
+before_shape (Some c) p q ds a b e f k h = before_on p (λ i. and_then (p i) (λ h k. took (h c) k)) ds ds a b (ahead_map p (λ h. h c) ds a (From b)) (f (map_stop (p a) (λ h. h c) h))
 
 -- ---- rows
 
@@ -100,6 +108,7 @@ module _ {A B : Type 0} (cs ds : List Class) (p : Parser (Step A B)) (r : B) (v 
   abbrev RowBefore : List A → List Token → List Token → Type 0
   RowBefore found a b = Before (λ j. steps cs p r (length j) found j) (ds ++ cs) a b
 
+  -- the row can end after a step that took an item
   row_started : (found : List A) (x : A) (a m b : List Token) → has cs (class_of a) ≡ true → p a ≡ took (More x) m → m ≡ b → Started (λ j. steps cs p r (length j) found j) (ds ++ cs) a b
   row_started found x a m b h f g =
       let k = row_last cs ds p r v l tp ec kp found (More x) a m h f in
@@ -108,7 +117,7 @@ module _ {A B : Type 0} (cs ds : List Class) (p : Parser (Step A B)) (r : B) (v 
   row_before_step : (more : List A → Parser (List A × B)) → ((found : List A) (a b : List Token) → more found a ≡ stopped e b → RowBefore found a b) → (found : List A) (s : Step A B) (a m b : List Token) → has cs (class_of a) ≡ true → p a ≡ took s m → go_on more found s m ≡ stopped e b → RowBefore found a b
   row_before_step more rec found (More x) a m b h f g = elim (rec (found ++ x ∷ []) m b g) [
     | inl w ↦ inr (row_started found x a m b h f w)
-    | inr w ↦ inr (row_second cs ds true p p r l tp ec found a m (λ later. later ≡ b) x h f w)
+    | inr w ↦ inr (row_second cs ds true p p r l tp ec found a m (From b) x h f w)
   ]
   row_before_step more rec found (Last x) a m b h f g = never_stops g
 
@@ -117,7 +126,7 @@ module _ {A B : Type 0} (cs ds : List Class) (p : Parser (Step A B)) (r : B) (v 
   rows_before zero found a b h = never_stops h
   rows_before (suc n) found a b h = elim (which (has cs (class_of a)) (and_then (p a) (go_on (steps cs p r n) found)) (took (found, r) a) h) [
     | inl w ↦ elim (bind_stop (p a) (go_on (steps cs p r n) found) w.1) [
-      | inl u ↦ before_on p (λ j. steps cs p r (length j) found j) ds (ds ++ cs) a b (row_first cs ds true p p r l tp ec found a (λ later. later ≡ b) w.0) (bp a b u)
+      | inl u ↦ before_on p (λ j. steps cs p r (length j) found j) ds (ds ++ cs) a b (row_first cs ds true p p r l tp ec found a (From b) w.0) (bp a b u)
       | inr u ↦ row_before_step (steps cs p r n) (λ found a b h. rows_before n found a b h) found u.0 a u.1 b w.0 u.2 u.3
     ]
     | inr w ↦ never_stops w.1
@@ -125,6 +134,7 @@ module _ {A B : Type 0} (cs ds : List Class) (p : Parser (Step A B)) (r : B) (v 
 
 -- ---- every description
 
+-- where nothing was taken, everything is left
 passes_rest : {X : Type 0} (v : Bool) (o : Outcome X) (a : List Token) → Passes v o a → rest_of o ≡ a
 passes_rest true o a h = ap rest_of h.1
 passes_rest false o a h = ap rest_of h
@@ -137,6 +147,7 @@ token_stop : {A : Type 0} (o : Option A) (a b : List Token) (e : Stop) → taken
 token_stop None a b e h = (stopped_same h).1
 token_stop (Some x) a b e h = never_stops h
 
+-- a level was left, or nothing was taken
 within_stops : {X : Type 0} (p : Option Inside) (cs : List Class) (r : Parser X) (a b : List Token) (e : Stop) → within p cs r a ≡ stopped e b → ((there p ≡ true) × (r a ≡ stopped e b)) ⊎ (a ≡ b)
 within_stops None cs r a b e h = inr (stopped_same h).1
 within_stops (Some i) cs r a b e h = inl (refl, h)
@@ -149,6 +160,7 @@ module _ (p : Option Inside) (l : Room) (levels : there p ≡ true → some_room
   abbrev Precedes : {X : Type 0} → Syntax X → Type 0
   Precedes s = (a b : List Token) → read p s a ≡ stopped e b → Before (read p s) (beyond s) a b
 
+  -- what takes tokens begins with one of its classes
   begins_some : {X : Type 0} (s : Syntax X) → Good s → Ready p s → (a : List Token) → length (rest_of (read p s a)) < length a → has (first s) (class_of a) ≡ true
   begins_some s g r a less = by_cases (has (first s) (class_of a)) (λ h. h) (λ h. absurd (omega (arith, less, ap length (passes_rest (nullable s) (read p s a) a (ps _ s g r a h)))))
 
@@ -162,12 +174,12 @@ module _ (p : Option Inside) (l : Room) (levels : there p ≡ true → some_room
       before_then (read p s) (λ f j. and_then (read p t j) (λ x k. took (f x) k)) (beyond s) (beyond (apply s t)) (steady s) (li _ s g.0) a b e
       (λ less. onward_apply p l room ps ri s t g.1 q.1 (both_case (clear (beyond s) t) (ends t much_room) v.1).0 (subst (λ z. any z (ends t l) ≡ true) (some_has (first s) (class_of a) (begins_some s g.0 q.0 a less)) o.1) (reaches p l room ps ri t g.1 v.0 q.1))
       (vs a b) (λ x m f. kp _ s g.0 w.0 a x m f)
-      (λ f m k. before_on (read p t) (λ j. and_then (read p t j) (λ x k. took (f x) k)) (beyond t) (beyond (apply s t)) m b (λ c. ahead_map (read p t) f (beyond (apply s t)) m (λ later. later ≡ b) (ahead_wider (read p t) (beyond t) (beyond (apply s t)) m (λ later. later ≡ b) (out_front (beyond t) (only_if (nullable t) (beyond s))) c)) (vt m b (map_stop (read p t m) f k))) h
+      (λ f m k. before_on (read p t) (λ j. and_then (read p t j) (λ x k. took (f x) k)) (beyond t) (beyond (apply s t)) m b (λ c. ahead_map (read p t) f (beyond (apply s t)) m (From b) (ahead_wider (read p t) (beyond t) (beyond (apply s t)) m (From b) (out_front (beyond t) (only_if (nullable t) (beyond s))) c)) (vt m b (map_stop (read p t m) f k))) h
 
   precedes_choice : {X : Type 0} (cs : List Class) (s t : Syntax X) → Precedes s → Precedes t → (a b : List Token) → (if has cs (class_of a) then read p s a else read p t a) ≡ stopped e b → Before (λ i. if has cs (class_of i) then read p s i else read p t i) (beyond s ++ (beyond t ++ only_if (nullable t) cs)) a b
   precedes_choice cs s t vs vt a b h = before_if cs (beyond s ++ (beyond t ++ only_if (nullable t) cs)) (read p s) (read p t) a b (elim (which (has cs (class_of a)) (read p s a) (read p t a) h) [
-    | inl w ↦ inl (w.0, before_on (read p s) (read p s) (beyond s) (beyond s ++ (beyond t ++ only_if (nullable t) cs)) a b (ahead_wider (read p s) (beyond s) (beyond s ++ (beyond t ++ only_if (nullable t) cs)) a (λ later. later ≡ b) (out_front (beyond s) (beyond t ++ only_if (nullable t) cs))) (vs a b w.1))
-    | inr w ↦ inr (w.0, before_on (read p t) (read p t) (beyond t) (beyond s ++ (beyond t ++ only_if (nullable t) cs)) a b (ahead_wider (read p t) (beyond t) (beyond s ++ (beyond t ++ only_if (nullable t) cs)) a (λ later. later ≡ b) (λ c o. out_front (beyond t) (only_if (nullable t) cs) c (out_end (beyond s) (beyond t ++ only_if (nullable t) cs) c o))) (vt a b w.1))
+    | inl w ↦ inl (w.0, before_on (read p s) (read p s) (beyond s) (beyond s ++ (beyond t ++ only_if (nullable t) cs)) a b (ahead_wider (read p s) (beyond s) (beyond s ++ (beyond t ++ only_if (nullable t) cs)) a (From b) (out_front (beyond s) (beyond t ++ only_if (nullable t) cs))) (vs a b w.1))
+    | inr w ↦ inr (w.0, before_on (read p t) (read p t) (beyond t) (beyond s ++ (beyond t ++ only_if (nullable t) cs)) a b (ahead_wider (read p t) (beyond t) (beyond s ++ (beyond t ++ only_if (nullable t) cs)) a (From b) (λ c o. out_front (beyond t) (only_if (nullable t) cs) c (out_end (beyond s) (beyond t ++ only_if (nullable t) cs) c o))) (vt a b w.1))
   ])
 
   precedes_row : {A B : Type 0} (s : Syntax (List A)) (cs : List Class) (t : Syntax (Step A B)) (r : B) → Good (row s cs t r) → lasts (row s cs t r) l ≡ true → Precedes s → Precedes t → Precedes (row s cs t r)
@@ -176,12 +188,12 @@ module _ (p : Option Inside) (l : Room) (levels : there p ≡ true → some_room
       before_then (read p s) (λ found j. steps cs (read p t) r (length j) found j) (beyond s) (beyond (row s cs t r)) (steady s) (li _ s g.0) a b e
       (λ less. onward_row p l room ps ri s cs t r)
       (vs a b) (λ x m f. kp _ s g.0 w.0 a x m f)
-      (λ found m k. before_on (λ j. steps cs (read p t) r (length j) found j) (λ j. steps cs (read p t) r (length j) found j) (beyond t ++ cs) (beyond (row s cs t r)) m b (ahead_wider (λ j. steps cs (read p t) r (length j) found j) (beyond t ++ cs) (beyond (row s cs t r)) m (λ later. later ≡ b) (out_end (beyond s) (beyond t ++ cs)))
+      (λ found m k. before_on (λ j. steps cs (read p t) r (length j) found j) (λ j. steps cs (read p t) r (length j) found j) (beyond t ++ cs) (beyond (row s cs t r)) m b (ahead_wider (λ j. steps cs (read p t) r (length j) found j) (beyond t ++ cs) (beyond (row s cs t r)) m (From b) (out_end (beyond s) (beyond t ++ cs)))
       (rows_before cs (beyond t) (read p t) r (steady t) (li _ t g.1) (tp _ _ t g.1 g.2) (ends_not cs (first t) g.3 (no_end t g.1)) (λ a x b f. kp _ t g.1 w.1 a x b f) e vt (length m) found m b k)) h
 
   precedes_deeper : {X : Type 0} (cs : List Class) (s : Syntax X) → (there p ≡ true → Precedes s) → Precedes (deeper cs s)
   precedes_deeper cs s vs a b h = elim (within_stops p cs (read p s) a b e h) [
-    | inl w ↦ before_on (read p s) (within p cs (read p s)) (beyond s) (beyond s) a b (ahead_as (read p s) (within p cs (read p s)) (beyond s) a (λ later. later ≡ b) (λ i f. within_there p cs (read p s) i w.0)) (vs w.0 a b w.1)
+    | inl w ↦ before_on (read p s) (within p cs (read p s)) (beyond s) (beyond s) a b (ahead_as (read p s) (within p cs (read p s)) (beyond s) a (From b) (λ i f. within_there p cs (read p s) i w.0)) (vs w.0 a b w.1)
     | inr w ↦ inl w
   ]
 
@@ -208,12 +220,12 @@ module _ (p : Option Inside) (l : Room) (levels : there p ≡ true → some_room
 
       of_second : (y : A) (m : List Token) → by_shape (k y) (read p u) refused m ≡ stopped e b → Before (by_shape (k y) (read p u) refused) ds m b
       of_second y m h = before_shape (k y) (read p u) refused ds m b e
-          (λ h. before_on (read p u) (read p u) (beyond u) ds m b (ahead_wider (read p u) (beyond u) ds m (λ later. later ≡ b) (λ c o. out_front (beyond u) (only_if (nullable u) (beyond s ++ cs)) c (out_end (beyond t) (beyond u ++ only_if (nullable u) (beyond s ++ cs)) c o))) (vu m b h))
+          (λ h. before_on (read p u) (read p u) (beyond u) ds m b (ahead_wider (read p u) (beyond u) ds m (From b) (λ c o. out_front (beyond u) (only_if (nullable u) (beyond s ++ cs)) c (out_end (beyond t) (beyond u ++ only_if (nullable u) (beyond s ++ cs)) c o))) (vu m b h))
           (λ h. inl (stopped_same h).1) h
 
       of_first : (y : A) (m : List Token) → by_shape (f y) (read p t) (by_shape (k y) (read p u) refused) m ≡ stopped e b → Before (by_shape (f y) (read p t) (by_shape (k y) (read p u) refused)) ds m b
       of_first y m h = before_shape (f y) (read p t) (by_shape (k y) (read p u) refused) ds m b e
-          (λ h. before_on (read p t) (read p t) (beyond t) ds m b (ahead_wider (read p t) (beyond t) ds m (λ later. later ≡ b) (λ c o. out_front (beyond t) (beyond u ++ only_if (nullable u) (beyond s ++ cs)) c o)) (vt m b h))
+          (λ h. before_on (read p t) (read p t) (beyond t) ds m b (ahead_wider (read p t) (beyond t) ds m (From b) (λ c o. out_front (beyond t) (beyond u ++ only_if (nullable u) (beyond s ++ cs)) c o)) (vt m b h))
           (λ h. of_second y m h) h
 
       behind : (y : A) (m : List Token) → (if has cs (class_of m) then by_shape (f y) (read p t) (by_shape (k y) (read p u) refused) m else by_shape (k y) (read p u) refused m) ≡ stopped e b → Before (λ j. if has cs (class_of j) then by_shape (f y) (read p t) (by_shape (k y) (read p u) refused) j else by_shape (k y) (read p u) refused j) ds m b
@@ -269,7 +281,7 @@ precedes_inside : (k : ℕ) (e : Stop) → PrecedesInside k e
 unfolding inside_at
 precedes_inside zero e n a b h = inl (stopped_same h).1
 precedes_inside (suc k) e n a b h =
-    before_on (read (inside_at k) (rule n)) (read (inside_at k) (rule n)) (beyond (rule n)) (beyond_inside n) a b (ahead_wider (read (inside_at k) (rule n)) (beyond (rule n)) (beyond_inside n) a (λ later. later ≡ b) (λ c o. not_also (beyond (rule n)) (beyond_inside n) c (rule_beyond n) o))
+    before_on (read (inside_at k) (rule n)) (read (inside_at k) (rule n)) (beyond (rule n)) (beyond_inside n) a b (ahead_wider (read (inside_at k) (rule n)) (beyond (rule n)) (beyond_inside n) a (From b) (λ c o. not_also (beyond (rule n)) (beyond_inside n) c (rule_beyond n) o))
     (precedes_by k e (precedes_inside k e) (rule n) (good_rule n) (rule_closes n) (rule_guarded n) (rule_lasts k n) a b h)
 
 -- ---- whole texts, where a level is left

@@ -30,12 +30,15 @@ pub record Kept {X : Type 0} (q : Parser X) (cs : List Class) (v : Bool) (x : X)
 
 -- ---- the parts
 
+-- with more classes that must not follow, and less often the same meaning
 kept_weaker : {X : Type 0} (q : Parser X) (cs ds : List Class) (v w : Bool) (x : X) (a b : List Token) → ((c : Class) → has ds c ≡ false → has cs c ≡ false) → (w ≡ true → v ≡ true) → Kept q cs v x a b → Kept q ds w x a b
 kept_weaker q cs ds v w x a b f g k = record { up = k.up; is = k.is; reads = λ z o. let r = k.reads z (f (class_of z) o) in (r.0, λ e. r.1 (g e), r.2) }
 
+-- another parser that answers the same
 kept_same : {X : Type 0} (q p : Parser X) (cs : List Class) (v : Bool) (x : X) (a b : List Token) → ((i : List Token) → p i ≡ q i) → Kept q cs v x a b → Kept p cs v x a b
 kept_same q p cs v x a b f k = record { up = k.up; is = k.is; reads = λ z o. let r = k.reads z o in (r.0, r.1, f (k.up ++ z) ∙ r.2) }
 
+-- with another meaning
 kept_map : {A B : Type 0} (q : Parser A) (h : A → B) (cs : List Class) (v : Bool) (x : A) (a b : List Token) → Kept q cs v x a b → Kept (λ i. and_then (q i) (λ x k. took (h x) k)) cs v (h x) a b
 kept_map q h cs v x a b k = record { up = k.up; is = k.is; reads = λ z o. let r = k.reads z o in (h r.0, λ e. ap h (r.1 e), ap (λ o. and_then o (λ x k. took (h x) k)) r.2) }
 
@@ -69,6 +72,7 @@ module _ {A B : Type 0} (q : Parser A) (h : A → Parser B) (cs ds : List Class)
   pub kept_then : Kept (h x) ds w y m b → Kept (λ i. and_then (q i) h) ds w y a b
   kept_then k = kept_behind k.up k.is k.reads
 
+-- nothing was taken, or the first token is the same
 at_first : (up a b : List Token) → a ≡ up ++ b → (z : List Token) → ((a ≡ b) × (up ≡ [])) ⊎ (class_of (up ++ z) ≡ class_of a)
 at_first [] a b e z = inl (e, refl)
 at_first (t ∷ up) a b e z = inr (sym (ap class_of e))
@@ -109,6 +113,7 @@ module _ {A B : Type 0} (cs ds : List Class) (p : Parser (Step A B)) (r : B) (v 
   abbrev RowKept : List A → List A × B → List Token → List Token → Type 0
   RowKept found out a b = Kept (λ j. steps cs p r (length j) found j) (ds ++ cs) v out a b
 
+  -- no step
   row_end : (found : List A) (a b : List Token) (out : List A × B) → took (found, r) a ≡ took out b → RowKept found out a b
   row_end found a b out h = let q = same_took h in record { up = []; is = q.1; reads = λ z o. ((found, r), λ f. q.0, no_steps cs p r (length z) found z (out_end ds cs (class_of z) o)) }
 
@@ -160,6 +165,13 @@ module _ {A B : Type 0} (cs ds : List Class) (p : Parser (Step A B)) (r : B) (v 
     | inr w ↦ row_end found a b out w.1
   ]
 
+-- steps that took nothing leave what was found
+steps_nothing : {A B : Type 0} (cs ds : List Class) (p : Parser (Step A B)) (r : B) (v : Bool) (found : List A) (out : List A × B) (a b : List Token) → Kept (λ j. steps cs p r (length j) found j) (ds ++ cs) v out a b → a ≡ b → (z : List Token) → has (ds ++ cs) (class_of z) ≡ false → v ≡ true → (found, r) ≡ out
+steps_nothing cs ds p r v found out a b k h z o e =
+    let y = kept_nothing (λ j. steps cs p r (length j) found j) (ds ++ cs) v out a b k h z o in
+    let none_taken : (found, r) ≡ y.0 = (same_took (sym (no_steps cs p r (length z) found z (out_end ds cs (class_of z) o)) ∙ y.2)).0 in
+    none_taken ∙ y.1 e
+
 -- ---- every description
 
 -- the parts of a shaped description
@@ -173,6 +185,7 @@ shaped_last l s f cs t k u (always_second h) last =
     let w = both_case (lasts t l) (both (lasts u l) (ends u l)) v.1 in
     (v.0, w.0, (both_case (lasts u l) (ends u l) w.1).0)
 
+-- what took tokens where levels are tested had one
 there_within : {X : Type 0} (p : Option Inside) (cs : List Class) (q : Parser X) (a : List Token) (x : X) (b : List Token) → within p cs q a ≡ took x b → there p ≡ true
 there_within None cs q a x b h = never h
 there_within (Some e) cs q a x b h = refl
@@ -194,6 +207,7 @@ module _ (p : Option Inside) (l : Room) (room : there p ≡ true → some_room l
   abbrev Keeps : {X : Type 0} → Syntax X → Type 0
   Keeps s = (a : List Token) (x : _) (b : List Token) → read p s a ≡ took x b → Kept (read p s) (beyond s) (steady s) x a b
 
+  -- what took nothing can be nothing
   took_nothing : {X : Type 0} (s : Syntax X) → Good s → (a : List Token) (x : X) (b : List Token) → read p s a ≡ took x b → a ≡ b → nullable s ≡ true
   took_nothing s g a x b h e = nu _ s g a x (h ∙ ap (took x) (sym e))
 
@@ -236,9 +250,7 @@ module _ (p : Option Inside) (l : Room) (room : there p ≡ true → some_room l
       (λ i c o. out_front (beyond s) (beyond t ++ cs) c o)
       (λ i found same z o.
       let out = out_end (beyond s) (beyond t ++ cs) (class_of z) o in
-      let y = kept_nothing (λ j. steps cs (read p t) r (length j) u.0 j) (beyond t ++ cs) (steady t) x u.1 b k i z out in
-      let at = λ (found : List _). no_steps cs (read p t) r (length z) found z (out_end (beyond t) cs (class_of z) out) in
-      ((found, r), λ w. let c = both_case (steady s) (steady t) w in ap (λ f. (f, r)) (same c.0) ∙ (same_took (sym (at u.0) ∙ y.2)).0 ∙ y.1 c.1, at found))
+      ((found, r), λ w. let c = both_case (steady s) (steady t) w in ap (λ f. (f, r)) (same c.0) ∙ steps_nothing cs (beyond t) (read p t) r (steady t) u.0 x u.1 b k i z out c.1, no_steps cs (read p t) r (length z) found z (out_end (beyond t) cs (class_of z) out)))
       (kept_weaker (λ j. steps cs (read p t) r (length j) u.0 j) (beyond t ++ cs) (beyond (row s cs t r)) (steady t) (both (steady s) (steady t)) x u.1 b (out_end (beyond s) (beyond t ++ cs)) (λ w. (both_case (steady s) (steady t) w).1) k)
 
   keeps_deeper : {X : Type 0} (cs : List Class) (s : Syntax X) → (there p ≡ true → Keeps s) → Keeps (deeper cs s)
@@ -352,6 +364,7 @@ room_there zero h = absurd (cc)
 room_there (suc zero) h = refl
 room_there (suc (suc k)) h = refl
 
+-- what took nothing can be nothing
 nothing_taken : (k : ℕ) (X : Type 0) (s : Syntax X) → Good s → (a : List Token) (x : X) → read (inside_at k) s a ≡ took x a → nullable s ≡ true
 nothing_taken k X s g a x h = elim (begun (derived_at k) (begun_at k) s g a a x (sound (derived_at k) (inside_at k) (sound_at k) s a x a h)) [ inl w ↦ absurd (let less = w.1 in omega arith) | inr w ↦ w.0 ]
 

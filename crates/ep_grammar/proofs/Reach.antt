@@ -36,9 +36,11 @@ pub record Onward {A B : Type 0} (h : A → Parser B) (cs ds : List Class) : Typ
 
 -- ---- the parts
 
+-- with more classes that must not follow
 pub reach_wider : {X : Type 0} (q : Parser X) (cs ds : List Class) (up : List Token) → ((c : Class) → has ds c ≡ false → has cs c ≡ false) → Reach q cs up → Reach q ds up
 reach_wider q cs ds up f r = record { rest = r.rest; reads = λ z o. r.reads z (f (class_of z) o) }
 
+-- another parser that answers the same from there on
 pub reach_as : {X : Type 0} (q p : Parser X) (cs : List Class) (up : List Token) → ((z : List Token) → p (up ++ z) ≡ q (up ++ z)) → Reach q cs up → Reach p cs up
 reach_as q p cs up f r = record { rest = r.rest; reads = λ z o. let w = r.reads z o in (w.0, f (r.rest ++ z) ∙ w.1) }
 
@@ -52,20 +54,24 @@ reach_then q h cs ds up n r = record {
       (g.0, ap (λ v. and_then (q (up ++ v)) h) (append_assoc r.rest n.rest z) ∙ ap (λ v. and_then v h) f.1 ∙ g.1);
 }
 
+-- with another meaning
 pub reach_map : {A B : Type 0} (q : Parser A) (h : A → B) (cs : List Class) (up : List Token) → Reach q cs up → Reach (λ i. and_then (q i) (λ x k. took (h x) k)) cs up
 reach_map q h cs up r = record { rest = r.rest; reads = λ z o. let f = r.reads z o in (h f.0, ap (λ v. and_then v (λ x k. took (h x) k)) f.1) }
 
 -- ---- what was computed of a description
 
+-- which of the two was computed
 picked : (v : Bool) (f g : Unit {0} → Bool) → pick v f g ≡ true → ((v ≡ true) × (f tt ≡ true)) ⊎ ((v ≡ false) × (g tt ≡ true))
 picked true f g h = inl (refl, h)
 picked false f g h = inr (refl, h)
 
+-- what cannot be nothing begins with its first class, which is none of these
 cleared : {X : Type 0} (cs : List Class) (t : Syntax X) → clear cs t ≡ true → nullable t ≡ false → (has (first t) (lead (first t)) ≡ true) × (has cs (lead (first t)) ≡ false)
 cleared cs t h v =
     let u = both_case (has (first t) (lead (first t))) (opposite (has cs (lead (first t)))) (subst (λ z. any z (both (has (first t) (lead (first t))) (opposite (has cs (lead (first t))))) ≡ true) v h) in
     (u.0, flipped (has cs (lead (first t))) u.1)
 
+-- one of some classes that each begin it
 pub each_opens : {X : Type 0} (s : Syntax X) (l : Room) (cs : List Class) (c : Class) → all_open s l cs ≡ true → has cs c ≡ true → opens s l c ≡ true
 each_opens s l [] c h k = absurd (cc)
 each_opens s l (d ∷ cs) c h k =
@@ -78,6 +84,7 @@ each_opens s l (d ∷ cs) c h k =
 lead_class : {X : Type 0} (t : Syntax X) → Good t → has (first t) (lead (first t)) ≡ true → class_of_kind (kind_for (lead (first t))) ≡ lead (first t)
 lead_class t g h = kind_class (lead (first t)) (by_cases (same (lead (first t)) End) (λ e. true_false (subst (λ c. has (first t) c ≡ true) (same_true (lead (first t)) End e) h) (no_end t g)) (λ e. e))
 
+-- what must not follow a description that can be nothing, for what stands before it
 pub behind_nothing : {v : Bool} → v ≡ true → (cs : List Class) (c : Class) → has (only_if v cs) c ≡ false → has cs c ≡ false
 behind_nothing h cs c o = subst (λ v. has (only_if v cs) c ≡ false) h o
 
@@ -111,6 +118,7 @@ nothing_begins (shaped s f cs t k u e) g v c o = absurd (cc)
 
 -- ---- one step of a row, and the end
 
+-- what was found, and one step more
 abbrev pub one_step_more : {A B : Type 0} → List A → B → Step A B → List A × B
 one_step_more found r (More x) = (found ++ x ∷ [], r)
 one_step_more found r (Last q) = (found, q)
@@ -119,6 +127,7 @@ step_ends : {A B : Type 0} (cs : List Class) (q : Parser (Step A B)) (r : B) (n 
 step_ends cs q r n found (More x) z h = no_steps cs q r n (found ++ x ∷ []) z h
 step_ends cs q r n found (Last y) z h = refl
 
+-- a row ends after a step where what follows begins none
 pub one_step_ends : {A B : Type 0} (cs : List Class) (q : Parser (Step A B)) (r : B) (n : ℕ) (found : List A) (a z : List Token) (x : Step A B) → 0 < n → has cs (class_of a) ≡ true → q a ≡ took x z → has cs (class_of z) ≡ false → steps cs q r n found a ≡ took (one_step_more found r x) z
 unfolding steps
 one_step_ends cs q r zero found a z x some h e k = absurd (omega arith)
@@ -133,6 +142,7 @@ reach_token s t h = record { rest = []; reads = λ z o. reads_some (meaning s t.
 
 -- ---- the shapes
 
+-- the first of two, where its shape is there
 pub shape_first : {C X : Type 0} (o : Option C) (p : Parser (C → X)) (q : Parser X) (j z : List Token) → HasShape o → (h : C → X) × (p j ≡ took h z) → (x : X) × (by_shape o p q j ≡ took x z)
 shape_first None p q j z s e = absurd s
 shape_first (Some c) p q j z s e = (e.0 c, ap (λ o. and_then o (λ h k. took (h c) k)) e.1)

@@ -32,11 +32,12 @@ pub data Step (A B : Type 0) : Type 0 where
   More : A → Step A B
   Last : B → Step A B
 
+-- whether there is a shape
 abbrev pub HasShape : {C : Type 0} → Option C → Type 0
 HasShape None = ⊥
 HasShape (Some c) = Unit {0}
 
--- everything has the first of two shapes, or everything has the second
+-- everything has the first of two shapes, or everything has the second, so what has begun can be brought to its end
 pub data AlwaysOne {A C D : Type 0} (f : A → Option C) (g : A → Option D) : Type 0 where
   always_first : ((y : A) → HasShape (f y)) → AlwaysOne f g
   always_second : ((y : A) → HasShape (g y)) → AlwaysOne f g
@@ -61,7 +62,7 @@ pub data Syntax : Type 0 → Type 1 where
   row : {A B : Type 0} → Syntax (List A) → List Class → Syntax (Step A B) → B → Syntax (List A × B)
   -- what needs a level inside it
   deeper : {X : Type 0} → List Class → Syntax X → Syntax X
-  -- the first, and then the second where the first has the one shape, or the third where it has the other
+  -- the first, and then the second where the first has the one shape, or the third where it has the other; it has one of them always
   shaped : {A C D X : Type 0} → Syntax A → (f : A → Option C) → List Class → Syntax (C → X) → (g : A → Option D) → Syntax (D → X) → AlwaysOne f g → Syntax X
 
 infixl 10 ◌&◌

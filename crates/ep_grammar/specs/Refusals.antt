@@ -6,25 +6,25 @@ use Rattle.ep_grammar.specs.declared.stop.Stop.{Stop}
 use Rattle.ep_grammar.specs.declared.stop.Stop.TheVariants as stop
 use Rattle.ep_grammar.specs.Rules.{Grammar, Begins, read_components}
 
--- No list of components in which at most k levels nest has this text, nor a text that begins with its tokens up to this one; the place past the last is its end.
+-- The text is that of no list of components in which at most k levels nest, and its tokens up to and with this one begin no such text; the place past the last token is its end.
 pub record RefusedAt (k : ℕ) (ts : List Token) (place : ℕ) : Type 0 where
   pub inside : place ≤ length ts
   pub not_derived : (cs : List Component) → Grammar k ts cs → ⊥
   pub no_text : place < length ts → Begins k (take (place + 1) ts) → ⊥
 
--- The token cannot stand there, however deep a text may nest, and the tokens before it begin a text in which at most k levels nest. (With no level there is no text.)
+-- However deep a text may nest, the token cannot stand there. The place is the least: the tokens before it begin a text in which at most k levels nest, where k is not 0 (with no level there is no text).
 pub record SyntaxRefusedAt (k : ℕ) (ts : List Token) (place : ℕ) : Type 0 where
   pub refused : (m : ℕ) → RefusedAt m ts place
   pub begun_before : 0 < k → Begins k (take place ts)
 
--- There is a token, which cannot stand there in a text in which at most k levels nest, and can in one that nests deeper. The tokens before it begin a text in which at most k levels nest.
+-- There is a token, which cannot stand there in a text in which at most k levels nest, and can in one that nests deeper. The place is the least, as above.
 pub record NestingRefusedAt (k : ℕ) (ts : List Token) (place : ℕ) : Type 0 where
   pub refused : RefusedAt k ts place
   pub begun_before : 0 < k → Begins k (take place ts)
   pub at_token : place < length ts
   pub deeper_text : (m : ℕ) × Begins m (take (place + 1) ts)
 
--- what the answer that the text is refused for this cause at this place says of it, where k levels may nest
+-- what it says of a text that it is refused for this cause at this place, where k levels may nest
 abbrev pub RefusedFor : Stop → ℕ → List Token → ℕ → Type 0
 RefusedFor stop.NoMemory k ts place = Unit {0}
 RefusedFor stop.Syntax k ts place = SyntaxRefusedAt k ts place

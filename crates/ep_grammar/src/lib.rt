@@ -5,7 +5,7 @@
 //! specs/Reading.antt what a parser of it answers. The productions themselves stand in specs/Expressions.antt,
 //! specs/Types.antt, specs/Statements.antt, specs/Declarations.antt and specs/Units.antt, one line for each.
 //! proofs/ shows once for all descriptions that what is read is derived, that what is derived is read, and what a
-//! refusal says.
+//! refusal says. specs/Refusals.antt states this, and the calls of src/laws.rt name it in their contracts.
 #![tactic(auto)]
 
 mod laws;
