@@ -1,4 +1,5 @@
 pub mod Clauses
+pub mod Elaborated
 pub mod Loops
 pub mod Numbers
 pub mod Performed

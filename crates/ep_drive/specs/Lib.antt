@@ -1,6 +1,7 @@
 pub mod Asked
 pub mod Calls
 pub mod Commands
+pub mod Elaboration
 pub mod FirstTexts
 pub mod Reading
 pub mod Refusals

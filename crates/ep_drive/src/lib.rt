@@ -5,6 +5,7 @@
 //! what its clauses mean.
 #![tactic(auto)]
 
+mod elaboration;
 mod first_text;
 mod go;
 mod pieces;
@@ -17,5 +18,6 @@ mod top;
 mod word_symbols;
 mod words;
 
+pub use elaboration::elaborate;
 pub use status::Status;
 pub use top::epc;
