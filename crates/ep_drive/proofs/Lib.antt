@@ -1,9 +1,14 @@
 pub mod Clauses
 pub mod Elaborated
+pub mod Executing
+pub mod Going
+pub mod Lines
 pub mod Loops
 pub mod Numbers
-pub mod Performed
+pub mod Placed
 pub mod Programs
 pub mod Refused
 pub mod Rows
-pub mod WordLists
+pub mod Runs
+pub mod Typed
+pub mod WordRows

@@ -7,12 +7,13 @@ use Rattle.std.proofs.lemmas.Option.{cond_some, same_Some}
 use Rattle.std.proofs.lemmas.Slice.Eq.{bytes_eq-Decides}
 use Rattle.ep_typed.specs.declared.first.Statement.{Statement}
 use Rattle.ep_typed.specs.declared.first.Statement.TheVariants.{Empty, WriteText, WriteNumber}
+use Rattle.ep_drive.specs.declared.first_text.FirstText.{FirstText}
 use Rattle.ep_drive.specs.declared.pieces.Piece.{Piece}
 use Rattle.ep_drive.specs.declared.pieces.Piece.TheVariants.{Word, Digits, Quoted, Symbol}
 use Rattle.ep_drive.specs.declared.pieces.Begun.TheVariants.{Nothing}
 use Rattle.ep_drive.specs.FirstTexts.{IsRow, is_word_symbol, value_of, writeln_of, IsStatement, IsStatements, parameter_pieces, program_pieces, writes, IsFirstText}
 use Rattle.ep_drive.specs.Scanning.{scan_from}
-use Rattle.ep_drive.specs.Reading.{◌>>=◌, after_word, after_symbol, after_name, after_parameters, after_listed, after_heading, number_of, item_first, written_first, statement_first, is_done, statement_of, is_end, last_of, is_semicolon, statements_from, statements_of, read}
+use Rattle.ep_drive.specs.Reading.{◌>>=◌, after_word, after_symbol, after_name, after_parameters, after_listed, after_heading, number_of, item_first, written_first, statement_first, is_done, statement_of, is_end, last_of, is_semicolon, statements_from, statements_of, name_of, first_text, program_of, read}
 use Rattle.ep_drive.proofs.Rows.{chosen, is_parted, row-scanned, scanned-row}
 
 -- the end of a program
@@ -266,11 +267,16 @@ needs-output true any e h = refl
 needs-output false true e h = absurd cc
 needs-output false false e h = absurd cc
 
--- what is read is a first text
-pub read-is : (text : List ℕ) (ss : List Statement) → read text ≡ Some ss → IsFirstText text ss
+-- the name that was found is that of the heading
+same-name : (ps : List Piece) (found name : List ℕ) (with_output : Bool) (body : List Piece) → name_of ps ≡ Some found → ps ≡ program_pieces name with_output body → found ≡ name
+same-name ps found name with_output body e is =
+    let named : name_of ps ≡ Some name = ap name_of is in
+    same_Some found name (sym e ∙ named)
+
+-- what is read of pieces is a first text
+pieces-are : (text : List ℕ) (ps : List Piece) (found : List ℕ) (ss : List Statement) → scan_from [] Nothing text ≡ Some ps → name_of ps ≡ Some found → statements_of ps ≡ Some ss → IsFirstText text found ss
 unfolding statements_of
-read-is text ss e =
-    bound (scan_from [] Nothing text) statements_of ss e (λ ps p e1.
+pieces-are text ps found ss p called e1 =
     bound (after_heading ps) (λ heading. statements_from [] [] heading.1 >>= λ statements. cond (heading.0 || not (list_any writes statements)) (Some statements) None) ss e1 (λ h h_is e2.
     bound (statements_from [] [] h.1) (λ statements. cond (h.0 || not (list_any writes statements)) (Some statements) None) ss e2 (λ s s_is e3.
     let c = cond_some (h.0 || not (list_any writes s)) s ss e3 in
@@ -279,16 +285,26 @@ read-is text ss e =
     let r = statements-are h.1 [] [] s s_is in
     let all : scanned.0 ≡ program_pieces heading.0 h.0 r.1 =
     sym scanned.1 ∙ heading.1 ∙ ap (λ (qs : List Piece). heading_pieces heading.0 h.0 qs) r.3 ∙ program-pieces heading.0 h.0 r.1 in
+    let same : found ≡ heading.0 = same-name ps found heading.0 h.0 r.1 called (scanned.1 ∙ all) in
     record {
-      name = heading.0;
       with_output = h.0;
       body = r.1;
-      row = subst (λ (qs : List Piece). IsRow false qs text) all scanned.2;
-      short = heading.2.0;
-      no_word = heading.2.1;
+      row = subst (λ (qs : List Piece). IsRow false qs text) (all ∙ ap (λ (n : List ℕ). program_pieces n h.0 r.1) (sym same)) scanned.2;
+      short = rw same heading.2.0;
+      no_word = rw same heading.2.1;
       does = subst (λ (ts : List Statement). IsStatements ts r.1) (sym r.2 ∙ c.1) r.4;
       output = λ any. needs-output h.0 (list_any writes s) c.0 (subst (λ (ts : List Statement). list_any writes ts ≡ true) (sym c.1) any);
-    })))
+    }))
+
+-- what is read is a first text
+pub read-is : (text : List ℕ) (x : FirstText) → read text ≡ Some x → IsFirstText text x.name x.statements
+unfolding program_of
+read-is text x e =
+    bound (scan_from [] Nothing text) program_of x e (λ ps p e1.
+    bound (statements_of ps) (λ statements. name_of ps >>= λ name. Some (first_text name statements)) x e1 (λ ss s e2.
+    bound (name_of ps) (λ name. Some (first_text name ss)) x e2 (λ name n e3.
+    let same : first_text name ss ≡ x = same_Some (first_text name ss) x e3 in
+    subst (λ (y : FirstText). IsFirstText text y.name y.statements) same (pieces-are text ps name ss p n s))))
 
 -- ---- a program is read
 
@@ -377,25 +393,35 @@ has-output true any h = refl
 has-output false true h = h refl
 has-output false false h = refl
 
+-- the name of a program is found
+name-read : (name : List ℕ) (with_output : Bool) (body : List Piece) → name_of (program_pieces name with_output body) ≡ Some name
+name-read name with_output body = refl
+
 -- a first text is read
-pub first_text-read : (text : List ℕ) (ss : List Statement) → IsFirstText text ss → read text ≡ Some ss
-unfolding statements_of
-first_text-read text ss is =
-    let pieces = program_pieces is.name is.with_output is.body in
-    let scanned : scan_from [] Nothing text ≡ Some pieces = row-scanned pieces [] false text is.row (program-parted is.name is.with_output is.body (body-parted ss is.body is.does)) in
+pub first_text-read : (text name : List ℕ) (ss : List Statement) → IsFirstText text name ss → read text ≡ Some (first_text name ss)
+unfolding program_of statements_of
+first_text-read text name ss is =
+    let pieces = program_pieces name is.with_output is.body in
+    let scanned : scan_from [] Nothing text ≡ Some pieces = row-scanned pieces [] false text is.row (program-parted name is.with_output is.body (body-parted ss is.body is.does)) in
     let heading : after_heading pieces ≡ Some (is.with_output, is.body ++ ending) =
-    ap after_heading (sym (program-pieces is.name is.with_output is.body)) ∙ heading-read is.name is.with_output (is.body ++ ending) (is.short, is.no_word) in
+    ap after_heading (sym (program-pieces name is.with_output is.body)) ∙ heading-read name is.with_output (is.body ++ ending) (is.short, is.no_word) in
     let statements : statements_from [] [] (is.body ++ ending) ≡ Some ss = statements-read ss [] is.body is.does in
     let output : (is.with_output || not (list_any writes ss)) ≡ true = has-output is.with_output (list_any writes ss) is.output in
     rw (scanned, heading, statements, output) refl
 
 -- what a reader may answer
-pub read-exact : (text : List ℕ) (found : Option (List Statement)) → found ≡ read text → MatchOption found ((ss : List Statement) → IsFirstText text ss → ⊥) (λ ss. IsFirstText text ss)
-read-exact text None e = λ ss is. let both : None ≡ Some ss = e ∙ first_text-read text ss is in absurd cc
-read-exact text (Some ss) e = read-is text ss (sym e)
+pub read-exact : (text : List ℕ) (found : Option FirstText) → found ≡ read text → MatchOption found ((name : List ℕ) (ss : List Statement) → IsFirstText text name ss → ⊥) (λ x. IsFirstText text x.name x.statements)
+read-exact text None e = λ name ss is. let both : None ≡ Some (first_text name ss) = e ∙ first_text-read text name ss is in absurd cc
+read-exact text (Some x) e = read-is text x (sym e)
 
 -- the same for a reader that may want memory
-pub read_result-exact : {E : Type 0} (text : List ℕ) (r : Result (Option (List Statement)) E) → IfOk r (λ found. found ≡ read text)
-    → IfOk r (λ found. MatchOption found ((ss : List Statement) → IsFirstText text ss → ⊥) (λ ss. IsFirstText text ss))
+pub read_result-exact : {E : Type 0} (text : List ℕ) (r : Result (Option FirstText) E) → IfOk r (λ found. found ≡ read text)
+    → IfOk r (λ found. MatchOption found ((name : List ℕ) (ss : List Statement) → IsFirstText text name ss → ⊥) (λ x. IsFirstText text x.name x.statements))
 read_result-exact text (Ok found) e = read-exact text found e
 read_result-exact text (Err x) e = tt
+
+-- a text is one first text at most
+pub first_text-one : (text name name2 : List ℕ) (ss ss2 : List Statement) → IsFirstText text name ss → IsFirstText text name2 ss2 → (name ≡ name2) × (ss ≡ ss2)
+first_text-one text name name2 ss ss2 is is2 =
+    let same : first_text name ss ≡ first_text name2 ss2 = same_Some (first_text name ss) (first_text name2 ss2) (sym (first_text-read text name ss is) ∙ first_text-read text name2 ss2 is2) in
+    (ap (λ (x : FirstText). x.name) same, ap (λ (x : FirstText). x.statements) same)

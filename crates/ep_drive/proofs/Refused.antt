@@ -1,19 +1,12 @@
 -- What a call answers that was refused, or that ended without a run.
-use Rattle.std.proofs.Common.{◌≡◌, ℕ, List, [], Option, None, Some, MatchOption, subst, inr}
+use Rattle.std.proofs.Common.{◌≡◌, ℕ, List, [], Option, None, Some, MatchOption, subst, inl, inr}
 use Rattle.std.proofs.KnownBytes.{Keeps-refl}
-use Rattle.ep_outside.specs.Known.{Directory, KeepsFiles, HasFile}
-use Rattle.ep_outside.specs.declared.answers.WriteAnswer.{WriteAnswer}
-use Rattle.ep_typed.specs.Events.{Trace, Same}
-use Rattle.ep_typed.specs.FirstPrograms.{program_trace}
-use Rattle.ep_typed.specs.declared.first.Statement.{Statement}
-use Rattle.ep_typed.proofs.Done.{does-nil}
-use Rattle.ep_drive.specs.Calls.{Moment, Answers, Reported, Runs, Performs, outside_of}
-use Rattle.ep_drive.specs.Commands.{Go, WordsOf}
-use Rattle.ep_drive.specs.FirstTexts.{IsFirstText}
+use Rattle.ep_outside.specs.Known.{Directory, KeepsFiles}
+use Rattle.ep_typed.specs.Events.{Same}
+use Rattle.ep_drive.specs.Calls.{Moment, Answers, Reported, outside_of}
 use Rattle.ep_drive.specs.Refusals.{Refusal, IsCause}
 use Rattle.ep_drive.specs.declared.status.Status.{Status}
 use Rattle.ep_drive.specs.declared.status.Status.TheVariants as status
-use Rattle.ep_drive.proofs.Performed.{performs-then}
 
 -- there was cause for the refusal, and nothing was done but its report
 pub answers-refused : (answer : Status) (words : List (List ℕ)) (refusal : Refusal) (old new : Moment)
@@ -21,23 +14,13 @@ pub answers-refused : (answer : Status) (words : List (List ℕ)) (refusal : Ref
 answers-refused status.Usage words r old new p c s = (s, record { refusal = r; cause = c; answers = p.0; reports = p.1 })
 answers-refused status.FileMissing words r old new p c s = (s, record { refusal = r; cause = c; answers = p.0; reports = p.1 })
 answers-refused status.Unbuilt words r old new p c s = (s, record { refusal = r; cause = c; answers = p.0; reports = p.1 })
-answers-refused status.WriteFault words r old new p c s = inr (s, record { refusal = r; cause = c; reports = p.0 }, p.1)
+answers-refused status.WriteFault words r old new p c s = inr (inl (s, record { refusal = r; cause = c; reports = p.0 }), p.1)
 answers-refused status.NoMemory words r old new p c s = (inr s, p)
 answers-refused _ words r old new p c s = absurd p
 
 -- the output as it was, and the files as they are after a load
 pub same-loaded : (output : Option (List ℕ)) (old new : Option Directory) → KeepsFiles old new → Same (outside_of output old) (outside_of output new)
 same-loaded output old new kept = record { output = Keeps-refl output; files = kept }
-
--- a program ran after its text was loaded
-pub performs-loaded : (answer : WriteAnswer) (trace : Trace) (output after : Option (List ℕ)) (old new : Option Directory) → KeepsFiles old new
-    → Performs answer trace (outside_of output new) (outside_of after new) → Performs answer trace (outside_of output old) (outside_of after new)
-performs-loaded answer trace output after old new kept p = performs-then answer [] trace (outside_of output old) (outside_of output new) (outside_of after new) (does-nil _ _ (same-loaded output old new kept)) p
-
--- a run of the program that was loaded
-pub runs : (P : Trace → Type 0) (words : List (List ℕ)) (files : Option Directory) (source text : List ℕ) (statements : List Statement)
-    → WordsOf words (Go source) → HasFile files source (Some text) → IsFirstText text statements → P (program_trace statements) → Runs words files P
-runs P words files source text statements command loaded program meets = record { source = source; command = command; text = text; loaded = loaded; statements = statements; program = program; meets = meets }
 
 -- what an option says once it is known which it is
 pub match_some : {A : Type 0} (o : Option A) (P : Type 0) (Q : A → Type 0) (x : A) → MatchOption o P Q → o ≡ Some x → Q x

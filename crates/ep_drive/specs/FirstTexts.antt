@@ -98,9 +98,8 @@ writes Empty = false
 writes (WriteText text) = true
 writes (WriteNumber number) = true
 
--- the text is a program of these statements
-pub record IsFirstText (text : List ℕ) (statements : List Statement) : Type 0 where
-  pub name : List ℕ
+-- the text is a program of this name, as it is written, and these statements
+pub record IsFirstText (text : List ℕ) (name : List ℕ) (statements : List Statement) : Type 0 where
   pub with_output : Bool
   pub body : List Piece
   pub row : IsRow false (program_pieces name with_output body) text

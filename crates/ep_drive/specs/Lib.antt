@@ -2,7 +2,13 @@ pub mod Asked
 pub mod Calls
 pub mod Commands
 pub mod Elaboration
+pub mod Executions
 pub mod FirstTexts
+pub mod Images
+pub mod Laws
+pub mod Outcomes
+pub mod ProgramTexts
 pub mod Reading
 pub mod Refusals
 pub mod Scanning
+pub mod WordReading

@@ -4,6 +4,7 @@ use Rattle.std.specs.List.{list_any}
 use Rattle.std.specs.Str.{bytes_eq}
 use Rattle.ep_typed.specs.declared.first.Statement.{Statement}
 use Rattle.ep_typed.specs.declared.first.Statement.TheVariants.{Empty, WriteText, WriteNumber}
+use Rattle.ep_drive.specs.declared.first_text.FirstText.{FirstText}
 use Rattle.ep_drive.specs.declared.pieces.Piece.{Piece}
 use Rattle.ep_drive.specs.declared.pieces.Piece.TheVariants.{Word, Digits, Quoted, Symbol}
 use Rattle.ep_drive.specs.declared.pieces.Begun.TheVariants.{Nothing}
@@ -124,6 +125,21 @@ statements_of pieces = do
   statements ← statements_from [] [] heading.1
   if heading.0 || not (list_any writes statements) then Some statements else None
 
--- the statements of a text
-abbrev pub read : List ℕ → Option (List Statement)
-read text = scan_from [] Nothing text >>= statements_of
+-- the name of a program
+abbrev pub name_of : List Piece → Option (List ℕ)
+name_of (first ∷ Word name ∷ rest) = Some name
+name_of _ = None
+
+abbrev pub first_text : List ℕ → List Statement → FirstText
+first_text called does = record { name = called; statements = does }
+
+-- the name and the statements of a whole program
+unfoldable pub program_of : List Piece → Option FirstText
+program_of pieces = do
+  statements ← statements_of pieces
+  name ← name_of pieces
+  Some (first_text name statements)
+
+-- the name and the statements of a text
+abbrev pub read : List ℕ → Option FirstText
+read text = scan_from [] Nothing text >>= program_of

@@ -20,6 +20,14 @@ status_of (Missing file) = status.FileMissing
 status_of (TooLong file bytes) = status.FileMissing
 status_of (NotBuilt file line) = status.Unbuilt
 
+-- the most bytes of a source
+abbrev pub source_limit : ℕ
+source_limit = 1048576
+
+-- the words ask to run this source, within some budget
+abbrev pub AsksFor : List (List ℕ) → List ℕ → Type 0
+AsksFor words file = (budget : ℕ) × WordsOf words (Go budget file)
+
 -- the report of a refusal, one line
 abbrev pub report_of : Refusal → List ℕ
 report_of Usage = codes "usage\n"
@@ -27,10 +35,10 @@ report_of (Missing file) = file ++ codes ": missing\n"
 report_of (TooLong file bytes) = file ++ codes ": too long " ++ decimal bytes ++ codes "\n"
 report_of (NotBuilt file line) = file ++ codes ": line " ++ decimal line ++ codes ": not built\n"
 
--- the words and the files give cause for the refusal; a source has at most 1,048,576 bytes
+-- the words and the files give cause for the refusal
 abbrev pub IsCause : List (List ℕ) → Option Directory → Refusal → Type 0
 IsCause words files Usage = (command : Command) → WordsOf words command → ⊥
-IsCause words files (Missing file) = WordsOf words (Go file) × HasFile files file None
-IsCause words files (TooLong file bytes) = WordsOf words (Go file) × (1048576 < bytes) × HasLength files file bytes
+IsCause words files (Missing file) = AsksFor words file × HasFile files file None
+IsCause words files (TooLong file bytes) = AsksFor words file × (source_limit < bytes) × HasLength files file bytes
 IsCause words files (NotBuilt file line) =
-    WordsOf words (Go file) × (line ≡ 1) × ((text : List ℕ) × HasFile files file (Some text) × ((statements : List Statement) → IsFirstText text statements → ⊥))
+    AsksFor words file × (line ≡ 1) × ((text : List ℕ) × HasFile files file (Some text) × ((name : List ℕ) (statements : List Statement) → IsFirstText text name statements → ⊥))

@@ -4,32 +4,66 @@ ghost use Rattle.std.specs.Prelude.{◌≡◌, ℕ, Bool, List, [], IfOk, MatchO
 ghost use Rattle.std.specs.List.{list_any};
 ghost use Rattle.ep_typed.specs.declared.first.Statement.{Statement};
 ghost use Rattle.ep_drive.specs.FirstTexts.{IsFirstText, writes};
-ghost use Rattle.ep_drive.specs.Reading.{Gives, after_word, after_symbol, after_name, after_parameters, after_listed, after_heading, number_of, item_first, written_first, statement_first, statement_of, is_end, last_of, is_semicolon, statements_from, statements_of, read};
+ghost use Rattle.ep_drive.specs.Reading.{Gives, after_word, after_symbol, after_name, after_parameters, after_listed, after_heading, number_of, item_first, written_first, statement_first, statement_of, is_end, last_of, is_semicolon, statements_from, statements_of, name_of, program_of, read};
 
 use crate::pieces::{Piece, pieces_of};
 use crate::word_symbols::is_word_symbol;
-use ep_base::{List, MAX_NAME, NoMemory};
+use ep_base::{Bytes, List, MAX_NAME, NoMemory};
 use ep_typed::Statement;
 use std::alloc::Global;
 
 /// maxint (ISO 10206, 6.4.2.2)
 const MAX_INTEGER: u64 = 9_223_372_036_854_775_807;
 
-/// The statements of a first text, or `None` exactly where the text is none.
-pub fn read_first_text(alloc: Global, text: &[u8]) -> Result<Option<List<Statement>>, NoMemory>
-    ensures accepted { IfOk result (λ read. MatchOption read ((statements : List Statement) → IsFirstText text.now statements → ⊥) (λ statements. IsFirstText text.now statements)) }
+/// What a first text says.
+#[derive(Debug, Drop)]
+pub struct FirstText {
+    /// The name of the program, as it is written.
+    pub name: Bytes,
+    /// Its statements.
+    pub statements: List<Statement>,
+}
+
+/// The name and the statements of a first text, or `None` exactly where the text is none.
+pub fn read_first_text(alloc: Global, text: &[u8]) -> Result<Option<FirstText>, NoMemory>
+    ensures accepted { IfOk result (λ read. MatchOption read ((name : List ℕ) (statements : List Statement) → IsFirstText text.now name statements → ⊥) (λ first. IsFirstText text.now first.name first.statements)) }
 {
     read(alloc, text)
 }
 
-/// The statements of a text, as specs/Reading.antt reads it.
-fn read(alloc: Global, text: &[u8]) -> Result<Option<List<Statement>>, NoMemory>
+/// What a text says, as specs/Reading.antt reads it.
+fn read(alloc: Global, text: &[u8]) -> Result<Option<FirstText>, NoMemory>
     ensures { IfOk result (λ found. found ≡ read text.now) }
 {
     let Some(pieces) = pieces_of(alloc, text)? else {
         return Ok(None);
     };
-    statements_of(alloc, pieces.items())
+    program_of(alloc, pieces.items())
+}
+
+/// What the pieces of a whole program say.
+#[tactic(auto, unfolding(crate::specs::Reading::program_of))]
+fn program_of(alloc: Global, pieces: &[Piece]) -> Result<Option<FirstText>, NoMemory>
+    ensures { IfOk result (λ found. found ≡ program_of pieces.now) }
+{
+    let Some(statements) = statements_of(alloc, pieces)? else {
+        return Ok(None);
+    };
+    let Some(name) = name_of(pieces) else {
+        return Ok(None);
+    };
+    let name = List::from_slice(alloc, name)?;
+    Ok(Some(FirstText { name, statements }))
+}
+
+/// The name of a program.
+fn name_of(pieces: &[Piece]) -> Option<&[u8]>
+    ensures { Gives (λ x. x.now) result (name_of pieces.now) }
+{
+    match pieces {
+        [_, Piece::Word(name), ..] => Some(name.items()),
+        _ => None,
+    }
 }
 
 /// The statements of a whole program.
@@ -238,7 +272,7 @@ fn item_first(alloc: Global, pieces: &[Piece]) -> Result<Option<(Statement, &[Pi
 
 /// The number that digits spell, where it is at most maxint.
 #[tactic(auto, using(crate::proofs::Numbers::digits))]
-fn number_of(digits: &[u8]) -> Option<u64>
+pub fn number_of(digits: &[u8]) -> Option<u64>
     ensures { result ≡ number_of digits.now }
 {
     let mut number: u64 = 0;

@@ -6,11 +6,15 @@
 #![tactic(auto)]
 
 mod elaboration;
+mod execution;
 mod first_text;
 mod go;
+mod image;
+mod laws;
+mod outcome;
 mod pieces;
+mod program;
 mod report;
-mod run;
 mod status;
 #[cfg(test)]
 mod tests;
@@ -19,5 +23,6 @@ mod word_symbols;
 mod words;
 
 pub use elaboration::elaborate;
+pub use laws::laws_of_first_texts;
 pub use status::Status;
 pub use top::epc;

@@ -197,7 +197,7 @@ fn run_piece(alloc: Global, run: Bytes) -> Result<Option<Piece>, NoMemory>
 }
 
 /// Whether a run has digits alone.
-fn all_digits(run: &[u8]) -> bool
+pub fn all_digits(run: &[u8]) -> bool
     ensures { result ≡ list_all is_ascii_digit run.now }
 {
     run.iter().all(|byte| byte.is_ascii_digit())

@@ -10,7 +10,7 @@ use std::test::Fail;
 /// text, or `n` and the number, with `;` behind it.
 fn answer(alloc: Global, text: &[u8]) -> Result<Vec<u8>, NoMemory> {
     match read_first_text(alloc, text)? {
-        Some(statements) => shown(alloc, &statements),
+        Some(first) => shown(alloc, &first.statements),
         None => Ok(b"-".to_vec(alloc)?),
     }
 }

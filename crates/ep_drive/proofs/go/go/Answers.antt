@@ -11,7 +11,7 @@ returns-in-Missing-clause-answers g c = λ words command.
     answers-refused c.refuse.result words (Missing c.args.source.now)
     (moment (g.O.Sink.held c.args.output.now) (g.F.Files.files c.args.files.now) (g.R.Sink.held c.args.report.now) (g.F.Files.faults c.args.files.now) (g.O.Sink.faults c.args.output.now) (g.R.Sink.faults c.args.report.now))
     (moment (g.O.Sink.held c.args.output.now) (g.F.Files.files c.load.new.self) (g.R.Sink.held c.refuse.new.report) (g.F.Files.faults c.load.new.self) (g.O.Sink.faults c.args.output.now) (g.R.Sink.faults c.refuse.new.report))
-    c.refuse.ensures.reported (command, missing) (same-loaded _ _ _ c.load.ensures.files)
+    c.refuse.ensures.reported ((c.args.budget, command), missing) (same-loaded _ _ _ c.load.ensures.files)
 
 pub returns-in-TooLong-clause-answers : goal.returns-in-TooLong-clause-answers
 returns-in-TooLong-clause-answers g c = λ words command.
@@ -19,4 +19,4 @@ returns-in-TooLong-clause-answers g c = λ words command.
     answers-refused c.refuse-in-TooLong.result words (TooLong c.args.source.now c.in-TooLong.bytes)
     (moment (g.O.Sink.held c.args.output.now) (g.F.Files.files c.args.files.now) (g.R.Sink.held c.args.report.now) (g.F.Files.faults c.args.files.now) (g.O.Sink.faults c.args.output.now) (g.R.Sink.faults c.args.report.now))
     (moment (g.O.Sink.held c.args.output.now) (g.F.Files.files c.load.new.self) (g.R.Sink.held c.refuse-in-TooLong.new.report) (g.F.Files.faults c.load.new.self) (g.O.Sink.faults c.args.output.now) (g.R.Sink.faults c.refuse-in-TooLong.new.report))
-    c.refuse-in-TooLong.ensures.reported (command, c.in-TooLong.ensures.loads.1, long) (same-loaded _ _ _ c.load.ensures.files)
+    c.refuse-in-TooLong.ensures.reported ((c.args.budget, command), c.in-TooLong.ensures.loads.1, long) (same-loaded _ _ _ c.load.ensures.files)

@@ -1,9 +1,13 @@
 use Rattle.ep_drive.specs.Calls.{moment}
 use Rattle.ep_drive.specs.Commands.{bytes_of}
 use Rattle.ep_drive.specs.Refusals.{Usage}
+use Rattle.ep_drive.proofs.Going.{budget_small}
 use Rattle.ep_drive.proofs.Refused.{answers-refused, same-loaded}
 use Rattle.ep_typed.proofs.Done.{keeps_files-refl}
 use Rattle.ep_drive.proofs.top.carry_out.Goals as goal
+
+pub go-requires : goal.go-requires
+go-requires g c = budget_small (bytes_of c.args.words.now) c.in-Some.field-0.budget c.in-Some.field-0.source.now c.in-Some.ensures.0
 
 pub returns-in-None-clause-answers : goal.returns-in-None-clause-answers
 returns-in-None-clause-answers g c =

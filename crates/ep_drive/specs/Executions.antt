@@ -1,0 +1,74 @@
+-- How a run of an image within a budget is answered and told.
+use Rattle.std.specs.Prelude.{◌≡◌, ℕ, ◌<◌, List, [], ◌∷◌, ◌++◌, Option, Some, None, codes, decimal, ◌⊎◌}
+use Rattle.ep_machine.specs.Answers.{IsEnd}
+use Rattle.ep_machine.specs.declared.end.End.{End}
+use Rattle.ep_machine.specs.declared.end.End.TheVariants as end
+use Rattle.ep_object.specs.Implements.{Implements}
+use Rattle.ep_object.specs.Runs.{trace_of}
+use Rattle.ep_object.specs.State.{Going}
+use Rattle.ep_object.specs.declared.code.Image.{Image}
+use Rattle.ep_typed.specs.declared.first.Statement.{Statement}
+use Rattle.ep_drive.specs.ProgramTexts.{IsProgramOf}
+use Rattle.ep_outside.specs.Known.{Keeps, AppendsFront}
+use Rattle.ep_typed.specs.Events.{Outside, Does, DoesPart}
+use Rattle.ep_typed.specs.declared.unit.Unit.{Unit as TypedUnit}
+use Rattle.ep_drive.specs.Calls.{Moment, RanImage, IsTold, IsToldPart, MeansPart}
+use Rattle.ep_drive.specs.Outcomes.{error_line, budget_line, IsReported}
+use Rattle.ep_drive.specs.declared.status.Status.{Status}
+use Rattle.ep_drive.specs.declared.status.Status.TheVariants as status
+
+-- the image implements the typed program of a name and statements
+pub record IsImageOf (name : List ℕ) (statements : List Statement) (image : Image) : Type 0 where
+  pub unit : TypedUnit
+  pub is_unit : IsProgramOf name statements unit
+  pub implements : Implements image (unit ∷ [])
+
+-- the status of a run by the machine's answer
+abbrev pub answer_status : End → Status
+answer_status end.Normal = status.Done
+answer_status end.Halt = status.Halted
+answer_status (end.Error number unit line) = status.RunError
+answer_status end.Budget = status.Budget
+answer_status (end.Broken pc) = status.BrokenImage
+answer_status end.ReadFault = status.ReadFault
+answer_status end.WriteFault = status.WriteFault
+answer_status end.FileFault = status.FileFault
+answer_status end.NoMemory = status.NoMemory
+
+-- the line that reports the machine's answer, where there is one
+abbrev pub answer_line : End → Option (List ℕ)
+answer_line (end.Error number unit line) = Some (error_line number unit line)
+answer_line end.Budget = Some budget_line
+answer_line (end.Broken pc) = Some (codes "broken image at " ++ decimal pc ++ codes "\n")
+answer_line _ = None
+
+-- All events of the run were done and the answer is where it stands, or a part of them was done and a write had a fault or memory is wanting.
+abbrev pub CameTo : End → Going → Outside → Outside → Type 0
+CameTo end.ReadFault g old new = ⊥
+CameTo end.FileFault g old new = ⊥
+CameTo end.WriteFault g old new = DoesPart (trace_of g) old new
+CameTo end.NoMemory g old new = DoesPart (trace_of g) old new
+CameTo answer g old new = Does (trace_of g) old new × IsEnd answer g
+
+-- where a line was to be reported, a front of it was written
+abbrev pub IsReportedPart : Option (List ℕ) → Option (List ℕ) → Option (List ℕ) → Type 0
+IsReportedPart None old new = ⊥
+IsReportedPart (Some line) old new = AppendsFront old new line
+
+-- a status with its whole report, a fault with a front of the report, or no memory with none
+pub data IsToldAs (own : Status) (line : Option (List ℕ)) (answer : Status) (old new : Option (List ℕ)) (m n : ℕ) : Type 0 where
+  whole : answer ≡ own → IsReported line old new → IsToldAs own line answer old new m n
+  fault : answer ≡ status.WriteFault → IsReportedPart line old new → m < n → IsToldAs own line answer old new m n
+  nothing : answer ≡ status.NoMemory → Keeps old new → IsToldAs own line answer old new m n
+
+-- what each answer says of the run of a unit
+abbrev pub AnswersRun : Status → ℕ → TypedUnit → Moment → Moment → Type 0
+AnswersRun status.Done budget unit old new = RanImage budget unit old.outside new.outside (IsTold status.Done old.report new.report)
+AnswersRun status.Halted budget unit old new = RanImage budget unit old.outside new.outside (IsTold status.Halted old.report new.report)
+AnswersRun status.RunError budget unit old new = RanImage budget unit old.outside new.outside (IsTold status.RunError old.report new.report)
+AnswersRun status.Budget budget unit old new = RanImage budget unit old.outside new.outside (IsTold status.Budget old.report new.report)
+AnswersRun status.WriteFault budget unit old new =
+    (MeansPart unit old.outside new.outside × Keeps old.report new.report × (old.output_faults < new.output_faults))
+    ⊎ (RanImage budget unit old.outside new.outside (IsToldPart old.report new.report) × (old.report_faults < new.report_faults))
+AnswersRun status.NoMemory budget unit old new = MeansPart unit old.outside new.outside × Keeps old.report new.report
+AnswersRun _ budget unit old new = ⊥

@@ -1,0 +1,42 @@
+-- What the top call answers and reports of a run.
+use Rattle.std.specs.Prelude.{ℕ, List, ◌++◌, Option, Some, None, codes, decimal}
+use Rattle.ep_outside.specs.Known.{Keeps, Appends}
+use Rattle.ep_object.specs.State.{Going, Running, Stopped, End, Normal, Halt, Error, Broken}
+use Rattle.ep_typed.specs.Steps as meaning
+use Rattle.ep_drive.specs.declared.status.Status.{Status}
+use Rattle.ep_drive.specs.declared.status.Status.TheVariants as status
+
+-- the status of a run by where it stands when its budget is spent, if not before
+abbrev pub run_status : Going → Status
+run_status (Running wait s) = status.Budget
+run_status (Stopped Normal trace) = status.Done
+run_status (Stopped Halt trace) = status.Halted
+run_status (Stopped (Error number unit line) trace) = status.RunError
+run_status (Stopped (Broken place) trace) = status.BrokenImage
+
+-- the line that reports an error of a run
+abbrev pub error_line : ℕ → List ℕ → ℕ → List ℕ
+error_line number unit line = codes "error " ++ decimal number ++ codes " in " ++ unit ++ codes " at line " ++ decimal line ++ codes "\n"
+
+-- the line that reports that the budget is spent
+abbrev pub budget_line : List ℕ
+budget_line = codes "budget spent\n"
+
+-- the line that reports how a run stands, where there is one
+abbrev pub run_line : Going → Option (List ℕ)
+run_line (Running wait s) = Some budget_line
+run_line (Stopped Normal trace) = None
+run_line (Stopped Halt trace) = None
+run_line (Stopped (Error number unit line) trace) = Some (error_line number unit line)
+run_line (Stopped (Broken place) trace) = Some (codes "broken image at " ++ decimal place ++ codes "\n")
+
+-- the whole line was reported, or there is none and nothing was reported
+abbrev pub IsReported : Option (List ℕ) → Option (List ℕ) → Option (List ℕ) → Type 0
+IsReported None old new = Keeps old new
+IsReported (Some line) old new = Appends old new line
+
+-- the status of an end of the meaning
+abbrev pub end_status : meaning.End → Status
+end_status meaning.Normal = status.Done
+end_status meaning.Halted = status.Halted
+end_status (meaning.Error number unit line) = status.RunError

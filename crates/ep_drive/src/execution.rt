@@ -1,0 +1,93 @@
+//! The image of a program, and its run on the machine.
+
+ghost use Rattle.std.specs.Prelude.{◌≡◌, ◌<◌, ◌≤◌, ◌^◌, ◌∷◌, [], true, length, IfOk};
+ghost use Rattle.std.specs.List.{list_all};
+ghost use Rattle.ep_base.specs.Identifiers.{is_identifier};
+ghost use Rattle.ep_machine.specs.Answers.{OnWriteFaultEnd};
+ghost use Rattle.ep_object.specs.Implements.{Implements};
+ghost use Rattle.ep_typed.specs.Valid.{IsValid};
+ghost use Rattle.ep_typed.specs.declared.unit.Unit.{Unit as TypedUnit};
+ghost use Rattle.ep_drive.specs.Calls.{moment, outside_of, run_within};
+ghost use Rattle.ep_drive.specs.Executions.{AnswersRun, CameTo, IsImageOf};
+ghost use Rattle.ep_drive.specs.ProgramTexts.{is_within_maxint};
+
+use crate::first_text::FirstText;
+use crate::image::image_alone;
+use crate::outcome::tell;
+use crate::program::typed_program;
+use crate::status::Status;
+use ep_base::NoMemory;
+use ep_gen_unit::program_code;
+use ep_machine::{End, Machine};
+use ep_object::Image;
+use ep_outside::{Files, Sink, Source};
+use ep_typed::Unit;
+use std::alloc::Global;
+
+/// Runs an image within a budget of ticks, and then reports how the run ended.
+pub fn run_and_tell<F: Files, I: Source, O: Sink, R: Sink>(
+    alloc: Global,
+    image: &Image,
+    budget: u64,
+    files: &mut F,
+    input: &mut I,
+    output: &mut O,
+    report: &mut R,
+) -> Status
+    requires { budget < 2 ^ 61 }
+    ensures answers { (unit : TypedUnit) → Implements image.now (unit ∷ []) → AnswersRun result budget unit
+        (moment (O.held output.old) (F.files files.old) (R.held report.old) (F.faults files.old) (O.faults output.old) (R.faults report.old))
+        (moment (O.held output.new) (F.files files.new) (R.held report.new) (F.faults files.new) (O.faults output.new) (R.faults report.new)) }
+    ensures files { files.new ≡ files.old }
+    ensures input { input.new ≡ input.old }
+    ensures output { O.faults output.old ≤ O.faults output.new }
+    ensures report { R.faults report.old ≤ R.faults report.new }
+{
+    match run_image(alloc, image, budget, files, input, output) {
+        End::WriteFault => Status::WriteFault,
+        End::NoMemory => Status::NoMemory,
+        end => tell(alloc, &end, report),
+    }
+}
+
+/// An image that does what the typed program of a first text means.
+pub fn program_image(alloc: Global, first: &FirstText) -> Result<Image, NoMemory>
+    requires identifier { is_identifier first.now.name ≡ true }
+    requires short { length first.now.name ≤ 255 }
+    requires integers { list_all is_within_maxint first.now.statements ≡ true }
+    ensures { IfOk result (λ image. IsImageOf first.now.name first.now.statements image) }
+{
+    let unit = typed_program(alloc, first)?;
+    unit_image(alloc, &unit)
+}
+
+/// An image that does what a valid program means.
+fn unit_image(alloc: Global, unit: &Unit) -> Result<Image, NoMemory>
+    requires { IsValid unit.now }
+    ensures { IfOk result (λ image. Implements image (unit.now ∷ [])) }
+{
+    let object = program_code(alloc, unit)?;
+    image_alone(alloc, object)
+}
+
+/// Runs an image within a budget of ticks.
+fn run_image<F: Files, I: Source, O: Sink>(
+    alloc: Global,
+    image: &Image,
+    budget: u64,
+    files: &mut F,
+    input: &mut I,
+    output: &mut O,
+) -> End
+    requires { budget < 2 ^ 61 }
+    ensures came { CameTo result (run_within budget image.now) (outside_of (O.held output.old) (F.files files.old)) (outside_of (O.held output.new) (F.files files.new)) }
+    ensures fault { OnWriteFaultEnd result (O.faults output.old < O.faults output.new) }
+    ensures counts { O.faults output.old ≤ O.faults output.new }
+    ensures files { files.new ≡ files.old }
+    ensures input { input.new ≡ input.old }
+{
+    let Ok(mut machine) = Machine::new(alloc, image) else {
+        return End::NoMemory;
+    };
+    machine.run(budget, files, input, output)
+}
