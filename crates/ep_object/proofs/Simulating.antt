@@ -14,7 +14,7 @@ use Rattle.ep_object.specs.Runs.{run, run_from, trace_of, outcome, outcome_of, a
 use Rattle.ep_object.specs.Simulates.{routine_credit, Enters, Leaves, Simulates, StaysIn, LeavesAfter, EndsAfter, StaysAfter, AnswersInRoom}
 use Rattle.ep_object.specs.State.{State, Frames, Going, Running, Stopped}
 use Rattle.ep_object.specs.declared.code.Image.{Image}
-use Rattle.ep_object.proofs.Bind.{Met, follows_moves}
+use Rattle.ep_object.proofs.Bind.{Met, follows_moves, run_instruction}
 use Rattle.ep_object.proofs.Growing.{same_routine-refl}
 use Rattle.ep_object.proofs.Grows.{is_prefix, prefix_then, run_grows}
 use Rattle.ep_object.proofs.Stays.{runs_stay, same_between}
@@ -113,17 +113,44 @@ module _ {A : Type 0} {declared : Declarations} {G : Image} {unit routine n : �
   pub simulation_answers : (steps : ℕ) → steps ≤ n → AnswersInRoom declared G injection memory (Results below) k steps (c steps s)
   simulation_answers steps le = subst (λ (d : Computation A). AnswersInRoom declared G injection memory (Results below) k steps (d steps s)) (sym sim.called) (answers steps le)
 
+  at_home : In k
+  at_home = subst (λ (f : Frames). SameRoutine memory.frames f) (sym in_frames) (same_routine-refl memory.frames)
+
   -- the machine follows the computation, with the step of its call
   body_follows : (m : ℕ) → m ≤ n → Met In G k m (λ a. Leaves declared G injection memory (Results below a)) (1 + routine_credit) (λ a. routine_credit) (spend 1 sim.body m s)
-  body_follows zero le = inl (record { ticks = 0; wait = 0; to = k; runs = refl; within = within; same = in_trace; slow = omega arith; fast = omega arith })
-    where
-      within : In k
-      within = subst (λ (f : Frames). SameRoutine memory.frames f) (sym in_frames) (same_routine-refl memory.frames)
+  body_follows zero le = inl (record { ticks = 0; wait = 0; to = k; runs = refl; within = at_home; same = in_trace; slow = omega arith; fast = omega arith })
   body_follows (suc m) le =
-      let whole = follows_moves 1 (subst (λ (f : Frames). SameRoutine memory.frames f) (sym in_frames) (same_routine-refl memory.frames)) in_trace (sim.follows m (omega arith) injection memory below s k enters) in whole.by (suc m) (omega arith)
+      let whole = follows_moves 1 at_home in_trace (sim.follows m (omega arith) injection memory below s k enters) in whole.by (suc m) (omega arith)
 
   pub simulation_follows : Follows In G n k s c (λ a. Leaves declared G injection memory (Results below a)) (1 + routine_credit) (λ a. routine_credit)
   simulation_follows = record { by = λ m le. subst (λ (d : Computation A). Met In G k m (λ a. Leaves declared G injection memory (Results below a)) (1 + routine_credit) (λ a. routine_credit) (d m s)) (sym sim.called) (body_follows m le) }
+
+  -- the body, and the instruction that leaves the routine for a next one
+  passes : {Wider : State → Type 0} {Post : A → meaning.State → State → Type 0} → ((l : State) → In l → Wider l) → ((a : A) (t : meaning.State) (l : State) → Leaves declared G injection memory (Results below a) t l → (next : State) × (outcome G l ≡ record { weight = 0; to = Running 0 next }) × Post a t next)
+      → (m : ℕ) → m ≤ n → Met Wider G k m Post (1 + routine_credit) (λ a. 64 + routine_credit) (spend 1 sim.body m s)
+  passes wider then zero le = inl (record { ticks = 0; wait = 0; to = k; runs = refl; within = wider k at_home; same = in_trace; slow = omega arith; fast = omega arith })
+  passes {Wider = Wider} {Post = Post} wider then (suc m) le =
+      let follows = sim.follows m (omega arith) injection memory below s k enters in go (sim.body m s) (follows.by m (omega arith))
+    where
+      go : (o : Outcome A) → Met In G k m (λ a. Leaves declared G injection memory (Results below a)) routine_credit (λ a. routine_credit) o → Met Wider G k (suc m) Post (1 + routine_credit) (λ a. 64 + routine_credit) o
+      go (Gives left a t) (inl x) =
+          let next = then a t x.to x.post in
+          let pays = x.pays in
+          inl (record {
+            ticks = x.ticks + 1;
+            to = next.0;
+            runs = runs_extend G x.ticks 1 (Running 0 k) ∙ (ap (run_from G 1) x.runs ∙ run_instruction G x.to 0 (Running 0 next.0) next.1);
+            pays = record { spent = suc pays.spent; all = omega (arith, pays.all); slow = omega (arith, pays.slow); fast = omega (arith, pays.fast) };
+            post = next.2;
+          })
+      go (Ends left end t) (inl x) = inl (record { ticks = x.ticks; wait = x.wait; last = x.last; runs = x.runs; within = wider x.last x.within; ends = x.ends; spent = suc x.spent; all = omega (arith, x.all); slow = omega (arith, x.slow); fast = omega (arith, x.fast) })
+      go (Cut t) (inl x) = inl (record { ticks = x.ticks; wait = x.wait; to = x.to; runs = x.runs; within = wider x.to x.within; same = x.same; slow = omega (arith, x.slow); fast = omega (arith, x.fast) })
+      go o (inr x) = inr x
+
+  -- the machine follows the computation up to where the routine is left for a next one, and gains credit
+  pub simulation_passes : {Wider : State → Type 0} {Post : A → meaning.State → State → Type 0} → ((l : State) → In l → Wider l) → ((a : A) (t : meaning.State) (l : State) → Leaves declared G injection memory (Results below a) t l → (next : State) × (outcome G l ≡ record { weight = 0; to = Running 0 next }) × Post a t next)
+      → Follows Wider G n k s c Post (1 + routine_credit) (λ a. 64 + routine_credit)
+  simulation_passes {Wider = Wider} {Post = Post} wider then = record { by = λ m le. subst (λ (d : Computation A). Met Wider G k m Post (1 + routine_credit) (λ a. 64 + routine_credit) (d m s)) (sym sim.called) (passes wider then m le) }
 
 -- what the instruction that leaves a routine leads to
 pub leaves_enters : {declared : Declarations} {G : Image} {injection : Injection} {memory : Memory} {Then : Operands} {s : meaning.State} {k : State} → Leaves declared G injection memory Then s k → outcome G k ≡ record { weight = 0; to = enter G (k.frames.turn + 1) k }

@@ -6,10 +6,6 @@ use Rattle.ep_object.specs.Follows.{Pays}
 pub pays_join : {m left t d e left2 t2 f : ℕ} → Pays m left t d e → Pays left left2 t2 e f → Pays m left2 (t + t2) d f
 pays_join p q = record { spent = p.spent + q.spent; all = omega (arith, p.all, q.all); slow = omega (arith, p.slow, q.slow); fast = omega (arith, p.fast, q.fast) }
 
--- another way to write the ticks
-pub pays_ticks : {m left t d e : ℕ} (u : ℕ) → t ≡ u → Pays m left t d e → Pays m left u d e
-pays_ticks u h p = record { spent = p.spent; all = p.all; slow = omega (arith, p.slow); fast = omega (arith, p.fast) }
-
 -- more credit before, or less after
 pub pays_weaken : {m left t d e d2 e2 : ℕ} → d + e2 ≤ d2 + e → Pays m left t d e → Pays m left t d2 e2
 pays_weaken h p = record { spent = p.spent; all = p.all; slow = omega (arith, p.slow); fast = omega (arith, p.fast) }
