@@ -1,5 +1,5 @@
 -- How steps and ticks pay for one another.
-use Rattle.std.proofs.Common.{◌≡◌, ℕ, ◌+◌, ◌*◌, ◌≤◌, arith}
+use Rattle.std.proofs.Common.{ℕ, ◌+◌, ◌*◌, ◌≤◌, arith}
 use Rattle.ep_object.specs.Follows.{Pays}
 
 -- one run after another, where the credit after the first is the one before the second
