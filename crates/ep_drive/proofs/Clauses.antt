@@ -8,7 +8,7 @@ use Rattle.ep_object.specs.State.{Going, Running, Stopped, End, Normal, Halt, Er
 use Rattle.ep_object.specs.Tells.{Tells, StillGoes}
 use Rattle.ep_object.specs.Tells as tells
 use Rattle.ep_outside.specs.Known.{Directory, HasFile, HasLength, Keeps}
-use Rattle.ep_typed.proofs.Done.{does_part-all, does_part-front}
+use Rattle.ep_typed.proofs.Done.{does_part-all}
 use Rattle.ep_typed.proofs.Lasting.{meanings_last}
 use Rattle.ep_typed.specs.Events.{Trace, Outside, Same, Does}
 use Rattle.ep_typed.specs.Laws.{IsLonger}
@@ -19,12 +19,12 @@ use Rattle.ep_typed.specs.Viewed.{stmt_of}
 use Rattle.ep_typed.specs.Steps.{Outcome, Gives, Ends, Cut, State, state_of, stop, go_on, bind, spend, first_state}
 use Rattle.ep_typed.specs.Steps as meant
 use Rattle.ep_typed.specs.declared.unit.Unit.{Unit as TypedUnit}
-use Rattle.ep_drive.specs.Calls.{Moment, Answers, Runs, Ran, RanImage, IsTold, IsToldPart, MeansEnd, EndsSo, LosesRoom, Fails, IsCut, MeansPart, RunsPart, WritesLines, HasEnough, IsRefused, IsCutOff, RanUntold, is_run, is_refusal, is_failure, is_built, run_within}
-use Rattle.ep_drive.specs.Commands.{Command, Go, WordsOf}
+use Rattle.ep_drive.specs.Calls.{Moment, Answers, Runs, Ran, RanImage, IsTold, IsToldPart, EndsSo, Fails, IsCut, MeansPart, RunsPart, WritesLines, HasEnough, IsRefused, IsCutOff, RanUntold, is_run, is_silent, is_refusal, is_failure, is_built, run_within}
+use Rattle.ep_drive.specs.Commands.{Go, WordsOf}
 use Rattle.ep_drive.specs.FirstTexts.{IsFirstText}
-use Rattle.ep_drive.specs.Outcomes.{run_status, run_line, IsReported, error_line, budget_line, end_status}
+use Rattle.ep_drive.specs.Outcomes.{run_status, run_line, IsReported, end_status}
 use Rattle.ep_drive.specs.ProgramTexts.{IsProgramText, program_tree}
-use Rattle.ep_drive.specs.Refusals.{Refusal, Usage, Missing, TooLong, NotBuilt, status_of, source_limit, IsCause}
+use Rattle.ep_drive.specs.Refusals.{Refusal, Usage, Missing, TooLong, NotBuilt, source_limit, IsCause}
 use Rattle.ep_drive.specs.declared.status.Status.{Status}
 use Rattle.ep_drive.specs.declared.status.Status.TheVariants as status
 use Rattle.ep_drive.proofs.Executing.{means_part}
@@ -387,6 +387,24 @@ quiet status.WriteFault words old new (inr (inr a, more)) h = inr (refl, inr a)
 quiet status.FileFault words old new a h = inl a.1
 quiet status.NoMemory words old new a h = inl a.1
 quiet _ words old new a h = absurd cc
+
+silent_going : (answer : Status) (going : Going) (old new : Option (List ℕ)) → is_silent answer ≡ true → answer ≡ run_status going → IsReported (run_line going) old new → Keeps old new
+silent_going answer (Running wait s) old new h e r = let no : is_silent status.Budget ≡ true = ap is_silent (sym e) ∙ h in absurd cc
+silent_going answer (Stopped Normal trace) old new h e r = r
+silent_going answer (Stopped Halt trace) old new h e r = r
+silent_going answer (Stopped (Error n u l) trace) old new h e r = let no : is_silent status.RunError ≡ true = ap is_silent (sym e) ∙ h in absurd cc
+silent_going answer (Stopped (Broken place) trace) old new h e r = let no : is_silent status.BrokenImage ≡ true = ap is_silent (sym e) ∙ h in absurd cc
+
+silent_run : (answer : Status) (words : List (List ℕ)) (old new : Outside) (old_report new_report : Option (List ℕ)) → is_silent answer ≡ true → Ran words answer old new old_report new_report → Keeps old_report new_report
+silent_run answer words old new or nr h r =
+    let x = r.meets in
+    let told = x.stands in
+    silent_going answer (run_within r.budget x.image) or nr h told.answers told.reports
+
+pub silent : (answer : Status) (words : List (List ℕ)) (old new : Moment) → Answers answer words old new → is_silent answer ≡ true → Keeps old.report new.report
+silent status.Done words old new a h = silent_run status.Done words old.outside new.outside old.report new.report h a
+silent status.Halted words old new a h = silent_run status.Halted words old.outside new.outside old.report new.report h a
+silent _ words old new a h = absurd cc
 
 pub built : (answer : Status) (words : List (List ℕ)) (old new : Moment) → Answers answer words old new → is_built answer ≡ true
 built status.Done words old new a = refl

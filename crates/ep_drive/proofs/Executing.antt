@@ -1,5 +1,5 @@
 -- What the run of a typed program answers.
-use Rattle.std.proofs.Common.{◌≡◌, ◌≢◌, ℕ, ◌<◌, true, List, [], ◌∷◌, ◌++◌, ◌⊎◌, inl, inr, Option, Some, None, refl, sym, ap, ◌∙◌, subst}
+use Rattle.std.proofs.Common.{◌≡◌, ◌≢◌, ℕ, true, List, [], ◌∷◌, ◌⊎◌, inl, inr, Option, Some, None, refl, sym, ap, ◌∙◌, subst}
 use Rattle.ep_machine.specs.Answers.{IsEnd, RunsTo, UnlessStopped, OnStopped, OnWriteFaultEnd}
 use Rattle.ep_machine.specs.Turns.{ended_at}
 use Rattle.ep_machine.specs.declared.end.End.{End}
@@ -11,8 +11,7 @@ use Rattle.ep_object.specs.Runs.{Timed, timed, begin, run_to, trace_of}
 use Rattle.ep_object.specs.State.{State, Going, Running, Stopped, Normal, Halt, Error, Broken}
 use Rattle.ep_object.specs.Tells.{Tells}
 use Rattle.ep_object.specs.declared.code.Image.{Image}
-use Rattle.ep_outside.specs.Known.{Keeps, IsPrefix}
-use Rattle.ep_typed.proofs.Done.{does_part-none, does_part-front, does_part-all, same-refl}
+use Rattle.ep_typed.proofs.Done.{does_part-none, does_part-front, does_part-all}
 use Rattle.ep_typed.specs.Events.{Trace, Outside, Same, Does, DoesPart}
 use Rattle.ep_typed.specs.Meaning.{meaning}
 use Rattle.ep_typed.specs.Steps.{state_of}

@@ -1,16 +1,16 @@
 -- What `go` answers of a text that was loaded.
-use Rattle.std.proofs.Common.{◌≡◌, ℕ, ◌<◌, ◌≤◌, ◌^◌, true, ◌&&◌, List, [], ◌∷◌, ◌++◌, ◌⊎◌, inl, inr, Option, Some, MatchOption, length, refl, sym, ap, subst, lt-ltb, arith}
+use Rattle.std.proofs.Common.{◌≡◌, ℕ, ◌<◌, ◌≤◌, ◌^◌, true, List, [], ◌∷◌, inl, inr, Option, Some, MatchOption, length, refl, lt-ltb, arith}
 use Rattle.std.specs.List.{list_all}
 use Rattle.ep_base.specs.Identifiers.{is_identifier}
 use Rattle.ep_object.specs.State.{Going}
 use Rattle.ep_outside.specs.Known.{Directory, KeepsFiles, HasFile}
 use Rattle.ep_typed.proofs.Done.{does-nil, does-trans, does_part-after}
-use Rattle.ep_typed.specs.Events.{Trace, Outside, Does, DoesPart}
+use Rattle.ep_typed.specs.Events.{Trace, Outside, Does}
 use Rattle.ep_typed.specs.declared.first.Statement.{Statement}
 use Rattle.ep_typed.specs.declared.first.Statement.TheVariants.{Empty, WriteText, WriteNumber}
 use Rattle.ep_typed.specs.declared.unit.Unit.{Unit as TypedUnit}
 use Rattle.ep_drive.specs.Calls.{Moment, Answers, Runs, RanImage, IsTold, IsToldPart, MeansPart, outside_of, moment}
-use Rattle.ep_drive.specs.Commands.{Go, WordsOf, IsWordRow, option, joined, ended, named, IsTicks, IsBudget}
+use Rattle.ep_drive.specs.Commands.{Go, WordsOf, IsWordRow, option, joined, named, IsBudget}
 use Rattle.ep_drive.specs.Executions.{AnswersRun}
 use Rattle.ep_drive.specs.FirstTexts.{IsFirstText, IsStatement, IsStatements, Piece}
 use Rattle.ep_drive.specs.ProgramTexts.{IsProgramText, is_within_maxint}

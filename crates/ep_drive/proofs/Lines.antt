@@ -1,21 +1,19 @@
 -- The meaning of a first text's typed program is that its lines are written.
 use Rattle.std.proofs.Common.{◌≡◌, ℕ, ℤ, pos, zero, suc, ◌+◌, List, [], ◌∷◌, ◌++◌, length, map, true, refl, sym, ap, ◌∙◌, subst, arith, append_assoc, append-nil, decimal}
-use Rattle.std.specs.Fmt.{signed_decimal}
 use Rattle.ep_typed.specs.Events.{Trace, Write as WriteEvent}
 use Rattle.ep_typed.specs.FirstPrograms.{text_written, statement_trace, program_trace}
-use Rattle.ep_typed.specs.Meaning.{eval, write_piece, write_item, write_items, exec, exec_all, make_all, start_of, meaning}
+use Rattle.ep_typed.specs.Meaning.{eval, write_piece, write_item, write_items, exec, exec_all, make_all, start_of}
 use Rattle.ep_typed.specs.Printing.{Result, Bytes, plain_text, piece_events}
 use Rattle.ep_typed.specs.Printing as result
-use Rattle.ep_typed.specs.Steps.{State, Outcome, Gives, Ends, Computation, give, stop, bind, go_on, spend, change, with_events, first_state, Normal}
-use Rattle.ep_typed.specs.Trees.{Expr, Constant, Text, Item, Plain, Stmt, stmts}
-use Rattle.ep_typed.specs.Viewed.{stmt_of}
+use Rattle.ep_typed.specs.Steps.{State, Gives, Computation, give, stop, bind, go_on, spend, change, with_events, first_state, Normal}
+use Rattle.ep_typed.specs.Trees.{Expr, Constant, Text, Plain, stmts}
 use Rattle.ep_typed.specs.declared.first.Statement.{Statement}
 use Rattle.ep_typed.specs.declared.first.Statement.TheVariants.{Empty, WriteText, WriteNumber}
 use Rattle.ep_typed.specs.declared.operations.Print.{Print}
 use Rattle.ep_typed.specs.declared.operations.Print.TheVariants as print
 use Rattle.ep_typed.specs.declared.unit.Unit.{Unit as TypedUnit}
 use Rattle.ep_drive.specs.Calls.{MeansEnd}
-use Rattle.ep_drive.specs.ProgramTexts.{IsProgramOf, statement_tree, string_item, number_item, writeln_tree, program_tree}
+use Rattle.ep_drive.specs.ProgramTexts.{IsProgramOf, statement_tree, writeln_tree, program_tree}
 
 -- with so many steps, however many turns loops may make, the computation gives a value after these events
 pub record Completes {A : Type 0} (c : ℕ → Computation A) (a : A) (events : Trace) : Type 0 where

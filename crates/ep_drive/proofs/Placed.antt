@@ -1,8 +1,8 @@
 -- How the parts of an object are placed in an image of its own.
-use Rattle.std.proofs.Common.{◌≡◌, ◌≢◌, ℕ, zero, suc, ◌+◌, ◌<◌, ◌≤◌, Bool, true, false, ◌&&◌, ◌||◌, ◌==◌, not, cond, List, [], ◌∷◌, ◌++◌, length, take, get_or, map, Option, Some, None, slice_get, inl, inr, refl, sym, ap, ◌∙◌, subst, arith, add-one, take-suc, take_all, bytes_eq}
+use Rattle.std.proofs.Common.{◌≡◌, ◌≢◌, ℕ, zero, suc, ◌+◌, ◌<◌, ◌≤◌, Bool, true, false, ◌&&◌, ◌||◌, ◌==◌, not, List, [], ◌∷◌, ◌++◌, length, take, get_or, map, Option, Some, None, slice_get, inl, inr, refl, sym, ap, subst, arith, add-one, take-suc, take_all, bytes_eq}
 use Rattle.std.proofs.lemmas.Bool.{cases_Bool}
 use Rattle.std.proofs.lemmas.Bool.Decides.{nat_tests}
-use Rattle.ep_object.specs.Placing.{Placement, first_placement, placed_op, referred, reference_at}
+use Rattle.ep_object.specs.Placing.{Placement, first_placement, placed_op, referred}
 use Rattle.ep_object.specs.Table.{Op, ops, op_of, Text, Jump, JumpFalse, Call, Unit, TConst}
 use Rattle.ep_object.specs.declared.code.Instr.{Instr}
 use Rattle.ep_object.specs.declared.code.Object.{Object}

@@ -1,5 +1,5 @@
 -- What a call answers that was refused, or that ended without a run.
-use Rattle.std.proofs.Common.{◌≡◌, ℕ, List, [], Option, None, Some, MatchOption, subst, inl, inr}
+use Rattle.std.proofs.Common.{◌≡◌, ℕ, List, Option, None, Some, MatchOption, subst, inl, inr}
 use Rattle.std.proofs.KnownBytes.{Keeps-refl}
 use Rattle.ep_outside.specs.Known.{Directory, KeepsFiles}
 use Rattle.ep_typed.specs.Events.{Same}

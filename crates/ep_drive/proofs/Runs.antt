@@ -1,14 +1,14 @@
 -- What a run of an image within a budget tells of the units that the image implements.
-use Rattle.std.proofs.Common.{◌≡◌, ℕ, zero, suc, ◌+◌, ◌-◌, ◌≤◌, ◌<◌, List, [], ◌∷◌, ◌++◌, ◌⊎◌, inl, inr, Option, Some, None, refl, sym, ap, ◌∙◌, subst, arith, append-nil}
+use Rattle.std.proofs.Common.{◌≡◌, ℕ, zero, suc, ◌-◌, List, [], inl, inr, Option, Some, None, refl, sym, ap, ◌∙◌, subst, arith, append-nil}
 use Rattle.std.specs.Fn.{iterate}
 use Rattle.ep_outside.specs.Known.{IsPrefix}
 use Rattle.ep_object.proofs.Views.{runs_agree}
 use Rattle.ep_object.specs.Follows.{end_of}
 use Rattle.ep_object.specs.Implements.{Implements}
 use Rattle.ep_object.specs.Laws.{settled, settled_going}
-use Rattle.ep_object.specs.Runs.{Timed, timed, begin, run_to, run_from, advance, trace_of, enter, entering_next, entering, activation, routine_of, Activation}
-use Rattle.ep_object.specs.State.{State, Going, Running, Stopped, End, Normal, Halt, Error, Broken, first_state}
-use Rattle.ep_object.specs.Tells.{Tells, EndsSo, RanOut, GoesOn}
+use Rattle.ep_object.specs.Runs.{timed, begin, run_to, run_from, advance, trace_of, entering_next, entering, activation, routine_of, Activation}
+use Rattle.ep_object.specs.State.{State, Going, Running, Stopped, End, Error, Broken, first_state}
+use Rattle.ep_object.specs.Tells.{Tells}
 use Rattle.ep_object.specs.declared.code.Image.{Image}
 use Rattle.ep_object.specs.declared.code.ImageRoutine.{ImageRoutine}
 use Rattle.ep_typed.specs.Events.{Trace}

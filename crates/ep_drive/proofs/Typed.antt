@@ -1,5 +1,5 @@
 -- The typed trees of the statements of a first text.
-use Rattle.std.proofs.Common.{◌≡◌, ℕ, ◌+◌, ◌<◌, ◌≤◌, List, [], ◌∷◌, ◌++◌, length, take, get_or, map, Result, Ok, Err, IfOk, refl, sym, ap, ◌∙◌, subst, take_all}
+use Rattle.std.proofs.Common.{◌≡◌, ℕ, ◌+◌, ◌<◌, ◌≤◌, List, [], ◌∷◌, ◌++◌, length, take, get_or, map, Result, Ok, Err, IfOk, refl, sym, ap, ◌∙◌, subst}
 use Rattle.ep_gen_unit.proofs.Compounds.{compound_is}
 use Rattle.ep_typed.specs.Trees.{Compound, stmts}
 use Rattle.ep_typed.specs.Valid.{Declarations, IsStmt, AreStmts, AreVariables, IsValid, own}

@@ -1,5 +1,5 @@
 -- The reader of words finds exactly the command that they are.
-use Rattle.std.proofs.Common.{◌≡◌, ℕ, ◌<◌, ◌≤◌, ◌^◌, Bool, true, false, ◌==◌, ◌&&◌, nat_lt, nat_le, cond, ◌⊎◌, inl, inr, List, [], ◌∷◌, ◌++◌, length, codes, Option, Some, None, is_some, unwrap_or, refl, sym, ap, subst, ◌∙◌, append-nil, arith, lt-ltb, ltb-true, bytes_eq, ◌+◌, suc, drop, get_or, drop-cons, drop_of_length-le, add-one, MatchOption}
+use Rattle.std.proofs.Common.{◌≡◌, ℕ, ◌<◌, ◌≤◌, ◌^◌, Bool, true, false, ◌==◌, ◌&&◌, nat_lt, nat_le, cond, ◌⊎◌, inl, inr, List, [], ◌∷◌, ◌++◌, length, codes, Option, Some, None, unwrap_or, refl, sym, ap, subst, ◌∙◌, append-nil, arith, lt-ltb, ltb-true, bytes_eq, ◌+◌, drop, get_or, drop-cons, drop_of_length-le, add-one, MatchOption}
 use Rattle.std.specs.List.{list_all}
 use Rattle.std.specs.Char.{is_ascii_digit}
 use Rattle.std.proofs.lemmas.Bool.{cases_Bool, eqb-true}
@@ -11,7 +11,7 @@ use Rattle.std.specs.declared.string.String.{String}
 use Rattle.std.specs.declared.alloc.Global.{Global}
 use Rattle.ep_drive.specs.Asked.{asked_by}
 use Rattle.ep_drive.specs.declared.words.Command.{Command as ReadCommand}
-use Rattle.ep_drive.specs.Commands.{Command, Go, bytes_of, is_option, IsTicks, IsWordRow, nothing, option, joined, ended, named, usual_budget, IsBudget, AreGo, WordsOf}
+use Rattle.ep_drive.specs.Commands.{Command, Go, bytes_of, is_option, IsTicks, IsWordRow, nothing, option, joined, ended, named, usual_budget, IsBudget, WordsOf}
 use Rattle.ep_drive.specs.FirstTexts.{value_of}
 use Rattle.ep_drive.specs.Reading.{◌>>=◌, Gives, number_of}
 use Rattle.ep_drive.specs.WordReading.{Taken, taken, as_ticks, ticks_of, after_front, take_ticks, take_source, take_other, take_any, take_word, take_words, asked, asked_with, nothing_taken, read_row, read_words}
@@ -71,6 +71,7 @@ ticks-are text n e =
     cond_some_of : (b : Bool) (o : Option ℕ) (y : ℕ) → cond b o None ≡ Some y → (b ≡ true) × (o ≡ Some y)
     cond_some_of true o y e = (refl, e)
     cond_some_of false o y e = absurd cc
+
     short : (k : ℕ) → nat_le k 10 ≡ true → k ≤ 10
     short k h = grind (arith, nat_tests)
 

@@ -173,6 +173,12 @@ is_run status.RunError = true
 is_run status.Budget = true
 is_run _ = false
 
+-- the answer is that of a run that ended with nothing to report
+abbrev pub is_silent : Status → Bool
+is_silent status.Done = true
+is_silent status.Halted = true
+is_silent _ = false
+
 -- the answer is one of a refusal
 abbrev pub is_refusal : Status → Bool
 is_refusal status.Usage = true

@@ -1,7 +1,7 @@
 -- What the top call answers and reports of a run.
 use Rattle.std.specs.Prelude.{ℕ, List, ◌++◌, Option, Some, None, codes, decimal}
 use Rattle.ep_outside.specs.Known.{Keeps, Appends}
-use Rattle.ep_object.specs.State.{Going, Running, Stopped, End, Normal, Halt, Error, Broken}
+use Rattle.ep_object.specs.State.{Going, Running, Stopped, Normal, Halt, Error, Broken}
 use Rattle.ep_typed.specs.Steps as meaning
 use Rattle.ep_drive.specs.declared.status.Status.{Status}
 use Rattle.ep_drive.specs.declared.status.Status.TheVariants as status

@@ -37,7 +37,16 @@ pub fn go<F: Files, I: Source, O: Sink, R: Sink>(
     let mut text = Vec::new(alloc);
     match files.load(source.as_bytes(), MAX_SOURCE, &mut text) {
         LoadAnswer::Held => {
-            go_text(alloc, budget, source, text.as_slice(), files, input, output, report)
+            go_text(
+                alloc,
+                budget,
+                source,
+                text.as_slice(),
+                files,
+                input,
+                output,
+                report,
+            )
         }
         LoadAnswer::Missing => refuse(alloc, &Refusal::Missing(source), report),
         LoadAnswer::TooLong(bytes) => refuse(alloc, &Refusal::TooLong(source, bytes), report),

@@ -6,7 +6,8 @@ ghost use Rattle.ep_drive.specs.Images.{placed_in, placements_in};
 
 use ep_base::{List, NoMemory};
 use ep_object::{
-    CodeRoutine, Image, ImageRoutine, ImageRoutines, ImageUnit, Instr, Instrs, Object, Reference, op,
+    CodeRoutine, Image, ImageRoutine, ImageRoutines, ImageUnit, Instr, Instrs, Object, Reference,
+    op,
 };
 use std::alloc::Global;
 

@@ -7,6 +7,9 @@ use ep_outside::{MemFiles, MemSink, SureFiles, SureSink, SureSource};
 use std::alloc::{AllocError, Global};
 use std::test::Fail;
 
+/// A program that runs for 20 ticks.
+const HELLO: &[u8] = b"program p(output); begin writeln('hello') end.";
+
 /// What a call answers, writes and reports.
 #[derive(Drop)]
 struct Seen {
@@ -15,12 +18,18 @@ struct Seen {
     report: Vec<u8>,
 }
 
-/// Lets a call see one file, and says what is seen of it.
-fn call(alloc: Global, words: &[&str], name: &str, text: &[u8]) -> Result<Seen, AllocError> {
+/// The words as a command line has them.
+fn listed(alloc: Global, words: &[&str]) -> Result<Vec<String>, AllocError> {
     let mut list = Vec::new(alloc);
     for word in words {
         list.push(String::from_str(alloc, word)?)?;
     }
+    Ok(list)
+}
+
+/// Lets a call see one file, and says what is seen of it.
+fn call(alloc: Global, words: &[&str], name: &str, text: &[u8]) -> Result<Seen, AllocError> {
+    let list = listed(alloc, words)?;
     let mut files = SureFiles::new(alloc);
     files.hold(name.as_bytes(), text)?;
     let mut input = SureSource::new(Bytes::new(alloc));
@@ -57,6 +66,7 @@ fn first_texts_run(rt: HostRuntime) -> Result<(), Fail> {
     assert_go!(rt; b"program p; begin end.", Status::Done, b"", b"");
     assert_go!(rt; b"program p(output); begin writeln(007); writeln('it''s') end.", Status::Done, b"7\nit's\n", b"");
     assert_go!(rt; b"program p(output); begin writeln('') end.", Status::Done, b"\n", b"");
+    assert_go!(rt; b"program p(output); begin writeln('a'); writeln('''') end.", Status::Done, b"a\n'\n", b"");
     Ok(())
 }
 
@@ -75,13 +85,83 @@ fn other_words_are_no_command(rt: HostRuntime) -> Result<(), Fail> {
         &[],
         &["run"],
         &["go", "-x"],
+        &["go", "--x", "x.pas"],
         &["GO", "x.pas"],
         &["go", "x.pas", "x.pas"],
+        &["go", "--"],
+        &["go", "x.pas", "--", "x.pas"],
+        &["go", "--", "x.pas", "--ticks=20"],
+        &["go", "--ticks=20"],
+        &["go", "x.pas", "--ticks"],
+        &["go", "--ticks", "x.pas"],
+        &["go", "--ticks", "--", "x.pas"],
+        &["go", "--ticks=", "x.pas"],
+        &["go", "--ticks=0", "x.pas"],
+        &["go", "--ticks=2x", "x.pas"],
+        &["go", "--ticks=-1", "x.pas"],
+        &["go", "--ticks=10000000000", "x.pas"],
+        &["go", "--ticks=00000000020", "x.pas"],
+        &["go", "--ticks", "20", "--ticks", "20", "x.pas"],
+        &["go", "--ticks=20", "x.pas", "--ticks=20"],
     ] {
-        let seen = call(rt.alloc(), words, "x.pas", b"")?;
+        let seen = call(rt.alloc(), words, "x.pas", b"program p; begin end.")?;
         assert_eq!(rt; seen.status, Status::Usage);
         assert_eq!(rt; seen.report.as_slice(), b"usage\n".as_slice());
     }
+    Ok(())
+}
+
+#[test]
+fn options_stand_anywhere(rt: HostRuntime) -> Result<(), Fail> {
+    for (words, name) in [
+        (["go", "--ticks", "20", "x.pas"].as_slice(), "x.pas"),
+        (&["go", "--ticks=20", "x.pas"], "x.pas"),
+        (&["go", "x.pas", "--ticks=20"], "x.pas"),
+        (&["go", "x.pas", "--ticks", "0000000020"], "x.pas"),
+        (&["go", "--ticks=9999999999", "--", "x.pas"], "x.pas"),
+        (&["go", "x.pas", "--"], "x.pas"),
+        (&["go", "--", "--ticks=20"], "--ticks=20"),
+        (&["go", "--", "-x"], "-x"),
+        (&["go", "--", "--"], "--"),
+    ] {
+        let seen = call(rt.alloc(), words, name, HELLO)?;
+        assert_eq!(rt; seen.status, Status::Done);
+        assert_eq!(rt; seen.output.as_slice(), b"hello\n".as_slice());
+        assert_eq!(rt; seen.report.len(), 0);
+    }
+    Ok(())
+}
+
+// By the table of ticks: the place of `output` 1, the text 6, its write 6, the place again 1, the line end 1 and 2, its
+// write 2, and the return 1.
+#[test]
+fn a_budget_cuts_a_run(rt: HostRuntime) -> Result<(), Fail> {
+    for (ticks, held) in [
+        ("1", b"".as_slice()),
+        ("12", b""),
+        ("13", b"hello"),
+        ("18", b"hello"),
+        ("19", b"hello\n"),
+    ] {
+        let seen = call(
+            rt.alloc(),
+            &["go", "--ticks", ticks, "x.pas"],
+            "x.pas",
+            HELLO,
+        )?;
+        assert_eq!(rt; seen.status, Status::Budget);
+        assert_eq!(rt; seen.output.as_slice(), held);
+        assert_eq!(rt; seen.report.as_slice(), b"budget spent\n".as_slice());
+    }
+    let seen = call(
+        rt.alloc(),
+        &["go", "--ticks", "20", "x.pas"],
+        "x.pas",
+        HELLO,
+    )?;
+    assert_eq!(rt; seen.status, Status::Done);
+    assert_eq!(rt; seen.output.as_slice(), b"hello\n".as_slice());
+    assert_eq!(rt; seen.report.len(), 0);
     Ok(())
 }
 
@@ -113,11 +193,9 @@ fn faulty(
     file_call: u64,
     output_call: u64,
     report_call: u64,
-    word: &str,
+    words: &[&str],
 ) -> Result<Seen, AllocError> {
-    let mut list = Vec::new(alloc);
-    list.push(String::from_str(alloc, "go")?)?;
-    list.push(String::from_str(alloc, word)?)?;
+    let list = listed(alloc, words)?;
     let mut files = MemFiles::new(alloc, Vec::from_slice(alloc, &[file_call])?);
     files.hold(
         b"x.pas",
@@ -143,7 +221,7 @@ fn faulty(
 
 #[test]
 fn a_fault_of_the_files_ends_the_call(rt: HostRuntime) -> Result<(), Fail> {
-    let seen = faulty(rt.alloc(), 1, 0, 0, "x.pas")?;
+    let seen = faulty(rt.alloc(), 1, 0, 0, &["go", "x.pas"])?;
     assert_eq!(rt; seen.status, Status::FileFault);
     assert_eq!(rt; seen.output.len(), 0);
     assert_eq!(rt; seen.report.len(), 0);
@@ -158,11 +236,11 @@ fn each_write_fails_once(rt: HostRuntime) -> Result<(), Fail> {
         (3, b"ab\nc"),
         (4, b"ab\ncd"),
     ] {
-        let seen = faulty(rt.alloc(), 0, call, 0, "x.pas")?;
+        let seen = faulty(rt.alloc(), 0, call, 0, &["go", "x.pas"])?;
         assert_eq!(rt; seen.status, Status::WriteFault);
         assert_eq!(rt; seen.output.as_slice(), held);
     }
-    let seen = faulty(rt.alloc(), 0, 5, 0, "x.pas")?;
+    let seen = faulty(rt.alloc(), 0, 5, 0, &["go", "x.pas"])?;
     assert_eq!(rt; seen.status, Status::Done);
     assert_eq!(rt; seen.output.as_slice(), b"ab\ncd\n".as_slice());
     Ok(())
@@ -170,8 +248,17 @@ fn each_write_fails_once(rt: HostRuntime) -> Result<(), Fail> {
 
 #[test]
 fn the_report_fails(rt: HostRuntime) -> Result<(), Fail> {
-    let seen = faulty(rt.alloc(), 0, 0, 1, "none.pas")?;
+    let seen = faulty(rt.alloc(), 0, 0, 1, &["go", "none.pas"])?;
     assert_eq!(rt; seen.status, Status::WriteFault);
     assert_eq!(rt; seen.report.as_slice(), b"none.pas:".as_slice());
+    Ok(())
+}
+
+#[test]
+fn the_report_of_a_run_fails(rt: HostRuntime) -> Result<(), Fail> {
+    let seen = faulty(rt.alloc(), 0, 0, 1, &["go", "--ticks=10", "x.pas"])?;
+    assert_eq!(rt; seen.status, Status::WriteFault);
+    assert_eq!(rt; seen.output.as_slice(), b"ab".as_slice());
+    assert_eq!(rt; seen.report.as_slice(), b"budget".as_slice());
     Ok(())
 }

@@ -5,7 +5,7 @@ ghost use Rattle.ep_outside.specs.Known.{Keeps};
 ghost use Rattle.ep_typed.specs.Events.{Same};
 ghost use Rattle.ep_drive.specs.Commands.{bytes_of};
 ghost use Rattle.ep_typed.specs.Steps.{End, Normal, Halted};
-ghost use Rattle.ep_drive.specs.Calls.{Answers, Counts, moment, outside_of, is_run, is_refusal, is_failure, is_built, Runs, Ran, RanUntold, EndsSo, Fails, IsCut, HasEnough, WritesLines, RunsPart, IsRefused, IsCutOff};
+ghost use Rattle.ep_drive.specs.Calls.{Answers, Counts, moment, outside_of, is_run, is_silent, is_refusal, is_failure, is_built, Runs, Ran, RanUntold, EndsSo, Fails, IsCut, HasEnough, WritesLines, RunsPart, IsRefused, IsCutOff};
 ghost use Rattle.ep_drive.specs.Outcomes.{end_status};
 
 use crate::go::go;
@@ -70,6 +70,9 @@ pub fn epc<F: Files, I: Source, O: Sink, R: Sink>(
     ensures quiet { is_failure result ≡ true → Keeps (R.held report.old) (R.held report.new)
         ⊎ ((result ≡ Status.WriteFault) × (IsCutOff (bytes_of words.now.items) (F.files files.old) (R.held report.old) (R.held report.new)
         ⊎ RanUntold (bytes_of words.now.items) (outside_of (O.held output.old) (F.files files.old)) (outside_of (O.held output.new) (F.files files.new)) (R.held report.old) (R.held report.new))) }
+
+    // Where the program ended by itself or by `halt` nothing is reported.
+    ensures silent { is_silent result ≡ true → Keeps (R.held report.old) (R.held report.new) }
 
     // No other answer is given so far; above all, no image is broken.
     ensures built { is_built result ≡ true }

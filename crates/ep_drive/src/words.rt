@@ -13,8 +13,10 @@ use crate::pieces::all_digits;
 /// The ticks of a run where no option says how many.
 const USUAL_BUDGET: u64 = 400_000_000;
 
-/// The greatest number of ticks of an option, and the digits that it has.
+/// The greatest number of ticks that an option may have.
 const MAX_BUDGET: u64 = 9_999_999_999;
+
+/// The most digits of such a number.
 const MAX_BUDGET_DIGITS: usize = 10;
 
 /// What a list of words asks for, which is to compile, link and run a source.

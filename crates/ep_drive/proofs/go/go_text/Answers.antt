@@ -1,7 +1,6 @@
 use Rattle.std.proofs.Common.{refl, inr}
 use Rattle.std.proofs.KnownBytes.{Keeps-refl}
 use Rattle.ep_drive.specs.Calls.{moment}
-use Rattle.ep_drive.specs.FirstTexts.{IsFirstText}
 use Rattle.ep_drive.specs.Refusals.{NotBuilt}
 use Rattle.ep_drive.proofs.Going.{title_identifier, short_title, numbers_within, answers-run, first_is}
 use Rattle.ep_drive.proofs.Refused.{answers-refused, same-loaded, match_none}

@@ -1,4 +1,4 @@
-use Rattle.std.proofs.Common.{◌≡◌, false, Some, bytes_eq, ap, sym, ◌∙◌, w64}
+use Rattle.std.proofs.Common.{◌≡◌, false, bytes_eq, ap, sym, ◌∙◌, w64}
 use Rattle.std.proofs.lemmas.Int.{to_z-of_z}
 use Rattle.ep_object.specs.Placing.{reference_at}
 use Rattle.ep_drive.proofs.Placed.{other_unit}

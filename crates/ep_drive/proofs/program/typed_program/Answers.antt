@@ -1,9 +1,9 @@
-use Rattle.std.proofs.Common.{◌≡◌, ◌++◌, ◌∷◌, [], length, ℕ, ◌≤◌, refl, ap, sym, ◌∙◌, subst, arith, map}
+use Rattle.std.proofs.Common.{length, ◌≤◌, refl, ap, sym, ◌∙◌, subst, arith, map}
 use Rattle.ep_typed.specs.Trees.{stmts}
 use Rattle.ep_typed.specs.Valid.{AreStmts}
 use Rattle.ep_typed.specs.Viewed.{stmt_of}
 use Rattle.ep_base.specs.Identifiers.{lower_case}
-use Rattle.ep_drive.specs.ProgramTexts.{statement_tree, program_tree}
+use Rattle.ep_drive.specs.ProgramTexts.{program_tree}
 use Rattle.ep_drive.proofs.Typed.{trees-more, valid-more, trees-all, valid-program}
 use Rattle.ep_drive.proofs.program.typed_program.Goals as goal
 
