@@ -24,7 +24,7 @@ use Rattle.ep_tree.specs.declared.routine.RoutineStart.TheVariants as start_is
 use Rattle.ep_tree.specs.declared.routine.RoutineBody.TheVariants as body_is
 use Rattle.ep_grammar.specs.Classes.{Class, Word, Symbol, Forward}
 use Rattle.ep_grammar.specs.Classes.{Sort as sort}
-use Rattle.ep_grammar.specs.Descriptions.{routines, Syntax, give, token, line, inside, either, deeper, ◌&◌, ◌/◌, symbol, keyword, optional, flag, optional_list, many, some, separated}
+use Rattle.ep_grammar.specs.Descriptions.{routines, Syntax, give, token, line, inside, either, deeper, ◌&◌, ◌<*◌, symbol, keyword, optional, flag, optional_list, many, some, separated}
 use Rattle.ep_tree.specs.Nodes.{constants_node, constant_definition_node, types_node, type_definition_node, discriminant_section_node, variables_node, variable_declaration_node, formal_section_node, routine_node}
 use Rattle.ep_grammar.specs.Expressions.{name, on, on_word, of_name, qualified_name, component_value}
 use Rattle.ep_grammar.specs.Types.{names, type_denoter}
@@ -32,77 +32,77 @@ use Rattle.ep_grammar.specs.Statements.{compound}
 
 -- `id "=" cvalue ";"`
 unfoldable pub constant_definition : Syntax ConstantDefinition
-constant_definition = give constant_definition_node & line & name / symbol sym.EQUAL & component_value / symbol sym.SEMICOLON
+constant_definition = give constant_definition_node & line & name <* symbol sym.EQUAL & component_value <* symbol sym.SEMICOLON
 
 unfoldable pub constant_definitions : Syntax (List ConstantDefinition)
 constant_definitions = some of_name constant_definition
 
 -- `consts = "const" id "=" cvalue ";" { id "=" cvalue ";" }`
 unfoldable pub constants : Syntax Constants
-constants = give constants_node & line / keyword word.CONST & constant_definitions
+constants = give constants_node & line <* keyword word.CONST & constant_definitions
 
 -- `dsec = ids ":" name`
 unfoldable pub discriminant_section : Syntax DiscriminantSection
-discriminant_section = give discriminant_section_node & line & names / symbol sym.COLON & qualified_name
+discriminant_section = give discriminant_section_node & line & names <* symbol sym.COLON & qualified_name
 
 unfoldable pub discriminant_sections : Syntax (List DiscriminantSection)
 discriminant_sections = separated sym.SEMICOLON discriminant_section
 
 unfoldable pub discriminants : Syntax (List DiscriminantSection)
-discriminants = optional_list (on sym.LEFT_PARENTHESIS) (give (λ ds. ds) / symbol sym.LEFT_PARENTHESIS & discriminant_sections / symbol sym.RIGHT_PARENTHESIS)
+discriminants = optional_list (on sym.LEFT_PARENTHESIS) (give (λ ds. ds) <* symbol sym.LEFT_PARENTHESIS & discriminant_sections <* symbol sym.RIGHT_PARENTHESIS)
 
 -- `tdef = id [ "(" dsec { ";" dsec } ")" ] "=" type`, and `;`
 unfoldable pub type_definition : Syntax TypeDefinition
-type_definition = deeper of_name (give type_definition_node & line & name & discriminants / symbol sym.EQUAL & type_denoter / symbol sym.SEMICOLON)
+type_definition = deeper of_name (give type_definition_node & line & name & discriminants <* symbol sym.EQUAL & type_denoter <* symbol sym.SEMICOLON)
 
 unfoldable pub type_definitions : Syntax (List TypeDefinition)
 type_definitions = some of_name type_definition
 
 -- `types = "type" tdef ";" { tdef ";" }`
 unfoldable pub types : Syntax Types
-types = deeper (on_word word.TYPE) (give types_node & line / keyword word.TYPE & type_definitions)
+types = deeper (on_word word.TYPE) (give types_node & line <* keyword word.TYPE & type_definitions)
 
 -- `ids ":" type ";"`
 unfoldable pub variable_declaration : Syntax VariableDeclaration
-variable_declaration = deeper of_name (give variable_declaration_node & line & names / symbol sym.COLON & type_denoter / symbol sym.SEMICOLON)
+variable_declaration = deeper of_name (give variable_declaration_node & line & names <* symbol sym.COLON & type_denoter <* symbol sym.SEMICOLON)
 
 unfoldable pub variable_declarations : Syntax (List VariableDeclaration)
 variable_declarations = some of_name variable_declaration
 
 -- `vars = "var" ids ":" type ";" { ids ":" type ";" }`
 unfoldable pub variables : Syntax Variables
-variables = deeper (on_word word.VAR) (give variables_node & line / keyword word.VAR & variable_declarations)
+variables = deeper (on_word word.VAR) (give variables_node & line <* keyword word.VAR & variable_declarations)
 
 -- ---- routines
 
 unfoldable pub formal_type_of : Syntax FormalType
-formal_type_of = give formal_is.TypeOf & line / keyword word.TYPE / keyword word.OF & qualified_name
+formal_type_of = give formal_is.TypeOf & line <* keyword word.TYPE <* keyword word.OF & qualified_name
 
 unfoldable pub formal_type : Syntax FormalType
 formal_type = either (on_word word.TYPE) formal_type_of (give formal_is.Named & qualified_name)
 
 -- `psec = [ "protected" ] [ "var" ] ids ":" ( name | "type" "of" name )`
 unfoldable pub formal_section : Syntax FormalSection
-formal_section = give formal_section_node & line & flag word.PROTECTED & flag word.VAR & names / symbol sym.COLON & formal_type
+formal_section = give formal_section_node & line & flag word.PROTECTED & flag word.VAR & names <* symbol sym.COLON & formal_type
 
 unfoldable pub formal_sections : Syntax (List FormalSection)
 formal_sections = separated sym.SEMICOLON formal_section
 
 -- `[ "(" psec { ";" psec } ")" ]`
 unfoldable pub formals : Syntax (List FormalSection)
-formals = optional_list (on sym.LEFT_PARENTHESIS) (give (λ ps. ps) / symbol sym.LEFT_PARENTHESIS & formal_sections / symbol sym.RIGHT_PARENTHESIS)
+formals = optional_list (on sym.LEFT_PARENTHESIS) (give (λ ps. ps) <* symbol sym.LEFT_PARENTHESIS & formal_sections <* symbol sym.RIGHT_PARENTHESIS)
 
 -- `"procedure" id [ formals ]`
 unfoldable pub procedure : Syntax RoutineHeading
-procedure = give heading_is.Procedure & line / keyword word.PROCEDURE & name & formals
+procedure = give heading_is.Procedure & line <* keyword word.PROCEDURE & name & formals
 
 -- `[ "=" id ]`
 unfoldable pub result_name : Syntax (Option (List ℕ))
-result_name = optional (on sym.EQUAL) (give (λ n. n) / symbol sym.EQUAL & name)
+result_name = optional (on sym.EQUAL) (give (λ n. n) <* symbol sym.EQUAL & name)
 
 -- `"function" id [ formals ] [ "=" id ] ":" name`
 unfoldable pub function : Syntax RoutineHeading
-function = give heading_is.Function & line / keyword word.FUNCTION & name & formals & result_name / symbol sym.COLON & qualified_name
+function = give heading_is.Function & line <* keyword word.FUNCTION & name & formals & result_name <* symbol sym.COLON & qualified_name
 
 -- `rhead`
 unfoldable pub routine_heading : Syntax RoutineHeading
@@ -119,10 +119,10 @@ abbrev pub of_function_rest : List Class
 of_function_rest = Symbol sym.LEFT_PARENTHESIS ∷ Symbol sym.EQUAL ∷ Symbol sym.COLON ∷ []
 
 unfoldable pub function_rest : Syntax FunctionRest
-function_rest = give (λ ps r q. (ps, (r, q))) & formals & result_name / symbol sym.COLON & qualified_name
+function_rest = give (λ ps r q. (ps, (r, q))) & formals & result_name <* symbol sym.COLON & qualified_name
 
 unfoldable pub function_start : Syntax RoutineStart
-function_start = give function_start_node & line / keyword word.FUNCTION & name & optional of_function_rest function_rest
+function_start = give function_start_node & line <* keyword word.FUNCTION & name & optional of_function_rest function_rest
 
 -- `rhead | "function" id`
 unfoldable pub routine_start : Syntax RoutineStart
@@ -145,7 +145,7 @@ unfoldable pub parts : Syntax (List Part)
 parts = many of_parts part
 
 unfoldable pub forward_body : Syntax RoutineBody
-forward_body = give body_is.Forward & line / token (sort.exactly Forward)
+forward_body = give body_is.Forward & line <* token (sort.exactly Forward)
 
 unfoldable pub block_body : Syntax RoutineBody
 block_body = deeper of_block (give body_is.Block & line & parts & compound)
@@ -155,4 +155,4 @@ routine_body = either (Forward ∷ []) forward_body block_body
 
 -- `rdecl = ( rhead | "function" id ) ";" ( "forward" | parts compound ) ";"`
 unfoldable pub routine : Syntax Routine
-routine = give routine_node & line & routine_start / symbol sym.SEMICOLON & routine_body / symbol sym.SEMICOLON
+routine = give routine_node & line & routine_start <* symbol sym.SEMICOLON & routine_body <* symbol sym.SEMICOLON

@@ -70,9 +70,9 @@ abbrev pub ◌&◌ : {A X : Type 0} → Syntax (A → X) → Syntax A → Syntax
 s & t = apply s t
 
 -- the second means nothing
-infixl 10 ◌/◌
-abbrev pub ◌/◌ : {A X : Type 0} → Syntax X → Syntax A → Syntax X
-s / t = apply (apply (give (λ x a. x)) s) t
+infixl 10 ◌<*◌
+abbrev pub ◌<*◌ : {A X : Type 0} → Syntax X → Syntax A → Syntax X
+s <* t = apply (apply (give (λ x a. x)) s) t
 
 abbrev pub symbol : ℕ → Syntax (Unit {0})
 symbol n = token (Sort.exactly (Symbol n))

@@ -23,7 +23,7 @@ use Rattle.ep_tree.specs.declared.expression.Element.{Element}
 use Rattle.ep_tree.specs.declared.expression.Element.TheVariants as element_is
 use Rattle.ep_grammar.specs.Classes.{Class, Word, Symbol, Name, Number, Text, Interface, Implementation, Forward, classes}
 use Rattle.ep_grammar.specs.Classes.{Sort as sort}
-use Rattle.ep_grammar.specs.Descriptions.{expressions, factors, component_values, elements, bracketed_values, Syntax, give, token, line, inside, either, switch, row, deeper, always_first, shaped, ◌&◌, ◌/◌, symbol, keyword, optional, many, separated, item_or_end, first_of_pair}
+use Rattle.ep_grammar.specs.Descriptions.{expressions, factors, component_values, elements, bracketed_values, Syntax, give, token, line, inside, either, switch, row, deeper, always_first, shaped, ◌&◌, ◌<*◌, symbol, keyword, optional, many, separated, item_or_end, first_of_pair}
 use Rattle.ep_tree.specs.Shapes.{all_single, as_identifier}
 use Rattle.ep_tree.specs.Nodes.{qualified_node, expression_node, comparison_node, simple_node, addend_node, term_node, multiplier_node, access_node, argument_node, label_node, values_node}
 
@@ -60,11 +60,11 @@ of_selector = Symbol sym.PERIOD ∷ Symbol sym.LEFT_BRACKET ∷ Symbol sym.CARET
 
 -- `name = id [ "." id ]`
 unfoldable pub qualified_name : Syntax QualifiedName
-qualified_name = give qualified_node & line & name & optional (on sym.PERIOD) (give (λ n. n) / symbol sym.PERIOD & name)
+qualified_name = give qualified_node & line & name & optional (on sym.PERIOD) (give (λ n. n) <* symbol sym.PERIOD & name)
 
 -- `label = expr [ ".." expr ]`
 unfoldable pub label_of : Syntax Expression → Syntax Label
-label_of e = give label_node & line & e & optional (on sym.RANGE) (give (λ x. x) / symbol sym.RANGE & e)
+label_of e = give label_node & line & e & optional (on sym.RANGE) (give (λ x. x) <* symbol sym.RANGE & e)
 
 -- the labels inside a bracket
 unfoldable pub inner_labels : Syntax (List Label)
@@ -74,25 +74,25 @@ inner_labels = separated sym.COMMA (label_of (inside expressions))
 
 -- `arg = expr [ ":" expr ]`
 unfoldable pub argument : Syntax Argument
-argument = give argument_node & line & inside expressions & optional (on sym.COLON) (give (λ x. x) / symbol sym.COLON & inside expressions)
+argument = give argument_node & line & inside expressions & optional (on sym.COLON) (give (λ x. x) <* symbol sym.COLON & inside expressions)
 
 unfoldable pub field_selector : Syntax Selector
-field_selector = give selector_is.Field & line / symbol sym.PERIOD & name
+field_selector = give selector_is.Field & line <* symbol sym.PERIOD & name
 
 unfoldable pub inner_expressions : Syntax (List Expression)
 inner_expressions = separated sym.COMMA (inside expressions)
 
 unfoldable pub index_selector : Syntax Selector
-index_selector = deeper (on sym.LEFT_BRACKET) (give selector_is.Index & line / symbol sym.LEFT_BRACKET & inner_expressions / symbol sym.RIGHT_BRACKET)
+index_selector = deeper (on sym.LEFT_BRACKET) (give selector_is.Index & line <* symbol sym.LEFT_BRACKET & inner_expressions <* symbol sym.RIGHT_BRACKET)
 
 unfoldable pub pointer_selector : Syntax Selector
-pointer_selector = give selector_is.Dereference & line / symbol sym.CARET
+pointer_selector = give selector_is.Dereference & line <* symbol sym.CARET
 
 unfoldable pub arguments : Syntax (List Argument)
 arguments = separated sym.COMMA argument
 
 unfoldable pub argument_selector : Syntax Selector
-argument_selector = deeper (on sym.LEFT_PARENTHESIS) (give selector_is.Arguments & line / symbol sym.LEFT_PARENTHESIS & arguments / symbol sym.RIGHT_PARENTHESIS)
+argument_selector = deeper (on sym.LEFT_PARENTHESIS) (give selector_is.Arguments & line <* symbol sym.LEFT_PARENTHESIS & arguments <* symbol sym.RIGHT_PARENTHESIS)
 
 unfoldable pub selector : Syntax Selector
 selector = either (on sym.PERIOD) field_selector (either (on sym.LEFT_BRACKET) index_selector (either (on sym.CARET) pointer_selector argument_selector))
@@ -107,7 +107,7 @@ access = give access_node & line & name & selectors
 -- ---- values: what follows the first element, by what an element and a component value are
 
 unfoldable pub otherwise_of : Syntax ComponentValue → Syntax ComponentValue
-otherwise_of v = give (λ x u. x) / keyword word.OTHERWISE & v & optional (on sym.SEMICOLON) (symbol sym.SEMICOLON)
+otherwise_of v = give (λ x u. x) <* keyword word.OTHERWISE & v & optional (on sym.SEMICOLON) (symbol sym.SEMICOLON)
 
 unfoldable pub more_elements_of : Syntax Element → Syntax (List Element)
 more_elements_of e = give first_of_pair & row (give []) (on sym.SEMICOLON) (item_or_end of_element e) (tt {0})
@@ -127,7 +127,7 @@ inner_values_rest = values_rest_of (inside elements) (inside component_values)
 
 -- the values from after the first element to the bracket
 unfoldable pub inner_values_end : Syntax Rest
-inner_values_end = give (λ r. r) & inner_values_rest / symbol sym.RIGHT_BRACKET
+inner_values_end = give (λ r. r) & inner_values_rest <* symbol sym.RIGHT_BRACKET
 
 -- ---- factors. A name may be followed by a bracket with values, so the two are told apart after its labels.
 
@@ -161,10 +161,10 @@ unfoldable pub labels_start : Syntax (ℕ × List Label)
 labels_start = give (λ at ls. (at, ls)) & line & inner_labels
 
 unfoldable pub structured_tail : Syntax (ℕ × List Label → ℕ → Called)
-structured_tail = give structured_from / symbol sym.COLON & inside component_values & inner_values_end
+structured_tail = give structured_from <* symbol sym.COLON & inside component_values & inner_values_end
 
 unfoldable pub index_tail : Syntax (List Expression → ℕ → Called)
-index_tail = give (λ more es. indexed more es) / symbol sym.RIGHT_BRACKET & selectors
+index_tail = give (λ more es. indexed more es) <* symbol sym.RIGHT_BRACKET & selectors
 
 abbrev pub single_labels : ℕ × List Label → Option (List Expression)
 single_labels p = all_single p.1
@@ -173,16 +173,16 @@ unfoldable pub bracket_labels : Syntax (ℕ → Called)
 bracket_labels = shaped labels_start Some (on sym.COLON) structured_tail single_labels index_tail (always_first (λ p. tt {0}))
 
 unfoldable pub bracket_values : Syntax (ℕ → Called)
-bracket_values = give structured & inside bracketed_values / symbol sym.RIGHT_BRACKET
+bracket_values = give structured & inside bracketed_values <* symbol sym.RIGHT_BRACKET
 
 unfoldable pub bracket : Syntax Called
-bracket = deeper (on sym.LEFT_BRACKET) (give (λ at_bracket r. r at_bracket) & line / symbol sym.LEFT_BRACKET & switch (Word word.OTHERWISE ∷ Word word.CASE ∷ []) bracket_values bracket_labels)
+bracket = deeper (on sym.LEFT_BRACKET) (give (λ at_bracket r. r at_bracket) & line <* symbol sym.LEFT_BRACKET & switch (Word word.OTHERWISE ∷ Word word.CASE ∷ []) bracket_values bracket_labels)
 
 unfoldable pub called_rest : Syntax Called
 called_rest = switch (on sym.LEFT_BRACKET) bracket (give accessed & selectors)
 
 unfoldable pub called_field : Syntax (ℕ → List ℕ → Factor)
-called_field = give (λ p m r at n. r at n (Some (p, m))) & line / symbol sym.PERIOD & name & called_rest
+called_field = give (λ p m r at n. r at n (Some (p, m))) & line <* symbol sym.PERIOD & name & called_rest
 
 -- `access | name "[" values "]"`
 unfoldable pub called : Syntax Factor
@@ -195,19 +195,19 @@ unfoldable pub text_factor : Syntax Factor
 text_factor = give factor_is.Text & line & token sort.texts
 
 unfoldable pub nil_factor : Syntax Factor
-nil_factor = give factor_is.Nil & line / keyword word.NIL
+nil_factor = give factor_is.Nil & line <* keyword word.NIL
 
 unfoldable pub parenthesized : Syntax Factor
-parenthesized = deeper (on sym.LEFT_PARENTHESIS) (give factor_is.Parenthesized & line / symbol sym.LEFT_PARENTHESIS & inside expressions / symbol sym.RIGHT_PARENTHESIS)
+parenthesized = deeper (on sym.LEFT_PARENTHESIS) (give factor_is.Parenthesized & line <* symbol sym.LEFT_PARENTHESIS & inside expressions <* symbol sym.RIGHT_PARENTHESIS)
 
 unfoldable pub negated : Syntax Factor
-negated = deeper (on_word word.NOT) (give factor_is.Not & line / keyword word.NOT & inside factors)
+negated = deeper (on_word word.NOT) (give factor_is.Not & line <* keyword word.NOT & inside factors)
 
 unfoldable pub members : Syntax (List Label)
-members = deeper of_expression (give (λ ls. ls) & inner_labels / symbol sym.RIGHT_BRACKET)
+members = deeper of_expression (give (λ ls. ls) & inner_labels <* symbol sym.RIGHT_BRACKET)
 
 unfoldable pub set_constructor : Syntax Factor
-set_constructor = give factor_is.Set & line / symbol sym.LEFT_BRACKET & either (on sym.RIGHT_BRACKET) (give [] / symbol sym.RIGHT_BRACKET) members
+set_constructor = give factor_is.Set & line <* symbol sym.LEFT_BRACKET & either (on sym.RIGHT_BRACKET) (give [] <* symbol sym.RIGHT_BRACKET) members
 
 -- `factor = access | number | string | "nil" | "(" expr ")" | "not" factor | "[" [ label { "," label } ] "]" | name "[" values "]"`
 unfoldable pub factor : Syntax Factor
@@ -262,25 +262,25 @@ abbrev pub set_from : (ℕ → Factor → Expression) → List Label → ℕ →
 set_from r ls at_bracket = value_is.Expression (r at_bracket (factor_is.Set at_bracket ls))
 
 unfoldable pub set_tail : Syntax (ℕ → List Label → ℕ → ComponentValue)
-set_tail = give (λ r at ls. set_from r ls) / symbol sym.RIGHT_BRACKET & expression_rest
+set_tail = give (λ r at ls. set_from r ls) <* symbol sym.RIGHT_BRACKET & expression_rest
 
 unfoldable pub values_tail : Syntax (ℕ → List Label → ℕ → ComponentValue)
-values_tail = give (λ v r at ls at_bracket. value_is.Bracketed at_bracket (values_from r at (element_is.Labelled at ls v))) / symbol sym.COLON & inside component_values & inner_values_end
+values_tail = give (λ v r at ls at_bracket. value_is.Bracketed at_bracket (values_from r at (element_is.Labelled at ls v))) <* symbol sym.COLON & inside component_values & inner_values_end
 
 unfoldable pub value_labels : Syntax (ℕ → ComponentValue)
 value_labels = give (λ at ls t. t at ls) & line & inner_labels & either (on sym.RIGHT_BRACKET) set_tail values_tail
 
 unfoldable pub value_values : Syntax (ℕ → ComponentValue)
-value_values = give (λ v at_bracket. value_is.Bracketed at_bracket v) & inside bracketed_values / symbol sym.RIGHT_BRACKET
+value_values = give (λ v at_bracket. value_is.Bracketed at_bracket v) & inside bracketed_values <* symbol sym.RIGHT_BRACKET
 
 unfoldable pub empty_set_tail : Syntax (ℕ → ComponentValue)
-empty_set_tail = give (λ r. set_from r []) / symbol sym.RIGHT_BRACKET & expression_rest
+empty_set_tail = give (λ r. set_from r []) <* symbol sym.RIGHT_BRACKET & expression_rest
 
 unfoldable pub value_content : Syntax (ℕ → ComponentValue)
 value_content = deeper of_values (switch (Word word.OTHERWISE ∷ Word word.CASE ∷ []) value_values value_labels)
 
 unfoldable pub bracketed_value : Syntax ComponentValue
-bracketed_value = give (λ at_bracket r. r at_bracket) & line / symbol sym.LEFT_BRACKET & either (on sym.RIGHT_BRACKET) empty_set_tail value_content
+bracketed_value = give (λ at_bracket r. r at_bracket) & line <* symbol sym.LEFT_BRACKET & either (on sym.RIGHT_BRACKET) empty_set_tail value_content
 
 -- `cvalue = expr | "[" values "]"`
 unfoldable pub component_value : Syntax ComponentValue
@@ -289,26 +289,26 @@ component_value = switch (on sym.LEFT_BRACKET) bracketed_value (give value_is.Ex
 -- ---- elements
 
 unfoldable pub labelled_element : Syntax Element
-labelled_element = give element_is.Labelled & line & labels / symbol sym.COLON & component_value
+labelled_element = give element_is.Labelled & line & labels <* symbol sym.COLON & component_value
 
 unfoldable pub filled_values : Syntax (Option Values)
-filled_values = deeper of_values (give Some & inside bracketed_values / symbol sym.RIGHT_BRACKET)
+filled_values = deeper of_values (give Some & inside bracketed_values <* symbol sym.RIGHT_BRACKET)
 
 -- `"of" "[" [ values ] "]"`
 unfoldable pub case_values : Syntax (Option Values)
-case_values = give (λ x. x) / keyword word.OF / symbol sym.LEFT_BRACKET & either (on sym.RIGHT_BRACKET) (give None / symbol sym.RIGHT_BRACKET) filled_values
+case_values = give (λ x. x) <* keyword word.OF <* symbol sym.LEFT_BRACKET & either (on sym.RIGHT_BRACKET) (give None <* symbol sym.RIGHT_BRACKET) filled_values
 
 unfoldable pub case_plain : Syntax (Expression → ℕ → Element)
 case_plain = give (λ vs e at. element_is.Variant at None e vs) & case_values
 
 unfoldable pub case_tagged : Syntax (List ℕ → ℕ → Element)
-case_tagged = give (λ e vs n at. element_is.Variant at (Some n) e vs) / symbol sym.COLON & expression & case_values
+case_tagged = give (λ e vs n at. element_is.Variant at (Some n) e vs) <* symbol sym.COLON & expression & case_values
 
 unfoldable pub case_tail : Syntax (ℕ → Element)
 case_tail = shaped expression Some (on_word word.OF) case_plain as_identifier case_tagged (always_first (λ e. tt {0}))
 
 unfoldable pub case_element : Syntax Element
-case_element = give (λ at t. t at) & line / keyword word.CASE & case_tail
+case_element = give (λ at t. t at) & line <* keyword word.CASE & case_tail
 
 -- `element = labels ":" cvalue | "case" [ id ":" ] expr "of" "[" [ values ] "]"`
 unfoldable pub element : Syntax Element
