@@ -1,0 +1,19 @@
+-- Outcomes that follow one another.
+use Rattle.std.proofs.Common.{◌≡◌, List, Ok, Err, refl, sym, ap}
+use Rattle.ep_token.specs.declared.token.Token.{Token}
+use Rattle.ep_grammar.specs.declared.stop.Stop.{Stop}
+use Rattle.ep_grammar.specs.Reading.{Outcome, Parser, and_then, applied}
+
+pub assoc : {A B C : Type 0} (o : Outcome A) (f : A → Parser B) (g : B → Parser C) → and_then (and_then o f) g ≡ and_then o (λ x i. and_then (f x i) g)
+assoc (Ok p) f g = refl
+assoc (Err e) f g = refl
+
+pub applied_ok : {A B : Type 0} (g : A → B) (o : Outcome A) (y : B) (j : List Token) → applied g o ≡ Ok (y, j) → (x : A) × (o ≡ Ok (x, j)) × (y ≡ g x)
+applied_ok g (Ok p) y j h =
+    let q : (g p.0, p.1) ≡ (y, j) = cc in
+    (p.0, ap (λ (w : _ × List Token). Ok (p.0, w.1)) q, sym (ap (λ (w : _ × List Token). w.0) q))
+applied_ok g (Err e) y j h = absurd (cc)
+
+pub applied_err : {A B : Type 0} (g : A → B) (o : Outcome A) (e : Stop) (j : List Token) → applied g o ≡ Err (e, j) → o ≡ Err (e, j)
+applied_err g (Ok p) e j h = absurd (cc)
+applied_err {A} g (Err e) f j h = let q : e ≡ (f, j) = cc in ap (λ w. (let o : Outcome A = Err w in o)) q
