@@ -1,0 +1,6 @@
+//! The parser of statements.
+#![tactic(auto)]
+
+mod statements;
+
+pub use statements::{compound, inner_statement};
