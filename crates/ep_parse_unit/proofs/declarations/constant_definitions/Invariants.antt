@@ -1,0 +1,10 @@
+use Rattle.ep_grammar.specs.Descriptions.{first_of_pair, item}
+use Rattle.ep_grammar.specs.Reading.{read}
+use Rattle.ep_grammar.specs.Rules.{inside_at}
+use Rattle.ep_grammar.specs.Expressions.{of_name}
+use Rattle.ep_grammar.specs.Declarations.{constant_definition, constant_definitions}
+use Rattle.ep_reader.proofs.RowLoops.{Turns}
+use Rattle.ep_parse_unit.proofs.declarations.constant_definitions.Given as goal
+
+abbrev pub invariant-loop-turn : goal.invariant-loop-turn
+invariant-loop-turn l = Turns (read (inside_at l.room) constant_definitions l.fn.reader) first_of_pair (inside_at l.room) of_name (item constant_definition) (tt {0}) l._turn-end l._turn l.found l.reader

@@ -1,0 +1,7 @@
+//! The parser of declarations and units.
+#![tactic(auto)]
+
+mod declarations;
+mod units;
+
+pub use units::all_components;

@@ -1,0 +1,559 @@
+//! Components.
+
+ghost use Rattle.std.specs.Prelude.{◌≡◌, ◌≢◌, ◌++◌, [], ◌∷◌, IfErr, IfOk, OnOk, Err, Ok};
+ghost use Rattle.ep_grammar.specs.Expressions.{name};
+ghost use Rattle.ep_grammar.specs.Units.{action, actions, begin_action, block, component, components, end_action, export_item, export_items, export_part, export_parts, exports, finalization, heading_part, heading_parts, heading_rest, heading_routine, implementation_rest, import_item, import_items, import_list, import_part, import_specification, import_specifications, imports, interface_rest, module_component, module_rest, parameters, plain_item, program, program_component, protected_item, renaming, some_actions, unit};
+ghost use Rattle.ep_grammar.specs.Reading.{Reads, applied, read};
+ghost use Rattle.ep_grammar.specs.Rules.{inside_at};
+ghost use Rattle.ep_grammar.specs.declared.stop.Stop.TheVariants.{NoMemory};
+
+use crate::declarations::{constants, parts, routine_heading, types, variables};
+use ep_base::{Boxed, Line, List, Name, Names, NoMemory};
+use ep_grammar::Stop;
+use ep_parse_stmt::{compound, inner_statement};
+use ep_parse_type::names_in_parentheses;
+use ep_reader::{Reader, level};
+use ep_token::{symbol, word};
+use ep_tree::{
+    Block, Component, Export, ExportItem, Heading, HeadingPart, Implementation, Import, ImportItem,
+    Module, Program, Statement,
+};
+use std::alloc::Global;
+
+/// What a module does at the start of a program and at its end, each in a box while the rest is read.
+type Actions = (Option<Boxed<Statement>>, Option<Boxed<Statement>>);
+
+#[tactic(auto, unfolding(ep_grammar::specs::Units::parameters))]
+fn parameters(alloc: Global, reader: &mut Reader<'_>, room: u32) -> Result<Names, Stop>
+    ensures { Reads (read (inside_at room) parameters reader.old) result reader.new }
+{
+    if !reader.sees_symbol(symbol::LEFT_PARENTHESIS) {
+        return Ok(List::new(alloc));
+    }
+    names_in_parentheses(alloc, reader, room)
+}
+
+#[tactic(auto, unfolding(ep_grammar::specs::Units::renaming))]
+fn renaming(alloc: Global, reader: &mut Reader<'_>, room: u32) -> Result<Option<Name>, Stop>
+    ensures { Reads (read (inside_at room) renaming reader.old) result reader.new }
+{
+    if !reader.sees_symbol(symbol::EXPORTED_AS) {
+        return Ok(None);
+    }
+    reader.symbol(symbol::EXPORTED_AS)?;
+    let name = reader.name(alloc)?;
+    Ok(Some(name))
+}
+
+#[tactic(auto, unfolding(ep_grammar::specs::Units::import_item))]
+fn import_item(alloc: Global, reader: &mut Reader<'_>, room: u32) -> Result<ImportItem, Stop>
+    ensures { Reads (read (inside_at room) import_item reader.old) result reader.new }
+{
+    let line = reader.line();
+    let name = reader.name(alloc)?;
+    let renamed = renaming(alloc, reader, room)?;
+    Ok(ImportItem {
+        line,
+        name,
+        renamed,
+    })
+}
+
+#[tactic(auto, unfolding(ep_grammar::specs::Units::import_items))]
+fn import_items(alloc: Global, reader: &mut Reader<'_>, room: u32) -> Result<List<ImportItem>, Stop>
+    ensures { Reads (read (inside_at room) import_items reader.old) result reader.new }
+{
+    let mut found = List::new(alloc);
+    found.push(import_item(alloc, reader, room)?)?;
+    for _turn in 0..reader.left() {
+        if !reader.sees_symbol(symbol::COMMA) {
+            return Ok(found);
+        }
+        reader.symbol(symbol::COMMA)?;
+        found.push(import_item(alloc, reader, room)?)?;
+    }
+    Ok(found)
+}
+
+#[tactic(auto, unfolding(ep_grammar::specs::Units::import_list))]
+fn import_list(alloc: Global, reader: &mut Reader<'_>, room: u32) -> Result<List<ImportItem>, Stop>
+    ensures { Reads (read (inside_at room) import_list reader.old) result reader.new }
+{
+    reader.symbol(symbol::LEFT_PARENTHESIS)?;
+    let found = import_items(alloc, reader, room)?;
+    reader.symbol(symbol::RIGHT_PARENTHESIS)?;
+    Ok(found)
+}
+
+#[tactic(auto, unfolding(ep_grammar::specs::Units::import_part))]
+fn import_part(
+    alloc: Global,
+    reader: &mut Reader<'_>,
+    room: u32,
+) -> Result<(bool, List<ImportItem>), Stop>
+    ensures { Reads (read (inside_at room) import_part reader.old) result reader.new }
+{
+    if reader.sees_word(word::ONLY) {
+        reader.keyword(word::ONLY)?;
+        let items = import_list(alloc, reader, room)?;
+        return Ok((true, items));
+    }
+    if !reader.sees_symbol(symbol::LEFT_PARENTHESIS) {
+        return Ok((false, List::new(alloc)));
+    }
+    let items = import_list(alloc, reader, room)?;
+    Ok((false, items))
+}
+
+#[tactic(auto, unfolding(ep_grammar::specs::Units::import_specification))]
+fn import_specification(alloc: Global, reader: &mut Reader<'_>, room: u32) -> Result<Import, Stop>
+    ensures { Reads (read (inside_at room) import_specification reader.old) result reader.new }
+{
+    let line = reader.line();
+    let interface = reader.name(alloc)?;
+    let qualified = reader.takes_word(word::QUALIFIED);
+    let (only, items) = import_part(alloc, reader, room)?;
+    reader.symbol(symbol::SEMICOLON)?;
+    Ok(Import {
+        line,
+        interface,
+        qualified,
+        only,
+        items,
+    })
+}
+
+#[tactic(auto, unfolding(ep_grammar::specs::Units::import_specifications))]
+fn import_specifications(
+    alloc: Global,
+    reader: &mut Reader<'_>,
+    room: u32,
+) -> Result<List<Import>, Stop>
+    ensures { Reads (read (inside_at room) import_specifications reader.old) result reader.new }
+{
+    let mut found = List::new(alloc);
+    found.push(import_specification(alloc, reader, room)?)?;
+    for _turn in 0..reader.left() {
+        if !reader.sees_name() {
+            return Ok(found);
+        }
+        found.push(import_specification(alloc, reader, room)?)?;
+    }
+    Ok(found)
+}
+
+#[tactic(auto, unfolding(ep_grammar::specs::Units::imports))]
+fn imports(alloc: Global, reader: &mut Reader<'_>, room: u32) -> Result<List<Import>, Stop>
+    ensures { Reads (read (inside_at room) imports reader.old) result reader.new }
+{
+    if !reader.sees_word(word::IMPORT) {
+        return Ok(List::new(alloc));
+    }
+    reader.keyword(word::IMPORT)?;
+    import_specifications(alloc, reader, room)
+}
+
+#[tactic(auto, unfolding(ep_grammar::specs::Units::protected_item))]
+fn protected_item(alloc: Global, reader: &mut Reader<'_>, room: u32) -> Result<ExportItem, Stop>
+    ensures { Reads (read (inside_at room) protected_item reader.old) result reader.new }
+{
+    let line = reader.line();
+    reader.keyword(word::PROTECTED)?;
+    let name = reader.name(alloc)?;
+    let renamed = renaming(alloc, reader, room)?;
+    Ok(ExportItem::Constituent(line, true, name, renamed))
+}
+
+#[tactic(auto, unfolding(ep_grammar::specs::Units::plain_item, ep_grammar::specs::Units::item_range, ep_grammar::specs::Units::item_alone))]
+fn plain_item(alloc: Global, reader: &mut Reader<'_>, room: u32) -> Result<ExportItem, Stop>
+    ensures { Reads (read (inside_at room) plain_item reader.old) result reader.new }
+{
+    let line = reader.line();
+    let name = reader.name(alloc)?;
+    if !reader.sees_symbol(symbol::RANGE) {
+        let renamed = renaming(alloc, reader, room)?;
+        return Ok(ExportItem::Constituent(line, false, name, renamed));
+    }
+    reader.symbol(symbol::RANGE)?;
+    let last = reader.name(alloc)?;
+    Ok(ExportItem::Range(line, name, last))
+}
+
+#[tactic(auto, unfolding(ep_grammar::specs::Units::export_item))]
+fn export_item(alloc: Global, reader: &mut Reader<'_>, room: u32) -> Result<ExportItem, Stop>
+    ensures { Reads (read (inside_at room) export_item reader.old) result reader.new }
+{
+    if reader.sees_word(word::PROTECTED) {
+        return protected_item(alloc, reader, room);
+    }
+    plain_item(alloc, reader, room)
+}
+
+#[tactic(auto, unfolding(ep_grammar::specs::Units::export_items))]
+fn export_items(alloc: Global, reader: &mut Reader<'_>, room: u32) -> Result<List<ExportItem>, Stop>
+    ensures { Reads (read (inside_at room) export_items reader.old) result reader.new }
+{
+    let mut found = List::new(alloc);
+    found.push(export_item(alloc, reader, room)?)?;
+    for _turn in 0..reader.left() {
+        if !reader.sees_symbol(symbol::COMMA) {
+            return Ok(found);
+        }
+        reader.symbol(symbol::COMMA)?;
+        found.push(export_item(alloc, reader, room)?)?;
+    }
+    Ok(found)
+}
+
+#[tactic(auto, unfolding(ep_grammar::specs::Units::export_part))]
+fn export_part(alloc: Global, reader: &mut Reader<'_>, room: u32) -> Result<Export, Stop>
+    ensures { Reads (read (inside_at room) export_part reader.old) result reader.new }
+{
+    let line = reader.line();
+    let name = reader.name(alloc)?;
+    reader.symbol(symbol::EQUAL)?;
+    reader.symbol(symbol::LEFT_PARENTHESIS)?;
+    let items = export_items(alloc, reader, room)?;
+    reader.symbol(symbol::RIGHT_PARENTHESIS)?;
+    reader.symbol(symbol::SEMICOLON)?;
+    Ok(Export { line, name, items })
+}
+
+#[tactic(auto, unfolding(ep_grammar::specs::Units::export_parts))]
+fn export_parts(alloc: Global, reader: &mut Reader<'_>, room: u32) -> Result<List<Export>, Stop>
+    ensures { Reads (read (inside_at room) export_parts reader.old) result reader.new }
+{
+    let mut found = List::new(alloc);
+    found.push(export_part(alloc, reader, room)?)?;
+    for _turn in 0..reader.left() {
+        if !reader.sees_name() {
+            return Ok(found);
+        }
+        found.push(export_part(alloc, reader, room)?)?;
+    }
+    Ok(found)
+}
+
+#[tactic(auto, unfolding(ep_grammar::specs::Units::exports))]
+fn exports(alloc: Global, reader: &mut Reader<'_>, room: u32) -> Result<List<Export>, Stop>
+    ensures { Reads (read (inside_at room) exports reader.old) result reader.new }
+{
+    reader.keyword(word::EXPORT)?;
+    export_parts(alloc, reader, room)
+}
+
+#[tactic(auto, unfolding(ep_grammar::specs::Units::heading_routine))]
+fn heading_routine(alloc: Global, reader: &mut Reader<'_>, room: u32) -> Result<HeadingPart, Stop>
+    ensures { Reads (read (inside_at room) heading_routine reader.old) result reader.new }
+{
+    let heading = routine_heading(alloc, reader, room)?;
+    reader.symbol(symbol::SEMICOLON)?;
+    Ok(HeadingPart::Routine(heading))
+}
+
+#[tactic(auto, unfolding(ep_grammar::specs::Units::heading_part))]
+fn heading_part(alloc: Global, reader: &mut Reader<'_>, room: u32) -> Result<HeadingPart, Stop>
+    ensures { Reads (read (inside_at room) heading_part reader.old) result reader.new }
+{
+    if reader.sees_word(word::CONST) {
+        let constants = constants(alloc, reader, room)?;
+        return Ok(HeadingPart::Constants(constants));
+    }
+    if reader.sees_word(word::TYPE) {
+        let types = types(alloc, reader, room)?;
+        return Ok(HeadingPart::Types(types));
+    }
+    if reader.sees_word(word::VAR) {
+        let variables = variables(alloc, reader, room)?;
+        return Ok(HeadingPart::Variables(variables));
+    }
+    heading_routine(alloc, reader, room)
+}
+
+#[tactic(auto, unfolding(ep_grammar::specs::Units::heading_parts))]
+fn heading_parts(
+    alloc: Global,
+    reader: &mut Reader<'_>,
+    room: u32,
+) -> Result<List<HeadingPart>, Stop>
+    ensures { Reads (read (inside_at room) heading_parts reader.old) result reader.new }
+{
+    let mut found = List::new(alloc);
+    for _turn in 0..reader.left() {
+        if !reader.begins_part() {
+            return Ok(found);
+        }
+        found.push(heading_part(alloc, reader, room)?)?;
+    }
+    Ok(found)
+}
+
+#[tactic(auto, unfolding(ep_grammar::specs::Units::heading_rest))]
+fn heading_rest(
+    alloc: Global,
+    reader: &mut Reader<'_>,
+    room: u32,
+) -> Result<(Names, List<Export>, List<Import>, List<HeadingPart>), Stop>
+    ensures { Reads (read (inside_at room) heading_rest reader.old) result reader.new }
+{
+    let parameters = parameters(alloc, reader, room)?;
+    reader.symbol(symbol::SEMICOLON)?;
+    let exports = exports(alloc, reader, room)?;
+    let imports = imports(alloc, reader, room)?;
+    let parts = heading_parts(alloc, reader, room)?;
+    reader.keyword(word::END)?;
+    Ok((parameters, exports, imports, parts))
+}
+
+#[tactic(auto, unfolding(ep_grammar::specs::Units::action))]
+fn action(alloc: Global, reader: &mut Reader<'_>, room: u32) -> Result<Boxed<Statement>, Stop>
+    ensures { Reads (read (inside_at room) action reader.old) result reader.new }
+{
+    reader.keyword(word::DO)?;
+    let statement = Boxed::new(alloc, inner_statement(alloc, reader, room)?)?;
+    reader.symbol(symbol::SEMICOLON)?;
+    Ok(statement)
+}
+
+#[tactic(auto, unfolding(ep_grammar::specs::Units::finalization))]
+fn finalization(alloc: Global, reader: &mut Reader<'_>, room: u32) -> Result<Boxed<Statement>, Stop>
+    ensures { Reads (read (inside_at room) finalization reader.old) result reader.new }
+{
+    let _inner = level(room, reader.sees_word(word::TO))?;
+    reader.keyword(word::TO)?;
+    reader.keyword(word::END)?;
+    action(alloc, reader, room)
+}
+
+#[tactic(auto, unfolding(ep_grammar::specs::Units::begin_action))]
+fn begin_action(alloc: Global, reader: &mut Reader<'_>, room: u32) -> Result<Actions, Stop>
+    ensures { Reads (read (inside_at room) begin_action reader.old) result reader.new }
+{
+    reader.keyword(word::BEGIN)?;
+    let first = action(alloc, reader, room)?;
+    if !reader.sees_word(word::TO) {
+        return Ok((Some(first), None));
+    }
+    let last = finalization(alloc, reader, room)?;
+    Ok((Some(first), Some(last)))
+}
+
+#[tactic(auto, unfolding(ep_grammar::specs::Units::end_action))]
+fn end_action(alloc: Global, reader: &mut Reader<'_>, room: u32) -> Result<Actions, Stop>
+    ensures { Reads (read (inside_at room) end_action reader.old) result reader.new }
+{
+    reader.keyword(word::END)?;
+    let last = action(alloc, reader, room)?;
+    Ok((None, Some(last)))
+}
+
+#[tactic(auto, unfolding(ep_grammar::specs::Units::some_actions))]
+fn some_actions(alloc: Global, reader: &mut Reader<'_>, room: u32) -> Result<Actions, Stop>
+    ensures { Reads (read (inside_at room) some_actions reader.old) result reader.new }
+{
+    let _inner = level(room, reader.sees_word(word::TO))?;
+    reader.keyword(word::TO)?;
+    if reader.sees_word(word::BEGIN) {
+        return begin_action(alloc, reader, room);
+    }
+    end_action(alloc, reader, room)
+}
+
+#[tactic(auto, unfolding(ep_grammar::specs::Units::actions))]
+fn actions(alloc: Global, reader: &mut Reader<'_>, room: u32) -> Result<Actions, Stop>
+    ensures { Reads (read (inside_at room) actions reader.old) result reader.new }
+{
+    if reader.sees_word(word::TO) {
+        return some_actions(alloc, reader, room);
+    }
+    Ok((None, None))
+}
+
+#[tactic(auto, unfolding(ep_grammar::specs::Units::block))]
+fn block(alloc: Global, reader: &mut Reader<'_>, room: u32) -> Result<Block, Stop>
+    ensures { Reads (read (inside_at room) block reader.old) result reader.new }
+{
+    let line = reader.line();
+    let imports = imports(alloc, reader, room)?;
+    let parts = parts(alloc, reader, room)?;
+    let (initialization, finalization) = actions(alloc, reader, room)?;
+    reader.keyword(word::END)?;
+    Ok(Block {
+        line,
+        imports,
+        parts,
+        initialization: unboxed(initialization),
+        finalization: unboxed(finalization),
+    })
+}
+
+#[tactic(auto, unfolding(ep_grammar::specs::Units::program))]
+fn program(alloc: Global, reader: &mut Reader<'_>, room: u32) -> Result<Program, Stop>
+    ensures { Reads (read (inside_at room) program reader.old) result reader.new }
+{
+    let line = reader.line();
+    reader.keyword(word::PROGRAM)?;
+    let name = reader.name(alloc)?;
+    let parameters = parameters(alloc, reader, room)?;
+    reader.symbol(symbol::SEMICOLON)?;
+    let imports = imports(alloc, reader, room)?;
+    let parts = parts(alloc, reader, room)?;
+    let body = compound(alloc, reader, room)?;
+    Ok(Program {
+        line,
+        name,
+        parameters,
+        imports,
+        parts,
+        body,
+    })
+}
+
+#[tactic(auto, unfolding(ep_grammar::specs::Units::interface_rest))]
+fn interface_rest(
+    alloc: Global,
+    reader: &mut Reader<'_>,
+    room: u32,
+    line: Line,
+    name: Name,
+) -> Result<Component, Stop>
+    ensures { Reads (applied (λ r. r line name) (read (inside_at room) interface_rest reader.old)) result reader.new }
+{
+    reader.interface()?;
+    let (parameters, exports, imports, parts) = heading_rest(alloc, reader, room)?;
+    let heading = Heading {
+        line,
+        name,
+        parameters,
+        exports,
+        imports,
+        parts,
+    };
+    Ok(Component::Heading(heading))
+}
+
+#[tactic(auto, unfolding(ep_grammar::specs::Units::implementation_rest))]
+fn implementation_rest(
+    alloc: Global,
+    reader: &mut Reader<'_>,
+    room: u32,
+    line: Line,
+    name: Name,
+) -> Result<Component, Stop>
+    ensures { Reads (applied (λ r. r line name) (read (inside_at room) implementation_rest reader.old)) result reader.new }
+{
+    reader.implementation()?;
+    reader.symbol(symbol::SEMICOLON)?;
+    let block = block(alloc, reader, room)?;
+    Ok(Component::Block(Implementation { line, name, block }))
+}
+
+#[tactic(auto, unfolding(ep_grammar::specs::Units::module_rest))]
+fn module_rest(
+    alloc: Global,
+    reader: &mut Reader<'_>,
+    room: u32,
+    line: Line,
+    name: Name,
+) -> Result<Component, Stop>
+    ensures { Reads (applied (λ r. r line name) (read (inside_at room) module_rest reader.old)) result reader.new }
+{
+    let (parameters, exports, imports, parts) = heading_rest(alloc, reader, room)?;
+    reader.symbol(symbol::SEMICOLON)?;
+    let block = block(alloc, reader, room)?;
+    let heading = Heading {
+        line,
+        name,
+        parameters,
+        exports,
+        imports,
+        parts,
+    };
+    Ok(Component::Module(Module {
+        line,
+        heading,
+        block,
+    }))
+}
+
+#[tactic(auto, unfolding(ep_grammar::specs::Units::module_component))]
+fn module_component(alloc: Global, reader: &mut Reader<'_>, room: u32) -> Result<Component, Stop>
+    ensures { Reads (read (inside_at room) module_component reader.old) result reader.new }
+{
+    let line = reader.line();
+    reader.keyword(word::MODULE)?;
+    let name = reader.name(alloc)?;
+    if reader.sees_interface() {
+        return interface_rest(alloc, reader, room, line, name);
+    }
+    if reader.sees_implementation() {
+        return implementation_rest(alloc, reader, room, line, name);
+    }
+    module_rest(alloc, reader, room, line, name)
+}
+
+#[tactic(auto, unfolding(ep_grammar::specs::Units::program_component))]
+fn program_component(alloc: Global, reader: &mut Reader<'_>, room: u32) -> Result<Component, Stop>
+    ensures { Reads (read (inside_at room) program_component reader.old) result reader.new }
+{
+    let program = program(alloc, reader, room)?;
+    Ok(Component::Program(program))
+}
+
+#[tactic(auto, unfolding(ep_grammar::specs::Units::unit))]
+fn unit(alloc: Global, reader: &mut Reader<'_>, room: u32) -> Result<Component, Stop>
+    ensures { Reads (read (inside_at room) unit reader.old) result reader.new }
+{
+    if reader.sees_word(word::PROGRAM) {
+        return program_component(alloc, reader, room);
+    }
+    module_component(alloc, reader, room)
+}
+
+#[tactic(auto, unfolding(ep_grammar::specs::Units::component))]
+fn component(alloc: Global, reader: &mut Reader<'_>, room: u32) -> Result<Component, Stop>
+    ensures { Reads (read (inside_at room) component reader.old) result reader.new }
+{
+    let component = Boxed::new(alloc, unit(alloc, reader, room)?)?;
+    reader.symbol(symbol::PERIOD)?;
+    Ok(component.into_inner())
+}
+
+/// Reads all components of a text.
+#[tactic(auto, unfolding(ep_grammar::specs::Units::components))]
+pub fn all_components(
+    alloc: Global,
+    reader: &mut Reader<'_>,
+    room: u32,
+) -> Result<Vec<Component>, Stop>
+    ensures found { IfOk result (λ all. read (inside_at room) components reader.old ≡ Ok (all.items, reader.new)) }
+    ensures stopped { IfErr result (λ e. e ≢ NoMemory → read (inside_at room) components reader.old ≡ Err (e, reader.new)) }
+{
+    let mut found = Vec::new(alloc);
+    add(&mut found, component(alloc, reader, room)?)?;
+    for _turn in 0..reader.left() {
+        if !reader.begins_component() {
+            return Ok(found);
+        }
+        add(&mut found, component(alloc, reader, room)?)?;
+    }
+    Ok(found)
+}
+
+/// Adds a component at the end.
+fn add(found: &mut Vec<Component>, component: Component) -> Result<(), NoMemory>
+    ensures { OnOk result (found.new.items ≡ found.old.items ++ component ∷ []) }
+{
+    found.push(component)?;
+    Ok(())
+}
+
+/// The statement, moved out of its box.
+fn unboxed(statement: Option<Boxed<Statement>>) -> Option<Statement>
+    ensures { result ≡ statement }
+{
+    match statement {
+        Some(boxed) => Some(boxed.into_inner()),
+        None => None,
+    }
+}
