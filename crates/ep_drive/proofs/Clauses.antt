@@ -1,41 +1,38 @@
 -- What the clauses of the top call say, from what its answer says.
 use Rattle.std.proofs.Common.{◌≡◌, ℕ, ◌+◌, ◌-◌, ◌*◌, ◌≤◌, ◌<◌, zero, suc, length, true, false, IsTrue, List, [], ◌∷◌, ◌⊎◌, inl, inr, Option, Some, None, refl, sym, ap, ◌∙◌, subst, arith}
-use Rattle.std.specs.Prelude.{IsSomeAnd}
 use Rattle.std.proofs.lemmas.Option.{same_Some}
 use Rattle.ep_object.specs.Follows.{end_of}
 use Rattle.ep_object.specs.Runs.{trace_of}
 use Rattle.ep_object.specs.State.{Going, Running, Stopped, End, Normal, Halt, Error, Broken}
 use Rattle.ep_object.specs.Tells.{Tells, StillGoes}
 use Rattle.ep_object.specs.Tells as tells
-use Rattle.ep_outside.specs.Known.{Directory, HasFile, HasLength, Keeps}
+use Rattle.ep_outside.specs.Known.{Directory, Keeps}
 use Rattle.ep_typed.proofs.Done.{does_part-all}
 use Rattle.ep_typed.proofs.Lasting.{meanings_last}
 use Rattle.ep_typed.specs.Events.{Trace, Outside, Same, Does}
 use Rattle.ep_typed.specs.Laws.{IsLonger}
-use Rattle.ep_base.specs.Identifiers.{lower_case}
-use Rattle.ep_typed.specs.FirstPrograms.{program_trace}
 use Rattle.ep_typed.specs.Meaning.{meaning, make_all, exec}
 use Rattle.ep_typed.specs.Viewed.{stmt_of}
 use Rattle.ep_typed.specs.Steps.{Outcome, Gives, Ends, Cut, State, state_of, stop, go_on, bind, spend, first_state}
 use Rattle.ep_typed.specs.Steps as meant
 use Rattle.ep_typed.specs.declared.unit.Unit.{Unit as TypedUnit}
 use Rattle.ep_drive.specs.Calls.{Moment, Answers, Runs, Ran, RanImage, IsTold, IsToldPart, EndsSo, Fails, IsCut, MeansPart, RunsPart, WritesLines, HasEnough, IsRefused, IsCutOff, RanUntold, is_run, is_silent, is_refusal, is_failure, is_built, run_within}
-use Rattle.ep_drive.specs.Commands.{Go, WordsOf}
-use Rattle.ep_drive.specs.FirstTexts.{IsFirstText}
+use Rattle.ep_drive.specs.Commands.{Go}
+use Rattle.ep_drive.specs.Lines.{component_trace}
 use Rattle.ep_drive.specs.Outcomes.{run_status, run_line, IsReported, end_status}
-use Rattle.ep_drive.specs.ProgramTexts.{IsProgramText, program_tree}
-use Rattle.ep_drive.specs.Refusals.{Refusal, Usage, Missing, TooLong, NotBuilt, source_limit, IsCause}
+use Rattle.ep_drive.specs.ProgramTexts.{IsProgramText}
+use Rattle.ep_drive.specs.Refusals.{Refusal, Usage, Missing, TooLong, InText, source_limit, IsCause, IsTextCause}
 use Rattle.ep_drive.specs.declared.status.Status.{Status}
 use Rattle.ep_drive.specs.declared.status.Status.TheVariants as status
 use Rattle.ep_drive.proofs.Executing.{means_part}
 use Rattle.ep_drive.proofs.Lines.{writes_lines}
-use Rattle.ep_drive.proofs.Programs.{first_text-one}
+use Rattle.ep_drive.proofs.Loaded.{same_command, same_content, long_content}
 use Rattle.ep_drive.proofs.Runs.{tells_within}
-use Rattle.ep_drive.proofs.WordRows.{words-one}
+use Rattle.ep_drive.proofs.Sources.{apart, one_program}
 
 -- what holds of a program's run, from what else holds of it
 map_runs : (P Q : ℕ → TypedUnit → Type 0) (words : List (List ℕ)) (files : Option Directory) → ((budget : ℕ) (unit : TypedUnit) → P budget unit → Q budget unit) → Runs words files P → Runs words files Q
-map_runs P Q words files f r = record { budget = r.budget; source = r.source; command = r.command; text = r.text; loaded = r.loaded; unit = r.unit; program = r.program; meets = f r.budget r.unit r.meets }
+map_runs P Q words files f r = record { budget = r.budget; source = r.source; command = r.command; text = r.text; loaded = r.loaded; short = r.short; unit = r.unit; program = r.program; meets = f r.budget r.unit r.meets }
 
 -- ---- some first events were done
 
@@ -50,6 +47,7 @@ part status.Done words old new a = inl (part_of_run (IsTold status.Done old.repo
 part status.Halted words old new a = inl (part_of_run (IsTold status.Halted old.report new.report) words old.outside new.outside a)
 part status.RunError words old new a = inl (part_of_run (IsTold status.RunError old.report new.report) words old.outside new.outside a)
 part status.Budget words old new a = inl (part_of_run (IsTold status.Budget old.report new.report) words old.outside new.outside a)
+part status.SourceRefused words old new a = inr a.0
 part status.Usage words old new a = inr a.0
 part status.FileMissing words old new a = inr a.0
 part status.Unbuilt words old new a = inr a.0
@@ -258,36 +256,13 @@ same_meaning u v m a b c = λ i. go_on (spend 1 (bind (make_all m (a i) 0 (b i))
 
 -- a text has one meaning
 text_means : (text : List ℕ) (u v : TypedUnit) (m : ℕ) → IsProgramText text u → IsProgramText text v → meaning (u ∷ []) m ≡ meaning (v ∷ []) m
-text_means text u v m p q =
-    let same = first_text-one text p.name q.name p.statements q.statements p.is_text q.is_text in
-    let x = p.is_unit in
-    let y = q.is_unit in
-    same_meaning u v m (x.named ∙ ap lower_case same.0 ∙ sym y.named) (x.variables ∙ sym y.variables) (x.start ∙ ap program_tree same.1 ∙ sym y.start)
-
--- the words name one source and one budget
-record AreSame (budget other_budget : ℕ) (source other_source : List ℕ) : Type 0 where
-  budgets : budget ≡ other_budget
-  sources : source ≡ other_source
-
-same_command : (words : List (List ℕ)) (b c : ℕ) (s t : List ℕ) → WordsOf words (Go b s) → WordsOf words (Go c t) → AreSame b c s t
-same_command words b c s t h i = let same : Go b s ≡ Go c t = words-one words (Go c t) (Go b s) i h in record { budgets = cc; sources = cc }
-
--- what the files are known to hold of a name
-same_content : (files : Option Directory) (source other : List ℕ) (text : List ℕ) (content : Option (List ℕ)) → IsSomeAnd files (λ d. d source ≡ Some text) → other ≡ source → HasFile files other content → content ≡ Some text
-same_content None source other text content h e i = absurd h
-same_content (Some d) source other text content h e i = sym i ∙ ap d e ∙ h
-
-long_content : (files : Option Directory) (source other : List ℕ) (text : List ℕ) (bytes : ℕ) → IsSomeAnd files (λ d. d source ≡ Some text) → other ≡ source → HasLength files other bytes → length text ≡ bytes
-long_content None source other text bytes h e i = absurd h
-long_content (Some d) source other text bytes h e i =
-    let there : d other ≡ Some text = ap d e ∙ h in
-    subst (λ o. IsSomeAnd o (λ bs. length bs ≡ bytes)) there i
+text_means text u v m p q = let same = one_program text u v p q in same_meaning u v m same.names same.variables same.starts
 
 module _ (words : List (List ℕ)) (old new : Moment) (end : meant.End) (has : HasEnough words old.outside.files end) where
   enough_run : (answer : Status) → Ran words answer old.outside new.outside old.report new.report → answer ≡ end_status end
   enough_run answer r =
       let same = same_command words r.budget has.budget r.source has.source r.command has.command in
-      let found : Some r.text ≡ Some has.text = same_content old.outside.files has.source r.source has.text (Some r.text) has.held same.sources r.loaded in
+      let found : Some r.text ≡ Some has.text = same_content old.outside.files has.source r.source (Some has.text) (Some r.text) has.held same.sources r.loaded in
       let text : r.text ≡ has.text = same_Some r.text has.text found in
       let ends : meaning (r.unit ∷ []) has.steps ≡ Ends has.left end has.state = text_means has.text r.unit has.unit has.steps (subst (λ t. IsProgramText t r.unit) text r.program) has.program ∙ has.ends in
       let x = r.meets in
@@ -300,7 +275,7 @@ module _ (words : List (List ℕ)) (old new : Moment) (end : meant.End) (has : H
   not_refused (Missing file) c =
       let asks = c.0 in
       let same = same_command words asks.0 has.budget file has.source asks.1 has.command in
-      let found : None ≡ Some has.text = same_content old.outside.files has.source file has.text None has.held same.sources c.1 in
+      let found : None ≡ Some has.text = same_content old.outside.files has.source file (Some has.text) None has.held same.sources c.1 in
       absurd cc
   not_refused (TooLong file bytes) c =
       let asks = c.0 in
@@ -309,20 +284,20 @@ module _ (words : List (List ℕ)) (old new : Moment) (end : meant.End) (has : H
       let short : length has.text ≤ source_limit = has.short in
       let more : source_limit < bytes = c.1 in
       omega arith
-  not_refused (NotBuilt file line) c =
+  not_refused (InText file why line) c =
       let asks = c.0 in
-      let none = c.2 in
+      let of_text = c.1 in
       let same = same_command words asks.0 has.budget file has.source asks.1 has.command in
-      let found : Some none.0 ≡ Some has.text = same_content old.outside.files has.source file has.text (Some none.0) has.held same.sources none.1 in
-      let text : none.0 ≡ has.text = same_Some none.0 has.text found in
-      let program = has.program in
-      none.2 program.name program.statements (subst (λ t. IsFirstText t program.name program.statements) (sym text) program.is_text)
+      let found : Some of_text.0 ≡ Some has.text = same_content old.outside.files has.source file (Some has.text) (Some of_text.0) has.held same.sources of_text.1 in
+      let text : of_text.0 ≡ has.text = same_Some of_text.0 has.text found in
+      apart has.text why line has.unit (subst (λ t. IsTextCause t why line) text of_text.3) has.program
 
   pub enough : (answer : Status) → Answers answer words old new → (answer ≡ end_status end) ⊎ (is_failure answer ≡ true)
   enough status.Done a = inl (enough_run status.Done a)
   enough status.Halted a = inl (enough_run status.Halted a)
   enough status.RunError a = inl (enough_run status.RunError a)
   enough status.Budget a = inl (enough_run status.Budget a)
+  enough status.SourceRefused a = let r = a.1 in absurd (not_refused r.refusal r.cause)
   enough status.Usage a = let r = a.1 in absurd (not_refused r.refusal r.cause)
   enough status.FileMissing a = let r = a.1 in absurd (not_refused r.refusal r.cause)
   enough status.Unbuilt a = let r = a.1 in absurd (not_refused r.refusal r.cause)
@@ -331,24 +306,23 @@ module _ (words : List (List ℕ)) (old new : Moment) (end : meant.End) (has : H
   enough status.NoMemory a = inr refl
   enough _ a = absurd a
 
--- what a first text means
+-- what the statements of a component write
 lines_run : (words : List (List ℕ)) (old new : Outside) → Runs words old.files (λ budget unit. EndsSo unit meant.Normal old new) → WritesLines words old new
 lines_run words old new r =
     let p = r.program in
     let x = r.meets in
     let m = x.means in
-    let w = writes_lines p.name p.statements r.unit p.is_unit in
+    let w = writes_lines p.component r.unit p.typed in
     let same = one_end (r.unit ∷ []) m.steps w.steps m.left w.left meant.Normal meant.Normal m.state w.state m.ends w.ends in
-    let trace : x.trace ≡ program_trace p.statements = sym m.events ∙ ap (λ (s : State). s.trace) same.states ∙ w.events in
+    let trace : x.trace ≡ component_trace p.component = sym m.events ∙ ap (λ (s : State). s.trace) same.states ∙ w.events in
     record {
       budget = r.budget;
       source = r.source;
       command = r.command;
       text = r.text;
       loaded = r.loaded;
-      name = p.name;
-      statements = p.statements;
-      program = p.is_text;
+      unit = r.unit;
+      program = r.program;
       does = subst (λ t. Does t old new) trace x.does;
     }
 
@@ -358,12 +332,14 @@ lines answer words old new a h = lines_run words old.outside new.outside (done a
 -- ---- the other answers
 
 pub refused : (answer : Status) (words : List (List ℕ)) (old new : Moment) → Answers answer words old new → is_refusal answer ≡ true → IsRefused words old.outside.files answer old.report new.report
+refused status.SourceRefused words old new a h = a.1
 refused status.Usage words old new a h = a.1
 refused status.FileMissing words old new a h = a.1
 refused status.Unbuilt words old new a h = a.1
 refused _ words old new a h = absurd cc
 
 pub untouched : (answer : Status) (words : List (List ℕ)) (old new : Moment) → Answers answer words old new → is_refusal answer ≡ true → Same old.outside new.outside
+untouched status.SourceRefused words old new a h = a.0
 untouched status.Usage words old new a h = a.0
 untouched status.FileMissing words old new a h = a.0
 untouched status.Unbuilt words old new a h = a.0
@@ -411,6 +387,7 @@ built status.Done words old new a = refl
 built status.Halted words old new a = refl
 built status.RunError words old new a = refl
 built status.Budget words old new a = refl
+built status.SourceRefused words old new a = refl
 built status.Usage words old new a = refl
 built status.FileMissing words old new a = refl
 built status.Unbuilt words old new a = refl

@@ -25,7 +25,7 @@ write_valid d line old items i none e h = subst (IsStmt d) (sym (write_is line i
 pub compound_valid : (d : Declarations) (ss : List TypedStmt) → AreStmts d (stmts (map stmt_of ss)) → IsStmt d (stmt_of (typed.Compound ss))
 compound_valid d ss h = subst (IsStmt d) (sym (compound_is ss)) h
 
-rest_unbuilt : (first second : Option ℕ) → first_of first second ≡ None → second ≡ None
+pub rest_unbuilt : (first second : Option ℕ) → first_of first second ≡ None → second ≡ None
 rest_unbuilt None second e = e
 rest_unbuilt (Some line) second e = cc
 

@@ -1,50 +1,18 @@
 -- What `go` answers of a text that was loaded.
-use Rattle.std.proofs.Common.{◌≡◌, ℕ, ◌<◌, ◌≤◌, ◌^◌, true, List, [], ◌∷◌, inl, inr, Option, Some, MatchOption, length, refl, lt-ltb, arith}
-use Rattle.std.specs.List.{list_all}
-use Rattle.ep_base.specs.Identifiers.{is_identifier}
+use Rattle.std.proofs.Common.{ℕ, ◌<◌, ◌≤◌, ◌^◌, List, [], ◌∷◌, length, inl, inr, Option, Some, arith}
 use Rattle.ep_object.specs.State.{Going}
 use Rattle.ep_outside.specs.Known.{Directory, KeepsFiles, HasFile}
 use Rattle.ep_typed.proofs.Done.{does-nil, does-trans, does_part-after}
 use Rattle.ep_typed.specs.Events.{Trace, Outside, Does}
-use Rattle.ep_typed.specs.declared.first.Statement.{Statement}
-use Rattle.ep_typed.specs.declared.first.Statement.TheVariants.{Empty, WriteText, WriteNumber}
 use Rattle.ep_typed.specs.declared.unit.Unit.{Unit as TypedUnit}
 use Rattle.ep_drive.specs.Calls.{Moment, Answers, Runs, RanImage, IsTold, IsToldPart, MeansPart, outside_of, moment}
 use Rattle.ep_drive.specs.Commands.{Go, WordsOf, IsWordRow, option, joined, named, IsBudget}
 use Rattle.ep_drive.specs.Executions.{AnswersRun}
-use Rattle.ep_drive.specs.FirstTexts.{IsFirstText, IsStatement, IsStatements, Piece}
-use Rattle.ep_drive.specs.ProgramTexts.{IsProgramText, is_within_maxint}
-use Rattle.ep_drive.specs.declared.first_text.FirstText.{FirstText}
+use Rattle.ep_drive.specs.ProgramTexts.{IsProgramText}
+use Rattle.ep_drive.specs.Refusals.{source_limit}
 use Rattle.ep_drive.specs.declared.status.Status.{Status}
 use Rattle.ep_drive.specs.declared.status.Status.TheVariants as status
-use Rattle.ep_drive.proofs.Refused.{same-loaded, match_some}
-
--- ---- what a first text gives a typed program
-
--- its name is an identifier
-pub title_identifier : (text name : List ℕ) (ss : List Statement) → IsFirstText text name ss → is_identifier name ≡ true
-title_identifier text name ss is = let rest = is.row.6 in rest.4
-
-pub short_title : (text name : List ℕ) (ss : List Statement) → IsFirstText text name ss → length name ≤ 255
-short_title text name ss is = is.short
-
--- the text that was read is a first text
-pub first_is : (text : List ℕ) (read : Option FirstText) (first : FirstText) → MatchOption read ((name : List ℕ) (ss : List Statement) → IsFirstText text name ss → ⊥) (λ x. IsFirstText text x.name x.statements) → read ≡ Some first → IsFirstText text first.name first.statements
-first_is text read first h e = match_some read ((name : List ℕ) (ss : List Statement) → IsFirstText text name ss → ⊥) (λ x. IsFirstText text x.name x.statements) first h e
-
-within_maxint : (s : Statement) (front : List Piece) → IsStatement s front → is_within_maxint s ≡ true
-within_maxint Empty front is = refl
-within_maxint (WriteText text) front is = refl
-within_maxint (WriteNumber number) front is = lt-ltb number (2 ^ 63) is.3
-
--- its numbers are at most maxint
-statements_within : (ss : List Statement) (body : List Piece) → IsStatements ss body → list_all is_within_maxint ss ≡ true
-statements_within [] body are = refl
-statements_within (s ∷ []) body are = rw (within_maxint s body are) refl
-statements_within (s ∷ next ∷ more) body are = rw (within_maxint s are.0 are.3) (statements_within (next ∷ more) are.1 are.4)
-
-pub numbers_within : (text name : List ℕ) (ss : List Statement) → IsFirstText text name ss → list_all is_within_maxint ss ≡ true
-numbers_within text name ss is = statements_within ss is.body is.does
+use Rattle.ep_drive.proofs.Refused.{same-loaded}
 
 -- ---- the budget of a command is small
 
@@ -63,9 +31,9 @@ budget_small words budget source is = small is.row is.ticks (source ∷ []) budg
 
 -- ---- the run of a text that was loaded
 
-module _ (words : List (List ℕ)) (budget : ℕ) (source text : List ℕ) (unit : TypedUnit) (command : WordsOf words (Go budget source)) (before : Option Directory) (loaded : HasFile before source (Some text)) (program : IsProgramText text unit) where
+module _ (words : List (List ℕ)) (budget : ℕ) (source text : List ℕ) (unit : TypedUnit) (command : WordsOf words (Go budget source)) (before : Option Directory) (loaded : HasFile before source (Some text)) (short : length text ≤ source_limit) (program : IsProgramText text unit) where
   runs : (P : ℕ → TypedUnit → Type 0) → P budget unit → Runs words before P
-  runs P meets = record { budget = budget; source = source; command = command; text = text; loaded = loaded; unit = unit; program = program; meets = meets }
+  runs P meets = record { budget = budget; source = source; command = command; text = text; loaded = loaded; short = short; unit = unit; program = program; meets = meets }
 
   module _ (output : Option (List ℕ)) (files : Option Directory) (kept : KeepsFiles before files) where
     since : (t : Trace) (new : Outside) → Does t (outside_of output files) new → Does t (outside_of output before) new

@@ -1,14 +1,13 @@
+pub mod Causes
 pub mod Clauses
 pub mod Elaborated
 pub mod Executing
 pub mod Going
 pub mod Lines
-pub mod Loops
+pub mod Loaded
 pub mod Numbers
 pub mod Placed
-pub mod Programs
 pub mod Refused
-pub mod Rows
 pub mod Runs
-pub mod Typed
+pub mod Sources
 pub mod WordRows

@@ -1,7 +1,6 @@
 -- The number that digits spell, read from the left.
 use Rattle.std.proofs.Common.{◌≡◌, ℕ, ◌+◌, ◌-◌, ◌*◌, ◌^◌, ◌<◌, ◌≤◌, true, false, nat_lt, List, [], ◌∷◌, length, drop, get_or, fold, Some, None, refl, sym, ◌∙◌, le_refl, add-one, drop-cons, drop_of_length-le, le-ltb, lt-ltb, arith}
-use Rattle.ep_drive.specs.FirstTexts.{value_of}
-use Rattle.ep_drive.specs.Reading.{number_of}
+use Rattle.ep_drive.specs.Numbers.{value_of, number_of}
 
 -- the number that digits spell behind a number
 abbrev pub value_from : ℕ → List ℕ → ℕ

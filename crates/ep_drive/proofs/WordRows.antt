@@ -12,12 +12,15 @@ use Rattle.std.specs.declared.alloc.Global.{Global}
 use Rattle.ep_drive.specs.Asked.{asked_by}
 use Rattle.ep_drive.specs.declared.words.Command.{Command as ReadCommand}
 use Rattle.ep_drive.specs.Commands.{Command, Go, bytes_of, is_option, IsTicks, IsWordRow, nothing, option, joined, ended, named, usual_budget, IsBudget, WordsOf}
-use Rattle.ep_drive.specs.FirstTexts.{value_of}
-use Rattle.ep_drive.specs.Reading.{◌>>=◌, Gives, number_of}
-use Rattle.ep_drive.specs.WordReading.{Taken, taken, as_ticks, ticks_of, after_front, take_ticks, take_source, take_other, take_any, take_word, take_words, asked, asked_with, nothing_taken, read_row, read_words}
+use Rattle.ep_drive.specs.Numbers.{value_of, number_of}
+use Rattle.ep_drive.specs.WordReading.{◌>>=◌, Gives, Taken, taken, as_ticks, ticks_of, after_front, take_ticks, take_source, take_other, take_any, take_word, take_words, asked, asked_with, nothing_taken, read_row, read_words}
 use Rattle.ep_drive.specs.declared.words.Expected.{Expected}
 use Rattle.ep_drive.specs.declared.words.Expected.TheVariants.{Any, Ticks, Source}
-use Rattle.ep_drive.proofs.Rows.{chosen}
+
+-- a test that was made first
+chosen : {A : Type 0} (b : Bool) (x y z : A) → cond b x y ≡ z → ((b ≡ true) × (x ≡ z)) ⊎ ((b ≡ false) × (y ≡ z))
+chosen true x y z e = inl (refl, e)
+chosen false x y z e = inr (refl, e)
 
 -- what is there of an option
 abbrev pub list_of : {A : Type 0} → Option A → List A

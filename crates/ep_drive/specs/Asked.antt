@@ -14,4 +14,4 @@ abbrev pub refused_by : Refusal → refusals.Refusal
 refused_by refusal.Usage = refusals.Usage
 refused_by (refusal.Missing file) = refusals.Missing file.now
 refused_by (refusal.TooLong file bytes) = refusals.TooLong file.now bytes
-refused_by (refusal.NotBuilt file line) = refusals.NotBuilt file.now line
+refused_by (refusal.InText file why line) = refusals.InText file.now why line

@@ -7,17 +7,15 @@ use Rattle.ep_object.specs.State.{Going}
 use Rattle.ep_object.specs.Tells.{GoesOn}
 use Rattle.ep_object.specs.declared.code.Image.{Image}
 use Rattle.ep_typed.specs.Events.{Trace, Outside, Same, Does, DoesPart}
-use Rattle.ep_typed.specs.FirstPrograms.{program_trace}
 use Rattle.ep_typed.specs.Meaning.{meaning}
 use Rattle.ep_typed.specs.Steps.{State, Ends, state_of}
 use Rattle.ep_typed.specs.Steps as meaning
-use Rattle.ep_typed.specs.declared.first.Statement.{Statement}
 use Rattle.ep_typed.specs.declared.unit.Unit.{Unit as TypedUnit}
 use Rattle.ep_drive.specs.Commands.{Go, WordsOf}
-use Rattle.ep_drive.specs.FirstTexts.{IsFirstText}
+use Rattle.ep_drive.specs.Lines.{component_trace}
 use Rattle.ep_drive.specs.Outcomes.{run_status, run_line, IsReported, error_line, budget_line}
 use Rattle.ep_drive.specs.ProgramTexts.{IsProgramText}
-use Rattle.ep_drive.specs.Refusals.{Refusal, status_of, report_of, source_limit, IsCause}
+use Rattle.ep_drive.specs.Refusals.{Refusal, status_of, report_of, source_limit, IsCause, IsKnownCause}
 use Rattle.ep_drive.specs.declared.status.Status.{Status}
 use Rattle.ep_drive.specs.declared.status.Status.TheVariants as status
 
@@ -49,6 +47,7 @@ pub record Runs (words : List (List ℕ)) (files : Option Directory) (P : ℕ �
   pub command : WordsOf words (Go budget source)
   pub text : List ℕ
   pub loaded : HasFile files source (Some text)
+  pub short : length text ≤ source_limit
   pub unit : TypedUnit
   pub program : IsProgramText text unit
   pub meets : P budget unit
@@ -134,17 +133,16 @@ pub record MeansPart (unit : TypedUnit) (old new : Outside) : Type 0 where
 abbrev pub RunsPart : List (List ℕ) → Outside → Outside → Type 0
 RunsPart words old new = Runs words old.files (λ budget unit. MeansPart unit old new)
 
--- the words name a source, its text was loaded, it is a first text, and all that its statements mean was done and nothing else
+-- the words name a source, its text was loaded, it is the text of a unit, and all lines that the statements of its component write were written, and nothing else was done
 pub record WritesLines (words : List (List ℕ)) (old new : Outside) : Type 0 where
   pub budget : ℕ
   pub source : List ℕ
   pub command : WordsOf words (Go budget source)
   pub text : List ℕ
   pub loaded : HasFile old.files source (Some text)
-  pub name : List ℕ
-  pub statements : List Statement
-  pub program : IsFirstText text name statements
-  pub does : Does (program_trace statements) old new
+  pub unit : TypedUnit
+  pub program : IsProgramText text unit
+  pub does : Does (component_trace program.component) old new
 
 -- The words name a source and a budget, the files tell that they hold the source and that it is not too long, it is the text of a unit, and the meaning of the unit ends so with room, within so few steps that the budget has 64 ticks for each and 64 more.
 pub record HasEnough (words : List (List ℕ)) (files : Option Directory) (end : meaning.End) : Type 0 where
@@ -181,6 +179,7 @@ is_silent _ = false
 
 -- the answer is one of a refusal
 abbrev pub is_refusal : Status → Bool
+is_refusal status.SourceRefused = true
 is_refusal status.Usage = true
 is_refusal status.FileMissing = true
 is_refusal status.Unbuilt = true
@@ -204,6 +203,10 @@ pub record IsRefused (words : List (List ℕ)) (files : Option Directory) (answe
   pub answers : status_of refusal ≡ answer
   pub reports : Appends old_report new_report (report_of refusal)
 
+-- where the words and what the files tell give cause for a refusal, the answer is its status, or a call of the outside had a fault or memory is wanting
+abbrev pub IsCaused : List (List ℕ) → Option Directory → Status → Type 0
+IsCaused words files answer = (refusal : Refusal) → IsKnownCause words files refusal → (answer ≡ status_of refusal) ⊎ (is_failure answer ≡ true)
+
 -- there is cause for a refusal, and a front of its report was written
 pub record IsCutOff (words : List (List ℕ)) (files : Option Directory) (old_report new_report : Option (List ℕ)) : Type 0 where
   pub refusal : Refusal
@@ -222,6 +225,7 @@ Answers status.Done words old new = Ran words status.Done old.outside new.outsid
 Answers status.Halted words old new = Ran words status.Halted old.outside new.outside old.report new.report
 Answers status.RunError words old new = Ran words status.RunError old.outside new.outside old.report new.report
 Answers status.Budget words old new = Ran words status.Budget old.outside new.outside old.report new.report
+Answers status.SourceRefused words old new = Same old.outside new.outside × IsRefused words old.outside.files status.SourceRefused old.report new.report
 Answers status.Usage words old new = Same old.outside new.outside × IsRefused words old.outside.files status.Usage old.report new.report
 Answers status.FileMissing words old new = Same old.outside new.outside × IsRefused words old.outside.files status.FileMissing old.report new.report
 Answers status.Unbuilt words old new = Same old.outside new.outside × IsRefused words old.outside.files status.Unbuilt old.report new.report
@@ -234,6 +238,7 @@ Answers _ words old new = ⊥
 
 -- what a refusal comes to: its status with the whole report, a fault with a front of it, or no memory with none
 abbrev pub Reported : Status → Refusal → Option (List ℕ) → Option (List ℕ) → ℕ → ℕ → Type 0
+Reported status.SourceRefused refusal old new m n = (status_of refusal ≡ status.SourceRefused) × Appends old new (report_of refusal)
 Reported status.Usage refusal old new m n = (status_of refusal ≡ status.Usage) × Appends old new (report_of refusal)
 Reported status.FileMissing refusal old new m n = (status_of refusal ≡ status.FileMissing) × Appends old new (report_of refusal)
 Reported status.Unbuilt refusal old new m n = (status_of refusal ≡ status.Unbuilt) × Appends old new (report_of refusal)

@@ -5,7 +5,7 @@ use Rattle.std.specs.List.{list_all}
 use Rattle.std.specs.String.{string_bytes}
 use Rattle.std.specs.declared.string.String.{String}
 use Rattle.std.specs.declared.alloc.Global.{Global}
-use Rattle.ep_drive.specs.FirstTexts.{value_of}
+use Rattle.ep_drive.specs.Numbers.{value_of}
 
 -- compile, link and run one source text, within a budget of ticks
 pub data Command : Type 0 where

@@ -7,20 +7,19 @@ use Rattle.ep_object.specs.Implements.{Implements}
 use Rattle.ep_object.specs.Runs.{trace_of}
 use Rattle.ep_object.specs.State.{Going}
 use Rattle.ep_object.specs.declared.code.Image.{Image}
-use Rattle.ep_typed.specs.declared.first.Statement.{Statement}
-use Rattle.ep_drive.specs.ProgramTexts.{IsProgramOf}
 use Rattle.ep_outside.specs.Known.{Keeps, AppendsFront}
 use Rattle.ep_typed.specs.Events.{Outside, Does, DoesPart}
 use Rattle.ep_typed.specs.declared.unit.Unit.{Unit as TypedUnit}
 use Rattle.ep_drive.specs.Calls.{Moment, RanImage, IsTold, IsToldPart, MeansPart}
+use Rattle.ep_drive.specs.ProgramTexts.{IsProgramText}
 use Rattle.ep_drive.specs.Outcomes.{error_line, budget_line, IsReported}
 use Rattle.ep_drive.specs.declared.status.Status.{Status}
 use Rattle.ep_drive.specs.declared.status.Status.TheVariants as status
 
--- the image implements the typed program of a name and statements
-pub record IsImageOf (name : List ℕ) (statements : List Statement) (image : Image) : Type 0 where
+-- the image implements the typed program that the text is
+pub record IsImageOf (text : List ℕ) (image : Image) : Type 0 where
   pub unit : TypedUnit
-  pub is_unit : IsProgramOf name statements unit
+  pub program : IsProgramText text unit
   pub implements : Implements image (unit ∷ [])
 
 -- the status of a run by the machine's answer

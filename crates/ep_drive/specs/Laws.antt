@@ -1,12 +1,11 @@
--- The law of first texts.
-use Rattle.std.specs.Prelude.{ℕ, List}
-use Rattle.ep_typed.specs.FirstPrograms.{program_trace}
+-- The law of typed components.
+use Rattle.ep_tree.specs.declared.component.Component.{Component}
 use Rattle.ep_typed.specs.Steps.{Normal}
-use Rattle.ep_typed.specs.declared.first.Statement.{Statement}
 use Rattle.ep_typed.specs.declared.unit.Unit.{Unit as TypedUnit}
 use Rattle.ep_drive.specs.Calls.{MeansEnd}
-use Rattle.ep_drive.specs.ProgramTexts.{IsProgramOf}
+use Rattle.ep_drive.specs.Elaboration.{IsTyped}
+use Rattle.ep_drive.specs.Lines.{component_trace}
 
--- the meaning of the typed program of statements ends normally within some number of steps, after the events of the statements
-abbrev pub FirstTextsWrite : Type 0
-FirstTextsWrite = (name : List ℕ) (statements : List Statement) (unit : TypedUnit) → IsProgramOf name statements unit → MeansEnd unit Normal (program_trace statements)
+-- the meaning of the typed program of a component ends normally within some number of steps, after the events of its statements
+abbrev pub ComponentsWriteLines : Type 0
+ComponentsWriteLines = (component : Component) (unit : TypedUnit) → IsTyped component unit → MeansEnd unit Normal (component_trace component)

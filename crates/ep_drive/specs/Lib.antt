@@ -3,12 +3,11 @@ pub mod Calls
 pub mod Commands
 pub mod Elaboration
 pub mod Executions
-pub mod FirstTexts
 pub mod Images
 pub mod Laws
+pub mod Lines
+pub mod Numbers
 pub mod Outcomes
 pub mod ProgramTexts
-pub mod Reading
 pub mod Refusals
-pub mod Scanning
 pub mod WordReading

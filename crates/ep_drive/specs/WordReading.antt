@@ -1,14 +1,24 @@
 -- The command of a list of words, word by word from the left, as the reader finds it.
-use Rattle.std.specs.Prelude.{ℕ, ◌^◌, ◌&&◌, ◌==◌, nat_lt, nat_le, if◌then◌else◌, List, [], ◌∷◌, length, codes, Option, Some, None, is_some, unwrap_or}
+use Rattle.std.specs.Prelude.{◌≡◌, ℕ, ◌^◌, ◌&&◌, ◌==◌, nat_lt, nat_le, if◌then◌else◌, List, [], ◌∷◌, length, codes, Option, Some, None, is_some, unwrap_or}
 use Rattle.std.specs.Char.{is_ascii_digit}
 use Rattle.std.specs.List.{list_all}
 use Rattle.std.specs.Option.{option_map}
 use Rattle.std.specs.Str.{bytes_eq}
 use Rattle.ep_drive.specs.Commands.{Command, Go, is_option, usual_budget}
-use Rattle.ep_drive.specs.Reading.{◌>>=◌, number_of}
+use Rattle.ep_drive.specs.Numbers.{number_of}
 use Rattle.ep_drive.specs.declared.words.Expected.{Expected}
 use Rattle.ep_drive.specs.declared.words.Expected.TheVariants.{Any, Ticks, Source}
 use Rattle.ep_drive.specs.declared.words.Row.{Row}
+
+infixl 10 ◌>>=◌
+abbrev pub ◌>>=◌ : {A B : Type 0} → Option A → (A → Option B) → Option B
+(Some x) >>= f = f x
+None >>= f = None
+
+-- what a function returned, seen by view, is what reading gives
+abbrev pub Gives : {X Y : Type 0} → (X → Y) → Option X → Option Y → Type 0
+Gives view (Some x) read = read ≡ Some (view x)
+Gives view None read = read ≡ None
 
 -- what the words so far ask for, and what may follow
 pub record Taken : Type 0 where

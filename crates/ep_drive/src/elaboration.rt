@@ -121,6 +121,3 @@ fn typed_text(alloc: Global, text: &[u8]) -> Result<WriteItem, NoMemory>
         width: None,
     })
 }
-
-#[cfg(test)]
-mod tests;

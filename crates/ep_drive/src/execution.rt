@@ -1,26 +1,24 @@
 //! The image of a program, and its run on the machine.
 
-ghost use Rattle.std.specs.Prelude.{◌≡◌, ◌<◌, ◌≤◌, ◌^◌, ◌∷◌, [], true, length, IfOk};
-ghost use Rattle.std.specs.List.{list_all};
-ghost use Rattle.ep_base.specs.Identifiers.{is_identifier};
+ghost use Rattle.std.specs.Prelude.{◌≡◌, ◌<◌, ◌≤◌, ◌^◌, ◌∷◌, [], length, IfOk, MatchResult};
 ghost use Rattle.ep_machine.specs.Answers.{OnWriteFaultEnd};
 ghost use Rattle.ep_object.specs.Implements.{Implements};
 ghost use Rattle.ep_typed.specs.Valid.{IsValid};
 ghost use Rattle.ep_typed.specs.declared.unit.Unit.{Unit as TypedUnit};
 ghost use Rattle.ep_drive.specs.Calls.{moment, outside_of, run_within};
 ghost use Rattle.ep_drive.specs.Executions.{AnswersRun, CameTo, IsImageOf};
-ghost use Rattle.ep_drive.specs.ProgramTexts.{is_within_maxint};
+ghost use Rattle.ep_drive.specs.Refusals.{RefusesText};
 
-use crate::first_text::FirstText;
 use crate::image::image_alone;
 use crate::outcome::tell;
-use crate::program::typed_program;
+use crate::source::{TextRefusal, read_program};
 use crate::status::Status;
 use ep_base::NoMemory;
 use ep_gen_unit::program_code;
 use ep_machine::{End, Machine};
 use ep_object::Image;
 use ep_outside::{Files, Sink, Source};
+use ep_token::MAX_SOURCE;
 use ep_typed::Unit;
 use std::alloc::Global;
 
@@ -50,15 +48,14 @@ pub fn run_and_tell<F: Files, I: Source, O: Sink, R: Sink>(
     }
 }
 
-/// An image that does what the typed program of a first text means.
-pub fn program_image(alloc: Global, first: &FirstText) -> Result<Image, NoMemory>
-    requires identifier { is_identifier first.now.name ≡ true }
-    requires short { length first.now.name ≤ 255 }
-    requires integers { list_all is_within_maxint first.now.statements ≡ true }
-    ensures { IfOk result (λ image. IsImageOf first.now.name first.now.statements image) }
+/// An image that does what the program of a text means.
+pub fn text_image(alloc: Global, text: &[u8]) -> Result<Image, TextRefusal>
+    requires { length text.now ≤ MAX_SOURCE }
+    ensures { MatchResult result (λ image. IsImageOf text.now image) (RefusesText text.now) }
 {
-    let unit = typed_program(alloc, first)?;
-    unit_image(alloc, &unit)
+    let unit = read_program(alloc, text)?;
+    let image = unit_image(alloc, &unit)?;
+    Ok(image)
 }
 
 /// An image that does what a valid program means.

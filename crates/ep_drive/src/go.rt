@@ -1,19 +1,17 @@
 //! The command `go`.
 
-ghost use Rattle.std.specs.Prelude.{◌<◌, ◌≤◌, ◌^◌, List, ℕ, Option, Some};
+ghost use Rattle.std.specs.Prelude.{◌<◌, ◌≤◌, ◌^◌, List, ℕ, Option, Some, length};
 ghost use Rattle.ep_outside.specs.Known.{Directory, KeepsFiles, HasFile};
 ghost use Rattle.ep_drive.specs.Commands.{Go, WordsOf};
 ghost use Rattle.ep_drive.specs.Calls.{Answers, Counts, moment};
 
-use crate::execution::{program_image, run_and_tell};
-use crate::first_text::read_first_text;
+use crate::execution::{run_and_tell, text_image};
 use crate::report::{Refusal, refuse};
+use crate::source::TextRefusal;
 use crate::status::Status;
 use ep_outside::{Files, LoadAnswer, Sink, Source};
+use ep_token::MAX_SOURCE;
 use std::alloc::Global;
-
-/// The greatest number of bytes of a source.
-const MAX_SOURCE: u32 = 1_048_576;
 
 /// Loads a source, and runs it within a budget of ticks where it is a program.
 pub fn go<F: Files, I: Source, O: Sink, R: Sink>(
@@ -35,7 +33,7 @@ pub fn go<F: Files, I: Source, O: Sink, R: Sink>(
     ensures input { I.faults input.old ≤ I.faults input.new }
 {
     let mut text = Vec::new(alloc);
-    match files.load(source.as_bytes(), MAX_SOURCE, &mut text) {
+    match files.load(source.as_bytes(), MAX_SOURCE as u32, &mut text) {
         LoadAnswer::Held => {
             go_text(
                 alloc,
@@ -66,7 +64,8 @@ fn go_text<F: Files, I: Source, O: Sink, R: Sink>(
     output: &mut O,
     report: &mut R,
 ) -> Status
-    requires { budget < 2 ^ 61 }
+    requires budget { budget < 2 ^ 61 }
+    requires short { length text.now ≤ MAX_SOURCE }
     ensures answers { (words : List (List ℕ)) (old : Option Directory) (n : ℕ) → WordsOf words (Go budget source.now) → HasFile old source.now (Some text.now) → KeepsFiles old (F.files files.old) → Answers result words
         (moment (O.held output.old) old (R.held report.old) n (O.faults output.old) (R.faults report.old))
         (moment (O.held output.new) (F.files files.new) (R.held report.new) (F.faults files.new) (O.faults output.new) (R.faults report.new)) }
@@ -75,14 +74,12 @@ fn go_text<F: Files, I: Source, O: Sink, R: Sink>(
     ensures output { O.faults output.old ≤ O.faults output.new }
     ensures report { R.faults report.old ≤ R.faults report.new }
 {
-    let Ok(read) = read_first_text(alloc, text) else {
-        return Status::NoMemory;
-    };
-    let Some(first) = read else {
-        return refuse(alloc, &Refusal::NotBuilt(source, 1), report);
-    };
-    let Ok(image) = program_image(alloc, &first) else {
-        return Status::NoMemory;
+    let image = match text_image(alloc, text) {
+        Ok(image) => image,
+        Err(TextRefusal::Refused(cause, line)) => {
+            return refuse(alloc, &Refusal::InText(source, cause, line), report);
+        }
+        Err(TextRefusal::NoMemory) => return Status::NoMemory,
     };
     run_and_tell(alloc, &image, budget, files, input, output, report)
 }

@@ -7,22 +7,17 @@
 
 mod elaboration;
 mod execution;
-mod first_text;
 mod go;
 mod image;
 mod laws;
+mod number;
 mod outcome;
-mod pieces;
-mod program;
 mod report;
+mod source;
 mod status;
-#[cfg(test)]
-mod tests;
 mod top;
-mod word_symbols;
 mod words;
 
-pub use elaboration::elaborate;
-pub use laws::laws_of_first_texts;
+pub use laws::laws_of_components;
 pub use status::Status;
 pub use top::epc;

@@ -2,10 +2,11 @@
 
 ghost use Rattle.std.specs.Prelude.{◌≡◌, ◌≤◌, ◌++◌, decimal, IfOk};
 ghost use Rattle.std.specs.String.{string_bytes};
-ghost use Rattle.ep_drive.specs.Refusals.{report_of, status_of};
+ghost use Rattle.ep_drive.specs.Refusals.{InText, report_of, status_of, words_of};
 ghost use Rattle.ep_drive.specs.Calls.{Reported};
 ghost use Rattle.ep_drive.specs.Asked.{refused_by};
 
+use crate::source::Cause;
 use crate::status::Status;
 use ep_base::{Line, NoMemory};
 use ep_outside::{Sink, WriteAnswer};
@@ -21,8 +22,8 @@ pub enum Refusal<'a> {
     Missing(&'a str),
     /// This file has this many bytes, more than its limit.
     TooLong(&'a str, u64),
-    /// The text of this file has a form at this line that is not built yet.
-    NotBuilt(&'a str, Line),
+    /// The text of this file is refused for this cause, on this line.
+    InText(&'a str, Cause, Line),
 }
 
 /// The status of a refusal.
@@ -32,7 +33,8 @@ fn status_of(refusal: &Refusal) -> Status
     match refusal {
         Refusal::Usage => Status::Usage,
         Refusal::Missing(_) | Refusal::TooLong(_, _) => Status::FileMissing,
-        Refusal::NotBuilt(_, _) => Status::Unbuilt,
+        Refusal::InText(_, Cause::NotBuilt, _) => Status::Unbuilt,
+        Refusal::InText(_, _, _) => Status::SourceRefused,
     }
 }
 
@@ -44,9 +46,33 @@ fn line_of(alloc: Global, refusal: &Refusal) -> Result<String, NoMemory>
         Refusal::Usage => String::from_str(alloc, "usage\n"),
         Refusal::Missing(file) => format!(in alloc; "{file}: missing\n"),
         Refusal::TooLong(file, bytes) => { numbered_line(alloc, file, ": too long ", *bytes, "\n") }
-        Refusal::NotBuilt(file, line) => {
-            numbered_line(alloc, file, ": line ", u64::from(*line), ": not built\n")
-        }
+        Refusal::InText(file, cause, line) => text_line(alloc, file, *cause, *line),
+    }
+}
+
+/// The line that reports why a text is refused.
+fn text_line(alloc: Global, file: &str, cause: Cause, line: Line) -> Result<String, NoMemory>
+    ensures { IfOk result (λ text. string_bytes text ≡ report_of (InText file.now cause line)) }
+{
+    let mut text = numbered_line(alloc, file, ": line ", u64::from(line), ": ")?;
+    text.push_str(words_of(cause))?;
+    text.push_str("\n")?;
+    Ok(text)
+}
+
+/// The words that report a cause.
+fn words_of(cause: Cause) -> &'static str
+    ensures { result.now ≡ words_of cause }
+{
+    match cause {
+        Cause::NoToken => "no token",
+        Cause::OpenComment => "open comment",
+        Cause::OpenString => "open string",
+        Cause::BadNumber => "bad number",
+        Cause::LongName => "long name",
+        Cause::Syntax => "syntax",
+        Cause::Nested => "nested",
+        Cause::NotBuilt => "not built",
     }
 }
 

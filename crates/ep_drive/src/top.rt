@@ -5,7 +5,7 @@ ghost use Rattle.ep_outside.specs.Known.{Keeps};
 ghost use Rattle.ep_typed.specs.Events.{Same};
 ghost use Rattle.ep_drive.specs.Commands.{bytes_of};
 ghost use Rattle.ep_typed.specs.Steps.{End, Normal, Halted};
-ghost use Rattle.ep_drive.specs.Calls.{Answers, Counts, moment, outside_of, is_run, is_silent, is_refusal, is_failure, is_built, Runs, Ran, RanUntold, EndsSo, Fails, IsCut, HasEnough, WritesLines, RunsPart, IsRefused, IsCutOff};
+ghost use Rattle.ep_drive.specs.Calls.{Answers, Counts, moment, outside_of, is_run, is_silent, is_refusal, is_failure, is_built, Runs, Ran, RanUntold, EndsSo, Fails, IsCut, HasEnough, WritesLines, RunsPart, IsRefused, IsCaused, IsCutOff};
 ghost use Rattle.ep_drive.specs.Outcomes.{end_status};
 
 use crate::go::go;
@@ -47,7 +47,7 @@ pub fn epc<F: Files, I: Source, O: Sink, R: Sink>(
     // memory is wanting.
     ensures enough { (end : End) → HasEnough (bytes_of words.now.items) (F.files files.old) end → (result ≡ end_status end) ⊎ (is_failure result ≡ true) }
 
-    // What a first text means is that it writes its lines.
+    // What it means is that the statements of the text write their lines.
     ensures lines { result ≡ Status.Done → WritesLines (bytes_of words.now.items)
         (outside_of (O.held output.old) (F.files files.old)) (outside_of (O.held output.new) (F.files files.new)) }
 
@@ -56,9 +56,11 @@ pub fn epc<F: Files, I: Source, O: Sink, R: Sink>(
         (outside_of (O.held output.old) (F.files files.old)) (outside_of (O.held output.new) (F.files files.new))
         ⊎ Same (outside_of (O.held output.old) (F.files files.old)) (outside_of (O.held output.new) (F.files files.new)) }
 
-    // `Usage`, `FileMissing` and `Unbuilt` come only where there is cause for such a refusal, of which the whole line is reported,
+    // `SourceRefused`, `Usage`, `FileMissing` and `Unbuilt` come only where there is cause for such a refusal, of which the whole line is reported,
     ensures refused { is_refusal result ≡ true → IsRefused (bytes_of words.now.items) (F.files files.old) result (R.held report.old) (R.held report.new) }
-    // and then nothing is done.
+    // Where there is such a cause, as the files tell, the answer is its status, or a fault or want of memory,
+    ensures caused { IsCaused (bytes_of words.now.items) (F.files files.old) result }
+    // and with a refusal nothing is done.
     ensures untouched { is_refusal result ≡ true → Same (outside_of (O.held output.old) (F.files files.old)) (outside_of (O.held output.new) (F.files files.new)) }
 
     // The two faults come only where a count rose in this call.

@@ -4,11 +4,9 @@ ghost use Rattle.std.specs.Prelude.{◌≡◌, ◌∷◌, MatchOption, map};
 ghost use Rattle.std.specs.Option.{option_map};
 ghost use Rattle.ep_drive.specs.Commands.{Command as Asked, WordsOf, bytes_of, is_option};
 ghost use Rattle.ep_drive.specs.Asked.{asked_by};
-ghost use Rattle.ep_drive.specs.Reading.{Gives};
-ghost use Rattle.ep_drive.specs.WordReading.{taken_by, ticks_of, take_ticks, take_source, take_any, take_word, asked, read_row, read_words};
+ghost use Rattle.ep_drive.specs.WordReading.{Gives, taken_by, ticks_of, take_ticks, take_source, take_any, take_word, asked, read_row, read_words};
 
-use crate::first_text::number_of;
-use crate::pieces::all_digits;
+use crate::number::{all_digits, number_of};
 
 /// The ticks of a run where no option says how many.
 const USUAL_BUDGET: u64 = 400_000_000;

@@ -1,5 +1,4 @@
 pub mod Events
-pub mod FirstPrograms
 pub mod Laws
 pub mod Meaning
 pub mod Operations

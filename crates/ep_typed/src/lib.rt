@@ -6,14 +6,12 @@
 //! trees the static rules give.
 #![tactic(auto)]
 
-mod first;
 mod laws;
 mod operations;
 mod tree;
 mod types;
 mod unit;
 
-pub use first::Statement;
 pub use laws::laws_of_meanings;
 pub use operations::{Binary, Print, Unary};
 pub use tree::{TypedExpr, TypedPlace, TypedStmt, WriteItem};

@@ -1,5 +1,5 @@
 use Rattle.ep_drive.proofs.Executing.{implements}
-use Rattle.ep_drive.proofs.Typed.{if_ok}
+use Rattle.ep_drive.proofs.Refused.{if_ok}
 use Rattle.ep_drive.proofs.execution.unit_image.Goals as goal
 
 pub returns : goal.returns

@@ -1,6 +1,7 @@
 use Rattle.std.proofs.Common.{subst}
 use Rattle.ep_drive.specs.Calls.{Answers, Moment, moment}
 use Rattle.ep_drive.specs.Commands.{bytes_of}
+use Rattle.ep_drive.proofs.Causes.{caused}
 use Rattle.ep_drive.proofs.Clauses.{ran, done, halted, failed, budget_spent, enough, lines, part, refused, untouched, write_fault, file_fault, quiet, silent, built}
 use Rattle.ep_drive.proofs.top.epc.Goals as goal
 
@@ -18,6 +19,7 @@ returns g c =
       halted = halted answer words old new a;
       failed = failed answer words old new a;
       budget = budget_spent answer words old new a;
+      caused = caused answer words old new a;
       enough = λ end has. enough words old new end has answer a;
       lines = lines answer words old new a;
       part = part answer words old new a;

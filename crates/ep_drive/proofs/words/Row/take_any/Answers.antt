@@ -2,8 +2,7 @@ use Rattle.std.proofs.Common.{◌≡◌, false, bytes_eq, codes, subst, sym, ap,
 use Rattle.std.proofs.lemmas.Bool.Decides.{Decides-eqb}
 use Rattle.std.proofs.lemmas.Slice.Eq.{strip_prefix_is}
 use Rattle.ep_drive.specs.Commands.{is_option}
-use Rattle.ep_drive.specs.Reading.{Gives}
-use Rattle.ep_drive.specs.WordReading.{taken_by}
+use Rattle.ep_drive.specs.WordReading.{Gives, taken_by}
 use Rattle.ep_drive.proofs.Refused.{match_some, match_none}
 use Rattle.ep_drive.proofs.WordRows.{take_any-joined, take_any-other}
 use Rattle.ep_drive.proofs.words.Row.take_any.Goals as goal
