@@ -42,6 +42,3 @@ pub use types::{
     Core, FieldSection, Fields, Plain, Structure, TypeDenoter, Variant, VariantPart,
     VariantSelector,
 };
-
-#[cfg(test)]
-mod tests;
