@@ -71,6 +71,14 @@ impl<T: Copy> List<T> {
 }
 
 impl<T: Drop> List<T> {
+    /// An empty list with room for so many items; one that grows from nothing takes room for four at once.
+    pub fn with_room(alloc: Global, room: usize) -> Result<List<T>, NoMemory>
+        ensures { IfOk result (λ l. l ≡ []) }
+    {
+        let items = Vec::with_capacity(alloc, room)?;
+        Ok(List { items })
+    }
+
     /// Adds an item at the end. Where memory is wanting the list is as before, and the item is dropped.
     pub fn push(&mut self, item: T) -> Result<(), NoMemory>
         ensures ok { OnOk result (self.new ≡ self.old ++ item ∷ []) }

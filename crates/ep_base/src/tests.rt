@@ -62,6 +62,9 @@ fn lists_keep_order(rt: HostRuntime) -> Result<(), Fail> {
     bytes.set(0, b'x');
     assert_eq!(rt; bytes.items(), b"xbc".as_slice());
     assert_eq!(rt; bytes.pop(), Some(b'c'));
+    let mut one = List::with_room(rt.alloc(), 1)?;
+    one.push(b'y')?;
+    assert_eq!(rt; one.items(), b"y".as_slice());
     let vector = b"zz".to_vec(rt.alloc())?;
     assert_eq!(rt; List::from_vec(vector).items().len(), 2);
     Ok(())
