@@ -1,11 +1,11 @@
 -- What can be told of a description, without reading, of how a text that has begun is brought to its end: the tokens that can be added, the levels that they need, and the classes that must not follow.
 use Rattle.std.proofs.Common.{◌≡◌, ℕ, zero, suc, Bool, true, false, List, [], ◌∷◌, ◌++◌, refl}
-use Rattle.std.specs.Prelude.{pos}
+use Rattle.std.specs.Prelude.{pos, codes}
 use Rattle.ep_token.specs.declared.word.TheConstants as word
 use Rattle.ep_token.specs.declared.token.Token.{Token}
 use Rattle.ep_token.specs.declared.token.TokenKind.{TokenKind}
 use Rattle.ep_token.specs.declared.token.TokenKind.TheVariants as kind
-use Rattle.ep_grammar.specs.Classes.{Class, Word, Symbol, Name, Number, Text, Interface, Implementation, Forward, End, same, has, class_of_kind, class_of_name, interface_bytes, implementation_bytes, forward_bytes}
+use Rattle.ep_grammar.specs.Classes.{Class, Word, Symbol, Name, Number, Text, Interface, Implementation, Forward, End, same, has, class_of_kind, class_of_name}
 use Rattle.ep_grammar.specs.Descriptions.{Nonterminal, field_lists, statements, Syntax, give, token, line, inside, apply, either, switch, row, deeper, shaped, always_first, always_second}
 use Rattle.ep_grammar.proofs.Static.{both, any, opposite, only_if, nullable, nullable_inside, first, first_inside, after_inside}
 
@@ -18,9 +18,9 @@ kind_for (Symbol n) = kind.Sym n
 kind_for Name = kind.Id []
 kind_for Number = kind.Number (pos 0)
 kind_for Text = kind.Str []
-kind_for Interface = kind.Id interface_bytes
-kind_for Implementation = kind.Id implementation_bytes
-kind_for Forward = kind.Id forward_bytes
+kind_for Interface = kind.Id (codes "interface")
+kind_for Implementation = kind.Id (codes "implementation")
+kind_for Forward = kind.Id (codes "forward")
 kind_for End = kind.Str []
 
 abbrev pub token_for : Class → Token

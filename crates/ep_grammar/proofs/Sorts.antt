@@ -1,6 +1,7 @@
 -- A token is of a sort exactly where its class is one of the sort's.
 use Rattle.std.proofs.Common.{◌≡◌, ℕ, Bool, true, false, List, [], ◌∷◌, Option, Some, None, refl, sym}
-use Rattle.std.specs.Prelude.{if◌then◌else◌}
+use Rattle.std.specs.Prelude.{if◌then◌else◌, codes}
+use Rattle.std.specs.Str.{bytes_eq}
 use Rattle.ep_token.specs.declared.symbol.TheConstants as sym
 use Rattle.ep_token.specs.declared.word.TheConstants as word
 use Rattle.ep_tree.specs.declared.operator.RelationalOperator.TheVariants as relational
@@ -10,7 +11,7 @@ use Rattle.ep_tree.specs.declared.operator.MultiplyingOperator.TheVariants as mu
 use Rattle.ep_tree.specs.declared.operator.Direction.TheVariants as direction
 use Rattle.ep_token.specs.declared.token.TokenKind.{TokenKind}
 use Rattle.ep_token.specs.declared.token.TokenKind.TheVariants as kind
-use Rattle.ep_grammar.specs.Classes.{Class, Word, Symbol, Name, Number, Text, Interface, Implementation, Forward, Sort, exactly, names, numbers, texts, relational_operators, signs, adding_operators, multiplying_operators, directions, classes, same, has, class_of_kind, class_of_name, when, meaning, same_bytes, interface_bytes, implementation_bytes, forward_bytes}
+use Rattle.ep_grammar.specs.Classes.{Class, Word, Symbol, Name, Number, Text, Interface, Implementation, Forward, Sort, exactly, names, numbers, texts, relational_operators, signs, adding_operators, multiplying_operators, directions, classes, same, has, class_of_kind, class_of_name, when, meaning}
 
 abbrev pub there : {A : Type 0} → Option A → Bool
 there (Some x) = true
@@ -44,7 +45,7 @@ name_in false false false = refl
 
 name_class : (n : List ℕ) → has name_kinds (class_of_name n) ≡ true
 unfolding class_of_name
-name_class n = name_in (same_bytes n interface_bytes) (same_bytes n implementation_bytes) (same_bytes n forward_bytes)
+name_class n = name_in (bytes_eq n (codes "interface")) (bytes_eq n (codes "implementation")) (bytes_eq n (codes "forward"))
 
 not_number : (b c d : Bool) → has (Number ∷ []) (if b then Interface else (if c then Implementation else (if d then Forward else Name))) ≡ false
 not_number true c d = refl
@@ -60,11 +61,11 @@ not_text false false false = refl
 
 no_number : (n : List ℕ) → has (Number ∷ []) (class_of_name n) ≡ false
 unfolding class_of_name
-no_number n = not_number (same_bytes n interface_bytes) (same_bytes n implementation_bytes) (same_bytes n forward_bytes)
+no_number n = not_number (bytes_eq n (codes "interface")) (bytes_eq n (codes "implementation")) (bytes_eq n (codes "forward"))
 
 no_text : (n : List ℕ) → has (Text ∷ []) (class_of_name n) ≡ false
 unfolding class_of_name
-no_text n = not_text (same_bytes n interface_bytes) (same_bytes n implementation_bytes) (same_bytes n forward_bytes)
+no_text n = not_text (bytes_eq n (codes "interface")) (bytes_eq n (codes "implementation")) (bytes_eq n (codes "forward"))
 
 pub sort_class : (s : Sort) (k : TokenKind) → there (meaning s k) ≡ has (classes s) (class_of_kind k)
 sort_class (exactly c) k = when_there (same (class_of_kind k) c) (tt {0}) None false refl

@@ -1,5 +1,6 @@
 -- What the grammar tells apart in tokens: their classes, and what a token of a sort carries.
-use Rattle.std.specs.Prelude.{ℕ, ℤ, Bool, true, false, if◌then◌else◌, ◌==◌, List, [], ◌∷◌, Option, Some, None}
+use Rattle.std.specs.Prelude.{ℕ, ℤ, Bool, true, false, if◌then◌else◌, ◌==◌, List, [], ◌∷◌, Option, Some, None, codes}
+use Rattle.std.specs.Str.{bytes_eq}
 use Rattle.ep_token.specs.declared.symbol.TheConstants as sym
 use Rattle.ep_token.specs.declared.word.TheConstants as word
 use Rattle.ep_token.specs.declared.token.Token.{Token}
@@ -39,23 +40,9 @@ abbrev pub has : List Class → Class → Bool
 has [] c = false
 has (d ∷ ds) c = if same c d then true else has ds c
 
-abbrev pub same_bytes : List ℕ → List ℕ → Bool
-same_bytes [] [] = true
-same_bytes (n ∷ ns) (m ∷ ms) = if n == m then same_bytes ns ms else false
-same_bytes _ _ = false
-
--- "interface", "implementation" and "forward"
-abbrev pub interface_bytes : List ℕ
-interface_bytes = 105 ∷ 110 ∷ 116 ∷ 101 ∷ 114 ∷ 102 ∷ 97 ∷ 99 ∷ 101 ∷ []
-
-abbrev pub implementation_bytes : List ℕ
-implementation_bytes = 105 ∷ 109 ∷ 112 ∷ 108 ∷ 101 ∷ 109 ∷ 101 ∷ 110 ∷ 116 ∷ 97 ∷ 116 ∷ 105 ∷ 111 ∷ 110 ∷ []
-
-abbrev pub forward_bytes : List ℕ
-forward_bytes = 102 ∷ 111 ∷ 114 ∷ 119 ∷ 97 ∷ 114 ∷ 100 ∷ []
-
+-- the class of an identifier
 unfoldable pub class_of_name : List ℕ → Class
-class_of_name n = if same_bytes n interface_bytes then Interface else (if same_bytes n implementation_bytes then Implementation else (if same_bytes n forward_bytes then Forward else Name))
+class_of_name n = if bytes_eq n (codes "interface") then Interface else (if bytes_eq n (codes "implementation") then Implementation else (if bytes_eq n (codes "forward") then Forward else Name))
 
 abbrev pub class_of_kind : TokenKind → Class
 class_of_kind (kind.Word w) = Word w

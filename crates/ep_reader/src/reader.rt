@@ -1,7 +1,7 @@
 //! The tokens that are left to a parser.
 
 ghost use Rattle.std.specs.Prelude.{if◌then◌else◌, ◌≡◌, ◌<◌, ℕ, length, IfOk, MatchOption, true, false, Ok, [], ◌∷◌};
-ghost use Rattle.ep_grammar.specs.Classes.{same, same_bytes, has, class_of, class_of_name, line_of, after_first, classes, Word, Symbol, Number, Text, Interface, Implementation, Forward};
+ghost use Rattle.ep_grammar.specs.Classes.{same, has, class_of, class_of_name, line_of, after_first, classes, Word, Symbol, Number, Text, Interface, Implementation, Forward};
 ghost use Rattle.ep_grammar.specs.Classes.{exactly, names, numbers, texts, relational_operators, signs, adding_operators, multiplying_operators, directions};
 ghost use Rattle.ep_token.specs.declared.word.TheConstants as word;
 ghost use Rattle.ep_grammar.specs.Reading.{Reads, and_then, read_token, peek};
@@ -547,7 +547,7 @@ impl<'a> Reader<'a> {
 fn is_interface(spelling: &[u8]) -> bool
     ensures { result ≡ same (class_of_name spelling.now) Interface }
 {
-    same_bytes(spelling, b"interface")
+    spelling == b"interface".as_slice()
 }
 
 /// Whether this is the spelling of `implementation`.
@@ -555,7 +555,7 @@ fn is_interface(spelling: &[u8]) -> bool
 fn is_implementation(spelling: &[u8]) -> bool
     ensures { result ≡ same (class_of_name spelling.now) Implementation }
 {
-    same_bytes(spelling, b"implementation")
+    spelling == b"implementation".as_slice()
 }
 
 /// Whether this is the spelling of `forward`.
@@ -563,24 +563,5 @@ fn is_implementation(spelling: &[u8]) -> bool
 fn is_forward(spelling: &[u8]) -> bool
     ensures { result ≡ same (class_of_name spelling.now) Forward }
 {
-    same_bytes(spelling, b"forward")
-}
-
-/// Whether two texts are the same.
-fn same_bytes(one: &[u8], other: &[u8]) -> bool
-    ensures { result ≡ same_bytes one.now other.now }
-{
-    match one {
-        [] => other.is_empty(),
-        [first, rest @ ..] => match other {
-            [] => false,
-            [second, more @ ..] => {
-                if *first == *second {
-                    same_bytes(rest, more)
-                } else {
-                    false
-                }
-            }
-        },
-    }
+    spelling == b"forward".as_slice()
 }

@@ -1,5 +1,0 @@
-use Rattle.std.proofs.Common.{length}
-use Rattle.ep_reader.proofs.reader.+same_bytes.Given as goal
-
-abbrev pub decreases-same_bytes : goal.decreases-same_bytes
-decreases-same_bytes l = length l.one.now
