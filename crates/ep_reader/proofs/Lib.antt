@@ -1,7 +1,8 @@
+pub mod Calls
 pub mod Levels
 pub mod Outcomes
 pub mod RowLoops
-pub mod Rows
+pub mod Turning
 pub mod Shaped
 pub mod Spellings
 pub mod Turns

@@ -1,10 +1,11 @@
 -- A row of the grammar, beside a loop that counts its turns up.
-use Rattle.std.proofs.Common.{◌≡◌, ℕ, zero, suc, ◌+◌, ◌-◌, ◌<◌, ◌≤◌, true, false, List, [], ◌∷◌, ◌++◌, Ok, refl, sym, ap, ◌∙◌, append_assoc, arith}
+use Rattle.std.proofs.Common.{◌≡◌, ℕ, zero, suc, ◌+◌, ◌-◌, ◌<◌, ◌≤◌, true, false, List, [], ◌∷◌, ◌++◌, Ok, Err, refl, sym, ap, ◌∙◌, append_assoc, arith}
 use Rattle.std.proofs.lemmas.List.{append-nil}
 use Rattle.ep_token.specs.declared.token.Token.{Token}
+use Rattle.ep_grammar.specs.declared.stop.Stop.{Stop}
 use Rattle.ep_grammar.specs.Classes.{Class, has, class_of}
 use Rattle.ep_grammar.specs.Descriptions.{Step, More, Last}
-use Rattle.ep_reader.proofs.Rows.{Turning, TurningOnto}
+use Rattle.ep_reader.proofs.Turning.{Turning, TurningOnto}
 use Rattle.ep_grammar.specs.Reading.{Outcome, Parser, ReadsOnto, and_then, go_on, turns, steps}
 
 pub one_more : {X : Type 0} {x : X} (f : ℕ → X) (n at : ℕ) → at < n → x ≡ f (n - at) → x ≡ f (suc (n - (at + 1)))
@@ -48,6 +49,10 @@ row_turns {cs = cs} {step = step} {r = r} {n = n} {at = at} {found = found} {i =
 pub row_is_ended : {A B : Type 0} {o : Outcome (List A)} {cs : List Class} {step : Parser (Step A B)} {r : B} {n at : ℕ} {found : List A} {i : List Token} {j : List Token} (q : B) → Turning o cs step r n at found i → at < n → has cs (class_of i) ≡ true → step i ≡ Ok (Last q, j) → o ≡ Ok (found, j)
 row_is_ended {cs = cs} {step = step} {r = r} {n = n} {at = at} {found = found} {i = i} {j = j} q t below h s =
     one_more (λ m. turns cs step r m found i) n at below t.is ∙ turn_ends cs step r q (n - (at + 1)) found i j h s
+
+-- a turn is refused
+pub row_refused : {A B : Type 0} {o : Outcome (List A)} {cs : List Class} {step : Parser (Step A B)} {r : B} {n at : ℕ} {found : List A} {i j : List Token} {e : Stop} → Turning o cs step r n at found i → at < n → has cs (class_of i) ≡ true → step i ≡ Err (e, j) → o ≡ Err (e, j)
+row_refused t below h s = row_turns t below h ∙ rw s refl
 
 -- an item is found
 pub row_goes_on : {A B : Type 0} {o : Outcome (List A)} {cs : List Class} {step : Parser (Step A B)} {r : B} {n at : ℕ} {found all : List A} {i j : List Token} (x : A) → Turning o cs step r n at found i → at < n → has cs (class_of i) ≡ true → step i ≡ Ok (More x, j) → all ≡ found ++ x ∷ [] → Turning o cs step r n (at + 1) all j

@@ -4,7 +4,7 @@ use Rattle.ep_grammar.specs.Classes.{classes, multiplying_operators, adding_oper
 use Rattle.ep_grammar.specs.Descriptions.{expressions, elements, inside, item, item_after, item_or_end}
 use Rattle.ep_grammar.specs.Reading.{read}
 use Rattle.ep_grammar.specs.Rules.{inside_at}
-use Rattle.ep_reader.proofs.Rows.{Turning, TurningOnto}
+use Rattle.ep_reader.proofs.Turning.{Turning, TurningOnto}
 use Rattle.ep_grammar.specs.Expressions.{addend, addends, argument, arguments, element, expression, inner_expressions, inner_labels, label_of, labels, more_elements_of, multiplier, multipliers, of_element, of_selector, on, selector, selectors}
 use Rattle.ep_parse_expr.proofs.+expression.Given as goal
 

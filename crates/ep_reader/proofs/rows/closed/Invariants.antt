@@ -1,0 +1,12 @@
+use Rattle.std.proofs.Common.{List, [], ◌∷◌}
+use Rattle.ep_token.specs.declared.symbol.TheConstants as symbols
+use Rattle.ep_grammar.specs.Classes.{Class, Symbol}
+use Rattle.ep_grammar.specs.Reading.{Parser}
+use Rattle.ep_reader.specs.Rows.{ReadsBy, item_or_end_by, closed_by, optional_by}
+use Rattle.ep_reader.proofs.Turning.{Turning}
+use Rattle.ep_reader.proofs.rows.closed.Given as goal
+
+abbrev pub invariant-loop-turn : goal.invariant-loop-turn
+invariant-loop-turn g l =
+    goal.F-IsAlwaysCallable g l.item
+    × ((cs : List Class) (p : Parser g.row.T.Denot) → ReadsBy g.F.FnMut (optional_by cs p) → Turning (closed_by cs p l.fn.found l.fn.reader) (Symbol symbols.SEMICOLON ∷ []) (item_or_end_by cs p) (tt {0}) l._turn-end l._turn l.found l.reader)
