@@ -1,7 +1,7 @@
 -- Calls of a closure that reads an item.
 use Rattle.std.proofs.Common.{◌≡◌, ℕ, ◌-◌, Bool, true, false, if◌then◌else◌, List, [], ◌∷◌, ◌++◌, length, Option, None, Some, Result, Ok, Err, refl, sym, ap, ◌∙◌, arith}
 use Rattle.std.specs.Borrow.{MutBor}
-use Rattle.std.specs.Fn.{Mut, Called}
+use Rattle.std.specs.Fn.{Shared}
 use Rattle.ep_token.specs.declared.symbol.TheConstants as symbols
 use Rattle.ep_token.specs.declared.token.Token.{Token}
 use Rattle.ep_grammar.specs.declared.stop.Stop.{Stop}
@@ -12,8 +12,8 @@ use Rattle.ep_reader.specs.Rows.{ReadsBy, optional_by, item_by, item_after_by, i
 use Rattle.ep_reader.proofs.Turning.{Turning}
 
 -- what one call answers
-pub called_reads : {F T : Type 0} {g : Mut F (MutBor (List Token) × Unit {0}) (Result T Stop × (MutBor (List Token) × Unit {0}))} {p : Parser T} {f f' : F} {y z : MutBor (List Token)} {r : Result T Stop} → ReadsBy g p → Called g f (y, tt) (r, (z, tt)) f' → Reads (p y.now) r z.now
-called_reads h e = h _ _ _ _ _ (record { shown = _; shows = refl; left = _; called = e; leaves = refl })
+pub called_reads : {F T : Type 0} {g : Shared F (MutBor (List Token) × Unit {0}) (Result T Stop × (MutBor (List Token) × Unit {0}))} {p : Parser T} {f : F} {y z : MutBor (List Token)} {r : Result T Stop} → ReadsBy g f p → g.post f (y, tt) (r, (z, tt)) → Reads (p y.now) r z.now
+called_reads h e = h _ _ _ (record { shown = _; shows = refl; left = _; met = e; leaves = refl })
 
 -- ---- an item where one begins
 

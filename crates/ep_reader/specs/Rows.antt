@@ -1,7 +1,7 @@
 -- Rows of items, by the parser that reads one item.
-use Rattle.std.specs.Prelude.{ℕ, List, [], ◌∷◌, length, Result, Ok, Option, Some, None, if◌then◌else◌}
+use Rattle.std.specs.Prelude.{◌≡◌, ℕ, List, [], ◌∷◌, length, Result, Ok, Option, Some, None, if◌then◌else◌}
 use Rattle.std.specs.Borrow.{MutBor}
-use Rattle.std.specs.Fn.{Mut, CalledAtMut}
+use Rattle.std.specs.Fn.{Shared}
 use Rattle.ep_token.specs.declared.symbol.TheConstants as symbols
 use Rattle.ep_token.specs.declared.token.Token.{Token}
 use Rattle.ep_grammar.specs.declared.stop.Stop.{Stop}
@@ -9,9 +9,17 @@ use Rattle.ep_grammar.specs.Classes.{Class, Symbol, exactly, has, class_of}
 use Rattle.ep_grammar.specs.Descriptions.{Step, More, Last}
 use Rattle.ep_grammar.specs.Reading.{Parser, Reads, and_then, read_token, steps}
 
+-- a call of f at a `&mut` to these tokens may give r, and leave those
+pub record CalledAt {F R : Type 0} (g : Shared F (MutBor (List Token) × Unit {0}) (R × (MutBor (List Token) × Unit {0}))) (f : F) (i : List Token) (r : R) (j : List Token) : Type 0 where
+  pub shown : MutBor (List Token)
+  pub shows : shown.now ≡ i
+  pub left : MutBor (List Token)
+  pub met : g.post f (shown, tt) (r, (left, tt))
+  pub leaves : left.now ≡ j
+
 -- each call of the closure reads what this parser does
-abbrev pub ReadsBy : {F T : Type 0} → Mut F (MutBor (List Token) × Unit {0}) (Result T Stop × (MutBor (List Token) × Unit {0})) → Parser T → Type 0
-ReadsBy {F} {T} g p = (f f' : F) (i j : List Token) (r : Result T Stop) → CalledAtMut g f i r f' j → Reads (p i) r j
+abbrev pub ReadsBy : {F T : Type 0} → Shared F (MutBor (List Token) × Unit {0}) (Result T Stop × (MutBor (List Token) × Unit {0})) → F → Parser T → Type 0
+ReadsBy {F} {T} g f p = (i j : List Token) (r : Result T Stop) → CalledAt g f i r j → Reads (p i) r j
 
 -- the items of a row after those that were found
 abbrev pub from_found : {A B : Type 0} → List Class → Parser (Step A B) → B → List A → Parser (List A)

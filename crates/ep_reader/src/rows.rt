@@ -11,14 +11,14 @@ use ep_token::symbol;
 use std::alloc::Global;
 
 /// `item { symbol item }`
-pub fn separated<T: Drop, F: FnMut(&mut Reader<'_>) -> Result<T, Stop>>(
+pub fn separated<T: Drop, F: Fn(&mut Reader<'_>) -> Result<T, Stop>>(
     alloc: Global,
     reader: &mut Reader<'_>,
     symbol: u8,
-    mut item: F,
+    item: F,
 ) -> Result<List<T>, Stop>
     requires { F.IsAlwaysCallable item }
-    ensures { (p : Parser T) → ReadsBy F.FnMut p → Reads (separated_by symbol p reader.old) result reader.new }
+    ensures { (p : Parser T) → ReadsBy F.Fn item p → Reads (separated_by symbol p reader.old) result reader.new }
 {
     let mut found = List::with_room(alloc, 1)?;
     let first = item(reader)?;
@@ -35,13 +35,13 @@ pub fn separated<T: Drop, F: FnMut(&mut Reader<'_>) -> Result<T, Stop>>(
 }
 
 /// `{ item }`, after the items that were found; the closure answers `None` where no item begins.
-pub fn many<T: Drop, F: FnMut(&mut Reader<'_>) -> Result<Option<T>, Stop>>(
+pub fn many<T: Drop, F: Fn(&mut Reader<'_>) -> Result<Option<T>, Stop>>(
     reader: &mut Reader<'_>,
     found: List<T>,
-    mut item: F,
+    item: F,
 ) -> Result<List<T>, Stop>
     requires { F.IsAlwaysCallable item }
-    ensures { (cs : List Class) (p : Parser T) → ReadsBy F.FnMut (optional_by cs p) → Reads (many_by cs p found reader.old) result reader.new }
+    ensures { (cs : List Class) (p : Parser T) → ReadsBy F.Fn item (optional_by cs p) → Reads (many_by cs p found reader.old) result reader.new }
 {
     let mut found = found;
     for _turn in 0..reader.left() {
@@ -54,13 +54,13 @@ pub fn many<T: Drop, F: FnMut(&mut Reader<'_>) -> Result<Option<T>, Stop>>(
 }
 
 /// `{ ";" item } [ ";" ]`, after the items that were found; the closure answers `None` where no item begins.
-pub fn closed<T: Drop, F: FnMut(&mut Reader<'_>) -> Result<Option<T>, Stop>>(
+pub fn closed<T: Drop, F: Fn(&mut Reader<'_>) -> Result<Option<T>, Stop>>(
     reader: &mut Reader<'_>,
     found: List<T>,
-    mut item: F,
+    item: F,
 ) -> Result<List<T>, Stop>
     requires { F.IsAlwaysCallable item }
-    ensures { (cs : List Class) (p : Parser T) → ReadsBy F.FnMut (optional_by cs p) → Reads (closed_by cs p found reader.old) result reader.new }
+    ensures { (cs : List Class) (p : Parser T) → ReadsBy F.Fn item (optional_by cs p) → Reads (closed_by cs p found reader.old) result reader.new }
 {
     let mut found = found;
     for _turn in 0..reader.left() {

@@ -7,5 +7,4 @@ use Rattle.ep_reader.proofs.rows.many.Given as goal
 
 abbrev pub invariant-loop-turn : goal.invariant-loop-turn
 invariant-loop-turn g l =
-    goal.F-IsAlwaysCallable g l.item
-    × ((cs : List Class) (p : Parser g.row.T.Denot) → ReadsBy g.F.FnMut (optional_by cs p) → Turning (many_by cs p l.fn.found l.fn.reader) cs (item_by p) (tt {0}) l._turn-end l._turn l.found l.reader)
+    (cs : List Class) (p : Parser g.row.T.Denot) → ReadsBy g.F.Fn l.item (optional_by cs p) → Turning (many_by cs p l.fn.found l.fn.reader) cs (item_by p) (tt {0}) l._turn-end l._turn l.found l.reader

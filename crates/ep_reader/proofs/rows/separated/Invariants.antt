@@ -7,5 +7,4 @@ use Rattle.ep_reader.proofs.rows.separated.Given as goal
 
 abbrev pub invariant-loop-turn : goal.invariant-loop-turn
 invariant-loop-turn g l =
-    goal.F-IsAlwaysCallable g l.item
-    × ((p : Parser g.row.T.Denot) → ReadsBy g.F.FnMut p → Turning (separated_by l.symbol p l.fn.reader) (Symbol l.symbol ∷ []) (item_after_by l.symbol p) (tt {0}) l._turn-end l._turn l.found l.reader)
+    (p : Parser g.row.T.Denot) → ReadsBy g.F.Fn l.item p → Turning (separated_by l.symbol p l.fn.reader) (Symbol l.symbol ∷ []) (item_after_by l.symbol p) (tt {0}) l._turn-end l._turn l.found l.reader
