@@ -40,9 +40,13 @@ unfoldable pub inside_at : ℕ → Option Inside
 inside_at zero = None
 inside_at (suc k) = Some (λ n. read (inside_at k) (rule n))
 
+-- what may stand one level deeper, where this many levels are left there
+abbrev pub inside_with : ℕ → Option Inside
+inside_with k = Some (λ n. read (inside_at k) (rule n))
+
 -- what a test of the levels that are left ensures: how many are left inside
 abbrev pub Deepens : Option Inside → Bool → Result ℕ Stop → Type 0
-Deepens here begins (Ok k) = here ≡ Some (λ n. read (inside_at k) (rule n))
+Deepens here begins (Ok k) = here ≡ inside_with k
 Deepens here begins (Err e) = (here ≡ None) × (e ≡ cause begins)
 
 -- what a parser answers to a whole text

@@ -4,13 +4,14 @@ ghost use Rattle.ep_grammar.specs.Expressions.{field_selector, nil_factor, numbe
 ghost use Rattle.ep_grammar.specs.Reading.{Reads, read};
 ghost use Rattle.ep_grammar.specs.Rules.{inside_at};
 
+use ep_base::Boxed;
 use ep_grammar::Stop;
 use ep_reader::Reader;
 use ep_token::{symbol, word};
 use ep_tree::{Factor, QualifiedName, Selector};
 use std::alloc::Global;
 
-/// Reads a name, qualified or not.
+/// `name = id [ "." id ]`
 #[tactic(auto, unfolding(ep_grammar::specs::Expressions::qualified_name))]
 pub fn qualified_name(
     alloc: Global,
@@ -37,6 +38,7 @@ pub fn qualified_name(
     })
 }
 
+/// `"." id`
 #[tactic(auto, unfolding(ep_grammar::specs::Expressions::field_selector))]
 pub(crate) fn field_selector(
     alloc: Global,
@@ -51,12 +53,9 @@ pub(crate) fn field_selector(
     Ok(Selector::Field(line, name))
 }
 
+/// `"^"`
 #[tactic(auto, unfolding(ep_grammar::specs::Expressions::pointer_selector))]
-pub(crate) fn pointer_selector(
-    alloc: Global,
-    reader: &mut Reader<'_>,
-    room: u32,
-) -> Result<Selector, Stop>
+pub(crate) fn pointer_selector(reader: &mut Reader<'_>, room: u32) -> Result<Selector, Stop>
     ensures { Reads (read (inside_at room) pointer_selector reader.old) result reader.new }
 {
     let line = reader.line();
@@ -64,33 +63,36 @@ pub(crate) fn pointer_selector(
     Ok(Selector::Dereference(line))
 }
 
+/// `number`
 #[tactic(auto, unfolding(ep_grammar::specs::Expressions::number_factor))]
 pub(crate) fn number_factor(
     alloc: Global,
     reader: &mut Reader<'_>,
     room: u32,
-) -> Result<Factor, Stop>
+) -> Result<Boxed<Factor>, Stop>
     ensures { Reads (read (inside_at room) number_factor reader.old) result reader.new }
 {
     let line = reader.line();
     let number = reader.number()?;
-    Ok(Factor::Number(line, number))
+    Ok(Boxed::new(alloc, Factor::Number(line, number))?)
 }
 
+/// `string`
 #[tactic(auto, unfolding(ep_grammar::specs::Expressions::text_factor))]
-pub(crate) fn text_factor(alloc: Global, reader: &mut Reader<'_>, room: u32) -> Result<Factor, Stop>
+pub(crate) fn text_factor(alloc: Global, reader: &mut Reader<'_>, room: u32) -> Result<Boxed<Factor>, Stop>
     ensures { Reads (read (inside_at room) text_factor reader.old) result reader.new }
 {
     let line = reader.line();
     let text = reader.text(alloc)?;
-    Ok(Factor::Text(line, text))
+    Ok(Boxed::new(alloc, Factor::Text(line, text))?)
 }
 
+/// `"nil"`
 #[tactic(auto, unfolding(ep_grammar::specs::Expressions::nil_factor))]
-pub(crate) fn nil_factor(alloc: Global, reader: &mut Reader<'_>, room: u32) -> Result<Factor, Stop>
+pub(crate) fn nil_factor(alloc: Global, reader: &mut Reader<'_>, room: u32) -> Result<Boxed<Factor>, Stop>
     ensures { Reads (read (inside_at room) nil_factor reader.old) result reader.new }
 {
     let line = reader.line();
     reader.keyword(word::NIL)?;
-    Ok(Factor::Nil(line))
+    Ok(Boxed::new(alloc, Factor::Nil(line))?)
 }

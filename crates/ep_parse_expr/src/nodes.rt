@@ -1,58 +1,67 @@
 //! Nodes that are made of several parts.
 
-ghost use Rattle.std.specs.Prelude.{◌≡◌, [], ◌∷◌, IfOk};
-ghost use Rattle.ep_grammar.specs.Descriptions.{elements};
-ghost use Rattle.ep_grammar.specs.Expressions.{addends, expression_from, factor, field_of, labels, multipliers, second_of, values};
-ghost use Rattle.ep_tree.specs.Nodes.{qualified_node, values_node};
-ghost use Rattle.ep_tree.specs.declared.expression.Element.TheVariants.{Labelled};
+ghost use Rattle.std.specs.Prelude.{◌≡◌, IfOk};
+ghost use Rattle.ep_grammar.specs.Expressions.{expression_from};
+ghost use Rattle.ep_parse_expr.specs.Called.{factor_with, last_field};
 
 use ep_base::{Boxed, Line, List, Name, NoMemory};
 use ep_tree::{
-    Addend, Comparison, ComponentValue, Element, Expression, Factor, Label, Multiplier,
-    QualifiedName, Selector, Simple, Term, Values,
+    Access, Addend, Comparison, Expression, Factor, Multiplier, QualifiedName, Selector, Simple,
+    Term, Values,
 };
 use std::alloc::Global;
 
-/// The field after a name, if there is one.
-pub(crate) fn field_list(
-    alloc: Global,
-    second: Option<(Line, Name)>,
-) -> Result<List<Selector>, NoMemory>
-    ensures { IfOk result (λ found. found ≡ field_of second) }
+/// The name of the field that the last of these selectors takes.
+#[tactic(auto, using(crate::proofs::Rests::last_of))]
+fn last_field(selectors: List<Selector>) -> Option<Name>
+    ensures { result ≡ last_field selectors }
 {
-    let mut found = List::new(alloc);
-    let Some((line, name)) = second else {
-        return Ok(found);
+    let mut selectors = selectors;
+    let Some(last) = selectors.pop() else {
+        return None;
     };
-    found.push(Selector::Field(line, name))?;
-    Ok(found)
+    match last {
+        Selector::Field(_, name) => Some(name),
+        Selector::Index(_, _) => None,
+        Selector::Dereference(_) => None,
+        Selector::Arguments(_, _) => None,
+    }
 }
 
-/// A name with what follows it.
-pub(crate) fn qualified(line: Line, first: Name, second: Option<(Line, Name)>) -> QualifiedName
-    ensures { result ≡ qualified_node line first (second_of second) }
+/// A factor of its name, with its selectors or a structured value.
+pub(crate) fn called_factor(
+    alloc: Global,
+    line: Line,
+    name: Name,
+    selectors: List<Selector>,
+    values: Option<Boxed<Values>>,
+) -> Result<Boxed<Factor>, NoMemory>
+    ensures { IfOk result (λ factor. factor ≡ factor_with line name selectors values) }
 {
-    let Some((_, name)) = second else {
-        return QualifiedName {
+    let Some(values) = values else {
+        let access = Access {
             line,
-            first,
-            second: None,
+            name,
+            selectors,
         };
+        return Boxed::new(alloc, Factor::Access(access));
     };
-    QualifiedName {
+    let second = last_field(selectors);
+    let name = QualifiedName {
         line,
-        first,
-        second: Some(name),
-    }
+        first: name,
+        second,
+    };
+    Boxed::new(alloc, Factor::Structured(line, name, values))
 }
 
 /// An expression that begins with a factor.
 pub(crate) fn expression_of(
     line: Line,
-    factor: Factor,
+    factor: Boxed<Factor>,
     multipliers: List<Multiplier>,
     addends: List<Addend>,
-    right: Option<Comparison>,
+    right: Option<Boxed<Comparison>>,
 ) -> Expression
     ensures { result ≡ expression_from multipliers addends right line factor }
 {
@@ -68,41 +77,4 @@ pub(crate) fn expression_of(
         more: addends,
     };
     Expression { line, left, right }
-}
-
-/// The elements that begin with this one.
-pub(crate) fn one_element(
-    alloc: Global,
-    line: Line,
-    labels: List<Label>,
-    value: ComponentValue,
-) -> Result<List<Element>, NoMemory>
-    ensures { IfOk result (λ found. found ≡ Labelled line labels value ∷ []) }
-{
-    let mut found = List::new(alloc);
-    found.push(Element::Labelled(line, labels, value))?;
-    Ok(found)
-}
-
-/// Values of their parts.
-pub(crate) fn values_of(
-    alloc: Global,
-    line: Line,
-    elements: List<Element>,
-    otherwise: Option<ComponentValue>,
-) -> Result<Values, NoMemory>
-    ensures { IfOk result (λ values. values ≡ values_node line elements otherwise) }
-{
-    let Some(value) = otherwise else {
-        return Ok(Values {
-            line,
-            elements,
-            otherwise: None,
-        });
-    };
-    Ok(Values {
-        line,
-        elements,
-        otherwise: Some(Boxed::new(alloc, value)?),
-    })
 }

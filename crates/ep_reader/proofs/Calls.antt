@@ -9,6 +9,7 @@ use Rattle.ep_grammar.specs.Classes.{Class, Symbol, exactly, same, has, class_of
 use Rattle.ep_grammar.specs.Descriptions.{Step, More, Last}
 use Rattle.ep_grammar.specs.Reading.{Outcome, Parser, Reads, and_then, read_token, steps, turns}
 use Rattle.ep_reader.specs.Rows.{ReadsBy, optional_by, item_by, item_after_by, item_or_end_by, separated_by}
+use Rattle.ep_reader.proofs.Outcomes.{one_class}
 use Rattle.ep_reader.proofs.Turning.{Turning}
 
 -- what one call answers
@@ -79,9 +80,6 @@ pub separated_refused : {A : Type 0} (n : ℕ) (p : Parser A) (i : List Token) {
 separated_refused n p i h = rw h refl
 
 -- ---- what one step answers
-
-one_class : (b v : Bool) → v ≡ b → (if b then true else false) ≡ v
-one_class b v h = rw (← h) (elim v as (λ w. (if w then true else false) ≡ w) [ true ↦ refl | false ↦ refl ])
 
 -- the class of the next token is this one, or is not
 pub at_symbol : (n : ℕ) (i : List Token) {v : Bool} → v ≡ same (class_of i) (Symbol n) → has (Symbol n ∷ []) (class_of i) ≡ v

@@ -1,5 +1,6 @@
 pub mod Calls
 pub mod Levels
+pub mod Onto
 pub mod Outcomes
 pub mod RowLoops
 pub mod Turning

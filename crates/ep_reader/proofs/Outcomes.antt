@@ -1,9 +1,21 @@
 -- Outcomes that follow one another.
-use Rattle.std.proofs.Common.{◌≡◌, List, Ok, Err, refl, sym, ap}
+use Rattle.std.proofs.Common.{◌≡◌, Bool, true, false, if◌then◌else◌, List, Ok, Err, refl, sym, ap}
 use Rattle.ep_token.specs.declared.token.Token.{Token}
 use Rattle.ep_grammar.specs.declared.stop.Stop.{Stop}
 use Rattle.ep_grammar.specs.Reading.{Outcome, Parser, and_then, applied}
 
+-- by a test that holds, or does not
+pub chosen : {X : Type 0} {b : Bool} (o p : Outcome X) → b ≡ true → (if b then o else p) ≡ o
+chosen o p h = rw h refl
+
+pub passed : {X : Type 0} {b : Bool} (o p : Outcome X) → b ≡ false → (if b then o else p) ≡ p
+passed o p h = rw h refl
+
+-- one class alone
+pub one_class : (b v : Bool) → v ≡ b → (if b then true else false) ≡ v
+one_class b v h = rw (← h) (elim v as (λ w. (if w then true else false) ≡ w) [ true ↦ refl | false ↦ refl ])
+
+-- one outcome after another, in either order of the brackets
 pub assoc : {A B C : Type 0} (o : Outcome A) (f : A → Parser B) (g : B → Parser C) → and_then (and_then o f) g ≡ and_then o (λ x i. and_then (f x i) g)
 assoc (Ok p) f g = refl
 assoc (Err e) f g = refl

@@ -7,6 +7,7 @@ use Rattle.ep_grammar.specs.declared.stop.Stop.TheVariants.{NoMemory}
 use Rattle.ep_grammar.specs.Classes.{Class, Symbol, exactly, same, has, class_of}
 use Rattle.ep_grammar.specs.Descriptions.{Step, More, Last, Syntax, give, either, apply, row, symbol, single, first_of_pair, some, many, separated, closed, item, item_after}
 use Rattle.ep_grammar.specs.Reading.{Outcome, Parser, Inside, and_then, applied, steps, read, read_token}
+use Rattle.ep_reader.proofs.Outcomes.{chosen, one_class, passed}
 
 -- The outcome is that of the turns from this one to the last, after the items that were found.
 pub record Turns {A B C : Type 0} (o : Outcome C) (node : List A × B → C) (e : Option Inside) (cs : List Class) (s : Syntax (Step A B)) (r : B) (last turn : ℕ) (found : List A) (i : List Token) : Type 0 where
@@ -107,24 +108,15 @@ after_err e n f s i a h = after_symbol e n f s i a ∙ ap (λ w. and_then w (λ 
 abbrev pub or_end : {A B : Type 0} → List Class → Syntax A → B → Syntax (Step A B)
 or_end cs s b = apply (apply (give (λ u x. x)) (symbol symbols.SEMICOLON)) (either cs (apply (give More) s) (give (Last b)))
 
-chosen : {X : Type 0} (b : Bool) (o p : Outcome X) → b ≡ true → (if b then o else p) ≡ o
-chosen b o p h = rw h refl
-
-passed : {X : Type 0} (b : Bool) (o p : Outcome X) → b ≡ false → (if b then o else p) ≡ p
-passed b o p h = rw h refl
-
 module _ {A B : Type 0} (e : Option Inside) (cs : List Class) (s : Syntax A) (b : B) (i : List Token) {j : List Token} {u : Unit {0}} (a : read_token (exactly (Symbol symbols.SEMICOLON)) i ≡ Ok (u, j)) where
   end_ok : {k : List Token} {x : A} → true ≡ has cs (class_of j) → read e s j ≡ Ok (x, k) → read e (or_end cs s b) i ≡ Ok (More x, k)
-  end_ok h q = after_ok e symbols.SEMICOLON (λ x. x) (either cs (apply (give More) s) (give (Last b))) i a (chosen (has cs (class_of j)) (read e (apply (give More) s) j) (Ok (Last b, j)) (sym h) ∙ meant_ok e More s j q)
+  end_ok h q = after_ok e symbols.SEMICOLON (λ x. x) (either cs (apply (give More) s) (give (Last b))) i a (chosen (read e (apply (give More) s) j) (Ok (Last b, j)) (sym h) ∙ meant_ok e More s j q)
 
   end_err : {k : List Token} {c : Stop} → true ≡ has cs (class_of j) → read e s j ≡ Err (c, k) → read e (or_end cs s b) i ≡ Err (c, k)
-  end_err h q = after_err e symbols.SEMICOLON (λ x. x) (either cs (apply (give More) s) (give (Last b))) i a (chosen (has cs (class_of j)) (read e (apply (give More) s) j) (Ok (Last b, j)) (sym h) ∙ meant_err e More s j q)
+  end_err h q = after_err e symbols.SEMICOLON (λ x. x) (either cs (apply (give More) s) (give (Last b))) i a (chosen (read e (apply (give More) s) j) (Ok (Last b, j)) (sym h) ∙ meant_err e More s j q)
 
   end_last : false ≡ has cs (class_of j) → read e (or_end cs s b) i ≡ Ok (Last b, j)
-  end_last h = after_ok e symbols.SEMICOLON (λ x. x) (either cs (apply (give More) s) (give (Last b))) i a (passed (has cs (class_of j)) (read e (apply (give More) s) j) (Ok (Last b, j)) (sym h))
-
-one_class : (b v : Bool) → v ≡ b → (if b then true else false) ≡ v
-one_class b v h = rw (← h) (elim v as (λ w. (if w then true else false) ≡ w) [ true ↦ refl | false ↦ refl ])
+  end_last h = after_ok e symbols.SEMICOLON (λ x. x) (either cs (apply (give More) s) (give (Last b))) i a (passed (read e (apply (give More) s) j) (Ok (Last b, j)) (sym h))
 
 -- ---- items one after the other
 

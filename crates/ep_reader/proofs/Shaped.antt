@@ -5,6 +5,7 @@ use Rattle.ep_grammar.specs.declared.stop.Stop.TheVariants.{Syntax as NotSyntax}
 use Rattle.ep_grammar.specs.Classes.{Class, has, class_of, line_of}
 use Rattle.ep_grammar.specs.Descriptions.{Syntax}
 use Rattle.ep_grammar.specs.Reading.{Outcome, Parser, Inside, and_then, applied, by_shape, refused, read}
+use Rattle.ep_reader.proofs.Outcomes.{chosen, one_class, passed}
 
 -- two applications in turn
 twice : {C Z : Type 0} (o : Outcome (C → ℕ → Z)) (c : C) (at : ℕ) → applied (λ (h : ℕ → Z). h at) (and_then o (λ h k. Ok (h c, k))) ≡ applied (λ r. r c at) o
@@ -15,15 +16,9 @@ same_either : {X : Type 0} (b : Bool) (o : Outcome X) → (if b then o else o) �
 same_either true o = refl
 same_either false o = refl
 
-chosen : {X : Type 0} (b : Bool) (o p : Outcome X) → true ≡ b → (if b then o else p) ≡ o
-chosen b o p h = rw (← h) refl
-
-passed : {X : Type 0} (b : Bool) (o p : Outcome X) → false ≡ b → (if b then o else p) ≡ p
-passed b o p h = rw (← h) refl
-
 -- a class among these, which are one
 pub one_of : (b v : Bool) → v ≡ b → v ≡ (if b then true else false)
-one_of b v h = rw (← h) (elim v as (λ w. w ≡ (if w then true else false)) [ true ↦ refl | false ↦ refl ])
+one_of b v h = sym (one_class b v h)
 
 -- a node with a line, of what was read by its shape
 abbrev pub by_shapes : {A C D Z : Type 0} → Option Inside → Syntax A → (A → Option C) → List Class → Syntax (C → ℕ → Z) → (A → Option D) → Syntax (D → ℕ → Z) → Parser Z
@@ -46,13 +41,13 @@ module _ {A C D Z : Type 0} (e : Option Inside) (s : Syntax A) (f : A → Option
   pub shaped_first : {c : C} → true ≡ has cs (class_of j) → f y ≡ Some c → by_shapes e s f cs t g u i ≡ applied (λ r. r c at) (read e t j)
   unfolding first_at
   shaped_first {c} b q =
-      went ∙ ap (applied (λ (r : ℕ → Z). r at)) (chosen (has cs (class_of j)) (first_at (f y)) second_at b ∙ ap first_at q) ∙ twice (read e t j) c at
+      went ∙ ap (applied (λ (r : ℕ → Z). r at)) (chosen (first_at (f y)) second_at (sym b) ∙ ap first_at q) ∙ twice (read e t j) c at
 
   -- by the second, where the first cannot begin
   pub shaped_second : {d : D} → false ≡ has cs (class_of j) → g y ≡ Some d → by_shapes e s f cs t g u i ≡ applied (λ r. r d at) (read e u j)
   unfolding second_at
   shaped_second {d} b q =
-      went ∙ ap (applied (λ (r : ℕ → Z). r at)) (passed (has cs (class_of j)) (first_at (f y)) second_at b ∙ ap (λ w. by_shape w (read e u) refused j) q) ∙ twice (read e u j) d at
+      went ∙ ap (applied (λ (r : ℕ → Z). r at)) (passed (first_at (f y)) second_at (sym b) ∙ ap (λ w. by_shape w (read e u) refused j) q) ∙ twice (read e u j) d at
 
   -- by the second, where there is no first
   pub shaped_other : {d : D} → f y ≡ None → g y ≡ Some d → by_shapes e s f cs t g u i ≡ applied (λ r. r d at) (read e u j)
@@ -64,4 +59,4 @@ module _ {A C D Z : Type 0} (e : Option Inside) (s : Syntax A) (f : A → Option
   pub shaped_neither : false ≡ has cs (class_of j) → g y ≡ None → by_shapes e s f cs t g u i ≡ Err (NotSyntax, j)
   unfolding second_at
   shaped_neither b q =
-      went ∙ ap (applied (λ (r : ℕ → Z). r at)) (passed (has cs (class_of j)) (first_at (f y)) second_at b ∙ ap (λ w. by_shape w (read e u) refused j) q)
+      went ∙ ap (applied (λ (r : ℕ → Z). r at)) (passed (first_at (f y)) second_at (sym b) ∙ ap (λ w. by_shape w (read e u) refused j) q)
