@@ -46,14 +46,18 @@ fn more_elements(
 ) -> Result<List<Element>, Stop>
     ensures { ReadsOnto before (read (inside_at room) (more_elements_of element) reader.old) result reader.new }
 {
-    closed(reader, before, |reader: &mut Reader<'_>| -> Result<Option<Element>, Stop>
-        ensures { Reads (read (inside_at room) (optional of_element element) reader.entry.now) result reader.exit.now }
-    {
-        if !reader.begins_element() {
-            return Ok(None);
-        }
-        Ok(Some(element(alloc, reader, room)?))
-    })
+    closed(
+        reader,
+        before,
+        |reader: &mut Reader<'_>| -> Result<Option<Element>, Stop>
+            ensures { Reads (read (inside_at room) (optional of_element element) reader.entry.now) result reader.exit.now }
+        {
+            if !reader.begins_element() {
+                return Ok(None);
+            }
+            Ok(Some(element(alloc, reader, room)?))
+        },
+    )
 }
 
 /// `{ ";" element } [ [ ";" ] "otherwise" cvalue ] [ ";" ]`, after these elements
@@ -70,10 +74,24 @@ fn values_of(
 {
     let elements = more_elements(alloc, reader, room, before)?;
     if !reader.sees_word(word::OTHERWISE) {
-        return Ok(Boxed::new(alloc, Values { line, elements, otherwise: None })?);
+        return Ok(Boxed::new(
+            alloc,
+            Values {
+                line,
+                elements,
+                otherwise: None,
+            },
+        )?);
     }
     let otherwise = Some(otherwise(alloc, reader, room)?);
-    Ok(Boxed::new(alloc, Values { line, elements, otherwise })?)
+    Ok(Boxed::new(
+        alloc,
+        Values {
+            line,
+            elements,
+            otherwise,
+        },
+    )?)
 }
 
 /// `":" cvalue { ";" element } [ [ ";" ] "otherwise" cvalue ] [ ";" ] "]"`, after the labels of the first element
@@ -217,7 +235,14 @@ pub(crate) fn values(
     if reader.sees_word(word::OTHERWISE) {
         let otherwise = Some(otherwise(alloc, reader, room)?);
         let elements = List::new(alloc);
-        return Ok(Boxed::new(alloc, Values { line, elements, otherwise })?);
+        return Ok(Boxed::new(
+            alloc,
+            Values {
+                line,
+                elements,
+                otherwise,
+            },
+        )?);
     }
     let mut first = List::with_room(alloc, 1)?;
     first.push(element(alloc, reader, room)?)?;

@@ -44,9 +44,14 @@ fn label(alloc: Global, reader: &mut Reader<'_>, room: u32) -> Result<Label, Sto
 pub fn labels(alloc: Global, reader: &mut Reader<'_>, room: u32) -> Result<List<Label>, Stop>
     ensures { Reads (read (inside_at room) labels reader.old) result reader.new }
 {
-    separated(alloc, reader, symbol::COMMA, |reader: &mut Reader<'_>| -> Result<Label, Stop>
-        ensures { Reads (read (inside_at room) (label_of expression) reader.entry.now) result reader.exit.now }
-    { label(alloc, reader, room) })
+    separated(
+        alloc,
+        reader,
+        symbol::COMMA,
+        |reader: &mut Reader<'_>| -> Result<Label, Stop>
+            ensures { Reads (read (inside_at room) (label_of expression) reader.entry.now) result reader.exit.now }
+        { label(alloc, reader, room) },
+    )
 }
 
 /// `{ multiplying-operator factor }`
@@ -59,15 +64,19 @@ pub(crate) fn multipliers(
     ensures { Reads (read (inside_at room) multipliers reader.old) result reader.new }
 {
     let none = List::new(alloc);
-    many(reader, none, |reader: &mut Reader<'_>| -> Result<Option<Multiplier>, Stop>
-        ensures { Reads (read (inside_at room) (optional (classes multiplying_operators) multiplier) reader.entry.now) result reader.exit.now }
-    {
-        let Some(operator) = reader.multiplying_operator() else {
-            return Ok(None);
-        };
-        let factor = factor(alloc, reader, room)?;
-        Ok(Some(Multiplier { operator, factor }))
-    })
+    many(
+        reader,
+        none,
+        |reader: &mut Reader<'_>| -> Result<Option<Multiplier>, Stop>
+            ensures { Reads (read (inside_at room) (optional (classes multiplying_operators) multiplier) reader.entry.now) result reader.exit.now }
+        {
+            let Some(operator) = reader.multiplying_operator() else {
+                return Ok(None);
+            };
+            let factor = factor(alloc, reader, room)?;
+            Ok(Some(Multiplier { operator, factor }))
+        },
+    )
 }
 
 /// `term = factor { multiplying-operator factor }`
@@ -92,15 +101,19 @@ pub(crate) fn addends(
     ensures { Reads (read (inside_at room) addends reader.old) result reader.new }
 {
     let none = List::new(alloc);
-    many(reader, none, |reader: &mut Reader<'_>| -> Result<Option<Addend>, Stop>
-        ensures { Reads (read (inside_at room) (optional (classes adding_operators) addend) reader.entry.now) result reader.exit.now }
-    {
-        let Some(operator) = reader.adding_operator() else {
-            return Ok(None);
-        };
-        let term = term(alloc, reader, room)?;
-        Ok(Some(Addend { operator, term }))
-    })
+    many(
+        reader,
+        none,
+        |reader: &mut Reader<'_>| -> Result<Option<Addend>, Stop>
+            ensures { Reads (read (inside_at room) (optional (classes adding_operators) addend) reader.entry.now) result reader.exit.now }
+        {
+            let Some(operator) = reader.adding_operator() else {
+                return Ok(None);
+            };
+            let term = term(alloc, reader, room)?;
+            Ok(Some(Addend { operator, term }))
+        },
+    )
 }
 
 /// `simple = [ sign ] term { adding-operator term }`

@@ -79,7 +79,11 @@ pub(crate) fn number_factor(
 
 /// `string`
 #[tactic(auto, unfolding(ep_grammar::specs::Expressions::text_factor))]
-pub(crate) fn text_factor(alloc: Global, reader: &mut Reader<'_>, room: u32) -> Result<Boxed<Factor>, Stop>
+pub(crate) fn text_factor(
+    alloc: Global,
+    reader: &mut Reader<'_>,
+    room: u32,
+) -> Result<Boxed<Factor>, Stop>
     ensures { Reads (read (inside_at room) text_factor reader.old) result reader.new }
 {
     let line = reader.line();
@@ -89,7 +93,11 @@ pub(crate) fn text_factor(alloc: Global, reader: &mut Reader<'_>, room: u32) -> 
 
 /// `"nil"`
 #[tactic(auto, unfolding(ep_grammar::specs::Expressions::nil_factor))]
-pub(crate) fn nil_factor(alloc: Global, reader: &mut Reader<'_>, room: u32) -> Result<Boxed<Factor>, Stop>
+pub(crate) fn nil_factor(
+    alloc: Global,
+    reader: &mut Reader<'_>,
+    room: u32,
+) -> Result<Boxed<Factor>, Stop>
     ensures { Reads (read (inside_at room) nil_factor reader.old) result reader.new }
 {
     let line = reader.line();

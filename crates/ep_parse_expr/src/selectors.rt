@@ -19,9 +19,14 @@ use std::alloc::Global;
 fn indexes(alloc: Global, reader: &mut Reader<'_>, inner: u32) -> Result<List<Expression>, Stop>
     ensures { Reads (read (inside_with inner) inner_expressions reader.old) result reader.new }
 {
-    separated(alloc, reader, symbol::COMMA, |reader: &mut Reader<'_>| -> Result<Expression, Stop>
-        ensures { Reads (read (inside_at inner) expression reader.entry.now) result reader.exit.now }
-    { Ok(expression(alloc, reader, inner)?.into_inner()) })
+    separated(
+        alloc,
+        reader,
+        symbol::COMMA,
+        |reader: &mut Reader<'_>| -> Result<Expression, Stop>
+            ensures { Reads (read (inside_at inner) expression reader.entry.now) result reader.exit.now }
+        { Ok(expression(alloc, reader, inner)?.into_inner()) },
+    )
 }
 
 /// `arg = expr [ ":" expr ]`, where so many levels are left inside the parentheses
@@ -53,9 +58,14 @@ fn argument(alloc: Global, reader: &mut Reader<'_>, inner: u32) -> Result<Argume
 fn arguments(alloc: Global, reader: &mut Reader<'_>, inner: u32) -> Result<List<Argument>, Stop>
     ensures { Reads (read (inside_with inner) arguments reader.old) result reader.new }
 {
-    separated(alloc, reader, symbol::COMMA, |reader: &mut Reader<'_>| -> Result<Argument, Stop>
-        ensures { Reads (read (inside_with inner) argument reader.entry.now) result reader.exit.now }
-    { argument(alloc, reader, inner) })
+    separated(
+        alloc,
+        reader,
+        symbol::COMMA,
+        |reader: &mut Reader<'_>| -> Result<Argument, Stop>
+            ensures { Reads (read (inside_with inner) argument reader.entry.now) result reader.exit.now }
+        { argument(alloc, reader, inner) },
+    )
 }
 
 /// `"[" expr { "," expr } "]"`
@@ -113,14 +123,18 @@ pub(crate) fn selectors(
 ) -> Result<List<Selector>, Stop>
     ensures { ReadsOnto before (read (inside_at room) selectors reader.old) result reader.new }
 {
-    many(reader, before, |reader: &mut Reader<'_>| -> Result<Option<Selector>, Stop>
-        ensures { Reads (read (inside_at room) (optional of_selector selector) reader.entry.now) result reader.exit.now }
-    {
-        if !reader.begins_selector() {
-            return Ok(None);
-        }
-        Ok(Some(selector(alloc, reader, room)?))
-    })
+    many(
+        reader,
+        before,
+        |reader: &mut Reader<'_>| -> Result<Option<Selector>, Stop>
+            ensures { Reads (read (inside_at room) (optional of_selector selector) reader.entry.now) result reader.exit.now }
+        {
+            if !reader.begins_selector() {
+                return Ok(None);
+            }
+            Ok(Some(selector(alloc, reader, room)?))
+        },
+    )
 }
 
 /// `access = id { selector }`
