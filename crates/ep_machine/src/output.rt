@@ -13,8 +13,9 @@ use crate::control::spend;
 use crate::stack::Stack;
 use crate::step::{Outward, Step};
 use crate::words;
-use ep_object::{Instr, Kind, Place, Segment, TypeEntry};
+use ep_object::{Instr, Kind, OUTPUT_SEGMENT, Place, Segment, TypeEntry};
 use ep_outside::{Sink, WriteAnswer};
+use ep_typed::run_error;
 
 /// Writes a text, if it is not empty.
 #[tactic(auto, using(crate::proofs::Outputs::writing))]
@@ -51,15 +52,15 @@ fn refusal(segments: &[Option<Segment>], p: Place) -> Option<Step>
         return Some(Step::Broken);
     };
     let Some(segment) = segment else {
-        return Some(Step::Error(11));
+        return Some(Step::Error(run_error::DISPOSED));
     };
     if p.offset as usize >= segment.words.items().len() {
         return Some(Step::Broken);
     }
-    if p.segment == 2 && p.offset == 0 {
+    if p.segment == OUTPUT_SEGMENT && p.offset == 0 {
         None
     } else {
-        Some(Step::Error(18))
+        Some(Step::Error(run_error::FILE_STATE))
     }
 }
 
