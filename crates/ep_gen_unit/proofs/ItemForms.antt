@@ -14,13 +14,14 @@ use Rattle.ep_gen_unit.specs.StmtGrowth.{AppendsItem, AppendsItems}
 use Rattle.ep_gen_unit.proofs.Following.{IsLater, later_grows, expr_later}
 use Rattle.ep_gen_unit.proofs.StmtStays.{items_code_stays}
 use Rattle.ep_object.specs.declared.op.TheConstants as op
+use Rattle.ep_gen_unit.specs.declared.items.TheConstants as constant
 
 -- the code of a part under the tables of the whole and the line at its start
 part : {b c d : Code} {is : List Instr} (line : ℕ) (x : Expr) → b.line ≡ line → (p : AppendsExpr b c x) → Grows c d is → IsExprCode d.texts d.references line x p.code
 part {d = d} line x e p q = subst (λ l. IsExprCode d.texts d.references l x p.code) e (expr_later _ x p.code (later_grows q) p.is_code)
 
-pub appends_line_end : {a b c d e : Code} → Grows a b (output_code a.line ∷ []) → Grows b c (push b.line (pos 10) ∷ []) → Grows c d (bare c.line op.CHARS ∷ []) → Grows d e (bare d.line op.PUT ∷ []) → Grows a e (line_end_code a.line)
-appends_line_end o p q r = grows_at (λ l. bare l op.PUT ∷ []) (grows_at (λ l. bare l op.CHARS ∷ []) (grows_at (λ l. push l (pos 10) ∷ []) o p) q) r
+pub appends_line_end : {a b c d e : Code} → Grows a b (output_code a.line ∷ []) → Grows b c (push b.line constant.LINE_END ∷ []) → Grows c d (bare c.line op.CHARS ∷ []) → Grows d e (bare d.line op.PUT ∷ []) → Grows a e (line_end_code a.line)
+appends_line_end o p q r = grows_at (λ l. bare l op.PUT ∷ []) (grows_at (λ l. bare l op.CHARS ∷ []) (grows_at (λ l. push l constant.LINE_END ∷ []) o p) q) r
 
 pub appends_plain : {a b c d e : Code} (print : Print) (x : Expr) → Grows a b (output_code a.line ∷ []) → AppendsExpr b c x → Grows c d (plain_code c.line print) → Grows d e (bare d.line op.PUT ∷ []) → AppendsItem a e (Plain print x)
 appends_plain {a = a} print x o p q r =

@@ -23,7 +23,7 @@ use Rattle.ep_object.proofs.Rows.{RowPushes, push_pushes}
 use Rattle.ep_object.proofs.TextRows.{RowFails, chars_pushes, form_integer, form_boolean, form_wide_integer, form_wide_boolean, form_wide_text, form_negative_integer, form_negative_boolean, form_negative_text}
 use Rattle.ep_typed.proofs.Steady.{steady_give, steady_spend, steady_write_items, steady_bind, steady_eval, steady_write_piece, steady_write_wide}
 use Rattle.ep_typed.specs.Meaning.{eval, weight_of, write_piece, write_wide, write_item, write_items, exec}
-use Rattle.ep_typed.specs.Printing.{Result, Number, Bytes, number_of, plain_text, wide_text, piece_events}
+use Rattle.ep_typed.specs.Printing.{Result, Number, Bytes, number_of, line_end, plain_text, wide_text, piece_events}
 use Rattle.ep_typed.specs.Steps.{Computation, bind}
 use Rattle.ep_typed.specs.Steps as meaning
 use Rattle.ep_typed.specs.Trees.{Expr, Item, Plain, Wide, Write}
@@ -131,12 +131,12 @@ module _ {declared : Declarations} {G : Image} (ps : List Placement) (p : Placem
         (wide_value print line (at + 1) (d - 1) x w h.0 h.1 valid h.2 h.3 first.0 second.0 third.0 third.1 injection memory below (omega arith) home))))
 
   -- the line end
-  pub line_end_writes : (line at : ℕ) → CodeStands G ps p references at (line_end_code line) → Writes declared G ps p texts references n unit at (at + 4) (write_piece n unit (10 ∷ []))
+  pub line_end_writes : (line at : ℕ) → CodeStands G ps p references at (line_end_code line) → Writes declared G ps p texts references n unit at (at + 4) (write_piece n unit (line_end ∷ []))
   line_end_writes line at stands injection memory below d enough home =
       fragment_waits {place1 = p.instructions.before + at + 1} {d1 = d - 1} (λ s matches. output_pushes declared G (p.instructions.before + at) line below stands.0 memory s.trace) (omega arith)
-      (fragment_from {place = p.instructions.before + (at + 1)} (omega arith) (fragment_waits {place1 = p.instructions.before + (at + 1) + 1} {d1 = d - 2} (λ s matches. push_pushes G (p.instructions.before + (at + 1)) line (over_output below) (pos 10) stands.1.0 memory s.trace) (omega arith)
+      (fragment_from {place = p.instructions.before + (at + 1)} (omega arith) (fragment_waits {place1 = p.instructions.before + (at + 1) + 1} {d1 = d - 2} (λ s matches. push_pushes G (p.instructions.before + (at + 1)) line (over_output below) (pos line_end) stands.1.0 memory s.trace) (omega arith)
       (fragment_from {place = p.instructions.before + (at + 1 + 1)} (omega arith) (fragment_to {to = p.instructions.before + (at + 1 + 1 + 2)} (omega arith)
-      (made_and_put line (at + 1 + 1) 0 (d - 2) (1 + d) (10 ∷ []) stands.1.1.1 injection memory (Word (pos 10) ∷ over_output below) below (chars_pushes G (p.instructions.before + (at + 1 + 1)) line (over_output below) (pos 10) refl stands.1.1.0) (omega arith))))))
+      (made_and_put line (at + 1 + 1) 0 (d - 2) (1 + d) (line_end ∷ []) stands.1.1.1 injection memory (Word (pos line_end) ∷ over_output below) below (chars_pushes G (p.instructions.before + (at + 1 + 1)) line (over_output below) (pos line_end) refl stands.1.1.0) (omega arith))))))
 
   module _ (expressions : ExpressionsFollow declared G ps p texts references n unit) where
     -- items and the line end, and then the step of the statement

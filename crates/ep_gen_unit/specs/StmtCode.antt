@@ -1,6 +1,6 @@
 -- Which instructions are the code of a statement, under given tables of texts and references. Jumps name places of
 -- the object, so the code of a statement depends on where it begins.
-use Rattle.std.specs.Prelude.{◌≡◌, ℕ, pos, negsuc, suc, ◌+◌, Bool, true, false, List, [], ◌∷◌, ◌++◌, length}
+use Rattle.std.specs.Prelude.{◌≡◌, ℕ, pos, suc, ◌+◌, Bool, true, false, List, [], ◌∷◌, ◌++◌, length}
 use Rattle.ep_gen_expr.specs.ExprCode.{instr, bare, push, IsPlaceCode, IsExprCode}
 use Rattle.ep_object.specs.declared.code.Instr.{Instr}
 use Rattle.ep_object.specs.declared.code.Reference.{Reference}
@@ -11,17 +11,18 @@ use Rattle.ep_typed.specs.declared.types.TypeValue.{TypeValue}
 use Rattle.ep_typed.specs.declared.types.TypeValue.TheVariants.{Ordinal, Text}
 use Rattle.ep_typed.specs.declared.unit.UnitVariable.{UnitVariable}
 use Rattle.ep_object.specs.declared.op.TheConstants as op
+use Rattle.ep_gen_unit.specs.declared.items.TheConstants as constant
 
 module _ (line : ℕ) where
   -- the place of `output`
   abbrev pub output_code : Instr
-  output_code = instr op.UNIT (negsuc 0) 1 line
+  output_code = instr op.UNIT constant.STANDARD_UNIT constant.OUTPUT line
 
   -- after a value: the text that is written of it
   abbrev pub plain_code : Print → List Instr
-  plain_code print.Integer = instr op.FORM (pos 0) 0 line ∷ []
+  plain_code print.Integer = instr op.FORM constant.FORM_INTEGER 0 line ∷ []
   plain_code print.Char = bare line op.CHARS ∷ []
-  plain_code print.Boolean = instr op.FORM (pos 1) 0 line ∷ []
+  plain_code print.Boolean = instr op.FORM constant.FORM_BOOLEAN 0 line ∷ []
   plain_code print.Text = []
 
   -- after a value and before its width: a char is made a text
@@ -33,14 +34,14 @@ module _ (line : ℕ) where
 
   -- after a value and its width: the text that is written
   abbrev pub wide_code : Print → Instr
-  wide_code print.Integer = instr op.FORM (pos 0) 1 line
-  wide_code print.Char = instr op.FORM (pos 2) 1 line
-  wide_code print.Boolean = instr op.FORM (pos 1) 1 line
-  wide_code print.Text = instr op.FORM (pos 2) 1 line
+  wide_code print.Integer = instr op.FORM constant.FORM_INTEGER 1 line
+  wide_code print.Char = instr op.FORM constant.FORM_TEXT 1 line
+  wide_code print.Boolean = instr op.FORM constant.FORM_BOOLEAN 1 line
+  wide_code print.Text = instr op.FORM constant.FORM_TEXT 1 line
 
   -- the line end
   abbrev pub line_end_code : List Instr
-  line_end_code = output_code ∷ push line (pos 10) ∷ bare line op.CHARS ∷ bare line op.PUT ∷ []
+  line_end_code = output_code ∷ push line constant.LINE_END ∷ bare line op.CHARS ∷ bare line op.PUT ∷ []
 
 module _ (texts : List (List ℕ)) (references : List Reference) where
   -- the code that writes an item
