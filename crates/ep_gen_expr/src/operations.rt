@@ -3,14 +3,15 @@
 ghost use Rattle.std.specs.Prelude.{[], ◌∷◌, OnOk};
 ghost use Rattle.ep_gen_expr.specs.ExprCode.{bare, push, one_code, two_code, count_code, step_code};
 ghost use Rattle.ep_gen_expr.specs.Growth.{Grows};
+ghost use Rattle.ep_object.specs.declared.op.TheConstants.{DROP, DUP};
 
 use crate::code::{Code, emit};
 use ep_base::NoMemory;
 use ep_object::op;
-use ep_typed::{Binary, Unary};
+use ep_typed::{Binary, Unary, run_error};
 
-/// The error of a value that is none of a type.
-const OUT_OF_RANGE: i64 = 14;
+/// The ordinal number of the last char.
+const LAST_CHAR: i64 = 255;
 
 /// Appends what an operation does with its operand.
 pub fn apply_unary(operation: Unary, code: &mut Code) -> Result<(), NoMemory>
@@ -24,8 +25,8 @@ pub fn apply_unary(operation: Unary, code: &mut Code) -> Result<(), NoMemory>
         Unary::Square => emit(code, op::SQR, 0, 0),
         Unary::Odd => emit(code, op::ODD, 0, 0),
         Unary::Character => {
-            push_pair(code, 0, 255)?;
-            emit(code, op::CHECK, OUT_OF_RANGE, 0)
+            push_pair(code, 0, LAST_CHAR)?;
+            emit(code, op::CHECK, run_error::SUCCESSOR as i64, 0)
         }
     }
 }
@@ -33,7 +34,7 @@ pub fn apply_unary(operation: Unary, code: &mut Code) -> Result<(), NoMemory>
 /// Appends what leaves a value as it is: each step of the meaning has a tick of its own, or a chain of such
 /// operations would spend steps and no ticks.
 fn keep(code: &mut Code) -> Result<(), NoMemory>
-    ensures { OnOk result (Grows code.old code.new (bare code.old.line 3 ∷ bare code.old.line 2 ∷ [])) }
+    ensures { OnOk result (Grows code.old code.new (bare code.old.line DUP ∷ bare code.old.line DROP ∷ [])) }
 {
     emit(code, op::DUP, 0, 0)?;
     emit(code, op::DROP, 0, 0)

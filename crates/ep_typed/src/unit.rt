@@ -21,7 +21,6 @@ pub struct UnitVariable {
 pub type UnitVariables = List<UnitVariable>;
 
 /// A whole unit.
-#[derive(Drop)]
 pub struct Unit {
     /// Its name.
     pub name: Name,
@@ -31,4 +30,15 @@ pub struct Unit {
     pub variables: UnitVariables,
     /// What it does when it is started. For a program this is its block.
     pub start: TypedStmt,
+}
+
+impl Drop for Unit {
+    fn drop(self) {
+        let Unit {
+            name: _,
+            line: _,
+            variables: _,
+            start: _,
+        } = self;
+    }
 }
