@@ -1,8 +1,11 @@
-//! Tests across the crates: what texts are read as or refused for, and what the top call answers to them.
+//! Tests across the crates: what texts are read as or refused for, what the top call answers to them, and what the
+//! machine does with single instructions.
 #![tactic(auto)]
 
 #[cfg(test)]
 mod go;
+#[cfg(test)]
+mod machine;
 #[cfg(test)]
 mod syntax;
 #[cfg(test)]
