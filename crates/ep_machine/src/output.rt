@@ -1,13 +1,13 @@
 //! The row that writes.
 
-ghost use Rattle.std.specs.Prelude.{◌≡◌, ◌<◌, ◌≤◌, ◌+◌, List, [], ◌∷◌, Option, Some, None, MatchOption};
+ghost use Rattle.std.specs.Prelude.{◌≡◌, ◌<◌, ◌≤◌, ◌+◌, List, [], ◌∷◌, Option, Some, None, MatchOption, IfSome};
 ghost use Rattle.ep_object.specs.Effects.{Continues, bare_weighed};
 ghost use Rattle.ep_object.specs.Operands.{Operand};
 ghost use Rattle.ep_object.specs.Texts.{put_of, put_row, written};
 ghost use Rattle.ep_outside.specs.Known.{Keeps};
 ghost use Rattle.ep_outside.specs.Answers.{Writes, write_faults};
 ghost use Rattle.ep_typed.specs.Events.{Write};
-ghost use Rattle.ep_machine.specs.Outputs.{OnNoMemory, IsRefusal, UnlessDone, IsPut, OnFault, text_kind_in};
+ghost use Rattle.ep_machine.specs.Outputs.{OnNoMemory, IsRefusal, UnlessDone, IsPut, OnFault, IsOfWriting, IsWriting, text_kind_in};
 
 use crate::control::spend;
 use crate::stack::Stack;
@@ -46,7 +46,8 @@ fn is_text(types: &[TypeEntry], type_number: u32) -> Option<bool>
 
 /// How the row ends where no text can go to the file at a place.
 fn refusal(segments: &[Option<Segment>], p: Place) -> Option<Step>
-    ensures { IsRefusal segments.now p result }
+    ensures refused { IsRefusal segments.now p result }
+    ensures kind { IfSome result IsOfWriting }
 {
     let Some(segment) = segments.get(p.segment as usize) else {
         return Some(Step::Broken);
@@ -79,6 +80,7 @@ pub fn put<O: Sink>(
     ensures within { ticks.new < limit }
     ensures counts { O.faults output.old ≤ O.faults output.new }
     ensures fault { OnFault result (O.faults output.old < O.faults output.new) }
+    ensures kind { IsWriting result }
     ensures quiet { OnNoMemory result (Keeps (O.held output.old) (O.held output.new)) }
     ensures done { IsPut limit (bare_weighed instr.now (put_row types.now segments.now stack.old)) result ticks.old ticks.new stack.old stack.new (O.held output.old) (O.held output.new) }
 {

@@ -181,7 +181,7 @@ types-added {r = r} {types = types} low high m none =
 
 -- room is lost where so many words live, or so many types are counted
 pub lost_words : (r : Resources) → 4194305 ≤ r.words → IsTrue (watched r).lost
-lost_words r h = let full : nat_le r.words 4194304 ≡ false = grind (arith, nat_tests) in go r.lost (nat_le r.words 4194304) (nat_le (length r.types) 262000) full
+lost_words r h = let full : nat_le r.words meaning.room_for_words ≡ false = grind (arith, nat_tests) in go r.lost (nat_le r.words meaning.room_for_words) (nat_le (length r.types) meaning.room_for_types) full
   where
     go : (lost a b : Bool) → a ≡ false → IsTrue (lost || not (a && b))
     go true a b e = refl
@@ -189,7 +189,7 @@ lost_words r h = let full : nat_le r.words 4194304 ≡ false = grind (arith, nat
     go false false b e = refl
 
 pub lost_types : (r : Resources) → 262001 ≤ length r.types → IsTrue (watched r).lost
-lost_types r h = let full : nat_le (length r.types) 262000 ≡ false = grind (arith, nat_tests) in go r.lost (nat_le r.words 4194304) (nat_le (length r.types) 262000) full
+lost_types r h = let full : nat_le (length r.types) meaning.room_for_types ≡ false = grind (arith, nat_tests) in go r.lost (nat_le r.words meaning.room_for_words) (nat_le (length r.types) meaning.room_for_types) full
   where
     go : (lost a b : Bool) → b ≡ false → IsTrue (lost || not (a && b))
     go true a b e = refl

@@ -15,6 +15,7 @@ use Rattle.ep_object.specs.WordRows.{is_boolean}
 use Rattle.ep_object.specs.declared.code.Image.{Image}
 use Rattle.ep_object.proofs.Answers.{is_boolean-same}
 use Rattle.ep_object.proofs.Rows.{instr, RowPushes, outcome_at}
+use Rattle.ep_typed.specs.Operations.{last_char}
 use Rattle.ep_typed.specs.Events.{Trace}
 use Rattle.ep_typed.specs.Printing.{Number, Bytes, boolean_text, plain_text, wide_text, piece_events}
 use Rattle.ep_typed.specs.Valid.{is_of_host}
@@ -53,7 +54,7 @@ module _ (G : Image) (place line : ℕ) (below : List Operand) where
   -- `Chars`, of a char
   pub chars_pushes : (z : ℤ) → IsTrue (is_of_host host.Char z) → slice_get G.instructions place ≡ Some (instr op.CHARS (pos 0) 0 line) → RowPushes G place (Word z ∷ below) 1 (Text (unsigned_abs z ∷ []) ∷ below)
   chars_pushes (pos c) h has memory trace =
-      let inside : ltb c 256 ≡ true = grind (arith, nat_tests) in
+      let inside : ltb c (last_char + 1) ≡ true = grind (arith, nat_tests) in
       outcome_at G (instr op.CHARS (pos 0) 0 line) place (Word (pos c) ∷ below) memory trace has ∙ rw inside refl
   chars_pushes (negsuc n) h has memory trace = absurd (no h)
     where
