@@ -2,6 +2,18 @@
 
 use crate::code::Words;
 
+/// The number of the type of text files.
+pub const TEXT_TYPE: u32 = 3;
+
+/// The segment of `input`.
+pub const INPUT_SEGMENT: u64 = 1;
+
+/// The segment of `output`.
+pub const OUTPUT_SEGMENT: u64 = 2;
+
+/// How many words of `input` and `output` live.
+pub const FIRST_LIVE_WORDS: u64 = 4;
+
 /// Where a variable is.
 #[derive(Clone, Copy, Debug, Drop)]
 pub struct Place {
