@@ -28,7 +28,7 @@ pub type Numbers = List<u32>;
 pub type Words = List<i64>;
 
 /// An interface that a unit imports, with the interface file of its exporter.
-#[derive(Debug, Drop)]
+#[derive(Drop)]
 pub struct ObjectImport {
     /// The interface's name.
     pub interface: Name,
@@ -52,7 +52,7 @@ pub struct Reference {
 pub type References = List<Reference>;
 
 /// A routine of an object.
-#[derive(Clone, Copy, Debug, Drop)]
+#[derive(Clone, Copy, Drop)]
 pub struct CodeRoutine {
     /// The place of its first instruction.
     pub entry: u32,
@@ -67,7 +67,7 @@ pub type CodeRoutines = List<CodeRoutine>;
 
 /// A type that is known before the run. A number below 7 in it is that of a required type, and 7 and a place
 /// name an earlier one of the list.
-#[derive(Debug, Drop)]
+#[derive(Drop)]
 pub enum ConstantType {
     /// An ordinal type with its bounds.
     Ord(i64, i64),
@@ -96,7 +96,7 @@ pub enum ConstantType {
 pub type ConstantTypes = List<ConstantType>;
 
 /// A unit that is compiled.
-#[derive(Debug, Drop)]
+#[derive(Drop)]
 pub struct Object {
     /// Whether it is a module, and else a program.
     pub module: bool,
@@ -125,7 +125,7 @@ pub struct Object {
 }
 
 /// A unit of an image.
-#[derive(Debug, Drop)]
+#[derive(Drop)]
 pub struct ImageUnit {
     /// The unit's name.
     pub name: Name,
@@ -141,7 +141,7 @@ pub struct ImageUnit {
 pub type ImageUnits = List<ImageUnit>;
 
 /// A routine of an image.
-#[derive(Clone, Copy, Debug, Drop)]
+#[derive(Clone, Copy, Drop)]
 pub struct ImageRoutine {
     /// The place of its first instruction.
     pub entry: u32,
@@ -157,7 +157,7 @@ pub struct ImageRoutine {
 pub type ImageRoutines = List<ImageRoutine>;
 
 /// A program that the machine can run.
-#[derive(Debug, Drop)]
+#[derive(Drop)]
 pub struct Image {
     /// Its units.
     pub units: ImageUnits,
