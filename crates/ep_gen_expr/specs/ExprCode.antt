@@ -10,6 +10,7 @@ use Rattle.ep_typed.specs.declared.operations.Unary.TheVariants as unary
 use Rattle.ep_typed.specs.declared.operations.Binary.{Binary}
 use Rattle.ep_typed.specs.declared.operations.Binary.TheVariants as binary
 use Rattle.ep_object.specs.declared.op.TheConstants as op
+use Rattle.ep_gen_expr.specs.declared.operations.TheConstants as cmp
 use Rattle.ep_typed.specs.declared.run_error.TheConstants as run_error
 
 -- a reference to this routine or slot of a unit
@@ -25,9 +26,9 @@ module _ (line : ℕ) where
   abbrev pub push : ℤ → Instr
   push z = instr op.PUSH z 0 line
 
-  -- `Cmp`, with 0 to 5 for = <> < > <= >=
-  abbrev pub compare : ℕ → Instr
-  compare k = instr op.CMP (pos k) 0 line
+  -- `Cmp`, which compares so
+  abbrev pub compare : ℤ → Instr
+  compare how = instr op.CMP how 0 line
 
   -- after the operand: `Dup` and `Drop`, which leave it and spend ticks for the step, `Neg`, `Not`, `Abs`, `Sqr`, `Odd`, or `Check` of a char
   abbrev pub one_code : Unary → List Instr
@@ -48,12 +49,12 @@ module _ (line : ℕ) where
   two_code binary.Modulo = bare op.MOD
   two_code binary.And = bare op.AND
   two_code binary.Or = bare op.OR
-  two_code binary.Equal = compare 0
-  two_code binary.Unequal = compare 1
-  two_code binary.Less = compare 2
-  two_code binary.Greater = compare 3
-  two_code binary.AtMost = compare 4
-  two_code binary.AtLeast = compare 5
+  two_code binary.Equal = compare cmp.EQUAL
+  two_code binary.Unequal = compare cmp.UNEQUAL
+  two_code binary.Less = compare cmp.LESS
+  two_code binary.Greater = compare cmp.GREATER
+  two_code binary.AtMost = compare cmp.AT_MOST
+  two_code binary.AtLeast = compare cmp.AT_LEAST
 
   -- `Neg` of a count that is taken away
   abbrev pub count_code : Bool → List Instr

@@ -10,6 +10,19 @@ use ep_base::NoMemory;
 use ep_object::op;
 use ep_typed::{Binary, Unary, run_error};
 
+/// How `Cmp` compares.
+const EQUAL: i64 = 0;
+
+const UNEQUAL: i64 = 1;
+
+const LESS: i64 = 2;
+
+const GREATER: i64 = 3;
+
+const AT_MOST: i64 = 4;
+
+const AT_LEAST: i64 = 5;
+
 /// The ordinal number of the last char.
 const LAST_CHAR: i64 = 255;
 
@@ -60,12 +73,12 @@ pub fn apply_binary(operation: Binary, code: &mut Code) -> Result<(), NoMemory>
         Binary::Modulo => emit(code, op::MOD, 0, 0),
         Binary::And => emit(code, op::AND, 0, 0),
         Binary::Or => emit(code, op::OR, 0, 0),
-        Binary::Equal => emit(code, op::CMP, 0, 0),
-        Binary::Unequal => emit(code, op::CMP, 1, 0),
-        Binary::Less => emit(code, op::CMP, 2, 0),
-        Binary::Greater => emit(code, op::CMP, 3, 0),
-        Binary::AtMost => emit(code, op::CMP, 4, 0),
-        Binary::AtLeast => emit(code, op::CMP, 5, 0),
+        Binary::Equal => emit(code, op::CMP, EQUAL, 0),
+        Binary::Unequal => emit(code, op::CMP, UNEQUAL, 0),
+        Binary::Less => emit(code, op::CMP, LESS, 0),
+        Binary::Greater => emit(code, op::CMP, GREATER, 0),
+        Binary::AtMost => emit(code, op::CMP, AT_MOST, 0),
+        Binary::AtLeast => emit(code, op::CMP, AT_LEAST, 0),
     }
 }
 

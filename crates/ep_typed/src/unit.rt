@@ -5,7 +5,7 @@ use crate::types::{Host, TypeValue};
 use ep_base::{Line, List, Name};
 
 /// A variable of a unit, with the line of its declaration.
-#[derive(Debug, Drop)]
+#[derive(Drop)]
 pub struct UnitVariable {
     /// Its name.
     pub name: Name,
