@@ -3,7 +3,7 @@
 use ep_base::{Bytes, List, Name};
 
 /// An instruction: its code in the table, its two fields, and the line of the source that it comes from.
-#[derive(Clone, Copy, Debug, Drop)]
+#[derive(Clone, Copy, Drop)]
 pub struct Instr {
     /// The code.
     pub op: u8,
@@ -40,7 +40,7 @@ pub struct ObjectImport {
 pub type ObjectImports = List<ObjectImport>;
 
 /// A routine or a slot of a unit: which of the two, the instruction says that names the reference.
-#[derive(Debug, Drop)]
+#[derive(Drop)]
 pub struct Reference {
     /// The unit's name.
     pub unit: Name,
