@@ -5,7 +5,7 @@ ghost use Rattle.std.specs.Prelude.{◌≡◌};
 use ep_base::{Bytes, List, Name};
 
 /// An instruction: its code in the table, its two fields, and the line of the source that it comes from.
-#[derive(Clone, Copy, Debug, Drop)]
+#[derive(Clone, Copy, Drop)]
 pub struct Instr {
     /// The code.
     pub op: u8,
@@ -54,7 +54,7 @@ pub struct Reference {
 pub type References = List<Reference>;
 
 /// A routine of an object.
-#[derive(Clone, Copy, Debug, Drop)]
+#[derive(Clone, Copy, Drop)]
 pub struct CodeRoutine {
     /// The place of its first instruction.
     pub entry: u32,
@@ -184,7 +184,7 @@ pub struct ImageUnit {
 pub type ImageUnits = List<ImageUnit>;
 
 /// A routine of an image.
-#[derive(Clone, Copy, Debug, Drop)]
+#[derive(Clone, Copy, Drop)]
 pub struct ImageRoutine {
     /// The place of its first instruction.
     pub entry: u32,

@@ -15,7 +15,7 @@ pub const OUTPUT_SEGMENT: u64 = 2;
 pub const FIRST_LIVE_WORDS: u64 = 4;
 
 /// Where a variable is.
-#[derive(Clone, Copy, Debug, Drop)]
+#[derive(Clone, Copy, Drop)]
 pub struct Place {
     /// The number of its segment.
     pub segment: u64,
@@ -26,7 +26,7 @@ pub struct Place {
 }
 
 /// The words of an allocation, that is a variable of its own.
-#[derive(Debug, Drop)]
+#[derive(Drop)]
 pub struct Segment {
     /// The number of its type in the type table.
     pub type_number: u32,
@@ -35,7 +35,7 @@ pub struct Segment {
 }
 
 /// What kind of type it is.
-#[derive(Clone, Copy, Debug, Drop)]
+#[derive(Clone, Copy, Drop)]
 pub enum Kind {
     /// An ordinal type with its bounds.
     Ord(i64, i64),
@@ -46,7 +46,7 @@ pub enum Kind {
 }
 
 /// An entry of the type table.
-#[derive(Clone, Copy, Debug, Drop)]
+#[derive(Clone, Copy, Drop)]
 pub struct TypeEntry {
     /// Its kind.
     pub kind: Kind,
