@@ -60,7 +60,7 @@ fn typed_statement(alloc: Global, s: &Statement) -> Result<TypedStmt, NoMemory>
             let [argument] = arguments.items() else {
                 unreachable!()
             };
-            let mut items = List::new(alloc);
+            let mut items = List::with_room(alloc, 1)?;
             items.push(typed_argument(alloc, argument)?)?;
             Ok(TypedStmt::Write(*line, items, true))
         }
@@ -74,7 +74,7 @@ fn typed_argument(alloc: Global, argument: &Argument) -> Result<WriteItem, NoMem
     ensures typed { IfOk result (λ i. argument_item argument.now ≡ Some (item_of i)) }
     ensures valid { (d : Declarations) → IfOk result (λ i. IsItem d (item_of i)) }
 {
-    typed_factor(alloc, only_factor(&argument.value))
+    typed_factor(alloc, only_factor(argument.value.get()))
 }
 
 /// The factor that is the whole of an expression.
@@ -83,7 +83,7 @@ fn only_factor(e: &Expression) -> &Factor
     ensures only { bare e.now ≡ Some result.now }
     ensures built { built_factor (out-Factor result.now) ≡ true }
 {
-    &e.left.first.first
+    e.left.first.first.get()
 }
 
 /// What is written for a number or a character string.

@@ -26,7 +26,7 @@ pub fn image_alone(alloc: Global, object: Object) -> Result<Image, NoMemory>
     Ok(Image {
         units,
         routines,
-        texts: object.texts,
+        texts: object.into_texts(),
         constant_types: List::new(alloc),
         instructions,
     })

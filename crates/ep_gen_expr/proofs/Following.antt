@@ -37,6 +37,7 @@ use Rattle.ep_gen_expr.proofs.OneOperand.{UnaryFollows, unary_follows}
 use Rattle.ep_gen_expr.proofs.Placed.{code_front, code_back, text_at, variable_at}
 use Rattle.ep_gen_expr.proofs.Stepping.{step_follows}
 use Rattle.ep_gen_expr.proofs.TwoOperands.{BinaryFollows, binary_follows}
+use Rattle.ep_object.specs.declared.op.TheConstants as op
 
 -- a variable that is declared with a host
 pub declared_variable : (h : Host) (o : Option UnitVariable) → host_of o ≡ Some h → (v : UnitVariable) × (o ≡ Some v) × (h ≡ v.host)
@@ -57,14 +58,14 @@ module _ {declared : Declarations} {G : Image} (ps : List Placement) (p : Placem
       (fragment_give (omega arith) (inside_here (record { number = z; is_number = refl; of_host = of_host; is = refl })))))
 
   -- a text, by `Text`, which spends its length
-  text_follows : (n k : ℕ) (bytes : List ℕ) → slice_get texts k ≡ Some bytes → (line at : ℕ) → CodeStands G ps p references at (instr 1 (pos k) 0 line ∷ []) → (injection : Injection) (memory : Memory) (below : List Operand) (d : ℕ) → Fragment declared G n injection memory (p.instructions.before + at) below (eval g unit line (Text bytes)) (p.instructions.before + (at + 1)) (λ r. Inside injection memory (OnTop Bytes below r)) d (λ r. d + 8 + weight_of r)
+  text_follows : (n k : ℕ) (bytes : List ℕ) → slice_get texts k ≡ Some bytes → (line at : ℕ) → CodeStands G ps p references at (instr op.TEXT (pos k) 0 line ∷ []) → (injection : Injection) (memory : Memory) (below : List Operand) (d : ℕ) → Fragment declared G n injection memory (p.instructions.before + at) below (eval g unit line (Text bytes)) (p.instructions.before + (at + 1)) (λ r. Inside injection memory (OnTop Bytes below r)) d (λ r. d + 8 + weight_of r)
   text_follows n k bytes there line at stands injection memory below d =
       let text : TextStands G p k bytes = scene.texts_stand k bytes there in
       fragment_less {n = suc n} (omega arith) (fragment_to (omega arith) (fragment_paid {n = n} {d1 = d + 8 + length bytes} {weight = length bytes} {w = length bytes} (λ s matches. text_pushes G (p.instructions.before + at) line below (p.texts.before + k) bytes text.there (text_at G ps p references line k (p.instructions.before + at) bytes text stands.0) memory s.trace) (omega arith) (omega arith) (omega arith)
       (fragment_give (omega arith) (inside_here (record { bytes = bytes; is_text = refl; is = refl })))))
 
   -- what `Unit` finds of a variable that is declared, where the routine is one of the unit
-  unit_finds : (place line number : ℕ) (of_unit : List ℕ) (v : UnitVariable) → declared of_unit number ≡ Some v → (variable : VariableStands G ps of_unit number) → slice_get G.instructions place ≡ Some (instr 13 (pos variable.number) number line) → (injection : Injection) (memory : Memory) (below : List Operand) → unit_in G memory.frames ≡ unit → (s : meaning.State) → Matches declared G injection s memory → Reads declared G (at place below memory s.trace) 1 unit line (place + 1) (λ n. Inside injection memory (PlaceOnTop v.type_value below n)) s (s.variables of_unit number)
+  unit_finds : (place line number : ℕ) (of_unit : List ℕ) (v : UnitVariable) → declared of_unit number ≡ Some v → (variable : VariableStands G ps of_unit number) → slice_get G.instructions place ≡ Some (instr op.UNIT (pos variable.number) number line) → (injection : Injection) (memory : Memory) (below : List Operand) → unit_in G memory.frames ≡ unit → (s : meaning.State) → Matches declared G injection s memory → Reads declared G (at place below memory s.trace) 1 unit line (place + 1) (λ n. Inside injection memory (PlaceOnTop v.type_value below n)) s (s.variables of_unit number)
   unit_finds place line number of_unit v is_declared variable has injection memory below unit_is s matches =
       subst (λ u. Reads declared G (at place below memory s.trace) 1 u line (place + 1) (λ n. Inside injection memory (PlaceOnTop v.type_value below n)) s (s.variables of_unit number)) unit_is
       (subst (λ u. Reads declared G (at place below memory s.trace) 1 (unit_in G memory.frames) line (place + 1) (λ n. Inside injection memory (PlaceOnTop v.type_value below n)) s (s.variables u number)) variable.named
@@ -73,22 +74,22 @@ module _ {declared : Declarations} {G : Image} (ps : List Placement) (p : Placem
   pub place_follows : (n : ℕ) (of_unit : List ℕ) (k : ℕ) (v : UnitVariable) → declared of_unit k ≡ Some v → (line at : ℕ) (code : List Instr) → IsPlaceCode references line (Variable of_unit k) code → CodeStands G ps p references at code → (injection : Injection) (memory : Memory) (below : List Operand) (d : ℕ) → 1 ≤ d → unit_in G memory.frames ≡ unit → Fragment declared G n injection memory (p.instructions.before + at) below (place g unit line (Variable of_unit k)) (p.instructions.before + (at + length code)) (λ a. Inside injection memory (PlaceOnTop v.type_value below a)) d (λ a. d + 8)
   place_follows n of_unit k v is_declared line at code (r, there, is) stands injection memory below d le unit_is =
       let variable : VariableStands G ps of_unit k = scene.variables_stand of_unit k v is_declared in
-      let has : CodeStands G ps p references at (instr 13 (pos r) 0 line ∷ []) = subst (λ c. CodeStands G ps p references at c) is stands in
+      let has : CodeStands G ps p references at (instr op.UNIT (pos r) 0 line ∷ []) = subst (λ c. CodeStands G ps p references at c) is stands in
       fragment_less {n = suc n} (omega arith) (fragment_to (omega (arith, ap length is)) (fragment_fetch {n = n} (λ s. s.variables of_unit k) (λ m. m) (λ s matches. unit_finds (p.instructions.before + at) line k of_unit v is_declared variable (variable_at G ps p references line r (p.instructions.before + at) k of_unit variable there has.0) injection memory below unit_is s matches) le (λ m. omega arith)))
 
   -- what `Load` finds of a variable of a type of the host
-  load_finds : (place line : ℕ) (h : Host) (t : TypeValue) → IsTypeOf h t → slice_get G.instructions place ≡ Some (instr 22 (pos 0) 0 line) → (injection : Injection) (memory : Memory) (below : List Operand) (a : ℕ) (q : PlaceOf) → IsPlaceOf injection memory.segments a q → Describes memory.types q.type_number t → unit_in G memory.frames ≡ unit → (s : meaning.State) → Matches declared G injection s memory → Reads declared G (at place (operand.Place q ∷ below) memory s.trace) 1 unit line (place + 1) (λ w. Inside injection memory (OnTop (Ordinal h) below (result.Number w))) s (word_at a s)
+  load_finds : (place line : ℕ) (h : Host) (t : TypeValue) → IsTypeOf h t → slice_get G.instructions place ≡ Some (instr op.LOAD (pos 0) 0 line) → (injection : Injection) (memory : Memory) (below : List Operand) (a : ℕ) (q : PlaceOf) → IsPlaceOf injection memory.segments a q → Describes memory.types q.type_number t → unit_in G memory.frames ≡ unit → (s : meaning.State) → Matches declared G injection s memory → Reads declared G (at place (operand.Place q ∷ below) memory s.trace) 1 unit line (place + 1) (λ w. Inside injection memory (OnTop (Ordinal h) below (result.Number w))) s (word_at a s)
   load_finds place line h (type.Ordinal low high) of_host has injection memory below a q place_of described unit_is s matches =
       subst (λ u. Reads declared G (at place (operand.Place q ∷ below) memory s.trace) 1 u line (place + 1) (λ w. Inside injection memory (OnTop (Ordinal h) below (result.Number w))) s (word_at a s)) unit_is (load_reads declared G place line below h low high a q of_host has injection memory place_of described s matches)
   load_finds place line h type.Text of_host has injection memory below a q place_of described unit_is s matches = absurd of_host
 
   -- the value of a variable that is declared, by its place and `Load`
-  read_follows : (n : ℕ) (of_unit : List ℕ) (k : ℕ) (v : UnitVariable) → declared of_unit k ≡ Some v → (line at : ℕ) (xs : List Instr) → IsPlaceCode references line (Variable of_unit k) xs → CodeStands G ps p references at (xs ++ bare line 22 ∷ []) → (injection : Injection) (memory : Memory) (below : List Operand) (d : ℕ) → 1 ≤ d → unit_in G memory.frames ≡ unit → Evaluates declared G n injection memory (p.instructions.before + at) below (eval g unit line (Read (Variable of_unit k))) (p.instructions.before + (at + length (xs ++ bare line 22 ∷ []))) (Ordinal v.host) below d (d + 8)
+  read_follows : (n : ℕ) (of_unit : List ℕ) (k : ℕ) (v : UnitVariable) → declared of_unit k ≡ Some v → (line at : ℕ) (xs : List Instr) → IsPlaceCode references line (Variable of_unit k) xs → CodeStands G ps p references at (xs ++ bare line op.LOAD ∷ []) → (injection : Injection) (memory : Memory) (below : List Operand) (d : ℕ) → 1 ≤ d → unit_in G memory.frames ≡ unit → Evaluates declared G n injection memory (p.instructions.before + at) below (eval g unit line (Read (Variable of_unit k))) (p.instructions.before + (at + length (xs ++ bare line op.LOAD ∷ []))) (Ordinal v.host) below d (d + 8)
   read_follows n of_unit k v is_declared line at xs is_code stands injection memory below d le unit_is =
       let middle : ℕ = p.instructions.before + (at + length xs) in
-      let has : CodeStands G ps p references (at + length xs) (bare line 22 ∷ []) = code_back G ps p references at xs (bare line 22 ∷ []) stands in
-      fragment_bind_place (λ a. steady_bind (steady_fetch _ _) (λ w. steady_spend 1 (steady_give (result.Number w)))) (place_follows n of_unit k v is_declared line at xs is_code (code_front G ps p references at xs (bare line 22 ∷ []) stands) injection memory below d le unit_is) (λ a q longer after grown routine place_of described.
-      fragment_less {n = suc n} (omega arith) (fragment_to (omega (arith, length-append xs (bare line 22 ∷ []))) (fragment_fetch {n = n} (word_at a) (λ w. result.Number w) (λ s matches. load_finds middle line v.host v.type_value (scene.types_valid of_unit k v is_declared) has.0 longer after below a q place_of described (unit_in-same G routine ∙ unit_is) s matches) (omega arith) (λ w. omega arith))))
+      let has : CodeStands G ps p references (at + length xs) (bare line op.LOAD ∷ []) = code_back G ps p references at xs (bare line op.LOAD ∷ []) stands in
+      fragment_bind_place (λ a. steady_bind (steady_fetch _ _) (λ w. steady_spend 1 (steady_give (result.Number w)))) (place_follows n of_unit k v is_declared line at xs is_code (code_front G ps p references at xs (bare line op.LOAD ∷ []) stands) injection memory below d le unit_is) (λ a q longer after grown routine place_of described.
+      fragment_less {n = suc n} (omega arith) (fragment_to (omega (arith, length-append xs (bare line op.LOAD ∷ []))) (fragment_fetch {n = n} (word_at a) (λ w. result.Number w) (λ s matches. load_finds middle line v.host v.type_value (scene.types_valid of_unit k v is_declared) has.0 longer after below a q place_of described (unit_in-same G routine ∙ unit_is) s matches) (omega arith) (λ w. omega arith))))
 
   -- an operation with one operand
   one_follows : (n : ℕ) (operation : Unary) (x : Expr) (k kind : Kind) → IsUnary operation k kind → (line at : ℕ) (xs : List Instr) → IsFollowed declared G p g unit n k x line at xs → CodeStands G ps p references at (xs ++ one_code line operation) → IsFollowed declared G p g unit n kind (One operation x) line at (xs ++ one_code line operation)
@@ -132,10 +133,10 @@ module _ {declared : Declarations} {G : Image} (ps : List Placement) (p : Placem
   expression_follows n kind (Constant z) (h, is_kind, of_host) line at code is stands =
       followed_as n kind (Ordinal h) (Constant z) line at code (push line z ∷ []) is_kind is (λ injection memory below d le unit_is. constant_follows n h z of_host line at (subst (λ c. CodeStands G ps p references at c) is stands) injection memory below d)
   expression_follows n kind (Text bytes) is_kind line at code (k, there, is) stands =
-      followed_as n kind Bytes (Text bytes) line at code (instr 1 (pos k) 0 line ∷ []) is_kind is (λ injection memory below d le unit_is. text_follows n k bytes there line at (subst (λ c. CodeStands G ps p references at c) is stands) injection memory below d)
+      followed_as n kind Bytes (Text bytes) line at code (instr op.TEXT (pos k) 0 line ∷ []) is_kind is (λ injection memory below d le unit_is. text_follows n k bytes there line at (subst (λ c. CodeStands G ps p references at c) is stands) injection memory below d)
   expression_follows n kind (Read (Variable of_unit k)) (h, is_kind, is_place) line at code (xs, is_code, is) stands =
       let v = declared_variable h (declared of_unit k) is_place in
-      followed_as n kind (Ordinal v.0.host) (Read (Variable of_unit k)) line at code (xs ++ bare line 22 ∷ []) (is_kind ∙ ap Ordinal v.2) is (read_follows n of_unit k v.0 v.1 line at xs is_code (subst (λ c. CodeStands G ps p references at c) is stands))
+      followed_as n kind (Ordinal v.0.host) (Read (Variable of_unit k)) line at code (xs ++ bare line op.LOAD ∷ []) (is_kind ∙ ap Ordinal v.2) is (read_follows n of_unit k v.0 v.1 line at xs is_code (subst (λ c. CodeStands G ps p references at c) is stands))
   expression_follows n kind (One operation x) (k, kinds, is_x) line at code (xs, x_code, is) stands =
       let all : CodeStands G ps p references at (xs ++ one_code line operation) = subst (λ c. CodeStands G ps p references at c) is stands in
       followed_as n kind kind (One operation x) line at code (xs ++ one_code line operation) refl is

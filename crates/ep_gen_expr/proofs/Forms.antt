@@ -2,6 +2,7 @@
 use Rattle.std.proofs.Common.{◌≡◌, ℕ, ℤ, pos, ◌<◌, ◌-◌, ◌^◌, length, slice_get, Some, arith, Result, Ok, Err, OnOk, Bool, List, [], ◌∷◌, ◌++◌, refl, sym, ap, ◌∙◌, subst, append_assoc, append-nil}
 use Rattle.ep_object.specs.declared.code.Instr.{Instr}
 use Rattle.ep_object.specs.declared.code.Reference.{Reference}
+use Rattle.ep_typed.specs.Operations.{last_char}
 use Rattle.ep_typed.specs.Trees.{Place, Variable, Expr, Constant, Text, Read, One, Two, Step}
 use Rattle.ep_typed.specs.declared.operations.Unary.{Unary}
 use Rattle.ep_typed.specs.declared.operations.Unary.TheVariants as unary
@@ -11,6 +12,8 @@ use Rattle.ep_gen_expr.specs.Growth.{IsNowhere, Grows, NumbersText, NumbersRefer
 use Rattle.ep_gen_expr.specs.declared.code.Code.{Code}
 use Rattle.ep_gen_expr.proofs.Pushed.{table_same, table_then, table_pushed, get_later, get_last}
 use Rattle.ep_gen_expr.proofs.Stays.{place_code_stays, expr_code_stays, place_code_short, expr_code_short}
+use Rattle.ep_object.specs.declared.op.TheConstants as op
+use Rattle.ep_typed.specs.declared.run_error.TheConstants as run_error
 
 pub grows_none : (a : Code) → Grows a a []
 grows_none a = record { instructions = sym (append-nil a.instructions); texts = table_same a.texts; references = table_same a.references; constant_types = refl; line = refl }
@@ -33,20 +36,20 @@ pub grows_pair : {a b c : Code} (low high : ℤ) → Grows a b (push a.line low 
 grows_pair low high p q = grows_at (λ line. push line high ∷ []) p q
 
 -- what leaves a value as it is
-pub grows_kept : {a b c : Code} → Grows a b (bare a.line 3 ∷ []) → Grows b c (bare b.line 2 ∷ []) → Grows a c (bare a.line 3 ∷ bare a.line 2 ∷ [])
-grows_kept p q = grows_at (λ line. bare line 2 ∷ []) p q
+pub grows_kept : {a b c : Code} → Grows a b (bare a.line op.DUP ∷ []) → Grows b c (bare b.line op.DROP ∷ []) → Grows a c (bare a.line op.DUP ∷ bare a.line op.DROP ∷ [])
+grows_kept p q = grows_at (λ line. bare line op.DROP ∷ []) p q
 
 -- what checks a char
-pub grows_character : {a b c : Code} → Grows a b (push a.line (pos 0) ∷ push a.line (pos 255) ∷ []) → Grows b c (instr 39 (pos 14) 0 b.line ∷ []) → Grows a c (one_code a.line unary.Character)
-grows_character p q = grows_at (λ line. instr 39 (pos 14) 0 line ∷ []) p q
+pub grows_character : {a b c : Code} → Grows a b (push a.line (pos 0) ∷ push a.line (pos last_char) ∷ []) → Grows b c (instr op.CHECK (pos run_error.SUCCESSOR) 0 b.line ∷ []) → Grows a c (one_code a.line unary.Character)
+grows_character p q = grows_at (λ line. instr op.CHECK (pos run_error.SUCCESSOR) 0 line ∷ []) p q
 
 -- what comes after two parts
 after_two : (f g : ℕ → List Instr) {a b c d : Code} {is : List Instr} → Grows a b is → Grows b c (f b.line) → Grows c d (g c.line) → Grows a d (is ++ (f a.line ++ g a.line))
 after_two f g {a = a} {d = d} {is = is} p q r = subst (λ l. Grows a d l) (append_assoc is (f a.line) (g a.line)) (grows_at g (grows_at f p q) r)
 
 -- what steps
-pub grows_step : {a b c d : Code} (down : Bool) (low high : ℤ) → Grows a b (count_code a.line down) → Grows b c (push b.line low ∷ push b.line high ∷ []) → Grows c d (bare c.line 40 ∷ []) → Grows a d (step_code a.line down low high)
-grows_step down low high p q r = after_two (λ line. push line low ∷ push line high ∷ []) (λ line. bare line 40 ∷ []) p q r
+pub grows_step : {a b c d : Code} (down : Bool) (low high : ℤ) → Grows a b (count_code a.line down) → Grows b c (push b.line low ∷ push b.line high ∷ []) → Grows c d (bare c.line op.STEP ∷ []) → Grows a d (step_code a.line down low high)
+grows_step down low high p q r = after_two (λ line. push line low ∷ push line high ∷ []) (λ line. bare line op.STEP ∷ []) p q r
 
 -- the code of a part under the tables of the whole
 place_part : {a b c : Code} {is : List Instr} (x : Place) (p : AppendsPlace a b x) → Grows b c is → IsPlaceCode c.references a.line x p.code
@@ -64,20 +67,20 @@ whole_expr {a = a} {b = b} x code h g = record { code = code; is_code = h; grows
 whole_place : {a b : Code} (x : Place) (code : List Instr) → IsPlaceCode b.references a.line x code → Grows a b code → AppendsPlace a b x
 whole_place {a = a} {b = b} x code h g = record { code = code; is_code = h; grows = g; short = place_code_short b.references a.line x code h }
 
-pub appends_variable : {a b c : Code} (unit : List ℕ) (number k : ℕ) → NumbersReference a b (reference unit number) k → Grows b c (instr 13 (pos k) 0 b.line ∷ []) → AppendsPlace a c (Variable unit number)
+pub appends_variable : {a b c : Code} (unit : List ℕ) (number k : ℕ) → NumbersReference a b (reference unit number) k → Grows b c (instr op.UNIT (pos k) 0 b.line ∷ []) → AppendsPlace a c (Variable unit number)
 appends_variable {a = a} unit number k p q =
-    whole_place (Variable unit number) (instr 13 (pos k) 0 a.line ∷ []) (k, get_later k (reference unit number) q.references.begins p.there, refl) (grows_at (λ line. instr 13 (pos k) 0 line ∷ []) p.grows q)
+    whole_place (Variable unit number) (instr op.UNIT (pos k) 0 a.line ∷ []) (k, get_later k (reference unit number) q.references.begins p.there, refl) (grows_at (λ line. instr op.UNIT (pos k) 0 line ∷ []) p.grows q)
 
 pub appends_constant : {a b : Code} (z : ℤ) → Grows a b (push a.line z ∷ []) → AppendsExpr a b (Constant z)
 appends_constant {a = a} z g = whole_expr (Constant z) (push a.line z ∷ []) refl g
 
-pub appends_text : {a b c : Code} (bytes : List ℕ) (k : ℕ) → NumbersText a b bytes k → Grows b c (instr 1 (pos k) 0 b.line ∷ []) → AppendsExpr a c (Text bytes)
+pub appends_text : {a b c : Code} (bytes : List ℕ) (k : ℕ) → NumbersText a b bytes k → Grows b c (instr op.TEXT (pos k) 0 b.line ∷ []) → AppendsExpr a c (Text bytes)
 appends_text {a = a} bytes k p q =
-    whole_expr (Text bytes) (instr 1 (pos k) 0 a.line ∷ []) (k, get_later k bytes q.texts.begins p.there, refl) (grows_at (λ line. instr 1 (pos k) 0 line ∷ []) p.grows q)
+    whole_expr (Text bytes) (instr op.TEXT (pos k) 0 a.line ∷ []) (k, get_later k bytes q.texts.begins p.there, refl) (grows_at (λ line. instr op.TEXT (pos k) 0 line ∷ []) p.grows q)
 
-pub appends_read : {a b c : Code} (place : Place) → AppendsPlace a b place → Grows b c (bare b.line 22 ∷ []) → AppendsExpr a c (Read place)
+pub appends_read : {a b c : Code} (place : Place) → AppendsPlace a b place → Grows b c (bare b.line op.LOAD ∷ []) → AppendsExpr a c (Read place)
 appends_read {a = a} place p q =
-    whole_expr (Read place) (p.code ++ bare a.line 22 ∷ []) (p.code, place_part place p q, refl) (grows_at (λ line. bare line 22 ∷ []) p.grows q)
+    whole_expr (Read place) (p.code ++ bare a.line op.LOAD ∷ []) (p.code, place_part place p q, refl) (grows_at (λ line. bare line op.LOAD ∷ []) p.grows q)
 
 pub appends_one : {a b c : Code} (operation : Unary) (x : Expr) → AppendsExpr a b x → Grows b c (one_code b.line operation) → AppendsExpr a c (One operation x)
 appends_one {a = a} operation x p q =

@@ -7,6 +7,7 @@ use Rattle.ep_typed.specs.Operations.{Answer, Number, Fault, integer, is_integer
 use Rattle.ep_typed.specs.Valid.{least, greatest, is_of_host}
 use Rattle.ep_typed.specs.declared.types.Host.{Host}
 use Rattle.ep_typed.specs.declared.types.Host.TheVariants as host
+use Rattle.ep_typed.specs.declared.run_error.TheConstants as run_error
 
 -- a number that is the answer
 pub given : (h : Host) (z w : ℤ) → IsTrue (is_of_host h z) → ◌≡◌ {A = Answer} (Number z) (Number w) → IsTrue (is_of_host h w)
@@ -28,9 +29,9 @@ pub within_answer : (h : Host) (error : ℕ) (z w : ℤ) → within error (least
 within_answer h error z w e = tested h (is_of_host h z) z w error (λ t. t) e
 
 -- the same where the bounds are those of the host
-pub bounded_answer : (h : Host) (low high z w : ℤ) → low ≡ least h → high ≡ greatest h → within 14 low high z ≡ Number w → IsTrue (is_of_host h w)
+pub bounded_answer : (h : Host) (low high z w : ℤ) → low ≡ least h → high ≡ greatest h → within run_error.SUCCESSOR low high z ≡ Number w → IsTrue (is_of_host h w)
 bounded_answer h low high z w is_low is_high e =
-    within_answer h 14 z w (sym (ap (λ b. within 14 b high z) is_low ∙ ap (λ b. within 14 (least h) b z) is_high) ∙ e)
+    within_answer h run_error.SUCCESSOR z w (sym (ap (λ b. within run_error.SUCCESSOR b high z) is_low ∙ ap (λ b. within run_error.SUCCESSOR (least h) b z) is_high) ∙ e)
 
 quotient_integer : (b : Bool) (z w : ℤ) → (if b then Fault 9 else integer z) ≡ Number w → IsTrue (is_of_host host.Integer w)
 quotient_integer true z w e = cc

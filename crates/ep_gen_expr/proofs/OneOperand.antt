@@ -11,7 +11,7 @@ use Rattle.ep_object.proofs.Fragments.{fragment_less, fragment_to, fragment_one,
 use Rattle.ep_object.proofs.Growing.{inside_here}
 use Rattle.ep_object.proofs.Rows.{RowAnswers, push_pushes, neg_answers, abs_answers, sqr_answers, odd_answers, not_answers, check_answers}
 use Rattle.ep_object.proofs.TextRows.{drop_drops, dup_pushes}
-use Rattle.ep_typed.specs.Operations.{Number, unary_answer}
+use Rattle.ep_typed.specs.Operations.{Number, last_char, unary_answer}
 use Rattle.ep_typed.specs.Valid.{Declarations, Kind, Ordinal, IsUnary, is_of_host}
 use Rattle.ep_typed.specs.declared.operations.Unary.{Unary}
 use Rattle.ep_typed.specs.declared.operations.Unary.TheVariants as unary
@@ -21,6 +21,7 @@ use Rattle.ep_gen_expr.specs.ExprCode.{one_code}
 use Rattle.ep_gen_expr.proofs.Answering.{Evaluates, answering, answer_follows, row_waits}
 use Rattle.ep_gen_expr.proofs.Hosts.{given, integer_answer, within_answer, odd_boolean, not_boolean, host_integer}
 use Rattle.ep_gen_expr.proofs.Placed.{instr_at}
+use Rattle.ep_typed.specs.declared.run_error.TheConstants as run_error
 
 module _ (declared : Declarations) (G : Image) (ps : List Placement) (p : Placement) (references : List Reference) (g : ℕ) (unit : List ℕ) (line : ℕ) where
   -- from the value of the operand, the machine follows the operation to the end of its code
@@ -53,8 +54,8 @@ module _ (declared : Declarations) (G : Image) (ps : List Placement) (p : Placem
   character_follows n at stands z of_host injection memory below d unit_is =
       let place : ℕ = p.instructions.before + at in
       fragment_to (omega arith) (row_waits {d1 = d + 7} (push_pushes G place line (Word z ∷ below) (pos 0) stands.0) (omega arith)
-      (row_waits {d1 = d + 6} (push_pushes G (place + 1) line (Word (pos 0) ∷ Word z ∷ below) (pos 255) (instr_at G (omega arith) stands.1.0)) (omega arith)
-      (answer_follows g unit line n (place + 1 + 1) (Word (pos 255) ∷ Word (pos 0) ∷ Word z ∷ below) below (unary_answer unary.Character z) (check_answers G (place + 1 + 1) line below z (pos 0) (pos 255) (instr_at G (omega arith) stands.1.1.0)) host.Char (λ w is. within_answer host.Char 14 z w is) injection memory (d + 6) (d + 8) unit_is (omega arith) (omega arith))))
+      (row_waits {d1 = d + 6} (push_pushes G (place + 1) line (Word (pos 0) ∷ Word z ∷ below) (pos last_char) (instr_at G (omega arith) stands.1.0)) (omega arith)
+      (answer_follows g unit line n (place + 1 + 1) (Word (pos last_char) ∷ Word (pos 0) ∷ Word z ∷ below) below (unary_answer unary.Character z) (check_answers G (place + 1 + 1) line below z (pos 0) (pos last_char) (instr_at G (omega arith) stands.1.1.0)) host.Char (λ w is. within_answer host.Char run_error.SUCCESSOR z w is) injection memory (d + 6) (d + 8) unit_is (omega arith) (omega arith))))
 
   pub unary_follows : (n at : ℕ) (operation : Unary) (operand_kind result_kind : Kind) → IsUnary operation operand_kind result_kind → CodeStands G ps p references at (one_code line operation) → UnaryFollows n at operation operand_kind result_kind
   unary_follows n at unary.Same operand_kind result_kind (k, r) stands =

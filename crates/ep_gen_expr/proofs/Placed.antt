@@ -6,6 +6,7 @@ use Rattle.ep_object.specs.declared.code.Image.{Image}
 use Rattle.ep_object.specs.declared.code.Instr.{Instr}
 use Rattle.ep_object.specs.declared.code.Reference.{Reference}
 use Rattle.ep_gen_expr.specs.ExprCode.{instr, reference}
+use Rattle.ep_object.specs.declared.op.TheConstants as op
 
 moved_own : (span : Span) (k : ℕ) → IsTrue (ltb k span.own) → moved span k ≡ span.before + k
 moved_own span k h = rw h refl
@@ -28,10 +29,10 @@ module _ (G : Image) (ps : List Placement) (p : Placement) (references : List Re
       subst (λ k. CodeStands G ps p references k ys) e (code_back (at + 1) xs ys h.1)
 
   -- `Text` names the text of the image
-  pub text_at : (line k place : ℕ) (bytes : List ℕ) → TextStands G p k bytes → slice_get G.instructions place ≡ Some (placed ps p references (instr 1 (pos k) 0 line)) → slice_get G.instructions place ≡ Some (instr 1 (pos (p.texts.before + k)) 0 line)
-  text_at line k place bytes text has = has ∙ ap (λ m. Some (instr 1 (pos m) 0 line)) (moved_own p.texts k text.own)
+  pub text_at : (line k place : ℕ) (bytes : List ℕ) → TextStands G p k bytes → slice_get G.instructions place ≡ Some (placed ps p references (instr op.TEXT (pos k) 0 line)) → slice_get G.instructions place ≡ Some (instr op.TEXT (pos (p.texts.before + k)) 0 line)
+  text_at line k place bytes text has = has ∙ ap (λ m. Some (instr op.TEXT (pos m) 0 line)) (moved_own p.texts k text.own)
 
   -- `Unit` names the slot of the variable
-  pub variable_at : (line k place number : ℕ) (of_unit : List ℕ) → (variable : VariableStands G ps of_unit number) → slice_get references k ≡ Some (reference of_unit number) → slice_get G.instructions place ≡ Some (placed ps p references (instr 13 (pos k) 0 line)) → slice_get G.instructions place ≡ Some (instr 13 (pos variable.number) number line)
+  pub variable_at : (line k place number : ℕ) (of_unit : List ℕ) → (variable : VariableStands G ps of_unit number) → slice_get references k ≡ Some (reference of_unit number) → slice_get G.instructions place ≡ Some (placed ps p references (instr op.UNIT (pos k) 0 line)) → slice_get G.instructions place ≡ Some (instr op.UNIT (pos variable.number) number line)
   variable_at line k place number of_unit variable there has =
-      has ∙ ap Some (ap (λ r. placed_unit ps r (instr 13 (pos k) 0 line)) there ∙ variable.placed (instr 13 (pos k) 0 line))
+      has ∙ ap Some (ap (λ r. placed_unit ps r (instr op.UNIT (pos k) 0 line)) there ∙ variable.placed (instr op.UNIT (pos k) 0 line))

@@ -8,6 +8,7 @@ use Rattle.ep_typed.specs.declared.operations.Unary.{Unary}
 use Rattle.ep_typed.specs.declared.operations.Unary.TheVariants as unary
 use Rattle.ep_gen_expr.specs.ExprCode.{IsPlaceCode, IsExprCode, reference, place_nodes, expr_nodes, one_code, two_code, step_code, bare}
 use Rattle.ep_gen_expr.proofs.Pushed.{get_later}
+use Rattle.ep_object.specs.declared.op.TheConstants as op
 
 pub place_code_stays : (rs ss : List Reference) (line : ℕ) (p : Place) (is : List Instr) → IsPrefix rs ss → IsPlaceCode rs line p is → IsPlaceCode ss line p is
 place_code_stays rs ss line (Variable unit number) is b h = (h.0, get_later h.0 (reference unit number) b h.1, h.2)
@@ -41,7 +42,7 @@ module _ (ts : List (List ℕ)) (rs : List Reference) (line : ℕ) where
   pub expr_code_short : (x : Expr) (is : List Instr) → IsExprCode ts rs line x is → length is ≤ 32 * expr_nodes x
   expr_code_short (Constant z) is h = omega (arith, ap length h)
   expr_code_short (Text bytes) is h = omega (arith, ap length h.2)
-  expr_code_short (Read p) is h = omega (arith, ap length h.2, length-append h.0 (bare line 22 ∷ []), place_code_short rs line p h.0 h.1)
+  expr_code_short (Read p) is h = omega (arith, ap length h.2, length-append h.0 (bare line op.LOAD ∷ []), place_code_short rs line p h.0 h.1)
   expr_code_short (One operation x) is h = omega (arith, ap length h.2, length-append h.0 (one_code line operation), expr_code_short x h.0 h.1, one_short line operation)
   expr_code_short (Two operation x y) is h =
       omega (arith, ap length h.4, length-append h.0 (h.1 ++ two_code line operation ∷ []), length-append h.1 (two_code line operation ∷ []), expr_code_short x h.0 h.2, expr_code_short y h.1 h.3)

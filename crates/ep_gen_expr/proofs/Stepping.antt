@@ -18,15 +18,16 @@ use Rattle.ep_gen_expr.specs.ExprCode.{push, bare, step_code}
 use Rattle.ep_gen_expr.proofs.Answering.{Evaluates, answering, answer_follows, row_waits}
 use Rattle.ep_gen_expr.proofs.Hosts.{bounded_answer, negated}
 use Rattle.ep_gen_expr.proofs.Placed.{instr_at}
+use Rattle.ep_object.specs.declared.op.TheConstants as op
 
 -- `Neg` of an integer has no error
-neg_pushes : (G : Image) (place line : ℕ) (below : List Operand) (n : ℤ) → IsTrue (is_of_host host.Integer n) → slice_get G.instructions place ≡ Some (instr 30 (pos 0) 0 line) → RowPushes G place (Word n ∷ below) 0 (Word (neg_ℤ n) ∷ below)
+neg_pushes : (G : Image) (place line : ℕ) (below : List Operand) (n : ℤ) → IsTrue (is_of_host host.Integer n) → slice_get G.instructions place ≡ Some (instr op.NEG (pos 0) 0 line) → RowPushes G place (Word n ∷ below) 0 (Word (neg_ℤ n) ∷ below)
 neg_pushes G place line below n of_host has memory trace =
     neg_answers G place line below n has memory trace ∙ ap (λ a. record { weight = 0; to = going_of (place + 1) below memory (unit_in G memory.frames) line trace a }) (negated n of_host)
 
 module _ (declared : Declarations) (G : Image) (ps : List Placement) (p : Placement) (references : List Reference) (g : ℕ) (unit : List ℕ) (line : ℕ) where
   -- the sum of a value and a count, within the bounds of the host
-  bounded_follows : (n at : ℕ) (h : Host) (low high : ℤ) → low ≡ least h → high ≡ greatest h → CodeStands G ps p references at (push line low ∷ push line high ∷ bare line 40 ∷ []) → (x count : ℤ) (injection : Injection) (memory : Memory) (below : List Operand) (d : ℕ) → unit_in G memory.frames ≡ unit → Evaluates declared G n injection memory (p.instructions.before + at) (Word count ∷ Word x ∷ below) (answering g unit line (step_answer false low high x count)) (p.instructions.before + (at + 3)) (Ordinal h) below (d + 15) (d + 8)
+  bounded_follows : (n at : ℕ) (h : Host) (low high : ℤ) → low ≡ least h → high ≡ greatest h → CodeStands G ps p references at (push line low ∷ push line high ∷ bare line op.STEP ∷ []) → (x count : ℤ) (injection : Injection) (memory : Memory) (below : List Operand) (d : ℕ) → unit_in G memory.frames ≡ unit → Evaluates declared G n injection memory (p.instructions.before + at) (Word count ∷ Word x ∷ below) (answering g unit line (step_answer false low high x count)) (p.instructions.before + (at + 3)) (Ordinal h) below (d + 15) (d + 8)
   bounded_follows n at h low high is_low is_high stands x count injection memory below d unit_is =
       let place : ℕ = p.instructions.before + at in
       let values : List Operand = Word count ∷ Word x ∷ below in

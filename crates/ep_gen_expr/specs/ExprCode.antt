@@ -3,11 +3,15 @@ use Rattle.std.specs.Prelude.{◌≡◌, ℕ, ℤ, pos, ◌+◌, Bool, true, fal
 pub use Rattle.ep_object.specs.Table.{instr}
 use Rattle.ep_object.specs.declared.code.Instr.{Instr}
 use Rattle.ep_object.specs.declared.code.Reference.{Reference}
+use Rattle.ep_typed.specs.Operations.{last_char}
 use Rattle.ep_typed.specs.Trees.{Place, Variable, Expr, Constant, Text, Read, One, Two, Step}
 use Rattle.ep_typed.specs.declared.operations.Unary.{Unary}
 use Rattle.ep_typed.specs.declared.operations.Unary.TheVariants as unary
 use Rattle.ep_typed.specs.declared.operations.Binary.{Binary}
 use Rattle.ep_typed.specs.declared.operations.Binary.TheVariants as binary
+use Rattle.ep_object.specs.declared.op.TheConstants as op
+use Rattle.ep_gen_expr.specs.declared.operations.TheConstants as cmp
+use Rattle.ep_typed.specs.declared.run_error.TheConstants as run_error
 
 -- a reference to this routine or slot of a unit
 abbrev pub reference : List ℕ → ℕ → Reference
@@ -16,61 +20,61 @@ reference unit number = record { unit = unit; number = number }
 module _ (line : ℕ) where
   -- an instruction with no field
   abbrev pub bare : ℕ → Instr
-  bare op = instr op (pos 0) 0 line
+  bare code = instr code (pos 0) 0 line
 
   -- `Push`
   abbrev pub push : ℤ → Instr
-  push z = instr 0 z 0 line
+  push z = instr op.PUSH z 0 line
 
-  -- `Cmp`, with 0 to 5 for = <> < > <= >=
-  abbrev pub compare : ℕ → Instr
-  compare k = instr 37 (pos k) 0 line
+  -- `Cmp`, which compares so
+  abbrev pub compare : ℤ → Instr
+  compare how = instr op.CMP how 0 line
 
-  -- after the operand: `Dup` and `Drop`, which leave it and spend ticks for the step, `Neg`, `Not`, `Abs`, `Sqr`, `Odd`, or `Check` for error 14 from 0 to 255
+  -- after the operand: `Dup` and `Drop`, which leave it and spend ticks for the step, `Neg`, `Not`, `Abs`, `Sqr`, `Odd`, or `Check` of a char
   abbrev pub one_code : Unary → List Instr
-  one_code unary.Same = bare 3 ∷ bare 2 ∷ []
-  one_code unary.Negate = bare 30 ∷ []
-  one_code unary.Not = bare 34 ∷ []
-  one_code unary.Absolute = bare 31 ∷ []
-  one_code unary.Square = bare 32 ∷ []
-  one_code unary.Odd = bare 33 ∷ []
-  one_code unary.Character = push (pos 0) ∷ push (pos 255) ∷ instr 39 (pos 14) 0 line ∷ []
+  one_code unary.Same = bare op.DUP ∷ bare op.DROP ∷ []
+  one_code unary.Negate = bare op.NEG ∷ []
+  one_code unary.Not = bare op.NOT ∷ []
+  one_code unary.Absolute = bare op.ABS ∷ []
+  one_code unary.Square = bare op.SQR ∷ []
+  one_code unary.Odd = bare op.ODD ∷ []
+  one_code unary.Character = push (pos 0) ∷ push (pos last_char) ∷ instr op.CHECK (pos run_error.SUCCESSOR) 0 line ∷ []
 
   -- after both operands: `Add`, `Sub`, `Mul`, `Div`, `Mod`, `And`, `Or`, or `Cmp`
   abbrev pub two_code : Binary → Instr
-  two_code binary.Add = bare 25
-  two_code binary.Subtract = bare 26
-  two_code binary.Multiply = bare 27
-  two_code binary.Divide = bare 28
-  two_code binary.Modulo = bare 29
-  two_code binary.And = bare 35
-  two_code binary.Or = bare 36
-  two_code binary.Equal = compare 0
-  two_code binary.Unequal = compare 1
-  two_code binary.Less = compare 2
-  two_code binary.Greater = compare 3
-  two_code binary.AtMost = compare 4
-  two_code binary.AtLeast = compare 5
+  two_code binary.Add = bare op.ADD
+  two_code binary.Subtract = bare op.SUB
+  two_code binary.Multiply = bare op.MUL
+  two_code binary.Divide = bare op.DIV
+  two_code binary.Modulo = bare op.MOD
+  two_code binary.And = bare op.AND
+  two_code binary.Or = bare op.OR
+  two_code binary.Equal = compare cmp.EQUAL
+  two_code binary.Unequal = compare cmp.UNEQUAL
+  two_code binary.Less = compare cmp.LESS
+  two_code binary.Greater = compare cmp.GREATER
+  two_code binary.AtMost = compare cmp.AT_MOST
+  two_code binary.AtLeast = compare cmp.AT_LEAST
 
   -- `Neg` of a count that is taken away
   abbrev pub count_code : Bool → List Instr
   count_code false = []
-  count_code true = bare 30 ∷ []
+  count_code true = bare op.NEG ∷ []
 
   -- after the value and the count: the count's sign, the bounds and `Step`
   abbrev pub step_code : Bool → ℤ → ℤ → List Instr
-  step_code down low high = count_code down ++ (push low ∷ push high ∷ bare 40 ∷ [])
+  step_code down low high = count_code down ++ (push low ∷ push high ∷ bare op.STEP ∷ [])
 
 -- the code of a place, whose instructions have this line
 abbrev pub IsPlaceCode : List Reference → ℕ → Place → List Instr → Type 0
-IsPlaceCode references line (Variable unit number) is = (k : ℕ) × (slice_get references k ≡ Some (reference unit number)) × (is ≡ instr 13 (pos k) 0 line ∷ [])
+IsPlaceCode references line (Variable unit number) is = (k : ℕ) × (slice_get references k ≡ Some (reference unit number)) × (is ≡ instr op.UNIT (pos k) 0 line ∷ [])
 
 module _ (texts : List (List ℕ)) (references : List Reference) (line : ℕ) where
   -- the code of an expression, whose instructions have this line
   abbrev pub IsExprCode : Expr → List Instr → Type 0
   IsExprCode (Constant z) is = is ≡ push line z ∷ []
-  IsExprCode (Text bytes) is = (k : ℕ) × (slice_get texts k ≡ Some bytes) × (is ≡ instr 1 (pos k) 0 line ∷ [])
-  IsExprCode (Read p) is = (xs : List Instr) × IsPlaceCode references line p xs × (is ≡ xs ++ bare line 22 ∷ [])
+  IsExprCode (Text bytes) is = (k : ℕ) × (slice_get texts k ≡ Some bytes) × (is ≡ instr op.TEXT (pos k) 0 line ∷ [])
+  IsExprCode (Read p) is = (xs : List Instr) × IsPlaceCode references line p xs × (is ≡ xs ++ bare line op.LOAD ∷ [])
   IsExprCode (One operation x) is = (xs : List Instr) × IsExprCode x xs × (is ≡ xs ++ one_code line operation)
   IsExprCode (Two operation x y) is = (xs ys : List Instr) × IsExprCode x xs × IsExprCode y ys × (is ≡ xs ++ (ys ++ two_code line operation ∷ []))
   IsExprCode (Step down low high x n) is = (xs ns : List Instr) × IsExprCode x xs × IsExprCode n ns × (is ≡ xs ++ (ns ++ step_code line down low high))

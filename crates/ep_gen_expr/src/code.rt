@@ -10,7 +10,7 @@ use ep_typed::Unit;
 use std::alloc::Global;
 
 /// The instructions so far, and the tables that their fields are places of.
-#[derive(Debug, Drop)]
+#[derive(Drop)]
 pub struct Code {
     /// The instructions.
     pub instructions: Instrs,

@@ -14,6 +14,3 @@ pub use code::{Code, emit};
 pub use expressions::{expression_code, place_code};
 pub use laws::{laws_of_code, laws_of_following};
 pub use tables::{reference_number, text_number};
-
-#[cfg(test)]
-mod tests;

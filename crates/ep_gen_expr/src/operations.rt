@@ -3,14 +3,28 @@
 ghost use Rattle.std.specs.Prelude.{[], ◌∷◌, OnOk};
 ghost use Rattle.ep_gen_expr.specs.ExprCode.{bare, push, one_code, two_code, count_code, step_code};
 ghost use Rattle.ep_gen_expr.specs.Growth.{Grows};
+ghost use Rattle.ep_object.specs.declared.op.TheConstants.{DROP, DUP};
 
 use crate::code::{Code, emit};
 use ep_base::NoMemory;
 use ep_object::op;
-use ep_typed::{Binary, Unary};
+use ep_typed::{Binary, Unary, run_error};
 
-/// The error of a value that is none of a type.
-const OUT_OF_RANGE: i64 = 14;
+/// How `Cmp` compares.
+const EQUAL: i64 = 0;
+
+const UNEQUAL: i64 = 1;
+
+const LESS: i64 = 2;
+
+const GREATER: i64 = 3;
+
+const AT_MOST: i64 = 4;
+
+const AT_LEAST: i64 = 5;
+
+/// The ordinal number of the last char.
+const LAST_CHAR: i64 = 255;
 
 /// Appends what an operation does with its operand.
 pub fn apply_unary(operation: Unary, code: &mut Code) -> Result<(), NoMemory>
@@ -24,8 +38,8 @@ pub fn apply_unary(operation: Unary, code: &mut Code) -> Result<(), NoMemory>
         Unary::Square => emit(code, op::SQR, 0, 0),
         Unary::Odd => emit(code, op::ODD, 0, 0),
         Unary::Character => {
-            push_pair(code, 0, 255)?;
-            emit(code, op::CHECK, OUT_OF_RANGE, 0)
+            push_pair(code, 0, LAST_CHAR)?;
+            emit(code, op::CHECK, run_error::SUCCESSOR as i64, 0)
         }
     }
 }
@@ -33,7 +47,7 @@ pub fn apply_unary(operation: Unary, code: &mut Code) -> Result<(), NoMemory>
 /// Appends what leaves a value as it is: each step of the meaning has a tick of its own, or a chain of such
 /// operations would spend steps and no ticks.
 fn keep(code: &mut Code) -> Result<(), NoMemory>
-    ensures { OnOk result (Grows code.old code.new (bare code.old.line 3 ∷ bare code.old.line 2 ∷ [])) }
+    ensures { OnOk result (Grows code.old code.new (bare code.old.line DUP ∷ bare code.old.line DROP ∷ [])) }
 {
     emit(code, op::DUP, 0, 0)?;
     emit(code, op::DROP, 0, 0)
@@ -59,12 +73,12 @@ pub fn apply_binary(operation: Binary, code: &mut Code) -> Result<(), NoMemory>
         Binary::Modulo => emit(code, op::MOD, 0, 0),
         Binary::And => emit(code, op::AND, 0, 0),
         Binary::Or => emit(code, op::OR, 0, 0),
-        Binary::Equal => emit(code, op::CMP, 0, 0),
-        Binary::Unequal => emit(code, op::CMP, 1, 0),
-        Binary::Less => emit(code, op::CMP, 2, 0),
-        Binary::Greater => emit(code, op::CMP, 3, 0),
-        Binary::AtMost => emit(code, op::CMP, 4, 0),
-        Binary::AtLeast => emit(code, op::CMP, 5, 0),
+        Binary::Equal => emit(code, op::CMP, EQUAL, 0),
+        Binary::Unequal => emit(code, op::CMP, UNEQUAL, 0),
+        Binary::Less => emit(code, op::CMP, LESS, 0),
+        Binary::Greater => emit(code, op::CMP, GREATER, 0),
+        Binary::AtMost => emit(code, op::CMP, AT_MOST, 0),
+        Binary::AtLeast => emit(code, op::CMP, AT_LEAST, 0),
     }
 }
 

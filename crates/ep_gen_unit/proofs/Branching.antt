@@ -19,23 +19,24 @@ use Rattle.ep_typed.specs.Trees.{Expr, Stmt, If, While}
 use Rattle.ep_typed.specs.Valid as kind
 use Rattle.ep_typed.specs.Valid.{Declarations, IsExpr}
 use Rattle.ep_typed.specs.declared.types.Host.TheVariants as host
+use Rattle.ep_object.specs.declared.op.TheConstants as op
 
 module _ (G : Image) (ps : List Placement) (p : Placement) (references : List Reference) where
   -- a jump within the object stands in the image as a jump to where its target stands
   placed_target : (target : ℕ) → target < p.instructions.own → moved p.instructions target ≡ p.instructions.before + target
   placed_target target inside = ap (λ b. cond b (p.instructions.before + target) 4294967295) (lt-ltb target p.instructions.own inside)
 
-  jump_has : (line at target : ℕ) (is : List Instr) → target < p.instructions.own → CodeStands G ps p references at (instr 4 (pos target) 0 line ∷ is) → slice_get G.instructions (p.instructions.before + at) ≡ Some (instr 4 (pos (p.instructions.before + target)) 0 line)
-  jump_has line at target is inside stands = stands.0 ∙ ap (λ k. Some (instr 4 (pos k) 0 line)) (placed_target target inside)
+  jump_has : (line at target : ℕ) (is : List Instr) → target < p.instructions.own → CodeStands G ps p references at (instr op.JUMP (pos target) 0 line ∷ is) → slice_get G.instructions (p.instructions.before + at) ≡ Some (instr op.JUMP (pos (p.instructions.before + target)) 0 line)
+  jump_has line at target is inside stands = stands.0 ∙ ap (λ k. Some (instr op.JUMP (pos k) 0 line)) (placed_target target inside)
 
-  jump_false_has : (line at target : ℕ) (is : List Instr) → target < p.instructions.own → CodeStands G ps p references at (instr 5 (pos target) 0 line ∷ is) → slice_get G.instructions (p.instructions.before + at) ≡ Some (instr 5 (pos (p.instructions.before + target)) 0 line)
-  jump_false_has line at target is inside stands = stands.0 ∙ ap (λ k. Some (instr 5 (pos k) 0 line)) (placed_target target inside)
+  jump_false_has : (line at target : ℕ) (is : List Instr) → target < p.instructions.own → CodeStands G ps p references at (instr op.JUMP_FALSE (pos target) 0 line ∷ is) → slice_get G.instructions (p.instructions.before + at) ≡ Some (instr op.JUMP_FALSE (pos (p.instructions.before + target)) 0 line)
+  jump_false_has line at target is inside stands = stands.0 ∙ ap (λ k. Some (instr op.JUMP_FALSE (pos k) 0 line)) (placed_target target inside)
 
 module _ {declared : Declarations} {G : Image} (ps : List Placement) (p : Placement) (texts : List (List ℕ)) (references : List Reference) (n : ℕ) (unit : List ℕ) (room : p.instructions.before + p.instructions.own ≤ length G.instructions) where
   module _ (expressions : ExpressionsFollow declared G ps p texts references n unit) where
     -- `if`, where the parts stand at `at`, `then_at` and `else_at`
     pub if_parts : (line at test_end then_end else_end : ℕ) (x : Expr) (a b : Stmt) (xs : List Instr) → IsExpr declared (kind.Ordinal host.Boolean) x → IsExprCode texts references line x xs → test_end ≡ at + length xs → CodeStands G ps p references at xs
-        → CodeStands G ps p references test_end (instr 5 (pos (then_end + 1)) 0 line ∷ []) → CodeStands G ps p references then_end (instr 4 (pos else_end) 0 line ∷ []) → then_end + 1 < p.instructions.own → else_end < p.instructions.own
+        → CodeStands G ps p references test_end (instr op.JUMP_FALSE (pos (then_end + 1)) 0 line ∷ []) → CodeStands G ps p references then_end (instr op.JUMP (pos else_end) 0 line ∷ []) → then_end + 1 < p.instructions.own → else_end < p.instructions.own
         → Moves declared G ps p texts references n unit (test_end + 1) then_end (exec n unit a) → Moves declared G ps p texts references n unit (then_end + 1) else_end (exec n unit b)
         → Moves declared G ps p texts references n unit at else_end (exec n unit (If line x a b))
     if_parts line at test_end then_end else_end x a b xs valid code ends at_test at_out at_jump inside inside_end then_moves else_moves injection memory below d enough home =
@@ -50,7 +51,7 @@ module _ {declared : Declarations} {G : Image} (ps : List Placement) (p : Placem
 
     -- `while`
     pub while_parts : (line at test_end body_end : ℕ) (x : Expr) (s : Stmt) (xs : List Instr) → IsExpr declared (kind.Ordinal host.Boolean) x → IsExprCode texts references line x xs → test_end ≡ at + length xs → CodeStands G ps p references at xs
-        → CodeStands G ps p references test_end (instr 5 (pos (body_end + 1)) 0 line ∷ []) → CodeStands G ps p references body_end (instr 4 (pos at) 0 line ∷ []) → body_end + 1 < p.instructions.own → at ≤ body_end
+        → CodeStands G ps p references test_end (instr op.JUMP_FALSE (pos (body_end + 1)) 0 line ∷ []) → CodeStands G ps p references body_end (instr op.JUMP (pos at) 0 line ∷ []) → body_end + 1 < p.instructions.own → at ≤ body_end
         → Moves declared G ps p texts references n unit (test_end + 1) body_end (exec n unit s)
         → Moves declared G ps p texts references n unit at (body_end + 1) (exec n unit (While line x s))
     while_parts line at test_end body_end x s xs valid code ends at_test at_out at_jump inside before body_moves injection memory below d enough home =

@@ -1,5 +1,5 @@
 -- The code of what is written, from that of its parts.
-use Rattle.std.proofs.Common.{◌≡◌, ℕ, pos, true, false, List, [], ◌∷◌, ◌++◌, map, ◌<◌, ◌+◌, take, length, get_or, refl, sym, ap, ◌∙◌, subst, append_assoc, append-nil}
+use Rattle.std.proofs.Common.{◌≡◌, ℕ, true, false, List, [], ◌∷◌, ◌++◌, map, ◌<◌, ◌+◌, take, length, get_or, refl, sym, ap, ◌∙◌, subst, append_assoc, append-nil}
 use Rattle.std.proofs.lemmas.List.{map_more}
 use Rattle.ep_object.specs.declared.code.Instr.{Instr}
 use Rattle.ep_object.specs.declared.code.Reference.{Reference}
@@ -13,34 +13,36 @@ use Rattle.ep_gen_unit.specs.StmtCode.{IsItemCode, AreItemsCode, output_code, pl
 use Rattle.ep_gen_unit.specs.StmtGrowth.{AppendsItem, AppendsItems}
 use Rattle.ep_gen_unit.proofs.Following.{IsLater, later_grows, expr_later}
 use Rattle.ep_gen_unit.proofs.StmtStays.{items_code_stays}
+use Rattle.ep_object.specs.declared.op.TheConstants as op
+use Rattle.ep_gen_unit.specs.declared.items.TheConstants as constant
 
 -- the code of a part under the tables of the whole and the line at its start
 part : {b c d : Code} {is : List Instr} (line : ℕ) (x : Expr) → b.line ≡ line → (p : AppendsExpr b c x) → Grows c d is → IsExprCode d.texts d.references line x p.code
 part {d = d} line x e p q = subst (λ l. IsExprCode d.texts d.references l x p.code) e (expr_later _ x p.code (later_grows q) p.is_code)
 
-pub appends_line_end : {a b c d e : Code} → Grows a b (output_code a.line ∷ []) → Grows b c (push b.line (pos 10) ∷ []) → Grows c d (bare c.line 59 ∷ []) → Grows d e (bare d.line 68 ∷ []) → Grows a e (line_end_code a.line)
-appends_line_end o p q r = grows_at (λ l. bare l 68 ∷ []) (grows_at (λ l. bare l 59 ∷ []) (grows_at (λ l. push l (pos 10) ∷ []) o p) q) r
+pub appends_line_end : {a b c d e : Code} → Grows a b (output_code a.line ∷ []) → Grows b c (push b.line constant.LINE_END ∷ []) → Grows c d (bare c.line op.CHARS ∷ []) → Grows d e (bare d.line op.PUT ∷ []) → Grows a e (line_end_code a.line)
+appends_line_end o p q r = grows_at (λ l. bare l op.PUT ∷ []) (grows_at (λ l. bare l op.CHARS ∷ []) (grows_at (λ l. push l constant.LINE_END ∷ []) o p) q) r
 
-pub appends_plain : {a b c d e : Code} (print : Print) (x : Expr) → Grows a b (output_code a.line ∷ []) → AppendsExpr b c x → Grows c d (plain_code c.line print) → Grows d e (bare d.line 68 ∷ []) → AppendsItem a e (Plain print x)
+pub appends_plain : {a b c d e : Code} (print : Print) (x : Expr) → Grows a b (output_code a.line ∷ []) → AppendsExpr b c x → Grows c d (plain_code c.line print) → Grows d e (bare d.line op.PUT ∷ []) → AppendsItem a e (Plain print x)
 appends_plain {a = a} print x o p q r =
-    let end = grows_at (λ l. bare l 68 ∷ []) q r in
-    let after = grows_at (λ l. plain_code l print ++ bare l 68 ∷ []) p.grows end in
+    let end = grows_at (λ l. bare l op.PUT ∷ []) q r in
+    let after = grows_at (λ l. plain_code l print ++ bare l op.PUT ∷ []) p.grows end in
     record {
-      code = output_code a.line ∷ (p.code ++ (plain_code a.line print ++ bare a.line 68 ∷ []));
+      code = output_code a.line ∷ (p.code ++ (plain_code a.line print ++ bare a.line op.PUT ∷ []));
       is_code = (p.code, part a.line x o.line p end, refl);
-      grows = grows_at (λ l. p.code ++ (plain_code l print ++ bare l 68 ∷ [])) o after;
+      grows = grows_at (λ l. p.code ++ (plain_code l print ++ bare l op.PUT ∷ [])) o after;
     }
 
-pub appends_wide : {a b c d e f g : Code} (print : Print) (x w : Expr) → Grows a b (output_code a.line ∷ []) → AppendsExpr b c x → Grows c d (before_width c.line print) → AppendsExpr d e w → Grows e f (wide_code e.line print ∷ []) → Grows f g (bare f.line 68 ∷ []) → AppendsItem a g (Wide print x w)
+pub appends_wide : {a b c d e f g : Code} (print : Print) (x w : Expr) → Grows a b (output_code a.line ∷ []) → AppendsExpr b c x → Grows c d (before_width c.line print) → AppendsExpr d e w → Grows e f (wide_code e.line print ∷ []) → Grows f g (bare f.line op.PUT ∷ []) → AppendsItem a g (Wide print x w)
 appends_wide {a = a} print x w o p q r s t =
-    let end = grows_at (λ l. bare l 68 ∷ []) s t in
-    let width = grows_at (λ l. wide_code l print ∷ bare l 68 ∷ []) r.grows end in
-    let before = grows_at (λ l. r.code ++ wide_code l print ∷ bare l 68 ∷ []) q width in
-    let after = grows_at (λ l. before_width l print ++ (r.code ++ wide_code l print ∷ bare l 68 ∷ [])) p.grows before in
+    let end = grows_at (λ l. bare l op.PUT ∷ []) s t in
+    let width = grows_at (λ l. wide_code l print ∷ bare l op.PUT ∷ []) r.grows end in
+    let before = grows_at (λ l. r.code ++ wide_code l print ∷ bare l op.PUT ∷ []) q width in
+    let after = grows_at (λ l. before_width l print ++ (r.code ++ wide_code l print ∷ bare l op.PUT ∷ [])) p.grows before in
     record {
-      code = output_code a.line ∷ (p.code ++ (before_width a.line print ++ (r.code ++ wide_code a.line print ∷ bare a.line 68 ∷ [])));
+      code = output_code a.line ∷ (p.code ++ (before_width a.line print ++ (r.code ++ wide_code a.line print ∷ bare a.line op.PUT ∷ [])));
       is_code = (p.code, r.code, part a.line x o.line p before, part a.line w (q.line ∙ p.grows.line ∙ o.line) r end, refl);
-      grows = grows_at (λ l. p.code ++ (before_width l print ++ (r.code ++ wide_code l print ∷ bare l 68 ∷ []))) o after;
+      grows = grows_at (λ l. p.code ++ (before_width l print ++ (r.code ++ wide_code l print ∷ bare l op.PUT ∷ []))) o after;
     }
 
 module _ (ts : List (List ℕ)) (rs : List Reference) (line : ℕ) where

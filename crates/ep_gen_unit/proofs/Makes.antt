@@ -28,6 +28,7 @@ use Rattle.ep_typed.specs.declared.types.Host.{Host}
 use Rattle.ep_typed.specs.declared.types.TypeValue.{TypeValue}
 use Rattle.ep_typed.specs.declared.types.TypeValue.TheVariants as type
 use Rattle.ep_typed.specs.declared.unit.UnitVariable.{UnitVariable}
+use Rattle.ep_object.specs.declared.op.TheConstants as op
 
 -- in the frame of the unit, while the same routine runs
 same_frame : (G : Image) (x : ImageUnit) (before after : Frames) → SameRoutine before after → slice_get G.units before.unit ≡ Some x → slice_get G.units after.unit ≡ Some x
@@ -51,14 +52,14 @@ HaveIntegerBounds vs = (i : ℕ) (v : UnitVariable) → slice_get vs i ≡ Some 
 module _ (declared : Declarations) (G : Image) (ps : List Placement) (p : Placement) (references : List Reference) (n : ℕ) (x : ImageUnit) (distinct : HasDistinctNames G) (types_valid : HasTypesOfHosts declared) where
   module _ (number line at : ℕ) (within : number < x.slots) where
     -- `Make`, over the number of the type
-    make_row_moves : (low high : ℤ) (type_number : ℕ) → IsTrue (is_integer low) → IsTrue (is_integer high) → ((v : UnitVariable) → declared x.name number ≡ Some v → v.type_value ≡ type.Ordinal low high) → (place : ℕ) → slice_get G.instructions place ≡ Some (instr 15 (pos number) 0 line)
+    make_row_moves : (low high : ℤ) (type_number : ℕ) → IsTrue (is_integer low) → IsTrue (is_integer high) → ((v : UnitVariable) → declared x.name number ≡ Some v → v.type_value ≡ type.Ordinal low high) → (place : ℕ) → slice_get G.instructions place ≡ Some (instr op.MAKE (pos number) 0 line)
         → (injection : Injection) (memory : Memory) (below : List Operand) (d : ℕ) → slice_get G.units memory.frames.unit ≡ Some x → Describes memory.types type_number (type.Ordinal low high)
         → Fragment declared G n injection memory place (Word (pos type_number) ∷ below) (spend 1 (change (made x.name number (type.Ordinal low high)))) (place + 1) (λ a. Inside injection memory (Bare below a)) d (λ a. d)
     make_row_moves low high type_number low_fits high_fits declared_so place has injection memory below d home described =
         fragment_less {n = suc n} (omega arith) (fragment_effect_or_lost {weight = 1} (made x.name number (type.Ordinal low high)) (λ s matches. make_does declared G place line below low high type_number number x has distinct low_fits high_fits types_valid declared_so injection memory s home within described matches) (omega arith) (omega arith))
 
     -- the code that makes a variable of a type
-    make_typed : (t : TypeValue) (host : Host) → IsTypeOf host t → IsValueOf t Undefined → ((v : UnitVariable) → declared x.name number ≡ Some v → v.type_value ≡ t) → CodeStands G ps p references at (type_code line t ++ instr 15 (pos number) 0 line ∷ []) → MovesIn declared G p n x at (at + length (type_code line t ++ instr 15 (pos number) 0 line ∷ [])) (making_of x.name number t)
+    make_typed : (t : TypeValue) (host : Host) → IsTypeOf host t → IsValueOf t Undefined → ((v : UnitVariable) → declared x.name number ≡ Some v → v.type_value ≡ t) → CodeStands G ps p references at (type_code line t ++ instr op.MAKE (pos number) 0 line ∷ []) → MovesIn declared G p n x at (at + length (type_code line t ++ instr op.MAKE (pos number) 0 line ∷ [])) (making_of x.name number t)
     make_typed type.Text host valid fits declared_so stands injection memory below d enough home = absurd valid
     make_typed (type.Ordinal low high) host valid fits declared_so stands injection memory below d enough home =
         let second : p.instructions.before + at + 1 ≡ p.instructions.before + (at + 1) = omega arith in

@@ -1,6 +1,8 @@
 -- The object of a program, from the code of its parts.
-use Rattle.std.proofs.Common.{◌≡◌, ℕ, ℤ, suc, pos, ◌+◌, ◌<◌, List, [], ◌∷◌, ◌++◌, take, length, get_or, refl, sym, ap, ◌∙◌, subst, append_assoc, append-nil, arith, Result, Ok, Err, IfOk}
+use Rattle.std.proofs.Common.{◌≡◌, ℕ, ℤ, suc, pos, ◌+◌, ◌<◌, List, [], ◌∷◌, ◌++◌, take, length, get_or, refl, sym, ap, ◌∙◌, subst, append_assoc, append-nil, arith}
 use Rattle.std.proofs.lemmas.List.{take_more, length-take-le}
+use Rattle.ep_object.specs.declared.code.CodeRoutine.{CodeRoutine}
+use Rattle.ep_object.specs.declared.code.Object.{Object}
 use Rattle.ep_typed.specs.Viewed.{stmt_of}
 use Rattle.ep_typed.specs.declared.types.TypeValue.TheVariants.{Ordinal}
 use Rattle.ep_typed.specs.declared.unit.Unit.{Unit as TypedUnit}
@@ -10,15 +12,16 @@ use Rattle.ep_gen_expr.specs.Growth.{Grows, AreDistinct, empty_code}
 use Rattle.ep_gen_expr.specs.declared.code.Code.{Code}
 use Rattle.ep_gen_expr.proofs.Forms.{grows_at}
 use Rattle.ep_gen_unit.specs.StmtCode.{IsStmtCode, type_code, make_code, make_all_code}
-use Rattle.ep_gen_unit.specs.StmtGrowth.{Follows, IsNextPlace, AppendsStmt, IsCompact, assembled}
+use Rattle.ep_gen_unit.specs.StmtGrowth.{Follows, IsNextPlace, AppendsStmt, AppendsRoutines, IsCompact, assembled}
 use Rattle.ep_gen_unit.specs.UnitCode.{IsProgramCode, routine_at}
 use Rattle.ep_gen_unit.proofs.Following.{later_follows, stmt_later, follows_grows, follows_line, follows_then, grown_length}
+use Rattle.ep_object.specs.declared.op.TheConstants as op
 
-pub grows_ordinal : {a b c d : Code} (low high : ℤ) → Grows a b (push a.line low ∷ []) → Grows b c (push b.line high ∷ []) → Grows c d (bare c.line 51 ∷ []) → Grows a d (type_code a.line (Ordinal low high))
-grows_ordinal low high p q r = grows_at (λ l. bare l 51 ∷ []) (grows_at (λ l. push l high ∷ []) p q) r
+pub grows_ordinal : {a b c d : Code} (low high : ℤ) → Grows a b (push a.line low ∷ []) → Grows b c (push b.line high ∷ []) → Grows c d (bare c.line op.T_ORD ∷ []) → Grows a d (type_code a.line (Ordinal low high))
+grows_ordinal low high p q r = grows_at (λ l. bare l op.T_ORD ∷ []) (grows_at (λ l. push l high ∷ []) p q) r
 
-pub makes_variable : {b c : Code} (a : Code) (v : UnitVariable) (slot : ℕ) → Grows (record a { line = v.line }) b (type_code v.line v.type_value) → Grows b c (instr 15 (pos slot) 0 b.line ∷ []) → Follows a c (make_code slot v)
-makes_variable a v slot p q = follows_line a v.line (follows_grows (grows_at (λ l. instr 15 (pos slot) 0 l ∷ []) p q))
+pub makes_variable : {b c : Code} (a : Code) (v : UnitVariable) (slot : ℕ) → Grows (record a { line = v.line }) b (type_code v.line v.type_value) → Grows b c (instr op.MAKE (pos slot) 0 b.line ∷ []) → Follows a c (make_code slot v)
+makes_variable a v slot p q = follows_line a v.line (follows_grows (grows_at (λ l. instr op.MAKE (pos slot) 0 l ∷ []) p q))
 
 make_push : (number : ℕ) (vs : List UnitVariable) (v : UnitVariable) → make_all_code number (vs ++ v ∷ []) ≡ make_all_code number vs ++ make_code (number + length vs) v
 make_push number [] v =
@@ -41,48 +44,58 @@ makes_more {a = a} {c = c} vs k slot v h e at p q =
 nothing_distinct : {A : Type 0} → AreDistinct {A = A} []
 nothing_distinct = λ j k x p q. cc
 
-module _ (u : TypedUnit) {a b c d e : Code} (vs : List UnitVariable) (begins : a ≡ empty_code u.line) (which : vs ≡ u.variables) (makes : Follows a b (make_all_code 0 vs)) (s : AppendsStmt b c (stmt_of u.start)) (r : Grows (record c { line = u.line }) d (bare u.line 9 ∷ [])) (last : Grows d e (bare d.line 9 ∷ [])) (slots stop_entry : ℕ) (next : IsNextPlace d stop_entry) where
-  m : Follows (empty_code u.line) b (make_all_code 0 u.variables)
-  m = subst (λ code. Follows code b (make_all_code 0 u.variables)) begins (subst (λ l. Follows a b (make_all_code 0 l)) which makes)
+-- the code of both routines, from that of their parts
+module _ (u : TypedUnit) {a b c d e : Code} (vs : List UnitVariable) (which : vs ≡ u.variables) (makes : Follows a b (make_all_code 0 vs)) (s : AppendsStmt b c (stmt_of u.start)) (r : Grows (record c { line = u.line }) d (bare u.line op.RETURN ∷ [])) (last : Grows d e (bare d.line op.RETURN ∷ [])) (stop_entry : ℕ) (next : IsNextPlace d stop_entry) where
+  m : Follows a b (make_all_code 0 u.variables)
+  m = subst (λ l. Follows a b (make_all_code 0 l)) which makes
 
-  ends : Follows c e (bare u.line 9 ∷ bare u.line 9 ∷ [])
-  ends = follows_line c u.line (follows_grows (grows_at (λ l. bare l 9 ∷ []) r last))
+  ends : Follows c e (bare u.line op.RETURN ∷ bare u.line op.RETURN ∷ [])
+  ends = follows_line c u.line (follows_grows (grows_at (λ l. bare l op.RETURN ∷ []) r last))
 
-  all : Follows (empty_code u.line) e (make_all_code 0 u.variables ++ (s.code ++ bare u.line 9 ∷ bare u.line 9 ∷ []))
-  all = follows_then m (follows_then s.follows ends)
+  made : length b.instructions ≡ length a.instructions + length (make_all_code 0 u.variables)
+  made = grown_length m
 
-  made : length b.instructions ≡ length (make_all_code 0 u.variables)
-  made = ap length m.instructions
-
-  stops : stop_entry ≡ length (make_all_code 0 u.variables) + length s.code + 1
-  stops = omega (arith, next.is_length, made, grown_length s.follows, grown_length (follows_line c u.line (follows_grows r)))
-
-  pub is_program : slots ≡ length u.variables → IsProgramCode u (assembled u e slots stop_entry)
-  is_program n = record {
+  pub appends_routines : AppendsRoutines a e u stop_entry
+  appends_routines = record {
     code = s.code;
     is_code = subst (λ at. IsStmtCode e.texts e.references at (stmt_of u.start) s.code) made (stmt_later (length b.instructions) (stmt_of u.start) s.code (later_follows ends) s.is_code);
-    instructions = all.instructions;
-    routines = ap (λ at. routine_at 0 ∷ routine_at at ∷ []) stops;
+    follows = follows_then m (follows_then s.follows ends);
+    stops = omega (arith, next.is_length, made, grown_length s.follows, grown_length (follows_line c u.line (follows_grows r)));
+    small = omega (arith, next.is_length, next.small, grown_length (follows_grows last));
+  }
+
+-- the object of a program, from the code of its routines
+module _ (u : TypedUnit) {a e : Code} (begins : a ≡ empty_code u.line) (name : List ℕ) (named : name ≡ u.name) (slots stop_entry : ℕ) (appends : AppendsRoutines a e u stop_entry) (routines : List CodeRoutine) (two : routines ≡ routine_at 0 ∷ routine_at stop_entry ∷ []) (o : Object) (is : o ≡ assembled name e routines slots) where
+  whole : AppendsRoutines (empty_code u.line) e u stop_entry
+  whole = subst (λ code. AppendsRoutines code e u stop_entry) begins appends
+
+  begins_block : 0 + length (make_all_code 0 u.variables) ≡ length (make_all_code 0 u.variables)
+  begins_block = omega arith
+
+  stops : stop_entry ≡ length (make_all_code 0 u.variables) + length whole.code + 1
+  stops = omega (arith, whole.stops)
+
+  pub is_program : slots ≡ length u.variables → IsProgramCode u o
+  is_program n = subst (λ object. IsProgramCode u object) (sym is) (record {
+    code = whole.code;
+    is_code = subst (λ at. IsStmtCode e.texts e.references at (stmt_of u.start) whole.code) begins_block whole.is_code;
+    instructions = whole.follows.instructions;
+    routines = two ∙ ap (λ at. routine_at 0 ∷ routine_at at ∷ []) stops;
     start = refl;
     stop = refl;
     unit_slots = n;
-    name = refl;
+    name = named;
     is_program = refl;
     interface = refl;
     imports = refl;
-    constant_types = all.constant_types;
-  }
+    constant_types = whole.follows.constant_types;
+  })
 
-  pub is_compact : IsCompact (assembled u e slots stop_entry)
-  is_compact = record {
-    few_texts = all.texts.small (omega arith);
-    few_references = all.references.small (omega arith);
-    few_instructions = omega (arith, next.is_length, next.small, grown_length (follows_grows last));
-    texts = all.texts.distinct nothing_distinct;
-    references = all.references.distinct nothing_distinct;
-  }
-
--- what holds of the value that a call gives on success
-pub if_ok : {T E : Type 0} (P : T → Type 0) {x : T} (r : Result T E) → P x → IfOk r (λ y. y ≡ x) → IfOk r P
-if_ok P (Ok y) p e = subst P (sym e) p
-if_ok P (Err e) p h = tt
+  pub is_compact : IsCompact o
+  is_compact = subst (λ object. IsCompact object) (sym is) (record {
+    few_texts = whole.follows.texts.small (omega arith);
+    few_references = whole.follows.references.small (omega arith);
+    few_instructions = whole.small;
+    texts = whole.follows.texts.distinct nothing_distinct;
+    references = whole.follows.references.distinct nothing_distinct;
+  })

@@ -25,6 +25,7 @@ use Rattle.ep_typed.specs.Meaning.{starts_of, meaning as meaning_of}
 use Rattle.ep_typed.specs.Steps as meaning
 use Rattle.ep_typed.specs.Valid.{IsValid, own}
 use Rattle.ep_typed.specs.declared.unit.Unit.{Unit as TypedUnit}
+use Rattle.ep_object.specs.declared.op.TheConstants as op
 
 module _ (u : TypedUnit) (o : Object) (is : IsProgramCode u o) where
   -- the frames when the start of the program begins
@@ -36,7 +37,7 @@ module _ (u : TypedUnit) (o : Object) (is : IsProgramCode u o) where
   start_state = standing 0 [] (first_memory start_frames) []
 
   not_empty : 0 < length o.instructions
-  not_empty = omega (arith, ap length is.instructions, length-append (make_all_code 0 u.variables) (is.code ++ bare u.line 9 ∷ bare u.line 9 ∷ []), length-append is.code (bare u.line 9 ∷ bare u.line 9 ∷ []))
+  not_empty = omega (arith, ap length is.instructions, length-append (make_all_code 0 u.variables) (is.code ++ bare u.line op.RETURN ∷ bare u.line op.RETURN ∷ []), length-append is.code (bare u.line op.RETURN ∷ bare u.line op.RETURN ∷ []))
 
   -- a run begins with the start of the program
   pub begins : begin (alone o) ≡ Running 0 start_state

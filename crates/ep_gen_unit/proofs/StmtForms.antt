@@ -13,6 +13,7 @@ use Rattle.ep_gen_unit.specs.StmtCode.{IsStmtCode, AreStmtsCode}
 use Rattle.ep_gen_unit.specs.StmtGrowth.{Follows, IsNextPlace, LeavesHole, landed, AppendsItems, AppendsStmt, AppendsStmts}
 use Rattle.ep_gen_unit.proofs.StmtStays.{stmt_code_short, stmts_code_stays}
 use Rattle.ep_gen_unit.proofs.Following.{IsLater, later_then, later_grows, later_follows, later_landed, expr_later, stmt_later, follows_none, follows_grows, follows_line, follows_then, follows_middle, follows_landed, grown_length, landed_length}
+use Rattle.ep_object.specs.declared.op.TheConstants as op
 
 whole : {b : Code} (a : Code) (s : Stmt) (code : List Instr) → IsStmtCode b.texts b.references (length a.instructions) s code → Follows a b code → AppendsStmt a b s
 whole {b = b} a s code h p = record { code = code; is_code = h; follows = p; short = stmt_code_short b.texts b.references (length a.instructions) s code h }
@@ -23,20 +24,20 @@ appends_empty a = whole a Empty [] refl (follows_none a)
 pub appends_compound : {b : Code} (a : Code) (ss : Stmts) → AppendsStmts a b ss → AppendsStmt a b (Compound ss)
 appends_compound a ss p = whole a (Compound ss) p.code p.is_code p.follows
 
-pub appends_assign : {b c d : Code} (a : Code) (line : ℕ) (place : Place) (x : Expr) → AppendsPlace (record a { line = line }) b place → AppendsExpr b c x → Grows c d (bare c.line 23 ∷ []) → AppendsStmt a d (Assign line place x)
+pub appends_assign : {b c d : Code} (a : Code) (line : ℕ) (place : Place) (x : Expr) → AppendsPlace (record a { line = line }) b place → AppendsExpr b c x → Grows c d (bare c.line op.STORE ∷ []) → AppendsStmt a d (Assign line place x)
 appends_assign {b = b} {c = c} {d = d} a line place x p q r =
-    let after : Grows b d (q.code ++ bare b.line 23 ∷ []) = grows_at (λ l. bare l 23 ∷ []) q.grows r in
-    whole a (Assign line place x) (p.code ++ (q.code ++ bare line 23 ∷ [])) (
+    let after : Grows b d (q.code ++ bare b.line op.STORE ∷ []) = grows_at (λ l. bare l op.STORE ∷ []) q.grows r in
+    whole a (Assign line place x) (p.code ++ (q.code ++ bare line op.STORE ∷ [])) (
       p.code,
       q.code,
       place_code_stays b.references d.references line place p.code after.references.begins p.is_code,
       subst (λ l. IsExprCode d.texts d.references l x q.code) p.grows.line (expr_later b.line x q.code (later_grows r) q.is_code),
       refl,
     )
-    (follows_line a line (follows_grows (grows_at (λ l. q.code ++ bare l 23 ∷ []) p.grows after)))
+    (follows_line a line (follows_grows (grows_at (λ l. q.code ++ bare l op.STORE ∷ []) p.grows after)))
 
-pub appends_halt : {b : Code} (a : Code) (line : ℕ) → Grows (record a { line = line }) b (bare line 7 ∷ []) → AppendsStmt a b (Halt line)
-appends_halt a line p = whole a (Halt line) (bare line 7 ∷ []) refl (follows_line a line (follows_grows p))
+pub appends_halt : {b : Code} (a : Code) (line : ℕ) → Grows (record a { line = line }) b (bare line op.HALT ∷ []) → AppendsStmt a b (Halt line)
+appends_halt a line p = whole a (Halt line) (bare line op.HALT ∷ []) refl (follows_line a line (follows_grows p))
 
 pub appends_write : {b : Code} (a : Code) (line : ℕ) (items : List Item) (ends_line : Bool) → AppendsItems (record a { line = line }) b items ends_line → AppendsStmt a b (Write line items ends_line)
 appends_write a line items ends_line p = whole a (Write line items ends_line) p.code p.is_code (follows_line a line (follows_grows p.grows))
@@ -45,51 +46,51 @@ appends_write a line items ends_line p = whole a (Write line items ends_line) p.
 pub hole_in_then : {b c d e : Code} (k m : ℕ) (s : Stmt) → LeavesHole b c k → AppendsStmt c d s → LeavesHole d e m → k < length e.instructions
 hole_in_then k m s p q r = omega (arith, p.is_length, grown_length (follows_grows p.grows), grown_length q.follows, grown_length (follows_grows r.grows))
 
-pub hole_in_else : {d f g : Code} (e : Code) (k m line : ℕ) (t : Stmt) → LeavesHole d e m → f ≡ landed e k 5 line → AppendsStmt f g t → m < length g.instructions
-hole_in_else e k m line t p l q = omega (arith, p.is_length, grown_length (follows_grows p.grows), landed_length e k 5 line l, grown_length q.follows)
+pub hole_in_else : {d f g : Code} (e : Code) (k m line : ℕ) (t : Stmt) → LeavesHole d e m → f ≡ landed e k op.JUMP_FALSE line → AppendsStmt f g t → m < length g.instructions
+hole_in_else e k m line t p l q = omega (arith, p.is_length, grown_length (follows_grows p.grows), landed_length e k op.JUMP_FALSE line l, grown_length q.follows)
 
 pub hole_in_body : {b c e : Code} (d : Code) (k line : ℕ) (s : Stmt) (i : Instr) → LeavesHole b c k → AppendsStmt c d s → Grows (record d { line = line }) e (i ∷ []) → k < length e.instructions
 hole_in_body d k line s i p q r = omega (arith, p.is_length, grown_length (follows_grows p.grows), grown_length q.follows, grown_length (follows_grows r))
 
 -- what an `if` has
 abbrev if_body : List Instr → List Instr → List Instr → ℕ → ℕ → ℕ → List Instr
-if_body xs ys zs line m n = xs ++ instr 5 (pos m) 0 line ∷ (ys ++ instr 4 (pos n) 0 line ∷ zs)
+if_body xs ys zs line m n = xs ++ instr op.JUMP_FALSE (pos m) 0 line ∷ (ys ++ instr op.JUMP (pos n) 0 line ∷ zs)
 
 -- both jumps land
-if_follows : {a b c d e f g h : Code} {xs ys zs : List Instr} (line k m : ℕ) → Follows a b xs → LeavesHole b c k → Follows c d ys → LeavesHole d e m → f ≡ landed e k 5 line → Follows f g zs → h ≡ landed g m 4 line
-    → Follows a h (xs ++ instr 5 (pos (length e.instructions)) 0 line ∷ (ys ++ instr 4 (pos (length g.instructions)) 0 line ∷ zs))
+if_follows : {a b c d e f g h : Code} {xs ys zs : List Instr} (line k m : ℕ) → Follows a b xs → LeavesHole b c k → Follows c d ys → LeavesHole d e m → f ≡ landed e k op.JUMP_FALSE line → Follows f g zs → h ≡ landed g m op.JUMP line
+    → Follows a h (xs ++ instr op.JUMP_FALSE (pos (length e.instructions)) 0 line ∷ (ys ++ instr op.JUMP (pos (length g.instructions)) 0 line ∷ zs))
 if_follows {a = a} {c = c} {d = d} {e = e} {g = g} {h = h} {xs = xs} {ys = ys} {zs = zs} line k m p hole q other l r n =
-    let j = instr 5 (pos (length e.instructions)) 0 line in
-    let last = instr 4 (pos (length g.instructions)) 0 line in
+    let j = instr op.JUMP_FALSE (pos (length e.instructions)) 0 line in
+    let last = instr op.JUMP (pos (length g.instructions)) 0 line in
     let i = hole.filler in
     let o = other.filler in
     let to_c : Follows a c (xs ++ i ∷ []) = follows_then p (follows_grows hole.grows) in
     let to_d : Follows a d (xs ++ i ∷ ys) = follows_middle xs i [] ys to_c q in
     let to_e : Follows a e (xs ++ i ∷ (ys ++ o ∷ [])) = follows_middle xs i ys (o ∷ []) to_d (follows_grows other.grows) in
     let to_g : Follows a g (xs ++ j ∷ ((ys ++ o ∷ []) ++ zs)) =
-    follows_middle xs j (ys ++ o ∷ []) zs (follows_landed xs i (ys ++ o ∷ []) k 5 line to_e (hole.is_length ∙ grown_length p) l) r in
+    follows_middle xs j (ys ++ o ∷ []) zs (follows_landed xs i (ys ++ o ∷ []) k op.JUMP_FALSE line to_e (hole.is_length ∙ grown_length p) l) r in
     let seam : xs ++ j ∷ ((ys ++ o ∷ []) ++ zs) ≡ (xs ++ j ∷ ys) ++ o ∷ zs =
     ap (λ w. xs ++ j ∷ w) (append_assoc ys (o ∷ []) zs) ∙ sym (append_assoc xs (j ∷ ys) (o ∷ zs)) in
     let at : m ≡ length a.instructions + length (xs ++ j ∷ ys) =
     omega (arith, other.is_length, grown_length to_d, length-append xs (i ∷ ys), length-append xs (j ∷ ys)) in
-    subst (λ w. Follows a h w) (append_assoc xs (j ∷ ys) (last ∷ zs)) (follows_landed (xs ++ j ∷ ys) o zs m 4 line (subst (λ w. Follows a g w) seam to_g) at n)
+    subst (λ w. Follows a h w) (append_assoc xs (j ∷ ys) (last ∷ zs)) (follows_landed (xs ++ j ∷ ys) o zs m op.JUMP line (subst (λ w. Follows a g w) seam to_g) at n)
 
-pub appends_if : {b c d e f g h : Code} (a : Code) (line : ℕ) (x : Expr) (s t : Stmt) (k m : ℕ) → AppendsExpr (record a { line = line }) b x → LeavesHole b c k → AppendsStmt c d s → LeavesHole d e m → f ≡ landed e k 5 line → AppendsStmt f g t → h ≡ landed g m 4 line → AppendsStmt a h (If line x s t)
+pub appends_if : {b c d e f g h : Code} (a : Code) (line : ℕ) (x : Expr) (s t : Stmt) (k m : ℕ) → AppendsExpr (record a { line = line }) b x → LeavesHole b c k → AppendsStmt c d s → LeavesHole d e m → f ≡ landed e k op.JUMP_FALSE line → AppendsStmt f g t → h ≡ landed g m op.JUMP line → AppendsStmt a h (If line x s t)
 appends_if {b = b} {c = c} {d = d} {e = e} {f = f} {g = g} {h = h} a line x s t k m p hole q other l r n =
     let xs = p.code in
     let ys = q.code in
     let zs = r.code in
     let at = length a.instructions in
     let to_b : Follows a b xs = follows_line a line (follows_grows p.grows) in
-    let g_h : IsLater g h = later_landed m 4 line n in
+    let g_h : IsLater g h = later_landed m op.JUMP line n in
     let f_h : IsLater f h = later_then (later_follows r.follows) g_h in
-    let d_h : IsLater d h = later_then (later_grows other.grows) (later_then (later_landed k 5 line l) f_h) in
+    let d_h : IsLater d h = later_then (later_grows other.grows) (later_then (later_landed k op.JUMP_FALSE line l) f_h) in
     let b_h : IsLater b h = later_then (later_grows hole.grows) (later_then (later_follows q.follows) d_h) in
     let len_b : length b.instructions ≡ at + length xs = grown_length to_b in
     let len_c : length c.instructions ≡ length b.instructions + 1 = grown_length (follows_grows hole.grows) in
     let len_d : length d.instructions ≡ length c.instructions + length ys = grown_length q.follows in
     let len_e : length e.instructions ≡ length d.instructions + 1 = grown_length (follows_grows other.grows) in
-    let len_f : length f.instructions ≡ length e.instructions = landed_length e k 5 line l in
+    let len_f : length f.instructions ≡ length e.instructions = landed_length e k op.JUMP_FALSE line l in
     let len_g : length g.instructions ≡ length f.instructions + length zs = grown_length r.follows in
     let at_then : length c.instructions ≡ at + length xs + 1 = omega (arith, len_b, len_c) in
     let at_e : length e.instructions ≡ at + length xs + 1 + length ys + 1 = omega (arith, at_then, len_d, len_e) in
@@ -108,26 +109,26 @@ appends_if {b = b} {c = c} {d = d} {e = e} {f = f} {g = g} {h = h} a line x s t 
     (subst (λ w. Follows a h (if_body xs ys zs line w (length g.instructions))) at_e (if_follows line k m to_b hole q.follows other l r.follows n)))
 
 abbrev while_body : List Instr → List Instr → ℕ → ℕ → ℕ → List Instr
-while_body xs ys line m n = xs ++ instr 5 (pos m) 0 line ∷ (ys ++ instr 4 (pos n) 0 line ∷ [])
+while_body xs ys line m n = xs ++ instr op.JUMP_FALSE (pos m) 0 line ∷ (ys ++ instr op.JUMP (pos n) 0 line ∷ [])
 
-while_follows : {a b c d e f : Code} {xs ys : List Instr} (line k n : ℕ) → Follows a b xs → LeavesHole b c k → Follows c d ys → Grows (record d { line = line }) e (instr 4 (pos n) 0 line ∷ []) → f ≡ landed e k 5 line
+while_follows : {a b c d e f : Code} {xs ys : List Instr} (line k n : ℕ) → Follows a b xs → LeavesHole b c k → Follows c d ys → Grows (record d { line = line }) e (instr op.JUMP (pos n) 0 line ∷ []) → f ≡ landed e k op.JUMP_FALSE line
     → Follows a f (while_body xs ys line (length e.instructions) n)
 while_follows {a = a} {c = c} {d = d} {e = e} {xs = xs} {ys = ys} line k n p hole q r l =
-    let back = instr 4 (pos n) 0 line in
+    let back = instr op.JUMP (pos n) 0 line in
     let i = hole.filler in
     let to_c : Follows a c (xs ++ i ∷ []) = follows_then p (follows_grows hole.grows) in
     let to_d : Follows a d (xs ++ i ∷ ys) = follows_middle xs i [] ys to_c q in
     let to_e : Follows a e (xs ++ i ∷ (ys ++ back ∷ [])) = follows_middle xs i ys (back ∷ []) to_d (follows_line d line (follows_grows r)) in
-    follows_landed xs i (ys ++ back ∷ []) k 5 line to_e (hole.is_length ∙ grown_length p) l
+    follows_landed xs i (ys ++ back ∷ []) k op.JUMP_FALSE line to_e (hole.is_length ∙ grown_length p) l
 
-pub appends_while : {b c e f : Code} (a d : Code) (line : ℕ) (x : Expr) (s : Stmt) (n k : ℕ) → IsNextPlace (record a { line = line }) n → AppendsExpr (record a { line = line }) b x → LeavesHole b c k → AppendsStmt c d s → Grows (record d { line = line }) e (instr 4 (pos n) 0 line ∷ []) → f ≡ landed e k 5 line → AppendsStmt a f (While line x s)
+pub appends_while : {b c e f : Code} (a d : Code) (line : ℕ) (x : Expr) (s : Stmt) (n k : ℕ) → IsNextPlace (record a { line = line }) n → AppendsExpr (record a { line = line }) b x → LeavesHole b c k → AppendsStmt c d s → Grows (record d { line = line }) e (instr op.JUMP (pos n) 0 line ∷ []) → f ≡ landed e k op.JUMP_FALSE line → AppendsStmt a f (While line x s)
 appends_while {b = b} {c = c} {e = e} {f = f} a d line x s n k start p hole q r l =
     let xs = p.code in
     let ys = q.code in
     let at = length a.instructions in
     let to_b : Follows a b xs = follows_line a line (follows_grows p.grows) in
-    let to_e : Follows d e (instr 4 (pos n) 0 line ∷ []) = follows_line d line (follows_grows r) in
-    let d_f : IsLater d f = later_then (later_follows to_e) (later_landed k 5 line l) in
+    let to_e : Follows d e (instr op.JUMP (pos n) 0 line ∷ []) = follows_line d line (follows_grows r) in
+    let d_f : IsLater d f = later_then (later_follows to_e) (later_landed k op.JUMP_FALSE line l) in
     let b_f : IsLater b f = later_then (later_grows hole.grows) (later_then (later_follows q.follows) d_f) in
     let len_b : length b.instructions ≡ at + length xs = grown_length to_b in
     let len_c : length c.instructions ≡ length b.instructions + 1 = grown_length (follows_grows hole.grows) in

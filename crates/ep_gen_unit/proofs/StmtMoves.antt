@@ -17,6 +17,7 @@ use Rattle.ep_typed.proofs.Steady.{steady_exec_all}
 use Rattle.ep_typed.specs.Meaning.{exec, exec_all}
 use Rattle.ep_typed.specs.Trees.{Stmt, Stmts, Empty, Compound, Assign, If, While, Halt, Write, none, next}
 use Rattle.ep_typed.specs.Valid.{Declarations, IsStmt, AreStmts}
+use Rattle.ep_object.specs.declared.op.TheConstants as op
 
 module _ {declared : Declarations} {G : Image} (ps : List Placement) (p : Placement) (texts : List (List ℕ)) (references : List Reference) (n : ℕ) (unit : List ℕ) (room : p.instructions.before + p.instructions.own ≤ length G.instructions) (scene : Scene declared G ps p texts)
     (expressions : ExpressionsFollow declared G ps p texts references n unit) (places : PlacesFollow declared G ps p texts references n unit) where
@@ -32,8 +33,8 @@ module _ {declared : Declarations} {G : Image} (ps : List Placement) (p : Placem
         let test_end : ℕ = at + length h.0 in
         let then_end : ℕ = at + length h.0 + 1 + length h.1 in
         let else_end : ℕ = at + length h.0 + 1 + length h.1 + 1 + length h.2 in
-        let jump : Instr = instr 4 (pos else_end) 0 line in
-        let jump_false : Instr = instr 5 (pos (then_end + 1)) 0 line in
+        let jump : Instr = instr op.JUMP (pos else_end) 0 line in
+        let jump_false : Instr = instr op.JUMP_FALSE (pos (then_end + 1)) 0 line in
         let first = code_stands-parts G ps p references at h.0 (jump_false ∷ (h.1 ++ jump ∷ h.2)) (subst (λ k. CodeStands G ps p references at k) h.6 stands) in
         let second = code_stands-parts G ps p references (test_end + 1) h.1 (jump ∷ h.2) first.1.1 in
         let ends : else_end ≡ at + length is = omega (arith, ap length h.6, length-append h.0 (jump_false ∷ (h.1 ++ jump ∷ h.2)), length-append h.1 (jump ∷ h.2)) in
@@ -44,8 +45,8 @@ module _ {declared : Declarations} {G : Image} (ps : List Placement) (p : Placem
     statement_moves (While line x s) at is valid h stands inside =
         let test_end : ℕ = at + length h.0 in
         let body_end : ℕ = at + length h.0 + 1 + length h.1 in
-        let jump : Instr = instr 4 (pos at) 0 line in
-        let jump_false : Instr = instr 5 (pos (body_end + 1)) 0 line in
+        let jump : Instr = instr op.JUMP (pos at) 0 line in
+        let jump_false : Instr = instr op.JUMP_FALSE (pos (body_end + 1)) 0 line in
         let first = code_stands-parts G ps p references at h.0 (jump_false ∷ (h.1 ++ jump ∷ [])) (subst (λ k. CodeStands G ps p references at k) h.4 stands) in
         let second = code_stands-parts G ps p references (test_end + 1) h.1 (jump ∷ []) first.1.1 in
         let ends : body_end + 1 ≡ at + length is = omega (arith, ap length h.4, length-append h.0 (jump_false ∷ (h.1 ++ jump ∷ [])), length-append h.1 (jump ∷ [])) in

@@ -10,6 +10,7 @@ use Rattle.ep_gen_expr.specs.ExprCode.{bare, place_nodes, expr_nodes}
 use Rattle.ep_gen_expr.proofs.Stays.{place_code_stays, expr_code_stays, place_code_short, expr_code_short}
 use Rattle.ep_gen_unit.specs.StmtCode.{IsItemCode, AreItemsCode, IsStmtCode, AreStmtsCode, plain_code, before_width, wide_code}
 use Rattle.ep_gen_unit.specs.StmtGrowth.{item_nodes, items_nodes, stmt_nodes, stmts_nodes}
+use Rattle.ep_object.specs.declared.op.TheConstants as op
 
 module _ (ts us : List (List ℕ)) (rs ss : List Reference) (a : IsPrefix ts us) (b : IsPrefix rs ss) where
   pub item_code_stays : (line : ℕ) (i : Item) (is : List Instr) → IsItemCode ts rs line i is → IsItemCode us ss line i is
@@ -60,14 +61,14 @@ place_one (Variable unit number) = refl
 module _ (ts : List (List ℕ)) (rs : List Reference) where
   item_code_short : (line : ℕ) (i : Item) (is : List Instr) → IsItemCode ts rs line i is → length is ≤ 32 * item_nodes i
   item_code_short line (Plain print x) is h =
-      omega (arith, ap length h.2, length-append h.0 (plain_code line print ++ bare line 68 ∷ []), length-append (plain_code line print) (bare line 68 ∷ []), plain_short line print, expr_code_short ts rs line x h.0 h.1)
+      omega (arith, ap length h.2, length-append h.0 (plain_code line print ++ bare line op.PUT ∷ []), length-append (plain_code line print) (bare line op.PUT ∷ []), plain_short line print, expr_code_short ts rs line x h.0 h.1)
   item_code_short line (Wide print x w) is h =
       omega (
         arith,
         ap length h.4,
-        length-append h.0 (before_width line print ++ (h.1 ++ wide_code line print ∷ bare line 68 ∷ [])),
-        length-append (before_width line print) (h.1 ++ wide_code line print ∷ bare line 68 ∷ []),
-        length-append h.1 (wide_code line print ∷ bare line 68 ∷ []),
+        length-append h.0 (before_width line print ++ (h.1 ++ wide_code line print ∷ bare line op.PUT ∷ [])),
+        length-append (before_width line print) (h.1 ++ wide_code line print ∷ bare line op.PUT ∷ []),
+        length-append h.1 (wide_code line print ∷ bare line op.PUT ∷ []),
         before_short line print,
         expr_code_short ts rs line x h.0 h.2,
         expr_code_short ts rs line w h.1 h.3,
@@ -83,7 +84,7 @@ module _ (ts : List (List ℕ)) (rs : List Reference) where
     stmt_code_short at Empty is h = omega (arith, ap length h)
     stmt_code_short at (Compound statements) is h = omega (arith, stmts_code_short at statements is h)
     stmt_code_short at (Assign line p x) is h =
-        omega (arith, ap length h.4, length-append h.0 (h.1 ++ bare line 23 ∷ []), length-append h.1 (bare line 23 ∷ []), place_code_short rs line p h.0 h.2, place_one p, expr_code_short ts rs line x h.1 h.3)
+        omega (arith, ap length h.4, length-append h.0 (h.1 ++ bare line op.STORE ∷ []), length-append h.1 (bare line op.STORE ∷ []), place_code_short rs line p h.0 h.2, place_one p, expr_code_short ts rs line x h.1 h.3)
     stmt_code_short at (If line x s t) is h =
         if_short h.0 h.1 h.2 _ _ is h.6 (expr_nodes x) (stmt_nodes s) (stmt_nodes t)
         (expr_code_short ts rs line x h.0 h.3) (stmt_code_short (at + length h.0 + 1) s h.1 h.4) (stmt_code_short (at + length h.0 + 1 + length h.1 + 1) t h.2 h.5)

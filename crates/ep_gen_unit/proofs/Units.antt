@@ -33,6 +33,7 @@ use Rattle.ep_typed.specs.Valid.{Declarations, AreVariables, IsStmt, IsValid, ow
 use Rattle.ep_typed.specs.Viewed.{stmt_of}
 use Rattle.ep_typed.specs.declared.unit.UnitVariable.{UnitVariable}
 use Rattle.ep_typed.specs.declared.unit.Unit.{Unit as TypedUnit}
+use Rattle.ep_object.specs.declared.op.TheConstants as op
 
 -- a number of an object's own stands behind what comes before
 moved_own : (span : Span) (n : ℕ) → n < span.own → moved span n ≡ span.before + n
@@ -53,24 +54,24 @@ module _ (u : TypedUnit) (o : Object) (is : IsProgramCode u o) (G : Image) (ps :
   instructions_own : p.instructions.own ≡ ends_block + 2
   instructions_own =
       let whole = of_object in
-      omega (arith, whole.instructions, ap length is.instructions, length-append (make_all_code 0 u.variables) (is.code ++ bare u.line 9 ∷ bare u.line 9 ∷ []), length-append is.code (bare u.line 9 ∷ bare u.line 9 ∷ []))
+      omega (arith, whole.instructions, ap length is.instructions, length-append (make_all_code 0 u.variables) (is.code ++ bare u.line op.RETURN ∷ bare u.line op.RETURN ∷ []), length-append is.code (bare u.line op.RETURN ∷ bare u.line op.RETURN ∷ []))
 
-  all_stands : CodeStands G ps p o.references 0 (make_all_code 0 u.variables ++ (is.code ++ bare u.line 9 ∷ bare u.line 9 ∷ []))
+  all_stands : CodeStands G ps p o.references 0 (make_all_code 0 u.variables ++ (is.code ++ bare u.line op.RETURN ∷ bare u.line op.RETURN ∷ []))
   all_stands = subst (λ k. CodeStands G ps p o.references 0 k) is.instructions stands.code
 
   makes_stand : CodeStands G ps p o.references 0 (make_all_code 0 u.variables)
-  makes_stand = let parts = code_stands-parts G ps p o.references 0 (make_all_code 0 u.variables) (is.code ++ bare u.line 9 ∷ bare u.line 9 ∷ []) all_stands in parts.0
+  makes_stand = let parts = code_stands-parts G ps p o.references 0 (make_all_code 0 u.variables) (is.code ++ bare u.line op.RETURN ∷ bare u.line op.RETURN ∷ []) all_stands in parts.0
 
   -- the two `Return`s stand behind the block
-  returns_stand : CodeStands G ps p o.references ends_block (bare u.line 9 ∷ bare u.line 9 ∷ [])
+  returns_stand : CodeStands G ps p o.references ends_block (bare u.line op.RETURN ∷ bare u.line op.RETURN ∷ [])
   returns_stand =
-      let parts = code_stands-parts G ps p o.references 0 (make_all_code 0 u.variables) (is.code ++ bare u.line 9 ∷ bare u.line 9 ∷ []) all_stands in
-      let block = code_stands-parts G ps p o.references (0 + begins_block) is.code (bare u.line 9 ∷ bare u.line 9 ∷ []) parts.1 in
-      subst (λ k. CodeStands G ps p o.references k (bare u.line 9 ∷ bare u.line 9 ∷ [])) {x = 0 + begins_block + length is.code} {y = ends_block} (omega arith) block.1
+      let parts = code_stands-parts G ps p o.references 0 (make_all_code 0 u.variables) (is.code ++ bare u.line op.RETURN ∷ bare u.line op.RETURN ∷ []) all_stands in
+      let block = code_stands-parts G ps p o.references (0 + begins_block) is.code (bare u.line op.RETURN ∷ bare u.line op.RETURN ∷ []) parts.1 in
+      subst (λ k. CodeStands G ps p o.references k (bare u.line op.RETURN ∷ bare u.line op.RETURN ∷ [])) {x = 0 + begins_block + length is.code} {y = ends_block} (omega arith) block.1
 
   room : p.instructions.before + p.instructions.own ≤ length G.instructions
   room =
-      let within = slice_get_within G.instructions (p.instructions.before + (ends_block + 1)) (bare u.line 9) returns_stand.1.0 in
+      let within = slice_get_within G.instructions (p.instructions.before + (ends_block + 1)) (bare u.line op.RETURN) returns_stand.1.0 in
       omega (arith, instructions_own, within)
 
   -- a routine of the object is one of the image
@@ -111,7 +112,7 @@ module _ (u : TypedUnit) (o : Object) (is : IsProgramCode u o) (G : Image) (ps :
         follows = λ m le injection memory below s k enters.
             follows_from (at_entry o.stop (routine_at (ends_block + 1)) stop_is (omega (arith, instructions_own)) enters) (follows_give tt (omega arith) (record {
               place = p.instructions.before + (ends_block + 1);
-              instruction = bare u.line 9;
+              instruction = bare u.line op.RETURN;
               stands = returns_stand.1.0;
               returns = refl;
               lands = record { injection = injection; memory = memory; operands = below; is = refl; matches = enters.matches; post = inside_here refl };
@@ -142,7 +143,7 @@ module _ (u : TypedUnit) (o : Object) (is : IsProgramCode u o) (G : Image) (ps :
               (λ of_unit slot v is_declared line at code is_code x_stands v1 m1 operands d enough x_home. place_follows ps p o.texts o.references scene n u.name n of_unit slot v is_declared line at code is_code x_stands v1 m1 operands d (omega arith) x_home)
               valid makes injection memory below routine_credit (omega arith) (home o.start (routine_at 0) start_is memory.frames enters.runs) enters.in_unit in
               follows_from (at_entry o.start (routine_at 0) start_is (omega (arith, instructions_own)) enters)
-              (follows_less {n = n} (omega arith) (follows_post (λ a t l lands. record { place = p.instructions.before + ends_block; instruction = bare u.line 9; stands = returns_stand.0; returns = refl; lands = lands }) (body.by s enters.matches)));
+              (follows_less {n = n} (omega arith) (follows_post (λ a t l lands. record { place = p.instructions.before + ends_block; instruction = bare u.line op.RETURN; stands = returns_stand.0; returns = refl; lands = lands }) (body.by s enters.matches)));
         }
 
   -- the variables of the unit have their slots

@@ -23,7 +23,7 @@ use Rattle.ep_object.proofs.Rows.{RowPushes, push_pushes}
 use Rattle.ep_object.proofs.TextRows.{RowFails, chars_pushes, form_integer, form_boolean, form_wide_integer, form_wide_boolean, form_wide_text, form_negative_integer, form_negative_boolean, form_negative_text}
 use Rattle.ep_typed.proofs.Steady.{steady_give, steady_spend, steady_write_items, steady_bind, steady_eval, steady_write_piece, steady_write_wide}
 use Rattle.ep_typed.specs.Meaning.{eval, weight_of, write_piece, write_wide, write_item, write_items, exec}
-use Rattle.ep_typed.specs.Printing.{Result, Number, Bytes, number_of, plain_text, wide_text, piece_events}
+use Rattle.ep_typed.specs.Printing.{Result, Number, Bytes, number_of, line_end, plain_text, wide_text, piece_events}
 use Rattle.ep_typed.specs.Steps.{Computation, bind}
 use Rattle.ep_typed.specs.Steps as meaning
 use Rattle.ep_typed.specs.Trees.{Expr, Item, Plain, Wide, Write}
@@ -32,6 +32,7 @@ use Rattle.ep_typed.specs.Valid.{Declarations, IsExpr, IsItem, AreItems, WritesS
 use Rattle.ep_typed.specs.declared.operations.Print.{Print}
 use Rattle.ep_typed.specs.declared.operations.Print.TheVariants as print
 use Rattle.ep_typed.specs.declared.types.Host.TheVariants as host
+use Rattle.ep_object.specs.declared.op.TheConstants as op
 
 -- the operands while an item is written: `output` below them
 abbrev pub over_output : List Operand → List Operand
@@ -43,21 +44,21 @@ popping_nothing G place operands pushed n row = λ memory trace. row memory trac
 
 module _ {declared : Declarations} {G : Image} (ps : List Placement) (p : Placement) (texts : List (List ℕ)) (references : List Reference) (n : ℕ) (unit : List ℕ) where
   -- `Put` of a text that is on top already
-  put_moves : (line at d e : ℕ) (bytes : List ℕ) → CodeStands G ps p references at (bare line 68 ∷ []) → (injection : Injection) (memory : Memory) (below : List Operand) → e ≤ d + 40 → Fragment declared G n injection memory (p.instructions.before + at) (Text bytes ∷ over_output below) (write_piece n unit bytes) (p.instructions.before + at + 1) (λ a. Inside injection memory (Bare below a)) d (λ a. e)
+  put_moves : (line at d e : ℕ) (bytes : List ℕ) → CodeStands G ps p references at (bare line op.PUT ∷ []) → (injection : Injection) (memory : Memory) (below : List Operand) → e ≤ d + 40 → Fragment declared G n injection memory (p.instructions.before + at) (Text bytes ∷ over_output below) (write_piece n unit bytes) (p.instructions.before + at + 1) (λ a. Inside injection memory (Bare below a)) d (λ a. e)
   put_moves line at d e bytes stands injection memory below le =
       fragment_less {n = suc n} (omega arith) (fragment_effect {weight = length bytes} {P = λ a. Inside injection memory (Bare below a)} (length bytes) (meaning.with_events (piece_events bytes)) (λ s matches. put_does declared G (p.instructions.before + at) line below bytes stands.0 injection memory s matches) (omega arith) (omega arith) (omega arith))
 
   -- an instruction that makes the text, and then `Put`
-  made_and_put : (line at popped d e : ℕ) (bytes : List ℕ) → CodeStands G ps p references (at + 1) (bare line 68 ∷ []) → (injection : Injection) (memory : Memory) (operands below : List Operand) → RowPushes G (p.instructions.before + at) operands (popped + length bytes) (Text bytes ∷ over_output below) → popped + e ≤ d + 40
+  made_and_put : (line at popped d e : ℕ) (bytes : List ℕ) → CodeStands G ps p references (at + 1) (bare line op.PUT ∷ []) → (injection : Injection) (memory : Memory) (operands below : List Operand) → RowPushes G (p.instructions.before + at) operands (popped + length bytes) (Text bytes ∷ over_output below) → popped + e ≤ d + 40
       → Fragment declared G n injection memory (p.instructions.before + at) operands (write_piece n unit bytes) (p.instructions.before + (at + 2)) (λ a. Inside injection memory (Bare below a)) d (λ a. e)
   made_and_put line at popped d e bytes stands injection memory operands below row le =
       let here : p.instructions.before + (at + 1) ≡ p.instructions.before + at + 1 = omega arith in
-      fragment_to {to = p.instructions.before + at + 1 + 1} (omega arith) (piece_form {line = line} d e n popped unit bytes row (subst (λ k. slice_get G.instructions k ≡ Some (bare line 68)) here stands.0) le)
+      fragment_to {to = p.instructions.before + at + 1 + 1} (omega arith) (piece_form {line = line} d e n popped unit bytes row (subst (λ k. slice_get G.instructions k ≡ Some (bare line op.PUT)) here stands.0) le)
 
   module _ (expressions : ExpressionsFollow declared G ps p texts references n unit) where
     -- after `output`: the value, as long as it needs to be
-    plain_value : (print : Print) (line at d : ℕ) (x : Expr) (xs : List Instr) → IsItem declared (Plain print x) → IsExprCode texts references line x xs → CodeStands G ps p references at xs → CodeStands G ps p references (at + length xs) (plain_code line print ++ bare line 68 ∷ []) → (injection : Injection) (memory : Memory) (below : List Operand) → 32 ≤ d → unit_in G memory.frames ≡ unit
-        → Fragment declared G n injection memory (p.instructions.before + at) (over_output below) (write_item n unit line (Plain print x)) (p.instructions.before + (at + length xs + length (plain_code line print ++ bare line 68 ∷ []))) (λ a. Inside injection memory (Bare below a)) d (λ a. 2 + d)
+    plain_value : (print : Print) (line at d : ℕ) (x : Expr) (xs : List Instr) → IsItem declared (Plain print x) → IsExprCode texts references line x xs → CodeStands G ps p references at xs → CodeStands G ps p references (at + length xs) (plain_code line print ++ bare line op.PUT ∷ []) → (injection : Injection) (memory : Memory) (below : List Operand) → 32 ≤ d → unit_in G memory.frames ≡ unit
+        → Fragment declared G n injection memory (p.instructions.before + at) (over_output below) (write_item n unit line (Plain print x)) (p.instructions.before + (at + length xs + length (plain_code line print ++ bare line op.PUT ∷ []))) (λ a. Inside injection memory (Bare below a)) d (λ a. 2 + d)
     plain_value print.Integer line at d x xs valid code at_value at_print injection memory below enough home =
         fragment_bind_number {host = host.Integer} {e = λ r. d + 8 + weight_of r} (λ r. steady_write_piece n unit (plain_text print.Integer r)) (expressions (kind.Ordinal host.Integer) x valid line at xs code at_value injection memory (over_output below) d enough home) (λ z longer after of_host grown routine.
         made_and_put line (at + length xs) 0 (d + 8 + 0) (2 + d) (plain_text print.Integer (Number z)) (at_print.1) longer after (Word z ∷ over_output below) below (popping_nothing G (p.instructions.before + (at + length xs)) (Word z ∷ over_output below) (Text (plain_text print.Integer (Number z)) ∷ over_output below) (length (plain_text print.Integer (Number z))) (form_integer G (p.instructions.before + (at + length xs)) line (over_output below) z at_print.0)) (omega arith))
@@ -72,7 +73,7 @@ module _ {declared : Declarations} {G : Image} (ps : List Placement) (p : Placem
         fragment_to {to = p.instructions.before + (at + length xs) + 1} (omega arith) (put_moves line (at + length xs) (d + 8 + length bytes) (2 + d) bytes at_print longer after below (omega arith)))
 
     -- The value is on top as the instruction for the width takes it: the width, and then the piece or error 21.
-    after_value : (print : Print) (r : Result) (shown : Operand) (popped line at d : ℕ) (w : Expr) (ws : List Instr) → IsExpr declared (kind.Ordinal host.Integer) w → IsExprCode texts references line w ws → CodeStands G ps p references at ws → CodeStands G ps p references (at + length ws) (wide_code line print ∷ bare line 68 ∷ [])
+    after_value : (print : Print) (r : Result) (shown : Operand) (popped line at d : ℕ) (w : Expr) (ws : List Instr) → IsExpr declared (kind.Ordinal host.Integer) w → IsExprCode texts references line w ws → CodeStands G ps p references at ws → CodeStands G ps p references (at + length ws) (wide_code line print ∷ bare line op.PUT ∷ [])
         → (below : List Operand) → ((width : ℕ) → RowPushes G (p.instructions.before + (at + length ws)) (Word (pos width) ∷ shown ∷ over_output below) (popped + length (wide_text print width r)) (Text (wide_text print width r) ∷ over_output below)) → ((k : ℕ) → RowFails G (p.instructions.before + (at + length ws)) line (Word (negsuc k) ∷ shown ∷ over_output below) popped 21)
         → (injection : Injection) (memory : Memory) (e : ℕ) → 32 ≤ d → popped + e ≤ d + 40 → popped ≤ d → unit_in G memory.frames ≡ unit
         → Fragment declared G n injection memory (p.instructions.before + at) (shown ∷ over_output below) (bind (eval n unit line w) (λ width. write_wide n unit line print r (number_of width))) (p.instructions.before + (at + length ws + 2)) (λ a. Inside injection memory (Bare below a)) d (λ a. e)
@@ -84,7 +85,7 @@ module _ {declared : Declarations} {G : Image} (ps : List Placement) (p : Placem
         piece (negsuc k) longer after told = fragment_stop {weight = popped} (λ s matches. fails k after s.trace ∙ ap (λ u. record { weight = popped; to = Stopped (Error 21 u line) s.trace }) told) (omega arith)
 
     -- after `output`: the value in so many places
-    wide_value : (print : Print) (line at d : ℕ) (x w : Expr) (xs ws : List Instr) → IsItem declared (Wide print x w) → IsExprCode texts references line x xs → IsExprCode texts references line w ws → CodeStands G ps p references at xs → CodeStands G ps p references (at + length xs) (before_width line print) → CodeStands G ps p references (at + length xs + length (before_width line print)) ws → CodeStands G ps p references (at + length xs + length (before_width line print) + length ws) (wide_code line print ∷ bare line 68 ∷ [])
+    wide_value : (print : Print) (line at d : ℕ) (x w : Expr) (xs ws : List Instr) → IsItem declared (Wide print x w) → IsExprCode texts references line x xs → IsExprCode texts references line w ws → CodeStands G ps p references at xs → CodeStands G ps p references (at + length xs) (before_width line print) → CodeStands G ps p references (at + length xs + length (before_width line print)) ws → CodeStands G ps p references (at + length xs + length (before_width line print) + length ws) (wide_code line print ∷ bare line op.PUT ∷ [])
         → (injection : Injection) (memory : Memory) (below : List Operand) → 32 ≤ d → unit_in G memory.frames ≡ unit
         → Fragment declared G n injection memory (p.instructions.before + at) (over_output below) (write_item n unit line (Wide print x w)) (p.instructions.before + (at + length xs + length (before_width line print) + length ws + 2)) (λ a. Inside injection memory (Bare below a)) d (λ a. 2 + d)
     wide_value print.Integer line at d x w xs ws valid code wcode at_value at_before at_width at_print injection memory below enough home =
@@ -113,29 +114,29 @@ module _ {declared : Declarations} {G : Image} (ps : List Placement) (p : Placem
     pub item_writes : (line at : ℕ) (i : Item) (is : List Instr) → IsItem declared i → IsItemCode texts references line i is → CodeStands G ps p references at is → Writes declared G ps p texts references n unit at (at + length is) (write_item n unit line i)
     item_writes line at (Plain print x) is valid h stands injection memory below d enough home =
         let all = subst (λ k. CodeStands G ps p references at k) h.2 stands in
-        let parts = code_stands-parts G ps p references (at + 1) h.0 (plain_code line print ++ bare line 68 ∷ []) all.1 in
-        let ends : at + 1 + length h.0 + length (plain_code line print ++ bare line 68 ∷ []) ≡ at + length is = omega (arith, ap length h.2, length-append h.0 (plain_code line print ++ bare line 68 ∷ [])) in
+        let parts = code_stands-parts G ps p references (at + 1) h.0 (plain_code line print ++ bare line op.PUT ∷ []) all.1 in
+        let ends : at + 1 + length h.0 + length (plain_code line print ++ bare line op.PUT ∷ []) ≡ at + length is = omega (arith, ap length h.2, length-append h.0 (plain_code line print ++ bare line op.PUT ∷ [])) in
         fragment_waits {place1 = p.instructions.before + at + 1} {d1 = d - 1} (λ s matches. output_pushes declared G (p.instructions.before + at) line below all.0 memory s.trace) (omega arith)
         (fragment_from {place = p.instructions.before + (at + 1)} (omega arith) (fragment_to (ap (λ k. p.instructions.before + k) ends) (fragment_credit {d = d - 1} {e = λ a. 2 + (d - 1)} (omega arith) (λ a. omega arith)
         (plain_value print line (at + 1) (d - 1) x h.0 valid h.1 parts.0 parts.1 injection memory below (omega arith) home))))
     item_writes line at (Wide print x w) is valid h stands injection memory below d enough home =
-        let rest : List Instr = h.1 ++ wide_code line print ∷ bare line 68 ∷ [] in
+        let rest : List Instr = h.1 ++ wide_code line print ∷ bare line op.PUT ∷ [] in
         let all = subst (λ k. CodeStands G ps p references at k) h.4 stands in
         let first = code_stands-parts G ps p references (at + 1) h.0 (before_width line print ++ rest) all.1 in
         let second = code_stands-parts G ps p references (at + 1 + length h.0) (before_width line print) rest first.1 in
-        let third = code_stands-parts G ps p references (at + 1 + length h.0 + length (before_width line print)) h.1 (wide_code line print ∷ bare line 68 ∷ []) second.1 in
-        let ends : at + 1 + length h.0 + length (before_width line print) + length h.1 + 2 ≡ at + length is = omega (arith, ap length h.4, length-append h.0 (before_width line print ++ rest), length-append (before_width line print) rest, length-append h.1 (wide_code line print ∷ bare line 68 ∷ [])) in
+        let third = code_stands-parts G ps p references (at + 1 + length h.0 + length (before_width line print)) h.1 (wide_code line print ∷ bare line op.PUT ∷ []) second.1 in
+        let ends : at + 1 + length h.0 + length (before_width line print) + length h.1 + 2 ≡ at + length is = omega (arith, ap length h.4, length-append h.0 (before_width line print ++ rest), length-append (before_width line print) rest, length-append h.1 (wide_code line print ∷ bare line op.PUT ∷ [])) in
         fragment_waits {place1 = p.instructions.before + at + 1} {d1 = d - 1} (λ s matches. output_pushes declared G (p.instructions.before + at) line below all.0 memory s.trace) (omega arith)
         (fragment_from {place = p.instructions.before + (at + 1)} (omega arith) (fragment_to (ap (λ k. p.instructions.before + k) ends) (fragment_credit {d = d - 1} {e = λ a. 2 + (d - 1)} (omega arith) (λ a. omega arith)
         (wide_value print line (at + 1) (d - 1) x w h.0 h.1 valid h.2 h.3 first.0 second.0 third.0 third.1 injection memory below (omega arith) home))))
 
   -- the line end
-  pub line_end_writes : (line at : ℕ) → CodeStands G ps p references at (line_end_code line) → Writes declared G ps p texts references n unit at (at + 4) (write_piece n unit (10 ∷ []))
+  pub line_end_writes : (line at : ℕ) → CodeStands G ps p references at (line_end_code line) → Writes declared G ps p texts references n unit at (at + 4) (write_piece n unit (line_end ∷ []))
   line_end_writes line at stands injection memory below d enough home =
       fragment_waits {place1 = p.instructions.before + at + 1} {d1 = d - 1} (λ s matches. output_pushes declared G (p.instructions.before + at) line below stands.0 memory s.trace) (omega arith)
-      (fragment_from {place = p.instructions.before + (at + 1)} (omega arith) (fragment_waits {place1 = p.instructions.before + (at + 1) + 1} {d1 = d - 2} (λ s matches. push_pushes G (p.instructions.before + (at + 1)) line (over_output below) (pos 10) stands.1.0 memory s.trace) (omega arith)
+      (fragment_from {place = p.instructions.before + (at + 1)} (omega arith) (fragment_waits {place1 = p.instructions.before + (at + 1) + 1} {d1 = d - 2} (λ s matches. push_pushes G (p.instructions.before + (at + 1)) line (over_output below) (pos line_end) stands.1.0 memory s.trace) (omega arith)
       (fragment_from {place = p.instructions.before + (at + 1 + 1)} (omega arith) (fragment_to {to = p.instructions.before + (at + 1 + 1 + 2)} (omega arith)
-      (made_and_put line (at + 1 + 1) 0 (d - 2) (1 + d) (10 ∷ []) stands.1.1.1 injection memory (Word (pos 10) ∷ over_output below) below (chars_pushes G (p.instructions.before + (at + 1 + 1)) line (over_output below) (pos 10) refl stands.1.1.0) (omega arith))))))
+      (made_and_put line (at + 1 + 1) 0 (d - 2) (1 + d) (line_end ∷ []) stands.1.1.1 injection memory (Word (pos line_end) ∷ over_output below) below (chars_pushes G (p.instructions.before + (at + 1 + 1)) line (over_output below) (pos line_end) refl stands.1.1.0) (omega arith))))))
 
   module _ (expressions : ExpressionsFollow declared G ps p texts references n unit) where
     -- items and the line end, and then the step of the statement

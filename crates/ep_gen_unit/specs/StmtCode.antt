@@ -1,6 +1,6 @@
 -- Which instructions are the code of a statement, under given tables of texts and references. Jumps name places of
 -- the object, so the code of a statement depends on where it begins.
-use Rattle.std.specs.Prelude.{◌≡◌, ℕ, pos, negsuc, suc, ◌+◌, Bool, true, false, List, [], ◌∷◌, ◌++◌, length}
+use Rattle.std.specs.Prelude.{◌≡◌, ℕ, pos, suc, ◌+◌, Bool, true, false, List, [], ◌∷◌, ◌++◌, length}
 use Rattle.ep_gen_expr.specs.ExprCode.{instr, bare, push, IsPlaceCode, IsExprCode}
 use Rattle.ep_object.specs.declared.code.Instr.{Instr}
 use Rattle.ep_object.specs.declared.code.Reference.{Reference}
@@ -10,44 +10,46 @@ use Rattle.ep_typed.specs.declared.operations.Print.TheVariants as print
 use Rattle.ep_typed.specs.declared.types.TypeValue.{TypeValue}
 use Rattle.ep_typed.specs.declared.types.TypeValue.TheVariants.{Ordinal, Text}
 use Rattle.ep_typed.specs.declared.unit.UnitVariable.{UnitVariable}
+use Rattle.ep_object.specs.declared.op.TheConstants as op
+use Rattle.ep_gen_unit.specs.declared.items.TheConstants as constant
 
 module _ (line : ℕ) where
   -- the place of `output`
   abbrev pub output_code : Instr
-  output_code = instr 13 (negsuc 0) 1 line
+  output_code = instr op.UNIT constant.STANDARD_UNIT constant.OUTPUT line
 
   -- after a value: the text that is written of it
   abbrev pub plain_code : Print → List Instr
-  plain_code print.Integer = instr 67 (pos 0) 0 line ∷ []
-  plain_code print.Char = bare line 59 ∷ []
-  plain_code print.Boolean = instr 67 (pos 1) 0 line ∷ []
+  plain_code print.Integer = instr op.FORM constant.FORM_INTEGER 0 line ∷ []
+  plain_code print.Char = bare line op.CHARS ∷ []
+  plain_code print.Boolean = instr op.FORM constant.FORM_BOOLEAN 0 line ∷ []
   plain_code print.Text = []
 
   -- after a value and before its width: a char is made a text
   abbrev pub before_width : Print → List Instr
   before_width print.Integer = []
-  before_width print.Char = bare line 59 ∷ []
+  before_width print.Char = bare line op.CHARS ∷ []
   before_width print.Boolean = []
   before_width print.Text = []
 
   -- after a value and its width: the text that is written
   abbrev pub wide_code : Print → Instr
-  wide_code print.Integer = instr 67 (pos 0) 1 line
-  wide_code print.Char = instr 67 (pos 2) 1 line
-  wide_code print.Boolean = instr 67 (pos 1) 1 line
-  wide_code print.Text = instr 67 (pos 2) 1 line
+  wide_code print.Integer = instr op.FORM constant.FORM_INTEGER 1 line
+  wide_code print.Char = instr op.FORM constant.FORM_TEXT 1 line
+  wide_code print.Boolean = instr op.FORM constant.FORM_BOOLEAN 1 line
+  wide_code print.Text = instr op.FORM constant.FORM_TEXT 1 line
 
   -- the line end
   abbrev pub line_end_code : List Instr
-  line_end_code = output_code ∷ push line (pos 10) ∷ bare line 59 ∷ bare line 68 ∷ []
+  line_end_code = output_code ∷ push line constant.LINE_END ∷ bare line op.CHARS ∷ bare line op.PUT ∷ []
 
 module _ (texts : List (List ℕ)) (references : List Reference) where
   -- the code that writes an item
   abbrev pub IsItemCode : ℕ → Item → List Instr → Type 0
-  IsItemCode line (Plain print x) is = (xs : List Instr) × IsExprCode texts references line x xs × (is ≡ output_code line ∷ (xs ++ (plain_code line print ++ bare line 68 ∷ [])))
+  IsItemCode line (Plain print x) is = (xs : List Instr) × IsExprCode texts references line x xs × (is ≡ output_code line ∷ (xs ++ (plain_code line print ++ bare line op.PUT ∷ [])))
   IsItemCode line (Wide print x w) is =
       (xs ws : List Instr) × IsExprCode texts references line x xs × IsExprCode texts references line w ws
-      × (is ≡ output_code line ∷ (xs ++ (before_width line print ++ (ws ++ wide_code line print ∷ bare line 68 ∷ []))))
+      × (is ≡ output_code line ∷ (xs ++ (before_width line print ++ (ws ++ wide_code line print ∷ bare line op.PUT ∷ []))))
 
   -- the code that writes items, and then a line end where there is one
   abbrev pub AreItemsCode : ℕ → List Item → Bool → List Instr → Type 0
@@ -60,14 +62,14 @@ module _ (texts : List (List ℕ)) (references : List Reference) where
     pub IsStmtCode : ℕ → Stmt → List Instr → Type 0
     IsStmtCode at Empty is = is ≡ []
     IsStmtCode at (Compound ss) is = AreStmtsCode at ss is
-    IsStmtCode at (Assign line p x) is = (ps xs : List Instr) × IsPlaceCode references line p ps × IsExprCode texts references line x xs × (is ≡ ps ++ (xs ++ bare line 23 ∷ []))
+    IsStmtCode at (Assign line p x) is = (ps xs : List Instr) × IsPlaceCode references line p ps × IsExprCode texts references line x xs × (is ≡ ps ++ (xs ++ bare line op.STORE ∷ []))
     IsStmtCode at (If line x a b) is =
         (xs ys zs : List Instr) × IsExprCode texts references line x xs × IsStmtCode (at + length xs + 1) a ys × IsStmtCode (at + length xs + 1 + length ys + 1) b zs
-        × (is ≡ xs ++ instr 5 (pos (at + length xs + 1 + length ys + 1)) 0 line ∷ (ys ++ instr 4 (pos (at + length xs + 1 + length ys + 1 + length zs)) 0 line ∷ zs))
+        × (is ≡ xs ++ instr op.JUMP_FALSE (pos (at + length xs + 1 + length ys + 1)) 0 line ∷ (ys ++ instr op.JUMP (pos (at + length xs + 1 + length ys + 1 + length zs)) 0 line ∷ zs))
     IsStmtCode at (While line x s) is =
         (xs ys : List Instr) × IsExprCode texts references line x xs × IsStmtCode (at + length xs + 1) s ys
-        × (is ≡ xs ++ instr 5 (pos (at + length xs + 1 + length ys + 1)) 0 line ∷ (ys ++ instr 4 (pos at) 0 line ∷ []))
-    IsStmtCode at (Halt line) is = is ≡ bare line 7 ∷ []
+        × (is ≡ xs ++ instr op.JUMP_FALSE (pos (at + length xs + 1 + length ys + 1)) 0 line ∷ (ys ++ instr op.JUMP (pos at) 0 line ∷ []))
+    IsStmtCode at (Halt line) is = is ≡ bare line op.HALT ∷ []
     IsStmtCode at (Write line items ends_line) is = AreItemsCode line items ends_line is
 
     pub AreStmtsCode : ℕ → Stmts → List Instr → Type 0
@@ -76,12 +78,12 @@ module _ (texts : List (List ℕ)) (references : List Reference) where
 
 -- the bounds and the type
 abbrev pub type_code : ℕ → TypeValue → List Instr
-type_code line (Ordinal low high) = push line low ∷ push line high ∷ bare line 51 ∷ []
+type_code line (Ordinal low high) = push line low ∷ push line high ∷ bare line op.T_ORD ∷ []
 type_code line Text = []
 
 -- the code that makes a variable in a slot
 abbrev pub make_code : ℕ → UnitVariable → List Instr
-make_code number v = type_code v.line v.type_value ++ instr 15 (pos number) 0 v.line ∷ []
+make_code number v = type_code v.line v.type_value ++ instr op.MAKE (pos number) 0 v.line ∷ []
 
 -- the code that makes the variables from this number on
 abbrev pub make_all_code : ℕ → List UnitVariable → List Instr

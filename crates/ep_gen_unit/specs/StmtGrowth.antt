@@ -1,14 +1,16 @@
 -- How code under construction grows by statements, whose lines differ, and how forward jumps get their goals.
 use Rattle.std.specs.Prelude.{◌≡◌, ℕ, pos, ◌+◌, ◌*◌, ◌^◌, ◌-◌, ◌<◌, ◌≤◌, Bool, false, List, [], ◌∷◌, ◌++◌, length, slice_set}
-use Rattle.ep_gen_expr.specs.ExprCode.{instr, expr_nodes}
+use Rattle.ep_gen_expr.specs.ExprCode.{instr, bare, expr_nodes}
 use Rattle.ep_gen_expr.specs.Growth.{TableGrows, Grows, IsTable, AreDistinct}
 use Rattle.ep_gen_expr.specs.declared.code.Code.{Code}
-use Rattle.ep_gen_unit.specs.UnitCode.{routine_at}
-use Rattle.ep_gen_unit.specs.StmtCode.{IsItemCode, AreItemsCode, IsStmtCode, AreStmtsCode}
+use Rattle.ep_gen_unit.specs.StmtCode.{IsItemCode, AreItemsCode, IsStmtCode, AreStmtsCode, make_all_code}
+use Rattle.ep_object.specs.declared.code.CodeRoutine.{CodeRoutine}
 use Rattle.ep_object.specs.declared.code.Instr.{Instr}
 use Rattle.ep_object.specs.declared.code.Object.{Object}
+use Rattle.ep_typed.specs.Viewed.{stmt_of}
 use Rattle.ep_typed.specs.declared.unit.Unit.{Unit as TypedUnit}
 use Rattle.ep_typed.specs.Trees.{Item, Plain, Wide, Stmt, Stmts, Empty, Compound, Assign, If, While, Halt, Write, none, next}
+use Rattle.ep_object.specs.declared.op.TheConstants as op
 
 -- these instructions are appended, the line is any, and all else is as before but for new items of the two tables
 pub record Follows (old new : Code) (is : List Instr) : Type 0 where
@@ -30,7 +32,7 @@ pub record LeavesHole (old new : Code) (k : ℕ) : Type 0 where
 
 -- in place of the filler stands a jump to the place after the code, and all else is as before
 abbrev pub landed : Code → ℕ → ℕ → ℕ → Code
-landed code hole op line = record code { instructions = slice_set code.instructions hole (instr op (pos (length code.instructions)) 0 line) }
+landed code hole jump line = record code { instructions = slice_set code.instructions hole (instr jump (pos (length code.instructions)) 0 line) }
 
 -- the nodes of an item, and one for what writes it
 abbrev pub item_nodes : Item → ℕ
@@ -81,6 +83,16 @@ pub record AppendsStmts (old new : Code) (ss : Stmts) : Type 0 where
   pub is_code : AreStmtsCode new.texts new.references (length old.instructions) ss code
   pub follows : Follows old new code
 
+-- The code of the two routines of a program is appended. The first makes the variables and runs the block; the second
+-- does nothing, and this is its entry.
+pub record AppendsRoutines (old new : Code) (u : TypedUnit) (stop_entry : ℕ) : Type 0 where
+  -- the code of the block
+  pub code : List Instr
+  pub is_code : IsStmtCode new.texts new.references (length old.instructions + length (make_all_code 0 u.variables)) (stmt_of u.start) code
+  pub follows : Follows old new (make_all_code 0 u.variables ++ (code ++ bare u.line op.RETURN ∷ bare u.line op.RETURN ∷ []))
+  pub stops : stop_entry ≡ length old.instructions + length (make_all_code 0 u.variables) + length code + 1
+  pub small : IsTable new.instructions
+
 -- the tables and the code of an object have places that a field of 32 bits holds, and each text and reference is there once
 pub record IsCompact (o : Object) : Type 0 where
   pub few_texts : IsTable o.texts
@@ -89,17 +101,17 @@ pub record IsCompact (o : Object) : Type 0 where
   pub texts : AreDistinct o.texts
   pub references : AreDistinct o.references
 
--- the object of a unit, from its code, the number of its variables and the entry of its second routine
-abbrev pub assembled : TypedUnit → Code → ℕ → ℕ → Object
-assembled u code slots stop_entry = record {
+-- the object of a program of this name, from its code, its routines and the number of its variables
+abbrev pub assembled : List ℕ → Code → List CodeRoutine → ℕ → Object
+assembled name code routines slots = record {
   «module» = false;
-  name = u.name;
+  name = name;
   interface = [];
   imports = [];
   references = code.references;
   texts = code.texts;
   constant_types = code.constant_types;
-  routines = routine_at 0 ∷ routine_at stop_entry ∷ [];
+  routines = routines;
   unit_slots = slots;
   start = 0;
   stop = 1;

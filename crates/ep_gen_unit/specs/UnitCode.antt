@@ -7,6 +7,7 @@ use Rattle.ep_object.specs.declared.code.Instr.{Instr}
 use Rattle.ep_object.specs.declared.code.Object.{Object}
 use Rattle.ep_typed.specs.Viewed.{stmt_of}
 use Rattle.ep_typed.specs.declared.unit.Unit.{Unit as TypedUnit}
+use Rattle.ep_object.specs.declared.op.TheConstants as op
 
 -- a routine without arguments and slots of its own
 abbrev pub routine_at : ℕ → CodeRoutine
@@ -17,7 +18,7 @@ pub record IsProgramCode (u : TypedUnit) (o : Object) : Type 0 where
   -- the code of the block
   pub code : List Instr
   pub is_code : IsStmtCode o.texts o.references (length (make_all_code 0 u.variables)) (stmt_of u.start) code
-  pub instructions : o.instructions ≡ make_all_code 0 u.variables ++ (code ++ bare u.line 9 ∷ bare u.line 9 ∷ [])
+  pub instructions : o.instructions ≡ make_all_code 0 u.variables ++ (code ++ bare u.line op.RETURN ∷ bare u.line op.RETURN ∷ [])
   pub routines : o.routines ≡ routine_at 0 ∷ routine_at (length (make_all_code 0 u.variables) + length code + 1) ∷ []
   pub start : o.start ≡ 0
   pub stop : o.stop ≡ 1

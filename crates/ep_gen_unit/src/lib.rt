@@ -14,6 +14,3 @@ mod statements;
 pub use laws::{laws_of_programs, laws_of_statements, laws_of_units};
 pub use program::program_code;
 pub use statements::statement_code;
-
-#[cfg(test)]
-mod tests;

@@ -4,12 +4,12 @@ ghost use Rattle.std.specs.Prelude.{◌≡◌, [], ◌∷◌, OnOk, IfOk};
 ghost use Rattle.ep_typed.specs.declared.types.TypeValue.TheVariants.{Ordinal};
 ghost use Rattle.ep_gen_expr.specs.Growth.{Grows};
 ghost use Rattle.ep_gen_unit.specs.StmtCode.{type_code, make_code, make_all_code};
-ghost use Rattle.ep_gen_unit.specs.StmtGrowth.{Follows, IsCompact, assembled};
+ghost use Rattle.ep_gen_unit.specs.StmtGrowth.{AppendsRoutines, Follows, IsCompact, assembled};
 ghost use Rattle.ep_gen_unit.specs.UnitCode.{IsProgramCode, routine_at};
 
 use crate::jumps::{field_number, next_place};
 use crate::statements::statement_code;
-use ep_base::{List, NoMemory};
+use ep_base::{List, Name, NoMemory};
 use ep_gen_expr::{Code, emit};
 use ep_object::{CodeRoutine, CodeRoutines, Object, op};
 use ep_typed::{TypeValue, Unit, UnitVariable};
@@ -21,30 +21,38 @@ pub fn program_code(alloc: Global, u: &Unit) -> Result<Object, NoMemory>
     ensures program { IfOk result (λ o. IsProgramCode u.now o) }
     ensures compact { IfOk result (λ o. IsCompact o) }
 {
-    let mut code = Code::new(alloc, u);
     let unit_slots = field_number(u.variables.items().len())?;
-    make_all(u.variables.items(), &mut code)?;
-    statement_code(alloc, &u.start, &mut code)?;
+    let name = u.name.copy(alloc)?;
+    let mut code = Code::new(alloc, u);
+    let stop_entry = routines_code(alloc, u, &mut code)?;
+    let routines = two_routines(alloc, stop_entry)?;
+    Ok(assemble(alloc, name, code, routines, unit_slots))
+}
+
+/// Appends the code of the two routines, and answers the entry of the second one.
+fn routines_code(alloc: Global, u: &Unit, code: &mut Code) -> Result<u32, NoMemory>
+    ensures { IfOk result (λ k. AppendsRoutines code.old code.new u.now k) }
+{
+    make_all(u.variables.items(), code)?;
+    statement_code(alloc, &u.start, code)?;
     code.line = u.line;
-    emit(&mut code, op::RETURN, 0, 0)?;
-    let stop_entry = next_place(&code)?;
-    emit(&mut code, op::RETURN, 0, 0)?;
-    assemble(alloc, u, code, unit_slots, stop_entry)
+    emit(code, op::RETURN, 0, 0)?;
+    let stop_entry = next_place(code)?;
+    emit(code, op::RETURN, 0, 0)?;
+    Ok(stop_entry)
 }
 
 /// The object of the code.
 fn assemble(
     alloc: Global,
-    u: &Unit,
+    name: Name,
     code: Code,
+    routines: CodeRoutines,
     unit_slots: u32,
-    stop_entry: u32,
-) -> Result<Object, NoMemory>
-    ensures { IfOk result (λ o. o ≡ assembled u.now code unit_slots stop_entry) }
+) -> Object
+    ensures { result ≡ assembled name code routines unit_slots }
 {
-    let name = u.name.copy(alloc)?;
-    let routines = two_routines(alloc, stop_entry)?;
-    Ok(Object {
+    Object {
         module: false,
         name,
         interface: List::new(alloc),
@@ -57,7 +65,7 @@ fn assemble(
         start: 0,
         stop: 1,
         instructions: code.instructions,
-    })
+    }
 }
 
 /// A routine at the first instruction and one at this place, which have no arguments and no slots.

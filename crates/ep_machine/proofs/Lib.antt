@@ -6,3 +6,4 @@ mod Outputs
 mod Puts
 mod Rounds
 mod Runs
+mod Unbuilt

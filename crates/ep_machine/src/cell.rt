@@ -4,7 +4,7 @@ use ep_object::Place;
 
 /// An operand. Of a text only the length stands here, and its bytes stand on a stack of their own, so that every
 /// cell is small and none owns memory.
-#[derive(Clone, Copy, Debug, Drop)]
+#[derive(Clone, Copy, Drop)]
 pub enum Cell {
     /// A word.
     Word(i64),

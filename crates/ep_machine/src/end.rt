@@ -3,7 +3,7 @@
 use ep_base::{Line, Name};
 
 /// How a run ended, or why it stopped.
-#[derive(Debug, Drop)]
+#[derive(Drop)]
 pub enum End {
     /// By itself.
     Normal,
@@ -36,7 +36,7 @@ pub enum End {
 }
 
 /// The same, with the number of the unit in place of its name.
-#[derive(Clone, Copy, Debug, Drop)]
+#[derive(Clone, Copy, Drop)]
 pub enum Ended {
     /// By itself.
     Normal,

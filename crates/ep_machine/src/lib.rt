@@ -26,6 +26,3 @@ mod words;
 
 pub use end::End;
 pub use run::Machine;
-
-#[cfg(test)]
-mod tests;

@@ -1,20 +1,21 @@
 //! The row that writes.
 
-ghost use Rattle.std.specs.Prelude.{◌≡◌, ◌<◌, ◌≤◌, ◌+◌, List, [], ◌∷◌, Option, Some, None, MatchOption};
+ghost use Rattle.std.specs.Prelude.{◌≡◌, ◌<◌, ◌≤◌, ◌+◌, List, [], ◌∷◌, Option, Some, None, MatchOption, IfSome};
 ghost use Rattle.ep_object.specs.Effects.{Continues, bare_weighed};
 ghost use Rattle.ep_object.specs.Operands.{Operand};
 ghost use Rattle.ep_object.specs.Texts.{put_of, put_row, written};
 ghost use Rattle.ep_outside.specs.Known.{Keeps};
 ghost use Rattle.ep_outside.specs.Answers.{Writes, write_faults};
 ghost use Rattle.ep_typed.specs.Events.{Write};
-ghost use Rattle.ep_machine.specs.Outputs.{OnNoMemory, IsRefusal, UnlessDone, IsPut, OnFault, text_kind_in};
+ghost use Rattle.ep_machine.specs.Outputs.{OnNoMemory, IsRefusal, UnlessDone, IsPut, OnFault, IsOfWriting, IsWriting, text_kind_in};
 
 use crate::control::spend;
 use crate::stack::Stack;
 use crate::step::{Outward, Step};
 use crate::words;
-use ep_object::{Instr, Kind, Place, Segment, TypeEntry};
+use ep_object::{Instr, Kind, OUTPUT_SEGMENT, Place, Segment, TypeEntry};
 use ep_outside::{Sink, WriteAnswer};
+use ep_typed::run_error;
 
 /// Writes a text, if it is not empty.
 #[tactic(auto, using(crate::proofs::Outputs::writing))]
@@ -45,21 +46,22 @@ fn is_text(types: &[TypeEntry], type_number: u32) -> Option<bool>
 
 /// How the row ends where no text can go to the file at a place.
 fn refusal(segments: &[Option<Segment>], p: Place) -> Option<Step>
-    ensures { IsRefusal segments.now p result }
+    ensures refused { IsRefusal segments.now p result }
+    ensures kind { IfSome result IsOfWriting }
 {
     let Some(segment) = segments.get(p.segment as usize) else {
         return Some(Step::Broken);
     };
     let Some(segment) = segment else {
-        return Some(Step::Error(11));
+        return Some(Step::Error(run_error::DISPOSED));
     };
     if p.offset as usize >= segment.words.items().len() {
         return Some(Step::Broken);
     }
-    if p.segment == 2 && p.offset == 0 {
+    if p.segment == OUTPUT_SEGMENT && p.offset == 0 {
         None
     } else {
-        Some(Step::Error(18))
+        Some(Step::Error(run_error::FILE_STATE))
     }
 }
 
@@ -78,6 +80,7 @@ pub fn put<O: Sink>(
     ensures within { ticks.new < limit }
     ensures counts { O.faults output.old ≤ O.faults output.new }
     ensures fault { OnFault result (O.faults output.old < O.faults output.new) }
+    ensures kind { IsWriting result }
     ensures quiet { OnNoMemory result (Keeps (O.held output.old) (O.held output.new)) }
     ensures done { IsPut limit (bare_weighed instr.now (put_row types.now segments.now stack.old)) result ticks.old ticks.new stack.old stack.new (O.held output.old) (O.held output.new) }
 {

@@ -4,7 +4,7 @@ use ep_base::List;
 use ep_object::{Place, TypeEntry};
 
 /// The frames, the types and the count of live words.
-#[derive(Debug, Drop)]
+#[derive(Drop)]
 pub struct Parts {
     /// How many starts and stops are done.
     pub turn: usize,

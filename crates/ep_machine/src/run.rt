@@ -14,7 +14,7 @@ use crate::parts::Parts;
 use crate::stack::Stack;
 use crate::{start, turns};
 use ep_base::NoMemory;
-use ep_object::{Image, Segment};
+use ep_object::{FIRST_LIVE_WORDS, Image, Segment};
 use ep_outside::{Files, Sink, Source};
 use std::alloc::{AllocError, Global};
 
@@ -53,7 +53,7 @@ impl<'a> Machine<'a> {
             unit: 0,
             units: start::frames(alloc, image.units.items())?,
             types: start::types(alloc)?,
-            live: 4,
+            live: FIRST_LIVE_WORDS,
         };
         let segments = start::segments(alloc)?;
         let mut pc = 0;

@@ -4,7 +4,7 @@ ghost use Rattle.std.specs.Prelude.{◌≡◌, List, [], map, take, IfOk};
 ghost use Rattle.ep_object.specs.State.{empty_slots, first_types, first_segments, text_segment as segment_of_text, integer_entry, char_entry, boolean_entry, text_entry, pointer_entry};
 
 use ep_base::List;
-use ep_object::{ImageUnit, Kind, Place, Segment, TypeEntry};
+use ep_object::{ImageUnit, Kind, Place, Segment, TEXT_TYPE, TypeEntry};
 use std::alloc::{AllocError, Global};
 
 /// The slots of the frames of all units, which hold no place yet.
@@ -44,7 +44,7 @@ fn text_segment(alloc: Global) -> Result<Segment, AllocError>
     let mut words = List::new(alloc);
     words.push(i64::MIN)?;
     Ok(Segment {
-        type_number: 3,
+        type_number: TEXT_TYPE,
         words,
     })
 }

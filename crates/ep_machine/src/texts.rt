@@ -15,6 +15,7 @@ use crate::step::Step;
 use crate::{places, words};
 use ep_base::{Bytes, List};
 use ep_object::Instr;
+use ep_typed::run_error;
 use itoa::Buffer;
 use std::alloc::{AllocError, Global};
 
@@ -219,7 +220,7 @@ fn form_wide(alloc: Global, a: i64, limit: u64, ticks: &mut u64, stack: &mut Sta
     let popped = top_weight(stack);
     if width < 0 {
         if spend(limit, ticks, popped) {
-            return Step::Error(21);
+            return Step::Error(run_error::NEGATIVE_WIDTH);
         }
         return restored(stack, width);
     }

@@ -6,14 +6,11 @@ ghost use Rattle.ep_object.specs.Types.{is_ordinal as is_that, ordinal_number as
 ghost use Rattle.ep_machine.specs.Steps.{IsStep};
 ghost use Rattle.ep_machine.specs.Views.{typing};
 
-use crate::places::LIVE_LIMIT;
 use crate::stack::Stack;
 use crate::step::Step;
 use crate::words;
-use ep_object::{Instr, Kind, TypeEntry};
-
-/// The most types that there may be.
-const TYPE_LIMIT: usize = 1_048_576;
+use ep_object::{Instr, Kind, TypeEntry, limit};
+use ep_typed::run_error;
 
 /// Whether the kind is the ordinal one with these bounds.
 fn is_ordinal(lo: i64, hi: i64, kind: Kind) -> bool
@@ -48,11 +45,11 @@ fn add(entry: TypeEntry, types: &mut Vec<TypeEntry>, live: &mut u64, stack: &mut
     ensures { IsStep (added entry stack.old (typing stack.old types.old.items live.old)) result (typing stack.new types.new.items live.new) }
 {
     let number = types.len();
-    if number >= TYPE_LIMIT {
-        return Step::Error(24);
+    if number as u64 >= limit::TYPES {
+        return Step::Error(run_error::STORAGE_LIMIT);
     }
-    if *live >= LIVE_LIMIT {
-        return Step::Error(24);
+    if *live >= limit::LIVE_WORDS {
+        return Step::Error(run_error::STORAGE_LIMIT);
     }
     if types.push(entry).is_err() {
         return Step::NoMemory;
@@ -66,7 +63,7 @@ fn intern(lo: i64, hi: i64, types: &mut Vec<TypeEntry>, live: &mut u64, stack: &
     ensures { IsStep (ordinal_of lo hi stack.old (typing stack.old types.old.items live.old)) result (typing stack.new types.new.items live.new) }
 {
     if lo > hi {
-        return Step::Error(5);
+        return Step::Error(run_error::OUTSIDE_DOMAIN);
     }
     if let Some(number) = ordinal_number(lo, hi, types) {
         return words::push_word(stack, number as i64);

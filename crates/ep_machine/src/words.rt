@@ -5,10 +5,12 @@ ghost use Rattle.ep_object.specs.Effects.{Fails, bare, only_a, has_no_field, has
 ghost use Rattle.ep_object.specs.Operands.{word, two_words, three_words, four_words};
 ghost use Rattle.ep_object.specs.WordRows.{bit as bit_of, compared, is_boolean, is_between, push_row, add_row, sub_row, mul_row, div_row, mod_row, neg_row, abs_row, sqr_row, odd_row, not_row, and_row, or_row, cmp_row, between_row, check_row, step_row, integer_row};
 ghost use Rattle.ep_machine.specs.Steps.{IsStep};
+ghost use Rattle.ep_typed.specs.declared.run_error.TheConstants as run_error;
 
 use crate::stack::Stack;
 use crate::step::Step;
 use ep_object::Instr;
+use ep_typed::run_error;
 
 /// Whether both fields are 0.
 #[inline(always)]
@@ -90,20 +92,20 @@ pub fn push_word(stack: &mut Stack, w: i64) -> Step
     }
 }
 
-/// One more word, or error 8 where it is no integer.
+/// One more word, or an overflow where it is no integer.
 #[inline(always)]
 fn push_integer(stack: &mut Stack, z: Option<i64>) -> Step
-    ensures { MatchOption z (IsStep (Fails 8) result stack.new) (λ w. IsStep (integer_row w stack.old) result stack.new) }
+    ensures { MatchOption z (IsStep (Fails run_error.OVERFLOW) result stack.new) (λ w. IsStep (integer_row w stack.old) result stack.new) }
 {
     match z {
         Some(w) => {
             if w > i64::MIN {
                 push_word(stack, w)
             } else {
-                Step::Error(8)
+                Step::Error(run_error::OVERFLOW)
             }
         }
-        None => Step::Error(8),
+        None => Step::Error(run_error::OVERFLOW),
     }
 }
 
@@ -169,7 +171,7 @@ pub fn div(instr: &Instr, stack: &mut Stack) -> Step
         return Step::Broken;
     }
     match pop_two_words(stack) {
-        Some((_, 0)) => Step::Error(9),
+        Some((_, 0)) => Step::Error(run_error::DIVISOR),
         Some((x, y)) => push_integer(stack, x.checked_div(y)),
         None => Step::Broken,
     }
@@ -188,7 +190,7 @@ pub fn modulo(instr: &Instr, stack: &mut Stack) -> Step
             if y > 0 {
                 push_word(stack, x.rem_euclid(y))
             } else {
-                Step::Error(9)
+                Step::Error(run_error::DIVISOR)
             }
         }
         None => Step::Broken,
@@ -385,7 +387,9 @@ pub fn check(instr: &Instr, stack: &mut Stack) -> Step
     }
     match pop_three_words(stack) {
         Some((x, lo, hi)) => {
-            if instr.a < 1 || instr.a > 25 {
+            if instr.a < run_error::UNDEFINED_VALUE as i64
+                || instr.a > run_error::CALL_DEPTH as i64
+            {
                 Step::Broken
             } else if is_between(x, lo, hi) {
                 push_word(stack, x)
@@ -411,10 +415,10 @@ pub fn step(instr: &Instr, stack: &mut Stack) -> Step
                 if is_between(z, lo, hi) {
                     push_word(stack, z)
                 } else {
-                    Step::Error(14)
+                    Step::Error(run_error::SUCCESSOR)
                 }
             }
-            None => Step::Error(14),
+            None => Step::Error(run_error::SUCCESSOR),
         },
         None => Step::Broken,
     }

@@ -12,6 +12,7 @@ use Rattle.ep_typed.specs.Events.{Trace}
 use Rattle.ep_typed.specs.Steady.{Grows, Steady}
 use Rattle.ep_typed.specs.Steps.{Gives, Ends, Cut, Computation, state_of, give, cut, stop, go_on, bind, spend}
 use Rattle.ep_typed.specs.Steps as meaning
+use Rattle.ep_typed.specs.declared.run_error.TheConstants as run_error
 
 -- what is met, or room was lost
 abbrev pub Met : {A : Type 0} → (State → Type 0) → Image → State → ℕ → (A → meaning.State → State → Type 0) → ℕ → (A → ℕ) → meaning.Outcome A → Type 0
@@ -208,7 +209,7 @@ follows_stop {Within = Within} {G = G} {v = v} {k = k} {s = s} {x = x} within o 
     record { by = λ m l. inl (record { ticks = v; wait = v; last = k; runs = run_waiting G k v v (Stopped (end_of x) s.trace) o (omega arith); within = within; ends = tick_at G k v (Stopped (end_of x) s.trace) o; spent = 0; all = omega arith; slow = omega arith; fast = omega arith }) }
 
 -- an instruction for which there is no storage left, where room was lost
-pub gives_up : {G : Image} {v number : ℕ} {unit : List ℕ} {line : ℕ} {k : State} {s : meaning.State} {trace : Trace} → outcome G k ≡ record { weight = v; to = Stopped (Error number unit line) trace } → (number ≡ 24) ⊎ (number ≡ 25) → IsPrefix trace s.trace → IsTrue s.resources.lost → GivesUp G k s
+pub gives_up : {G : Image} {v number : ℕ} {unit : List ℕ} {line : ℕ} {k : State} {s : meaning.State} {trace : Trace} → outcome G k ≡ record { weight = v; to = Stopped (Error number unit line) trace } → (number ≡ run_error.STORAGE_LIMIT) ⊎ (number ≡ run_error.CALL_DEPTH) → IsPrefix trace s.trace → IsTrue s.resources.lost → GivesUp G k s
 gives_up {G = G} {v = v} {number = number} {unit = unit} {line = line} {k = k} {trace = trace} o limit begins lost =
     record { lost = lost; ticks = suc v; number = number; is_limit = limit; unit = unit; line = line; trace = trace; runs = run_instruction G k v (Stopped (Error number unit line) trace) o; begins = begins }
 

@@ -23,6 +23,8 @@ use Rattle.ep_typed.specs.Steps.{Value, Undefined, Allocation, type_in, type_at,
 use Rattle.ep_typed.specs.Steps as meaning
 use Rattle.ep_typed.specs.Valid.{Declarations}
 use Rattle.ep_typed.specs.declared.types.TypeValue.TheVariants as type
+use Rattle.ep_object.specs.declared.op.TheConstants as op
+use Rattle.ep_typed.specs.declared.run_error.TheConstants as run_error
 
 -- the bounds of an ordinal type are integers
 bounds : (low high : ℤ) (value : Value) → IsValueOf (type.Ordinal low high) value → IsTrue (is_integer low) × IsTrue (is_integer high)
@@ -31,7 +33,7 @@ bounds low high (meaning.Word w) h = (h.0, h.1)
 
 module _ (declared : Declarations) (G : Image) (place line : ℕ) (below : List Operand) where
   -- `Put` of a text to `output`
-  pub put_does : (bytes : List ℕ) → slice_get G.instructions place ≡ Some (instr 68 (pos 0) 0 line) → (injection : Injection) (memory : Memory) (s : meaning.State) → Matches declared G injection s memory → Does declared G (at place (Text bytes ∷ operand.Place output_place ∷ below) memory s.trace) (length bytes) (place + 1) (Inside injection memory (Bare below tt)) (with_events (piece_events bytes) s)
+  pub put_does : (bytes : List ℕ) → slice_get G.instructions place ≡ Some (instr op.PUT (pos 0) 0 line) → (injection : Injection) (memory : Memory) (s : meaning.State) → Matches declared G injection s memory → Does declared G (at place (Text bytes ∷ operand.Place output_place ∷ below) memory s.trace) (length bytes) (place + 1) (Inside injection memory (Bare below tt)) (with_events (piece_events bytes) s)
   put_does bytes has injection memory s matches =
       let a = allocated injection s 2 2 matches.made matches.output in
       let r : Represents memory.segments memory.types 2 a.0 = matches.represented 2 2 a.0 matches.output a.1 in
@@ -46,21 +48,21 @@ module _ (declared : Declarations) (G : Image) (place line : ℕ) (below : List 
       }
     where
       go : (value : Value) (type_number : ℕ) → slice_get memory.types 3 ≡ Some text_entry → slice_get memory.segments 2 ≡ Some (Some (record { type_number = type_number; words = layout value })) → outcome G (at place (Text bytes ∷ operand.Place output_place ∷ below) memory s.trace) ≡ record { weight = length bytes; to = Running 0 (at (place + 1) below memory (s.trace ++ written bytes)) }
-      go Undefined type_number typed stands = outcome_at G (instr 68 (pos 0) 0 line) place (Text bytes ∷ operand.Place output_place ∷ below) memory s.trace has ∙ rw (typed, stands) refl
-      go (meaning.Word w) type_number typed stands = outcome_at G (instr 68 (pos 0) 0 line) place (Text bytes ∷ operand.Place output_place ∷ below) memory s.trace has ∙ rw (typed, stands) refl
+      go Undefined type_number typed stands = outcome_at G (instr op.PUT (pos 0) 0 line) place (Text bytes ∷ operand.Place output_place ∷ below) memory s.trace has ∙ rw (typed, stands) refl
+      go (meaning.Word w) type_number typed stands = outcome_at G (instr op.PUT (pos 0) 0 line) place (Text bytes ∷ operand.Place output_place ∷ below) memory s.trace has ∙ rw (typed, stands) refl
 
   -- `Store` of a word, which is checked as the assignment is
-  store_outcome : (memory : Memory) (trace : Trace) (p : Place) (low high z : ℤ) (type_number : ℕ) (value : Value) (b : Bool) → slice_get G.instructions place ≡ Some (instr 23 (pos 0) 0 line) → slice_get memory.types p.type_number ≡ Some (ordinal_entry low high) → slice_get memory.segments p.segment ≡ Some (Some (record { type_number = type_number; words = layout value })) → p.offset ≡ 0 → is_within (type.Ordinal low high) z ≡ b → outcome G (at place (Word z ∷ operand.Place p ∷ below) memory trace) ≡ in_one (cond b (Running 0 (at (place + 1) below (storing memory p.segment type_number (meaning.Word z)) trace)) (Stopped (Error 2 (unit_in G memory.frames) line) trace))
+  store_outcome : (memory : Memory) (trace : Trace) (p : Place) (low high z : ℤ) (type_number : ℕ) (value : Value) (b : Bool) → slice_get G.instructions place ≡ Some (instr op.STORE (pos 0) 0 line) → slice_get memory.types p.type_number ≡ Some (ordinal_entry low high) → slice_get memory.segments p.segment ≡ Some (Some (record { type_number = type_number; words = layout value })) → p.offset ≡ 0 → is_within (type.Ordinal low high) z ≡ b → outcome G (at place (Word z ∷ operand.Place p ∷ below) memory trace) ≡ in_one (cond b (Running 0 (at (place + 1) below (storing memory p.segment type_number (meaning.Word z)) trace)) (Stopped (Error run_error.OUTSIDE_TYPE (unit_in G memory.frames) line) trace))
   store_outcome memory trace p low high z type_number Undefined true has typed stands offset within =
-      outcome_at G (instr 23 (pos 0) 0 line) place (Word z ∷ operand.Place p ∷ below) memory trace has ∙ rw (typed, stands, offset, within) refl
+      outcome_at G (instr op.STORE (pos 0) 0 line) place (Word z ∷ operand.Place p ∷ below) memory trace has ∙ rw (typed, stands, offset, within) refl
   store_outcome memory trace p low high z type_number Undefined false has typed stands offset within =
-      outcome_at G (instr 23 (pos 0) 0 line) place (Word z ∷ operand.Place p ∷ below) memory trace has ∙ rw (typed, stands, offset, within) refl
+      outcome_at G (instr op.STORE (pos 0) 0 line) place (Word z ∷ operand.Place p ∷ below) memory trace has ∙ rw (typed, stands, offset, within) refl
   store_outcome memory trace p low high z type_number (meaning.Word w) true has typed stands offset within =
-      outcome_at G (instr 23 (pos 0) 0 line) place (Word z ∷ operand.Place p ∷ below) memory trace has ∙ rw (typed, stands, offset, within) refl
+      outcome_at G (instr op.STORE (pos 0) 0 line) place (Word z ∷ operand.Place p ∷ below) memory trace has ∙ rw (typed, stands, offset, within) refl
   store_outcome memory trace p low high z type_number (meaning.Word w) false has typed stands offset within =
-      outcome_at G (instr 23 (pos 0) 0 line) place (Word z ∷ operand.Place p ∷ below) memory trace has ∙ rw (typed, stands, offset, within) refl
+      outcome_at G (instr op.STORE (pos 0) 0 line) place (Word z ∷ operand.Place p ∷ below) memory trace has ∙ rw (typed, stands, offset, within) refl
 
-  module _ (low high z : ℤ) (n : ℕ) (p : Place) (has : slice_get G.instructions place ≡ Some (instr 23 (pos 0) 0 line)) (injection : Injection) (memory : Memory) (place_of : IsPlaceOf injection memory.segments n p) (described : Describes memory.types p.type_number (type.Ordinal low high)) (s : meaning.State) (matches : Matches declared G injection s memory) where
+  module _ (low high z : ℤ) (n : ℕ) (p : Place) (has : slice_get G.instructions place ≡ Some (instr op.STORE (pos 0) 0 line)) (injection : Injection) (memory : Memory) (place_of : IsPlaceOf injection memory.segments n p) (described : Describes memory.types p.type_number (type.Ordinal low high)) (s : meaning.State) (matches : Matches declared G injection s memory) where
     here : Stands s memory n p
     here = place_stands matches place_of
 

@@ -37,6 +37,8 @@ use Rattle.ep_typed.specs.declared.types.Host.{Host}
 use Rattle.ep_typed.specs.declared.types.TypeValue.{TypeValue}
 use Rattle.ep_typed.specs.declared.types.TypeValue.TheVariants as type
 use Rattle.ep_typed.specs.declared.unit.UnitVariable.{UnitVariable}
+use Rattle.ep_object.specs.declared.op.TheConstants as op
+use Rattle.ep_typed.specs.declared.run_error.TheConstants as run_error
 
 -- the types of the variables that are declared are those of their hosts
 abbrev pub HasTypesOfHosts : Declarations → Type 0
@@ -296,16 +298,16 @@ module _ {declared : Declarations} {G : Image} {injection : Injection} {s : mean
 
 -- ---- the row
 
--- what `Make` leads to: one more variable, or error 24 where too many words would live
-make_outcome : (G : Image) (place line : ℕ) (below : List Operand) (low high : ℤ) (number k : ℕ) (slots : List (Option Place)) (memory : Memory) (trace : Trace) (b : Bool) → slice_get G.instructions place ≡ Some (instr 15 (pos k) 0 line) → slice_get memory.frames.units memory.frames.unit ≡ Some slots → Describes memory.types number (type.Ordinal low high) → k < length slots → leb (memory.live + 2) live_limit ≡ b
-    → outcome G (at place (Word (pos number) ∷ below) memory trace) ≡ cond b (record { weight = 1; to = Running 0 (at (place + 1) below (with_variable number (with_place number k slots memory) memory) trace) }) (in_one (Stopped (Error 24 (unit_in G memory.frames) line) trace))
+-- what `Make` leads to: one more variable, or an error where too many words would live
+make_outcome : (G : Image) (place line : ℕ) (below : List Operand) (low high : ℤ) (number k : ℕ) (slots : List (Option Place)) (memory : Memory) (trace : Trace) (b : Bool) → slice_get G.instructions place ≡ Some (instr op.MAKE (pos k) 0 line) → slice_get memory.frames.units memory.frames.unit ≡ Some slots → Describes memory.types number (type.Ordinal low high) → k < length slots → leb (memory.live + 2) live_limit ≡ b
+    → outcome G (at place (Word (pos number) ∷ below) memory trace) ≡ cond b (record { weight = 1; to = Running 0 (at (place + 1) below (with_variable number (with_place number k slots memory) memory) trace) }) (in_one (Stopped (Error run_error.STORAGE_LIMIT (unit_in G memory.frames) line) trace))
 make_outcome G place line below low high number k slots memory trace true has frame described within fits =
-    outcome_at G (instr 15 (pos k) 0 line) place (Word (pos number) ∷ below) memory trace has ∙ rw (frame, lt-ltb number (length memory.types) (slice_get_within memory.types number (ordinal_entry low high) described), described, lt-ltb k (length slots) within, fits) refl
+    outcome_at G (instr op.MAKE (pos k) 0 line) place (Word (pos number) ∷ below) memory trace has ∙ rw (frame, lt-ltb number (length memory.types) (slice_get_within memory.types number (ordinal_entry low high) described), described, lt-ltb k (length slots) within, fits) refl
 make_outcome G place line below low high number k slots memory trace false has frame described within fits =
-    outcome_at G (instr 15 (pos k) 0 line) place (Word (pos number) ∷ below) memory trace has ∙ rw (frame, lt-ltb number (length memory.types) (slice_get_within memory.types number (ordinal_entry low high) described), described, lt-ltb k (length slots) within, fits) refl
+    outcome_at G (instr op.MAKE (pos k) 0 line) place (Word (pos number) ∷ below) memory trace has ∙ rw (frame, lt-ltb number (length memory.types) (slice_get_within memory.types number (ordinal_entry low high) described), described, lt-ltb k (length slots) within, fits) refl
 
 -- `Make` of an ordinal type in a slot of the unit's frame, over the number of the type
-pub make_does : (declared : Declarations) (G : Image) (place line : ℕ) (below : List Operand) (low high : ℤ) (number k : ℕ) (x : ImageUnit) → slice_get G.instructions place ≡ Some (instr 15 (pos k) 0 line)
+pub make_does : (declared : Declarations) (G : Image) (place line : ℕ) (below : List Operand) (low high : ℤ) (number k : ℕ) (x : ImageUnit) → slice_get G.instructions place ≡ Some (instr op.MAKE (pos k) 0 line)
     → HasDistinctNames G → IsTrue (is_integer low) → IsTrue (is_integer high)
     → HasTypesOfHosts declared → ((v : UnitVariable) → declared x.name k ≡ Some v → v.type_value ≡ type.Ordinal low high)
     → (injection : Injection) (memory : Memory) (s : meaning.State) → slice_get G.units memory.frames.unit ≡ Some x → k < x.slots → Describes memory.types number (type.Ordinal low high) → Matches declared G injection s memory
@@ -315,7 +317,7 @@ make_does declared G place line below low high number k x has distinct low_fits 
     frame : MatchesFrame (with_segment injection memory) s (with_variable number memory.frames memory) memory.frames.unit x
     frame = frame_here matches x low high number k is_unit described low_fits high_fits
 
-    leads : (b : Bool) → leb (memory.live + 2) live_limit ≡ b → outcome G (at place (Word (pos number) ∷ below) memory s.trace) ≡ cond b (record { weight = 1; to = Running 0 (at (place + 1) below (with_variable number (with_place number k frame.slots memory) memory) s.trace) }) (in_one (Stopped (Error 24 (unit_in G memory.frames) line) s.trace))
+    leads : (b : Bool) → leb (memory.live + 2) live_limit ≡ b → outcome G (at place (Word (pos number) ∷ below) memory s.trace) ≡ cond b (record { weight = 1; to = Running 0 (at (place + 1) below (with_variable number (with_place number k frame.slots memory) memory) s.trace) }) (in_one (Stopped (Error run_error.STORAGE_LIMIT (unit_in G memory.frames) line) s.trace))
     leads b e = make_outcome G place line below low high number k frame.slots memory s.trace b has frame.is described (omega (arith, within, frame.count)) e
 
     go : (b : Bool) → leb (memory.live + 2) live_limit ≡ b → Does declared G (at place (Word (pos number) ∷ below) memory s.trace) 1 (place + 1) (Inside injection memory (Bare below tt)) (made x.name k (type.Ordinal low high) s) ⊎ GivesUp G (at place (Word (pos number) ∷ below) memory s.trace) (made x.name k (type.Ordinal low high) s)
@@ -329,5 +331,5 @@ make_does declared G place line below low high number k x has distinct low_fits 
           post = record { grown = grown_making injection memory number (with_place number k frame.slots memory); routine = record { turn = refl; routine = refl; unit = refl }; operands_are = refl };
         })
     go false e =
-        let many : 16777216 < memory.live + 2 = grind (arith, nat_tests) in
+        let many : live_limit < memory.live + 2 = grind (arith, nat_tests) in
         inr (gives_up (leads false e) (inl refl) (is_prefix s.trace) (lost_words (record s.resources { words = s.resources.words + 2 }) (omega (arith, many, matches.live))))

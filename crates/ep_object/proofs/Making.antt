@@ -32,6 +32,8 @@ use Rattle.ep_typed.specs.Events.{Trace}
 use Rattle.ep_object.specs.declared.code.Image.{Image}
 use Rattle.ep_typed.specs.declared.types.TypeValue.{TypeValue}
 use Rattle.ep_typed.specs.declared.types.TypeValue.TheVariants as type
+use Rattle.ep_object.specs.declared.op.TheConstants as op
+use Rattle.ep_typed.specs.declared.run_error.TheConstants as run_error
 
 both : (a b : Bool) → IsTrue (a && b) → IsTrue a × IsTrue b
 both true b h = (refl, h)
@@ -179,7 +181,7 @@ types-added {r = r} {types = types} low high m none =
 
 -- room is lost where so many words live, or so many types are counted
 pub lost_words : (r : Resources) → 4194305 ≤ r.words → IsTrue (watched r).lost
-lost_words r h = let full : nat_le r.words 4194304 ≡ false = grind (arith, nat_tests) in go r.lost (nat_le r.words 4194304) (nat_le (length r.types) 262000) full
+lost_words r h = let full : nat_le r.words meaning.room_for_words ≡ false = grind (arith, nat_tests) in go r.lost (nat_le r.words meaning.room_for_words) (nat_le (length r.types) meaning.room_for_types) full
   where
     go : (lost a b : Bool) → a ≡ false → IsTrue (lost || not (a && b))
     go true a b e = refl
@@ -187,7 +189,7 @@ lost_words r h = let full : nat_le r.words 4194304 ≡ false = grind (arith, nat
     go false false b e = refl
 
 pub lost_types : (r : Resources) → 262001 ≤ length r.types → IsTrue (watched r).lost
-lost_types r h = let full : nat_le (length r.types) 262000 ≡ false = grind (arith, nat_tests) in go r.lost (nat_le r.words 4194304) (nat_le (length r.types) 262000) full
+lost_types r h = let full : nat_le (length r.types) meaning.room_for_types ≡ false = grind (arith, nat_tests) in go r.lost (nat_le r.words meaning.room_for_words) (nat_le (length r.types) meaning.room_for_types) full
   where
     go : (lost a b : Bool) → b ≡ false → IsTrue (lost || not (a && b))
     go true a b e = refl
@@ -243,7 +245,7 @@ pub record Elaborates (declared : Declarations) (G : Image) (injection : Injecti
 
 -- `TOrd`
 abbrev pub ordinal_instr : ℕ → Instr
-ordinal_instr line = record { op = 51; a = pos 0; b = 0; line = line }
+ordinal_instr line = record { op = op.T_ORD; a = pos 0; b = 0; line = line }
 
 -- the state before it
 abbrev pub before_type : ℕ → ℤ → ℤ → List Operand → Memory → Trace → State
@@ -254,7 +256,7 @@ fits_one_more k = ltb (length k.types) type_limit && ltb k.live live_limit
 
 -- what it leads to where the type has no number yet
 abbrev adds : Image → Instr → State → TypeEntry → List Operand → Bool → Going
-adds G i k e below b = after G i k (mapped (with_typing k) (cond b (Continues (record { operands = Word (pos (length k.types)) ∷ below; types = k.types ++ e ∷ []; live = k.live + 1 })) (Fails 24)))
+adds G i k e below b = after G i k (mapped (with_typing k) (cond b (Continues (record { operands = Word (pos (length k.types)) ∷ below; types = k.types ++ e ∷ []; live = k.live + 1 })) (Fails run_error.STORAGE_LIMIT)))
 
 module _ (G : Image) (place line : ℕ) (low high : ℤ) (below : List Operand) (memory : Memory) (trace : Trace) where
   -- by what number the type has
@@ -263,18 +265,18 @@ module _ (G : Image) (place line : ℕ) (low high : ℤ) (below : List Operand) 
   ordinal_outcome ordered o is fetch =
       let k = before_type place low high below memory trace in
       ap (λ x. outcome_of G x k) fetch
-      ∙ ap (λ b. record { weight = 0; to = after G (ordinal_instr line) k (mapped (with_typing k) (cond b (interned (ordinal_number low high memory.types) (ordinal_entry low high) below (typing k)) (Fails 5))) }) ordered
+      ∙ ap (λ b. record { weight = 0; to = after G (ordinal_instr line) k (mapped (with_typing k) (cond b (interned (ordinal_number low high memory.types) (ordinal_entry low high) below (typing k)) (Fails run_error.OUTSIDE_DOMAIN))) }) ordered
       ∙ ap (λ x. record { weight = 0; to = after G (ordinal_instr line) k (mapped (with_typing k) (interned x (ordinal_entry low high) below (typing k))) }) is
 
 -- the limits are not met, or room is lost
-full_lost : (a b : ℕ) (r : Resources) → (ltb a 1048576 && ltb b 16777216) ≡ false → a ≤ length r.types + 5 → b ≤ r.words → IsTrue (watched r).lost
-full_lost a b r full few live = go (ltb a 1048576) refl
+full_lost : (a b : ℕ) (r : Resources) → (ltb a type_limit && ltb b live_limit) ≡ false → a ≤ length r.types + 5 → b ≤ r.words → IsTrue (watched r).lost
+full_lost a b r full few live = go (ltb a type_limit) refl
   where
-    go : (x : Bool) → ltb a 1048576 ≡ x → IsTrue (watched r).lost
-    go true e = lost_words r (let f : ltb b 16777216 ≡ false = sym (ap (λ y. y && ltb b 16777216) e) ∙ full in grind (arith, nat_tests))
+    go : (x : Bool) → ltb a type_limit ≡ x → IsTrue (watched r).lost
+    go true e = lost_words r (let f : ltb b live_limit ≡ false = sym (ap (λ y. y && ltb b live_limit) e) ∙ full in grind (arith, nat_tests))
     go false e = lost_types r (grind (arith, nat_tests))
 
-met_lost : (a b : ℕ) (t : TypeValue) (r : Resources) → (IsTrue (list_any (same_type t) r.types) → ⊥) → (ltb a 1048576 && ltb b 16777216) ≡ false → a ≤ length r.types + 5 → b ≤ r.words → IsTrue (met t r).lost
+met_lost : (a b : ℕ) (t : TypeValue) (r : Resources) → (IsTrue (list_any (same_type t) r.types) → ⊥) → (ltb a type_limit && ltb b live_limit) ≡ false → a ≤ length r.types + 5 → b ≤ r.words → IsTrue (met t r).lost
 met_lost a b t r new full few live = go (list_any (same_type t) r.types) new
   where
     go : (x : Bool) → (IsTrue x → ⊥) → IsTrue (watched (if x then r else record r { types = t ∷ r.types; words = r.words + 1 })).lost
@@ -302,7 +304,7 @@ elaborates {declared} {G} {injection} {memory} place line low high below s order
         inr (record {
           lost = met_lost (length memory.types) memory.live (type.Ordinal low high) s.resources (not_known low high m.types none) full m.types.count m.live;
           ticks = 1;
-          number = 24;
+          number = run_error.STORAGE_LIMIT;
           is_limit = inl refl;
           unit = unit_in G memory.frames;
           line = line;

@@ -14,6 +14,7 @@ use Rattle.ep_typed.specs.Steps as meaning
 use Rattle.ep_typed.specs.Valid.{Declarations}
 use Rattle.ep_typed.specs.declared.types.TypeValue.{TypeValue}
 use Rattle.ep_typed.specs.declared.types.TypeValue.TheVariants as type
+use Rattle.ep_object.specs.declared.op.TheConstants as op
 
 -- the number of a type that describes the type value on top
 pub record TypeOnTop (t : TypeValue) (below : List Operand) (injection : Injection) (memory : Memory) (operands : List Operand) : Type 0 where
@@ -22,7 +23,7 @@ pub record TypeOnTop (t : TypeValue) (below : List Operand) (injection : Injecti
   pub described : Describes memory.types number t
 
 -- `TOrd`, over its bounds
-pub ord_does : (declared : Declarations) (G : Image) (place line : ℕ) (below : List Operand) (low high : ℤ) → IsTrue (int_le low high) → slice_get G.instructions place ≡ Some (instr 51 (pos 0) 0 line) → (injection : Injection) (memory : Memory) (s : meaning.State) → Matches declared G injection s memory → Does declared G (at place (Word high ∷ Word low ∷ below) memory s.trace) 0 (place + 1) (Inside injection memory (TypeOnTop (type.Ordinal low high) below)) (with_type (type.Ordinal low high) s) ⊎ GivesUp G (at place (Word high ∷ Word low ∷ below) memory s.trace) (with_type (type.Ordinal low high) s)
+pub ord_does : (declared : Declarations) (G : Image) (place line : ℕ) (below : List Operand) (low high : ℤ) → IsTrue (int_le low high) → slice_get G.instructions place ≡ Some (instr op.T_ORD (pos 0) 0 line) → (injection : Injection) (memory : Memory) (s : meaning.State) → Matches declared G injection s memory → Does declared G (at place (Word high ∷ Word low ∷ below) memory s.trace) 0 (place + 1) (Inside injection memory (TypeOnTop (type.Ordinal low high) below)) (with_type (type.Ordinal low high) s) ⊎ GivesUp G (at place (Word high ∷ Word low ∷ below) memory s.trace) (with_type (type.Ordinal low high) s)
 ord_does declared G place line below low high ordered has injection memory s matches = go (elaborates place line low high below s ordered has matches)
   where
     go : Elaborates declared G injection memory place below (type.Ordinal low high) (at place (Word high ∷ Word low ∷ below) memory s.trace) s ⊎ GivesUp G (at place (Word high ∷ Word low ∷ below) memory s.trace) (with_type (type.Ordinal low high) s) → Does declared G (at place (Word high ∷ Word low ∷ below) memory s.trace) 0 (place + 1) (Inside injection memory (TypeOnTop (type.Ordinal low high) below)) (with_type (type.Ordinal low high) s) ⊎ GivesUp G (at place (Word high ∷ Word low ∷ below) memory s.trace) (with_type (type.Ordinal low high) s)

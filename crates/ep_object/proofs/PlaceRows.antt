@@ -26,14 +26,15 @@ use Rattle.ep_typed.specs.Valid.{Declarations, IsTypeOf}
 use Rattle.ep_typed.specs.declared.types.Host.{Host}
 use Rattle.ep_typed.specs.declared.types.TypeValue.TheVariants as type
 use Rattle.ep_typed.specs.declared.unit.UnitVariable.{UnitVariable}
+use Rattle.ep_object.specs.declared.op.TheConstants as op
 
 module _ (declared : Declarations) (G : Image) (place line : ℕ) (below : List Operand) where
   -- `Unit`, for `output`
-  pub output_pushes : slice_get G.instructions place ≡ Some (instr 13 (negsuc 0) 1 line) → RowPushes G place below 0 (operand.Place output_place ∷ below)
-  output_pushes has memory trace = outcome_at G (instr 13 (negsuc 0) 1 line) place below memory trace has
+  pub output_pushes : slice_get G.instructions place ≡ Some (instr op.UNIT (negsuc 0) 1 line) → RowPushes G place below 0 (operand.Place output_place ∷ below)
+  output_pushes has memory trace = outcome_at G (instr op.UNIT (negsuc 0) 1 line) place below memory trace has
 
   -- `Unit`, for a variable that is declared
-  pub unit_reads : (u k : ℕ) (unit : ImageUnit) (v : UnitVariable) → slice_get G.instructions place ≡ Some (instr 13 (pos u) k line) → slice_get G.units u ≡ Some unit → k < unit.slots → declared unit.name k ≡ Some v → (injection : Injection) (memory : Memory) (s : meaning.State) → Matches declared G injection s memory → Reads declared G (at place below memory s.trace) 1 (unit_in G memory.frames) line (place + 1) (λ n. Inside injection memory (PlaceOnTop v.type_value below n)) s (s.variables unit.name k)
+  pub unit_reads : (u k : ℕ) (unit : ImageUnit) (v : UnitVariable) → slice_get G.instructions place ≡ Some (instr op.UNIT (pos u) k line) → slice_get G.units u ≡ Some unit → k < unit.slots → declared unit.name k ≡ Some v → (injection : Injection) (memory : Memory) (s : meaning.State) → Matches declared G injection s memory → Reads declared G (at place below memory s.trace) 1 (unit_in G memory.frames) line (place + 1) (λ n. Inside injection memory (PlaceOnTop v.type_value below n)) s (s.variables unit.name k)
   unit_reads u k unit v has there inside is_declared injection memory s matches =
       let f : MatchesFrame injection s memory u unit = matches.frames u unit there in
       let x = slice_get-some f.slots k (omega (arith, f.count)) in
@@ -41,7 +42,7 @@ module _ (declared : Declarations) (G : Image) (place line : ℕ) (below : List 
     where
       go : (slots : List (Option Place)) → slice_get memory.frames.units u ≡ Some slots → (slot : Option Place) → slice_get slots k ≡ Some slot → (o : Option ℕ) → s.variables unit.name k ≡ o → MatchesSlot injection memory.segments o slot → Reads declared G (at place below memory s.trace) 1 (unit_in G memory.frames) line (place + 1) (λ n. Inside injection memory (PlaceOnTop v.type_value below n)) s (s.variables unit.name k)
       go slots is None slot_is None o_is h =
-          Misses o_is (record { fails = outcome_at G (instr 13 (pos u) k line) place below memory s.trace has ∙ rw (is, slot_is) refl })
+          Misses o_is (record { fails = outcome_at G (instr op.UNIT (pos u) k line) place below memory s.trace has ∙ rw (is, slot_is) refl })
       go slots is (Some p) slot_is None o_is h = absurd h
       go slots is None slot_is (Some n) o_is h = absurd h
       go slots is (Some p) slot_is (Some n) o_is h =
@@ -49,18 +50,18 @@ module _ (declared : Declarations) (G : Image) (place line : ℕ) (below : List 
             injection = injection;
             memory = memory;
             operands = operand.Place p ∷ below;
-            does = outcome_at G (instr 13 (pos u) k line) place below memory s.trace has ∙ rw (is, slot_is) refl;
+            does = outcome_at G (instr op.UNIT (pos u) k line) place below memory s.trace has ∙ rw (is, slot_is) refl;
             matches = matches;
             post = inside_here (record { place = p; is = refl; place_of = h; described = place_described v.type_value matches h (matches.typed unit.name k n v o_is is_declared) });
           })
 
   -- what `Load` finds
-  load_outcome : (memory : Memory) (trace : Trace) (p : Place) (low high : ℤ) (type_number : ℕ) (w : ℤ) → slice_get G.instructions place ≡ Some (instr 22 (pos 0) 0 line) → slice_get memory.types p.type_number ≡ Some (ordinal_entry low high) → slice_get memory.segments p.segment ≡ Some (Some (record { type_number = type_number; words = w ∷ [] })) → p.offset ≡ 0 → outcome G (at place (operand.Place p ∷ below) memory trace) ≡ in_one (after G (instr 22 (pos 0) 0 line) (at place (operand.Place p ∷ below) memory trace) (on_operands (at place (operand.Place p ∷ below) memory trace) (loaded w below)))
+  load_outcome : (memory : Memory) (trace : Trace) (p : Place) (low high : ℤ) (type_number : ℕ) (w : ℤ) → slice_get G.instructions place ≡ Some (instr op.LOAD (pos 0) 0 line) → slice_get memory.types p.type_number ≡ Some (ordinal_entry low high) → slice_get memory.segments p.segment ≡ Some (Some (record { type_number = type_number; words = w ∷ [] })) → p.offset ≡ 0 → outcome G (at place (operand.Place p ∷ below) memory trace) ≡ in_one (after G (instr op.LOAD (pos 0) 0 line) (at place (operand.Place p ∷ below) memory trace) (on_operands (at place (operand.Place p ∷ below) memory trace) (loaded w below)))
   load_outcome memory trace p low high type_number w has typed stands offset =
-      outcome_at G (instr 22 (pos 0) 0 line) place (operand.Place p ∷ below) memory trace has ∙ rw (typed, stands, offset) refl
+      outcome_at G (instr op.LOAD (pos 0) 0 line) place (operand.Place p ∷ below) memory trace has ∙ rw (typed, stands, offset) refl
 
   -- `Load`, of a variable of an ordinal type of the host
-  pub load_reads : (host : Host) (low high : ℤ) (n : ℕ) (p : Place) → IsTypeOf host (type.Ordinal low high) → slice_get G.instructions place ≡ Some (instr 22 (pos 0) 0 line) → (injection : Injection) (memory : Memory) → IsPlaceOf injection memory.segments n p → Describes memory.types p.type_number (type.Ordinal low high) → (s : meaning.State) → Matches declared G injection s memory → Reads declared G (at place (operand.Place p ∷ below) memory s.trace) 1 (unit_in G memory.frames) line (place + 1) (λ w. Inside injection memory (OnTop (kind.Ordinal host) below (Number w))) s (word_at n s)
+  pub load_reads : (host : Host) (low high : ℤ) (n : ℕ) (p : Place) → IsTypeOf host (type.Ordinal low high) → slice_get G.instructions place ≡ Some (instr op.LOAD (pos 0) 0 line) → (injection : Injection) (memory : Memory) → IsPlaceOf injection memory.segments n p → Describes memory.types p.type_number (type.Ordinal low high) → (s : meaning.State) → Matches declared G injection s memory → Reads declared G (at place (operand.Place p ∷ below) memory s.trace) 1 (unit_in G memory.frames) line (place + 1) (λ w. Inside injection memory (OnTop (kind.Ordinal host) below (Number w))) s (word_at n s)
   load_reads host low high n p of_host has injection memory place_of described s matches =
       let x : Stands s memory n p = place_stands matches place_of in
       let a : Allocation = x.allocation in

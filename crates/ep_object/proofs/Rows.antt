@@ -22,6 +22,8 @@ use Rattle.ep_typed.specs.Valid.{is_of_host}
 use Rattle.ep_typed.specs.declared.operations.Binary.TheVariants as binary
 use Rattle.ep_typed.specs.declared.operations.Unary.TheVariants as unary
 use Rattle.ep_typed.specs.declared.types.Host.TheVariants as host
+use Rattle.ep_object.specs.declared.op.TheConstants as op
+use Rattle.ep_typed.specs.declared.run_error.TheConstants as run_error
 
 -- an outcome of one tick
 abbrev pub in_one : Going → Outcome
@@ -47,156 +49,156 @@ module _ (G : Image) (i : Instr) (place : ℕ) (operands below : List Operand) (
   checked true z error = refl
   checked false z error = refl
 
-  -- an integer, or error 8
+  -- an integer, or an overflow
   integer_going : (z : ℤ) → after G i (at place operands memory trace) (on_operands (at place operands memory trace) (integer_row z below)) ≡ going_of (place + 1) below memory (unit_in G memory.frames) i.line trace (integer z)
   integer_going z =
       let e : rows.is_integer z ≡ is_integer z = is_integer-same z in
       checked (rows.is_integer z) z 8 ∙ ap (λ b. going_of (place + 1) below memory (unit_in G memory.frames) i.line trace (if b then Number z else Fault 8)) e
 
-  -- an error where a test holds, and else an integer or error 8
+  -- an error where a test holds, and else an integer or an overflow
   guarded_going : (b : Bool) (z : ℤ) (error : ℕ) → after G i (at place operands memory trace) (on_operands (at place operands memory trace) (cond b (Fails error) (integer_row z below))) ≡ going_of (place + 1) below memory (unit_in G memory.frames) i.line trace (if b then Fault error else integer z)
   guarded_going true z error = refl
   guarded_going false z error = integer_going z
 
 module _ (G : Image) (place line : ℕ) (below : List Operand) where
   -- `Push`
-  pub push_pushes : (z : ℤ) → slice_get G.instructions place ≡ Some (instr 0 z 0 line) → RowPushes G place below 0 (Word z ∷ below)
-  push_pushes z has memory trace = outcome_at G (instr 0 z 0 line) place below memory trace has
+  pub push_pushes : (z : ℤ) → slice_get G.instructions place ≡ Some (instr op.PUSH z 0 line) → RowPushes G place below 0 (Word z ∷ below)
+  push_pushes z has memory trace = outcome_at G (instr op.PUSH z 0 line) place below memory trace has
 
   -- ---- one operand
 
   -- `Neg`
-  pub neg_answers : (x : ℤ) → slice_get G.instructions place ≡ Some (instr 30 (pos 0) 0 line) → RowAnswers G place line (Word x ∷ below) below (unary_answer unary.Negate x)
+  pub neg_answers : (x : ℤ) → slice_get G.instructions place ≡ Some (instr op.NEG (pos 0) 0 line) → RowAnswers G place line (Word x ∷ below) below (unary_answer unary.Negate x)
   neg_answers x has memory trace =
-      outcome_at G (instr 30 (pos 0) 0 line) place (Word x ∷ below) memory trace has ∙ ap in_one (integer_going G (instr 30 (pos 0) 0 line) place (Word x ∷ below) below memory trace (neg_ℤ x))
+      outcome_at G (instr op.NEG (pos 0) 0 line) place (Word x ∷ below) memory trace has ∙ ap in_one (integer_going G (instr op.NEG (pos 0) 0 line) place (Word x ∷ below) below memory trace (neg_ℤ x))
 
   -- `Abs`
-  pub abs_answers : (x : ℤ) → slice_get G.instructions place ≡ Some (instr 31 (pos 0) 0 line) → RowAnswers G place line (Word x ∷ below) below (unary_answer unary.Absolute x)
+  pub abs_answers : (x : ℤ) → slice_get G.instructions place ≡ Some (instr op.ABS (pos 0) 0 line) → RowAnswers G place line (Word x ∷ below) below (unary_answer unary.Absolute x)
   abs_answers x has memory trace =
-      outcome_at G (instr 31 (pos 0) 0 line) place (Word x ∷ below) memory trace has ∙ ap in_one (integer_going G (instr 31 (pos 0) 0 line) place (Word x ∷ below) below memory trace (pos (unsigned_abs x)))
+      outcome_at G (instr op.ABS (pos 0) 0 line) place (Word x ∷ below) memory trace has ∙ ap in_one (integer_going G (instr op.ABS (pos 0) 0 line) place (Word x ∷ below) below memory trace (pos (unsigned_abs x)))
 
   -- `Sqr`
-  pub sqr_answers : (x : ℤ) → slice_get G.instructions place ≡ Some (instr 32 (pos 0) 0 line) → RowAnswers G place line (Word x ∷ below) below (unary_answer unary.Square x)
+  pub sqr_answers : (x : ℤ) → slice_get G.instructions place ≡ Some (instr op.SQR (pos 0) 0 line) → RowAnswers G place line (Word x ∷ below) below (unary_answer unary.Square x)
   sqr_answers x has memory trace =
-      outcome_at G (instr 32 (pos 0) 0 line) place (Word x ∷ below) memory trace has ∙ ap in_one (integer_going G (instr 32 (pos 0) 0 line) place (Word x ∷ below) below memory trace (x *ℤ x))
+      outcome_at G (instr op.SQR (pos 0) 0 line) place (Word x ∷ below) memory trace has ∙ ap in_one (integer_going G (instr op.SQR (pos 0) 0 line) place (Word x ∷ below) below memory trace (x *ℤ x))
 
   -- `Odd`
-  pub odd_answers : (x : ℤ) → slice_get G.instructions place ≡ Some (instr 33 (pos 0) 0 line) → RowAnswers G place line (Word x ∷ below) below (unary_answer unary.Odd x)
-  odd_answers x has memory trace = outcome_at G (instr 33 (pos 0) 0 line) place (Word x ∷ below) memory trace has
+  pub odd_answers : (x : ℤ) → slice_get G.instructions place ≡ Some (instr op.ODD (pos 0) 0 line) → RowAnswers G place line (Word x ∷ below) below (unary_answer unary.Odd x)
+  odd_answers x has memory trace = outcome_at G (instr op.ODD (pos 0) 0 line) place (Word x ∷ below) memory trace has
 
   -- `Not`, of a Boolean
-  pub not_answers : (x : ℤ) → IsTrue (is_of_host host.Boolean x) → slice_get G.instructions place ≡ Some (instr 34 (pos 0) 0 line) → RowAnswers G place line (Word x ∷ below) below (unary_answer unary.Not x)
+  pub not_answers : (x : ℤ) → IsTrue (is_of_host host.Boolean x) → slice_get G.instructions place ≡ Some (instr op.NOT (pos 0) 0 line) → RowAnswers G place line (Word x ∷ below) below (unary_answer unary.Not x)
   not_answers x boolean has memory trace =
       let e : rows.is_boolean x ≡ true = is_boolean-same x boolean in
-      outcome_at G (instr 34 (pos 0) 0 line) place (Word x ∷ below) memory trace has ∙ rw e refl
+      outcome_at G (instr op.NOT (pos 0) 0 line) place (Word x ∷ below) memory trace has ∙ rw e refl
 
-  -- `Check` for error 14, over its bounds
-  pub check_answers : (x low high : ℤ) → slice_get G.instructions place ≡ Some (instr 39 (pos 14) 0 line) → RowAnswers G place line (Word high ∷ Word low ∷ Word x ∷ below) below (within 14 low high x)
+  -- `Check` over the bounds of `succ` and `pred`
+  pub check_answers : (x low high : ℤ) → slice_get G.instructions place ≡ Some (instr op.CHECK (pos run_error.SUCCESSOR) 0 line) → RowAnswers G place line (Word high ∷ Word low ∷ Word x ∷ below) below (within run_error.SUCCESSOR low high x)
   check_answers x low high has memory trace =
-      let i : Instr = instr 39 (pos 14) 0 line in
-      outcome_at G i place (Word high ∷ Word low ∷ Word x ∷ below) memory trace has ∙ ap in_one (checked G i place (Word high ∷ Word low ∷ Word x ∷ below) below memory trace (int_le low x && int_le x high) x 14)
+      let i : Instr = instr op.CHECK (pos run_error.SUCCESSOR) 0 line in
+      outcome_at G i place (Word high ∷ Word low ∷ Word x ∷ below) memory trace has ∙ ap in_one (checked G i place (Word high ∷ Word low ∷ Word x ∷ below) below memory trace (int_le low x && int_le x high) x run_error.SUCCESSOR)
 
   -- ---- two operands
 
   -- `Add`
-  pub add_answers : (x y : ℤ) → slice_get G.instructions place ≡ Some (instr 25 (pos 0) 0 line) → RowAnswers G place line (Word y ∷ Word x ∷ below) below (binary_answer binary.Add x y)
+  pub add_answers : (x y : ℤ) → slice_get G.instructions place ≡ Some (instr op.ADD (pos 0) 0 line) → RowAnswers G place line (Word y ∷ Word x ∷ below) below (binary_answer binary.Add x y)
   add_answers x y has memory trace =
-      outcome_at G (instr 25 (pos 0) 0 line) place (Word y ∷ Word x ∷ below) memory trace has ∙ ap in_one (integer_going G (instr 25 (pos 0) 0 line) place (Word y ∷ Word x ∷ below) below memory trace (x +ℤ y))
+      outcome_at G (instr op.ADD (pos 0) 0 line) place (Word y ∷ Word x ∷ below) memory trace has ∙ ap in_one (integer_going G (instr op.ADD (pos 0) 0 line) place (Word y ∷ Word x ∷ below) below memory trace (x +ℤ y))
 
   -- `Sub`
-  pub sub_answers : (x y : ℤ) → slice_get G.instructions place ≡ Some (instr 26 (pos 0) 0 line) → RowAnswers G place line (Word y ∷ Word x ∷ below) below (binary_answer binary.Subtract x y)
+  pub sub_answers : (x y : ℤ) → slice_get G.instructions place ≡ Some (instr op.SUB (pos 0) 0 line) → RowAnswers G place line (Word y ∷ Word x ∷ below) below (binary_answer binary.Subtract x y)
   sub_answers x y has memory trace =
-      outcome_at G (instr 26 (pos 0) 0 line) place (Word y ∷ Word x ∷ below) memory trace has ∙ ap in_one (integer_going G (instr 26 (pos 0) 0 line) place (Word y ∷ Word x ∷ below) below memory trace (x -ℤ y))
+      outcome_at G (instr op.SUB (pos 0) 0 line) place (Word y ∷ Word x ∷ below) memory trace has ∙ ap in_one (integer_going G (instr op.SUB (pos 0) 0 line) place (Word y ∷ Word x ∷ below) below memory trace (x -ℤ y))
 
   -- `Mul`
-  pub mul_answers : (x y : ℤ) → slice_get G.instructions place ≡ Some (instr 27 (pos 0) 0 line) → RowAnswers G place line (Word y ∷ Word x ∷ below) below (binary_answer binary.Multiply x y)
+  pub mul_answers : (x y : ℤ) → slice_get G.instructions place ≡ Some (instr op.MUL (pos 0) 0 line) → RowAnswers G place line (Word y ∷ Word x ∷ below) below (binary_answer binary.Multiply x y)
   mul_answers x y has memory trace =
-      outcome_at G (instr 27 (pos 0) 0 line) place (Word y ∷ Word x ∷ below) memory trace has ∙ ap in_one (integer_going G (instr 27 (pos 0) 0 line) place (Word y ∷ Word x ∷ below) below memory trace (x *ℤ y))
+      outcome_at G (instr op.MUL (pos 0) 0 line) place (Word y ∷ Word x ∷ below) memory trace has ∙ ap in_one (integer_going G (instr op.MUL (pos 0) 0 line) place (Word y ∷ Word x ∷ below) below memory trace (x *ℤ y))
 
   -- `Div`
-  pub div_answers : (x y : ℤ) → slice_get G.instructions place ≡ Some (instr 28 (pos 0) 0 line) → RowAnswers G place line (Word y ∷ Word x ∷ below) below (binary_answer binary.Divide x y)
+  pub div_answers : (x y : ℤ) → slice_get G.instructions place ≡ Some (instr op.DIV (pos 0) 0 line) → RowAnswers G place line (Word y ∷ Word x ∷ below) below (binary_answer binary.Divide x y)
   div_answers x y has memory trace =
-      let i : Instr = instr 28 (pos 0) 0 line in
+      let i : Instr = instr op.DIV (pos 0) 0 line in
       let e : is_zero y ≡ is_same y (pos 0) = is_zero-same y in
       outcome_at G i place (Word y ∷ Word x ∷ below) memory trace has ∙ ap in_one (guarded_going G i place (Word y ∷ Word x ∷ below) below memory trace (is_zero y) (int_div x y) 9 ∙ ap (λ b. going_of (place + 1) below memory (unit_in G memory.frames) line trace (if b then Fault 9 else integer (int_div x y))) e)
 
   -- `Mod`
-  pub mod_answers : (x y : ℤ) → slice_get G.instructions place ≡ Some (instr 29 (pos 0) 0 line) → RowAnswers G place line (Word y ∷ Word x ∷ below) below (binary_answer binary.Modulo x y)
+  pub mod_answers : (x y : ℤ) → slice_get G.instructions place ≡ Some (instr op.MOD (pos 0) 0 line) → RowAnswers G place line (Word y ∷ Word x ∷ below) below (binary_answer binary.Modulo x y)
   mod_answers x y has memory trace =
-      let i : Instr = instr 29 (pos 0) 0 line in
-      outcome_at G i place (Word y ∷ Word x ∷ below) memory trace has ∙ ap in_one (checked G i place (Word y ∷ Word x ∷ below) below memory trace (int_lt (pos 0) y) _ 9)
+      let i : Instr = instr op.MOD (pos 0) 0 line in
+      outcome_at G i place (Word y ∷ Word x ∷ below) memory trace has ∙ ap in_one (checked G i place (Word y ∷ Word x ∷ below) below memory trace (int_lt (pos 0) y) _ run_error.DIVISOR)
 
   -- `And`, of Booleans
-  pub and_answers : (x y : ℤ) → IsTrue (is_of_host host.Boolean x) → IsTrue (is_of_host host.Boolean y) → slice_get G.instructions place ≡ Some (instr 35 (pos 0) 0 line) → RowAnswers G place line (Word y ∷ Word x ∷ below) below (binary_answer binary.And x y)
+  pub and_answers : (x y : ℤ) → IsTrue (is_of_host host.Boolean x) → IsTrue (is_of_host host.Boolean y) → slice_get G.instructions place ≡ Some (instr op.AND (pos 0) 0 line) → RowAnswers G place line (Word y ∷ Word x ∷ below) below (binary_answer binary.And x y)
   and_answers x y bx by has memory trace =
       let ex : rows.is_boolean x ≡ true = is_boolean-same x bx in
       let ey : rows.is_boolean y ≡ true = is_boolean-same y by in
-      outcome_at G (instr 35 (pos 0) 0 line) place (Word y ∷ Word x ∷ below) memory trace has ∙ rw (ex, ey, is_zero-same x, is_zero-same y, bit-same (is_true x && is_true y)) refl
+      outcome_at G (instr op.AND (pos 0) 0 line) place (Word y ∷ Word x ∷ below) memory trace has ∙ rw (ex, ey, is_zero-same x, is_zero-same y, bit-same (is_true x && is_true y)) refl
 
   -- `Or`, of Booleans
-  pub or_answers : (x y : ℤ) → IsTrue (is_of_host host.Boolean x) → IsTrue (is_of_host host.Boolean y) → slice_get G.instructions place ≡ Some (instr 36 (pos 0) 0 line) → RowAnswers G place line (Word y ∷ Word x ∷ below) below (binary_answer binary.Or x y)
+  pub or_answers : (x y : ℤ) → IsTrue (is_of_host host.Boolean x) → IsTrue (is_of_host host.Boolean y) → slice_get G.instructions place ≡ Some (instr op.OR (pos 0) 0 line) → RowAnswers G place line (Word y ∷ Word x ∷ below) below (binary_answer binary.Or x y)
   or_answers x y bx by has memory trace =
       let ex : rows.is_boolean x ≡ true = is_boolean-same x bx in
       let ey : rows.is_boolean y ≡ true = is_boolean-same y by in
-      outcome_at G (instr 36 (pos 0) 0 line) place (Word y ∷ Word x ∷ below) memory trace has ∙ rw (ex, ey, is_zero-same x, is_zero-same y, bit-same (is_true x || is_true y)) refl
+      outcome_at G (instr op.OR (pos 0) 0 line) place (Word y ∷ Word x ∷ below) memory trace has ∙ rw (ex, ey, is_zero-same x, is_zero-same y, bit-same (is_true x || is_true y)) refl
 
   -- what `Cmp` pushes
   compared : (memory : Memory) (trace : Trace) (b : Bool) → in_one (Running 0 (at (place + 1) (Word (rows.bit b) ∷ below) memory trace)) ≡ in_one (Running 0 (at (place + 1) (Word (ordinal_of b) ∷ below) memory trace))
   compared memory trace b = ap (λ z. in_one (Running 0 (at (place + 1) (Word z ∷ below) memory trace))) (bit-same b)
 
   -- `Cmp` for =
-  pub equal_answers : (x y : ℤ) → slice_get G.instructions place ≡ Some (instr 37 (pos 0) 0 line) → RowAnswers G place line (Word y ∷ Word x ∷ below) below (binary_answer binary.Equal x y)
-  equal_answers x y has memory trace = outcome_at G (instr 37 (pos 0) 0 line) place (Word y ∷ Word x ∷ below) memory trace has ∙ compared memory trace (is_same x y)
+  pub equal_answers : (x y : ℤ) → slice_get G.instructions place ≡ Some (instr op.CMP (pos 0) 0 line) → RowAnswers G place line (Word y ∷ Word x ∷ below) below (binary_answer binary.Equal x y)
+  equal_answers x y has memory trace = outcome_at G (instr op.CMP (pos 0) 0 line) place (Word y ∷ Word x ∷ below) memory trace has ∙ compared memory trace (is_same x y)
 
   -- `Cmp` for <>
-  pub unequal_answers : (x y : ℤ) → slice_get G.instructions place ≡ Some (instr 37 (pos 1) 0 line) → RowAnswers G place line (Word y ∷ Word x ∷ below) below (binary_answer binary.Unequal x y)
-  unequal_answers x y has memory trace = outcome_at G (instr 37 (pos 1) 0 line) place (Word y ∷ Word x ∷ below) memory trace has ∙ compared memory trace (not (is_same x y))
+  pub unequal_answers : (x y : ℤ) → slice_get G.instructions place ≡ Some (instr op.CMP (pos 1) 0 line) → RowAnswers G place line (Word y ∷ Word x ∷ below) below (binary_answer binary.Unequal x y)
+  unequal_answers x y has memory trace = outcome_at G (instr op.CMP (pos 1) 0 line) place (Word y ∷ Word x ∷ below) memory trace has ∙ compared memory trace (not (is_same x y))
 
   -- `Cmp` for <
-  pub less_answers : (x y : ℤ) → slice_get G.instructions place ≡ Some (instr 37 (pos 2) 0 line) → RowAnswers G place line (Word y ∷ Word x ∷ below) below (binary_answer binary.Less x y)
-  less_answers x y has memory trace = outcome_at G (instr 37 (pos 2) 0 line) place (Word y ∷ Word x ∷ below) memory trace has ∙ compared memory trace (int_lt x y)
+  pub less_answers : (x y : ℤ) → slice_get G.instructions place ≡ Some (instr op.CMP (pos 2) 0 line) → RowAnswers G place line (Word y ∷ Word x ∷ below) below (binary_answer binary.Less x y)
+  less_answers x y has memory trace = outcome_at G (instr op.CMP (pos 2) 0 line) place (Word y ∷ Word x ∷ below) memory trace has ∙ compared memory trace (int_lt x y)
 
   -- `Cmp` for >
-  pub greater_answers : (x y : ℤ) → slice_get G.instructions place ≡ Some (instr 37 (pos 3) 0 line) → RowAnswers G place line (Word y ∷ Word x ∷ below) below (binary_answer binary.Greater x y)
-  greater_answers x y has memory trace = outcome_at G (instr 37 (pos 3) 0 line) place (Word y ∷ Word x ∷ below) memory trace has ∙ compared memory trace (int_lt y x)
+  pub greater_answers : (x y : ℤ) → slice_get G.instructions place ≡ Some (instr op.CMP (pos 3) 0 line) → RowAnswers G place line (Word y ∷ Word x ∷ below) below (binary_answer binary.Greater x y)
+  greater_answers x y has memory trace = outcome_at G (instr op.CMP (pos 3) 0 line) place (Word y ∷ Word x ∷ below) memory trace has ∙ compared memory trace (int_lt y x)
 
   -- `Cmp` for <=
-  pub at_most_answers : (x y : ℤ) → slice_get G.instructions place ≡ Some (instr 37 (pos 4) 0 line) → RowAnswers G place line (Word y ∷ Word x ∷ below) below (binary_answer binary.AtMost x y)
-  at_most_answers x y has memory trace = outcome_at G (instr 37 (pos 4) 0 line) place (Word y ∷ Word x ∷ below) memory trace has ∙ compared memory trace (int_le x y)
+  pub at_most_answers : (x y : ℤ) → slice_get G.instructions place ≡ Some (instr op.CMP (pos 4) 0 line) → RowAnswers G place line (Word y ∷ Word x ∷ below) below (binary_answer binary.AtMost x y)
+  at_most_answers x y has memory trace = outcome_at G (instr op.CMP (pos 4) 0 line) place (Word y ∷ Word x ∷ below) memory trace has ∙ compared memory trace (int_le x y)
 
   -- `Cmp` for >=
-  pub at_least_answers : (x y : ℤ) → slice_get G.instructions place ≡ Some (instr 37 (pos 5) 0 line) → RowAnswers G place line (Word y ∷ Word x ∷ below) below (binary_answer binary.AtLeast x y)
-  at_least_answers x y has memory trace = outcome_at G (instr 37 (pos 5) 0 line) place (Word y ∷ Word x ∷ below) memory trace has ∙ compared memory trace (int_le y x)
+  pub at_least_answers : (x y : ℤ) → slice_get G.instructions place ≡ Some (instr op.CMP (pos 5) 0 line) → RowAnswers G place line (Word y ∷ Word x ∷ below) below (binary_answer binary.AtLeast x y)
+  at_least_answers x y has memory trace = outcome_at G (instr op.CMP (pos 5) 0 line) place (Word y ∷ Word x ∷ below) memory trace has ∙ compared memory trace (int_le y x)
 
   -- `Step`, over its bounds
-  pub step_answers : (x n low high : ℤ) → slice_get G.instructions place ≡ Some (instr 40 (pos 0) 0 line) → RowAnswers G place line (Word high ∷ Word low ∷ Word n ∷ Word x ∷ below) below (step_answer false low high x n)
+  pub step_answers : (x n low high : ℤ) → slice_get G.instructions place ≡ Some (instr op.STEP (pos 0) 0 line) → RowAnswers G place line (Word high ∷ Word low ∷ Word n ∷ Word x ∷ below) below (step_answer false low high x n)
   step_answers x n low high has memory trace =
-      let i : Instr = instr 40 (pos 0) 0 line in
+      let i : Instr = instr op.STEP (pos 0) 0 line in
       let z : ℤ = x +ℤ n in
-      outcome_at G i place (Word high ∷ Word low ∷ Word n ∷ Word x ∷ below) memory trace has ∙ ap in_one (checked G i place (Word high ∷ Word low ∷ Word n ∷ Word x ∷ below) below memory trace (int_le low z && int_le z high) z 14)
+      outcome_at G i place (Word high ∷ Word low ∷ Word n ∷ Word x ∷ below) memory trace has ∙ ap in_one (checked G i place (Word high ∷ Word low ∷ Word n ∷ Word x ∷ below) below memory trace (int_le low z && int_le z high) z run_error.SUCCESSOR)
 
   -- ---- jumps
 
   -- `Jump`
-  pub jump_jumps : (target : ℕ) → target < length G.instructions → slice_get G.instructions place ≡ Some (instr 4 (pos target) 0 line) → (memory : Memory) (trace : Trace) → outcome G (at place below memory trace) ≡ record { weight = 0; to = Running 0 (at target below memory trace) }
+  pub jump_jumps : (target : ℕ) → target < length G.instructions → slice_get G.instructions place ≡ Some (instr op.JUMP (pos target) 0 line) → (memory : Memory) (trace : Trace) → outcome G (at place below memory trace) ≡ record { weight = 0; to = Running 0 (at target below memory trace) }
   jump_jumps target inside has memory trace =
-      outcome_at G (instr 4 (pos target) 0 line) place below memory trace has ∙ rw (lt-ltb target (length G.instructions) inside) refl
+      outcome_at G (instr op.JUMP (pos target) 0 line) place below memory trace has ∙ rw (lt-ltb target (length G.instructions) inside) refl
 
   -- `JumpFalse`, which goes on where the word is true
-  pub jump_false_jumps : (z : ℤ) (target : ℕ) → target < length G.instructions → slice_get G.instructions place ≡ Some (instr 5 (pos target) 0 line) → (memory : Memory) (trace : Trace) → outcome G (at place (Word z ∷ below) memory trace) ≡ record { weight = 0; to = Running 0 (at (if is_true z then place + 1 else target) below memory trace) }
+  pub jump_false_jumps : (z : ℤ) (target : ℕ) → target < length G.instructions → slice_get G.instructions place ≡ Some (instr op.JUMP_FALSE (pos target) 0 line) → (memory : Memory) (trace : Trace) → outcome G (at place (Word z ∷ below) memory trace) ≡ record { weight = 0; to = Running 0 (at (if is_true z then place + 1 else target) below memory trace) }
   jump_false_jumps z target inside has memory trace =
-      outcome_at G (instr 5 (pos target) 0 line) place (Word z ∷ below) memory trace has ∙ (rw (lt-ltb target (length G.instructions) inside, is_zero-true z) (either (is_true z)))
+      outcome_at G (instr op.JUMP_FALSE (pos target) 0 line) place (Word z ∷ below) memory trace has ∙ (rw (lt-ltb target (length G.instructions) inside, is_zero-true z) (either (is_true z)))
     where
-      either : (b : Bool) → in_one (after G (instr 5 (pos target) 0 line) (at place (Word z ∷ below) memory trace) (on_operands (at place (Word z ∷ below) memory trace) (jump_where (not b) target below))) ≡ in_one (Running 0 (at (if b then place + 1 else target) below memory trace))
+      either : (b : Bool) → in_one (after G (instr op.JUMP_FALSE (pos target) 0 line) (at place (Word z ∷ below) memory trace) (on_operands (at place (Word z ∷ below) memory trace) (jump_where (not b) target below))) ≡ in_one (Running 0 (at (if b then place + 1 else target) below memory trace))
       either true = refl
       either false = refl
 
   -- ---- ends
 
   -- `Halt`
-  pub halt_halts : slice_get G.instructions place ≡ Some (instr 7 (pos 0) 0 line) → (memory : Memory) (trace : Trace) → outcome G (at place below memory trace) ≡ record { weight = 0; to = Stopped Halt trace }
-  halt_halts has memory trace = outcome_at G (instr 7 (pos 0) 0 line) place below memory trace has
+  pub halt_halts : slice_get G.instructions place ≡ Some (instr op.HALT (pos 0) 0 line) → (memory : Memory) (trace : Trace) → outcome G (at place below memory trace) ≡ record { weight = 0; to = Stopped Halt trace }
+  halt_halts has memory trace = outcome_at G (instr op.HALT (pos 0) 0 line) place below memory trace has
 
   -- `Return`, after which the next start or stop begins
-  pub return_enters : slice_get G.instructions place ≡ Some (instr 9 (pos 0) 0 line) → (memory : Memory) (trace : Trace) → outcome G (at place below memory trace) ≡ record { weight = 0; to = enter G (memory.frames.turn + 1) (at place below memory trace) }
-  return_enters has memory trace = outcome_at G (instr 9 (pos 0) 0 line) place below memory trace has
+  pub return_enters : slice_get G.instructions place ≡ Some (instr op.RETURN (pos 0) 0 line) → (memory : Memory) (trace : Trace) → outcome G (at place below memory trace) ≡ record { weight = 0; to = enter G (memory.frames.turn + 1) (at place below memory trace) }
+  return_enters has memory trace = outcome_at G (instr op.RETURN (pos 0) 0 line) place below memory trace has

@@ -2,14 +2,14 @@
 use Rattle.std.proofs.Common.{◌≡◌, ℕ, ℤ, pos, negsuc, zero, suc, ◌<◌, Bool, true, false, ◌&&◌, IsTrue, List, [], ◌∷◌, length, Some, slice_get, refl, sym, ap, ◌∙◌, subst, arith}
 use Rattle.std.proofs.lemmas.Bool.Decides.{nat_tests}
 use Rattle.std.proofs.lemmas.Option.{slice_get_within, same_Some}
-use Rattle.std.specs.Prelude.{int_le, int_lt}
+use Rattle.std.specs.Prelude.{int_le, int_lt, neg_ℤ}
 use Rattle.ep_object.specs.Matching.{Memory, Injection, IsIn, IsPlaceOf, Describes, Represents, Matches}
 use Rattle.ep_object.specs.State.{TypeTable, text_entry, undefined}
 use Rattle.ep_object.specs.Types.{ordinal_entry}
 use Rattle.ep_object.specs.declared.code.Image.{Image}
 use Rattle.ep_object.specs.declared.state.Place.{Place}
 use Rattle.ep_object.specs.declared.state.TypeEntry.{TypeEntry}
-use Rattle.ep_typed.specs.Operations.{is_integer}
+use Rattle.ep_typed.specs.Operations.{is_integer, maxint}
 use Rattle.ep_typed.specs.Steps.{Allocation, allocation_at, type_in, is_within}
 use Rattle.ep_typed.specs.Steps as meaning
 use Rattle.ep_typed.specs.Valid.{Declarations, is_of_host, least, greatest, IsTypeOf}
@@ -94,8 +94,8 @@ pub word_defined : (low high w : ℤ) → IsTrue (is_integer low) → IsTrue (is
 word_defined low high (pos n) i p = refl
 word_defined low high (negsuc n) i p =
     let x = both (int_le low (negsuc n)) (int_le (negsuc n) high) p in
-    let y = both (int_le (negsuc 9223372036854775806) low) (int_le low (pos 9223372036854775807)) i in
-    above n (int_le-trans (negsuc 9223372036854775806) low (negsuc n) y.0 x.0)
+    let y = both (int_le (neg_ℤ (pos maxint)) low) (int_le low (pos maxint)) i in
+    above n (int_le-trans (neg_ℤ (pos maxint)) low (negsuc n) y.0 x.0)
   where
-    above : (n : ℕ) → IsTrue (int_le (negsuc 9223372036854775806) (negsuc n)) → int_lt undefined (negsuc n) ≡ true
+    above : (n : ℕ) → IsTrue (int_le (neg_ℤ (pos maxint)) (negsuc n)) → int_lt undefined (negsuc n) ≡ true
     above n h = grind (arith, nat_tests)

@@ -15,6 +15,7 @@ use Rattle.ep_object.specs.Runs.{run, tick}
 use Rattle.ep_object.specs.State.{State, Frames, End, Running, Stopped, Normal, Halt, Error}
 use Rattle.ep_object.specs.declared.code.Image.{Image}
 use Rattle.ep_object.specs.declared.state.Place.{Place as PlaceOf}
+use Rattle.ep_typed.specs.declared.run_error.TheConstants as run_error
 
 -- the machine's end for the meaning's
 abbrev pub end_of : meaning.End → End
@@ -74,7 +75,7 @@ pub record GivesUp (G : Image) (k : State) (s : meaning.State) : Type 0 where
   pub lost : IsTrue s.resources.lost
   pub ticks : ℕ
   pub number : ℕ
-  pub is_limit : (number ≡ 24) ⊎ (number ≡ 25)
+  pub is_limit : (number ≡ run_error.STORAGE_LIMIT) ⊎ (number ≡ run_error.CALL_DEPTH)
   pub unit : List ℕ
   pub line : ℕ
   pub trace : Trace

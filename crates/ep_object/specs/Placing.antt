@@ -140,9 +140,13 @@ placed_op ps p references None i = i
 abbrev pub placed : List Placement → Placement → List Reference → Instr → Instr
 placed ps p references i = placed_op ps p references (op_of i.op) i
 
--- the number of a type in a constant type: those below 7 are required types and stay
+-- how many numbers of types name required types in constant types
+abbrev pub required_types : ℕ
+required_types = 7
+
+-- the number of a type in a constant type: those of required types stay
 abbrev pub moved_type : Span → ℕ → ℕ
-moved_type span n = cond (ltb n 7) n (cond (ltb (n - 7) span.own) (span.before + n) missing)
+moved_type span n = cond (ltb n required_types) n (cond (ltb (n - required_types) span.own) (span.before + n) missing)
 
 abbrev pub placed_type : Span → ConstantType → ConstantType
 placed_type span (Ord lo hi) = Ord lo hi

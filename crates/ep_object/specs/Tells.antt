@@ -7,6 +7,7 @@ use Rattle.ep_typed.specs.Steps.{Outcome, Gives, Ends, Cut, state_of}
 use Rattle.ep_typed.specs.Steps as meaning
 use Rattle.ep_object.specs.Follows.{end_of}
 use Rattle.ep_object.specs.State.{End, Going, Running, Stopped, Error}
+use Rattle.ep_typed.specs.declared.run_error.TheConstants as run_error
 
 -- the ticks that a run may spend besides 64 for each step
 abbrev pub spare_ticks : ℕ
@@ -33,7 +34,7 @@ pub record RanOut {A : Type 0} (come : ℕ → Outcome A) (ticks : ℕ) (end : E
   pub unit : List ℕ
   pub line : ℕ
   pub is : end ≡ Error number unit line
-  pub is_limit : (number ≡ 24) ⊎ (number ≡ 25)
+  pub is_limit : (number ≡ run_error.STORAGE_LIMIT) ⊎ (number ≡ run_error.CALL_DEPTH)
   pub begins : IsPrefix trace (state_of (come steps)).trace
 
 -- with so few steps the computation has not ended, and the events begin with all of its own

@@ -1,9 +1,11 @@
 //! Objects and images.
 
+ghost use Rattle.std.specs.Prelude.{◌≡◌};
+
 use ep_base::{Bytes, List, Name};
 
 /// An instruction: its code in the table, its two fields, and the line of the source that it comes from.
-#[derive(Clone, Copy, Debug, Drop)]
+#[derive(Clone, Copy, Drop)]
 pub struct Instr {
     /// The code.
     pub op: u8,
@@ -28,7 +30,7 @@ pub type Numbers = List<u32>;
 pub type Words = List<i64>;
 
 /// An interface that a unit imports, with the interface file of its exporter.
-#[derive(Debug, Drop)]
+#[derive(Drop)]
 pub struct ObjectImport {
     /// The interface's name.
     pub interface: Name,
@@ -40,7 +42,7 @@ pub struct ObjectImport {
 pub type ObjectImports = List<ObjectImport>;
 
 /// A routine or a slot of a unit: which of the two, the instruction says that names the reference.
-#[derive(Debug, Drop)]
+#[derive(Drop)]
 pub struct Reference {
     /// The unit's name.
     pub unit: Name,
@@ -52,7 +54,7 @@ pub struct Reference {
 pub type References = List<Reference>;
 
 /// A routine of an object.
-#[derive(Clone, Copy, Debug, Drop)]
+#[derive(Clone, Copy, Drop)]
 pub struct CodeRoutine {
     /// The place of its first instruction.
     pub entry: u32,
@@ -67,7 +69,7 @@ pub type CodeRoutines = List<CodeRoutine>;
 
 /// A type that is known before the run. A number below 7 in it is that of a required type, and 7 and a place
 /// name an earlier one of the list.
-#[derive(Debug, Drop)]
+#[derive(Drop)]
 pub enum ConstantType {
     /// An ordinal type with its bounds.
     Ord(i64, i64),
@@ -96,7 +98,6 @@ pub enum ConstantType {
 pub type ConstantTypes = List<ConstantType>;
 
 /// A unit that is compiled.
-#[derive(Debug, Drop)]
 pub struct Object {
     /// Whether it is a module, and else a program.
     pub module: bool,
@@ -124,8 +125,50 @@ pub struct Object {
     pub instructions: Instrs,
 }
 
+impl Object {
+    /// Its texts, moved out of it. It takes no memory.
+    pub fn into_texts(self) -> Texts
+        ensures { result ≡ self.texts }
+    {
+        let Object {
+            module: _,
+            name: _,
+            interface: _,
+            imports: _,
+            references: _,
+            texts,
+            constant_types: _,
+            routines: _,
+            unit_slots: _,
+            start: _,
+            stop: _,
+            instructions: _,
+        } = self;
+        texts
+    }
+}
+
+impl Drop for Object {
+    fn drop(self) {
+        let Object {
+            module: _,
+            name: _,
+            interface: _,
+            imports: _,
+            references: _,
+            texts: _,
+            constant_types: _,
+            routines: _,
+            unit_slots: _,
+            start: _,
+            stop: _,
+            instructions: _,
+        } = self;
+    }
+}
+
 /// A unit of an image.
-#[derive(Debug, Drop)]
+#[derive(Drop)]
 pub struct ImageUnit {
     /// The unit's name.
     pub name: Name,
@@ -141,7 +184,7 @@ pub struct ImageUnit {
 pub type ImageUnits = List<ImageUnit>;
 
 /// A routine of an image.
-#[derive(Clone, Copy, Debug, Drop)]
+#[derive(Clone, Copy, Drop)]
 pub struct ImageRoutine {
     /// The place of its first instruction.
     pub entry: u32,
@@ -157,7 +200,6 @@ pub struct ImageRoutine {
 pub type ImageRoutines = List<ImageRoutine>;
 
 /// A program that the machine can run.
-#[derive(Debug, Drop)]
 pub struct Image {
     /// Its units.
     pub units: ImageUnits,
@@ -169,4 +211,16 @@ pub struct Image {
     pub constant_types: ConstantTypes,
     /// Its instructions.
     pub instructions: Instrs,
+}
+
+impl Drop for Image {
+    fn drop(self) {
+        let Image {
+            units: _,
+            routines: _,
+            texts: _,
+            constant_types: _,
+            instructions: _,
+        } = self;
+    }
 }

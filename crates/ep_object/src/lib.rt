@@ -7,6 +7,7 @@
 
 mod code;
 mod laws;
+pub mod limit;
 pub mod op;
 mod state;
 
@@ -16,4 +17,6 @@ pub use code::{
     References, Texts, Words,
 };
 pub use laws::{laws_of_runs, laws_of_simulations};
-pub use state::{Kind, Place, Segment, TypeEntry};
+pub use state::{
+    FIRST_LIVE_WORDS, INPUT_SEGMENT, Kind, OUTPUT_SEGMENT, Place, Segment, TEXT_TYPE, TypeEntry,
+};

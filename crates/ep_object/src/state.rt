@@ -2,8 +2,20 @@
 
 use crate::code::Words;
 
+/// The number of the type of text files.
+pub const TEXT_TYPE: u32 = 3;
+
+/// The segment of `input`.
+pub const INPUT_SEGMENT: u64 = 1;
+
+/// The segment of `output`.
+pub const OUTPUT_SEGMENT: u64 = 2;
+
+/// How many words of `input` and `output` live.
+pub const FIRST_LIVE_WORDS: u64 = 4;
+
 /// Where a variable is.
-#[derive(Clone, Copy, Debug, Drop)]
+#[derive(Clone, Copy, Drop)]
 pub struct Place {
     /// The number of its segment.
     pub segment: u64,
@@ -14,7 +26,7 @@ pub struct Place {
 }
 
 /// The words of an allocation, that is a variable of its own.
-#[derive(Debug, Drop)]
+#[derive(Drop)]
 pub struct Segment {
     /// The number of its type in the type table.
     pub type_number: u32,
@@ -23,7 +35,7 @@ pub struct Segment {
 }
 
 /// What kind of type it is.
-#[derive(Clone, Copy, Debug, Drop)]
+#[derive(Clone, Copy, Drop)]
 pub enum Kind {
     /// An ordinal type with its bounds.
     Ord(i64, i64),
@@ -34,7 +46,7 @@ pub enum Kind {
 }
 
 /// An entry of the type table.
-#[derive(Clone, Copy, Debug, Drop)]
+#[derive(Clone, Copy, Drop)]
 pub struct TypeEntry {
     /// Its kind.
     pub kind: Kind,

@@ -1,7 +1,7 @@
 //! What the calls of the outside answer.
 
 /// What a read answers.
-#[derive(Clone, Copy, Debug, PartialEq, Eq)]
+#[derive(Clone, Copy, PartialEq, Eq)]
 pub enum ReadAnswer {
     /// This many bytes were put in front of the buffer; none means that nothing is left.
     Got(usize),
@@ -10,7 +10,7 @@ pub enum ReadAnswer {
 }
 
 /// What a write, a create or an append answers.
-#[derive(Clone, Copy, Debug, PartialEq, Eq)]
+#[derive(Clone, Copy, PartialEq, Eq)]
 pub enum WriteAnswer {
     /// All of it is done.
     Done,
@@ -21,7 +21,7 @@ pub enum WriteAnswer {
 }
 
 /// What a load answers.
-#[derive(Clone, Copy, Debug, PartialEq, Eq)]
+#[derive(Clone, Copy, PartialEq, Eq)]
 pub enum LoadAnswer {
     /// The file's bytes were put into the buffer.
     Held,

@@ -17,6 +17,3 @@ pub use mem_files::{MemFiles, SureFiles};
 pub use mem_sink::{MemSink, SureSink};
 pub use mem_source::{MemSource, SureSource};
 pub use traits::{Files, Sink, Source};
-
-#[cfg(test)]
-mod tests;

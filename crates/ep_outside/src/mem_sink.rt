@@ -9,7 +9,7 @@ use std::alloc::Global;
 
 /// A sink in memory whose calls of given numbers fail. A failing write keeps the first half of its piece,
 /// rounded down.
-#[derive(Debug, Drop)]
+#[derive(Drop)]
 pub struct MemSink {
     held: Vec<u8>,
     schedule: Schedule,
@@ -56,7 +56,7 @@ impl Sink for MemSink {
 }
 
 /// A sink in memory that never fails.
-#[derive(Debug, Drop)]
+#[derive(Drop)]
 pub struct SureSink {
     held: Vec<u8>,
 }

@@ -8,7 +8,7 @@ use crate::traits::Source;
 use ep_base::Bytes;
 
 /// Bytes of which a front was taken.
-#[derive(Debug, Drop)]
+#[derive(Drop)]
 struct Remainder {
     held: Bytes,
     place: usize,
@@ -39,7 +39,7 @@ impl Remainder {
 }
 
 /// A source in memory whose calls of given numbers fail.
-#[derive(Debug, Drop)]
+#[derive(Drop)]
 pub struct MemSource {
     remainder: Remainder,
     schedule: Schedule,
@@ -75,7 +75,7 @@ impl Source for MemSource {
 }
 
 /// A source in memory that never fails.
-#[derive(Debug, Drop)]
+#[derive(Drop)]
 pub struct SureSource {
     remainder: Remainder,
 }

@@ -3,7 +3,7 @@
 ghost use Rattle.std.specs.Prelude.{◌≡◌, ◌+◌, ℕ, if◌then◌else◌, Contains, IsTrue, min};
 
 /// Counts the calls of an object, and its faults.
-#[derive(Debug, Drop)]
+#[derive(Drop)]
 pub struct Schedule {
     calls: u64,
     fails: Vec<u64>,

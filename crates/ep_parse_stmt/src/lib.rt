@@ -3,4 +3,4 @@
 
 mod statements;
 
-pub use statements::{compound, inner_statement};
+pub use statements::{boxed_statement, compound};

@@ -15,18 +15,18 @@ use ep_token::{symbol, word};
 use ep_tree::{Access, Arm, Compound, Otherwise, Statement};
 use std::alloc::Global;
 
-/// Reads a statement one level deeper.
+/// `stmt`, one level deeper.
 #[cycle(statement)]
-pub fn inner_statement(alloc: Global, reader: &mut Reader<'_>, room: u32) -> Result<Statement, Stop>
+fn inner_statement(alloc: Global, reader: &mut Reader<'_>, room: u32) -> Result<Statement, Stop>
     ensures { Reads (read_inside (inside_at room) statements reader.old) result reader.new }
 {
     let inner = level(room, true)?;
     statement(alloc, reader, inner)
 }
 
-/// The same, in a box.
+/// `stmt`, one level deeper, in a box.
 #[cycle(statement)]
-fn boxed_statement(
+pub fn boxed_statement(
     alloc: Global,
     reader: &mut Reader<'_>,
     room: u32,
@@ -37,6 +37,7 @@ fn boxed_statement(
     Ok(Boxed::new(alloc, statement)?)
 }
 
+/// `stmts = stmt { ";" stmt }`
 #[cycle(statement)]
 #[tactic(auto, unfolding(ep_grammar::specs::Statements::inner_statements))]
 fn inner_statements(
@@ -46,7 +47,7 @@ fn inner_statements(
 ) -> Result<List<Statement>, Stop>
     ensures { Reads (read (inside_at room) inner_statements reader.old) result reader.new }
 {
-    let mut found = List::new(alloc);
+    let mut found = List::with_room(alloc, 1)?;
     found.push(inner_statement(alloc, reader, room)?)?;
     for _turn in 0..reader.left() {
         if !reader.sees_symbol(symbol::SEMICOLON) {
@@ -58,7 +59,7 @@ fn inner_statements(
     Ok(found)
 }
 
-/// Reads a compound statement.
+/// `compound = "begin" stmts "end"`
 #[cycle(statement)]
 #[tactic(auto, unfolding(ep_grammar::specs::Statements::compound))]
 pub fn compound(alloc: Global, reader: &mut Reader<'_>, room: u32) -> Result<Compound, Stop>
@@ -72,6 +73,7 @@ pub fn compound(alloc: Global, reader: &mut Reader<'_>, room: u32) -> Result<Com
     Ok(Compound { line, statements })
 }
 
+/// `compound` as a statement.
 #[cycle(statement)]
 #[tactic(auto, unfolding(ep_grammar::specs::Statements::compound_statement))]
 fn compound_statement(alloc: Global, reader: &mut Reader<'_>, room: u32) -> Result<Statement, Stop>
@@ -81,6 +83,7 @@ fn compound_statement(alloc: Global, reader: &mut Reader<'_>, room: u32) -> Resu
     Ok(Statement::Compound(compound))
 }
 
+/// `[ "else" stmt ]`
 #[cycle(statement)]
 #[tactic(auto, unfolding(ep_grammar::specs::Statements::else_part))]
 fn else_part(
@@ -98,6 +101,7 @@ fn else_part(
     Ok(Some(statement))
 }
 
+/// `"if" expr "then" stmt [ "else" stmt ]`
 #[cycle(statement)]
 #[tactic(auto, unfolding(ep_grammar::specs::Statements::if_statement))]
 fn if_statement(alloc: Global, reader: &mut Reader<'_>, room: u32) -> Result<Statement, Stop>
@@ -113,6 +117,7 @@ fn if_statement(alloc: Global, reader: &mut Reader<'_>, room: u32) -> Result<Sta
     Ok(Statement::If(line, condition, body, second))
 }
 
+/// `arm = labels ":" stmt`
 #[cycle(statement)]
 #[tactic(auto, unfolding(ep_grammar::specs::Statements::arm))]
 fn arm(alloc: Global, reader: &mut Reader<'_>, room: u32) -> Result<Arm, Stop>
@@ -126,12 +131,13 @@ fn arm(alloc: Global, reader: &mut Reader<'_>, room: u32) -> Result<Arm, Stop>
     Ok(Arm { line, labels, body })
 }
 
+/// `arm { ";" arm } [ ";" ]`
 #[cycle(statement)]
 #[tactic(auto, unfolding(ep_grammar::specs::Statements::arms))]
 fn arms(alloc: Global, reader: &mut Reader<'_>, room: u32) -> Result<List<Arm>, Stop>
     ensures { Reads (read (inside_at room) arms reader.old) result reader.new }
 {
-    let mut found = List::new(alloc);
+    let mut found = List::with_room(alloc, 1)?;
     found.push(arm(alloc, reader, room)?)?;
     for _turn in 0..reader.left() {
         if !reader.sees_symbol(symbol::SEMICOLON) {
@@ -146,6 +152,7 @@ fn arms(alloc: Global, reader: &mut Reader<'_>, room: u32) -> Result<List<Arm>, 
     Ok(found)
 }
 
+/// `other = "otherwise" stmts`
 #[cycle(statement)]
 #[tactic(auto, unfolding(ep_grammar::specs::Statements::other))]
 fn other(alloc: Global, reader: &mut Reader<'_>, room: u32) -> Result<Otherwise, Stop>
@@ -158,6 +165,7 @@ fn other(alloc: Global, reader: &mut Reader<'_>, room: u32) -> Result<Otherwise,
     Ok(Otherwise { line, statements })
 }
 
+/// `other`, without arms before it.
 #[cycle(statement)]
 #[tactic(auto, unfolding(ep_grammar::specs::Statements::other_arms))]
 fn other_arms(
@@ -171,6 +179,7 @@ fn other_arms(
     Ok((List::new(alloc), Some(other)))
 }
 
+/// `arm { ";" arm } [ ";" | [ ";" ] other ]`
 #[cycle(statement)]
 #[tactic(auto, unfolding(ep_grammar::specs::Statements::labelled_arms))]
 fn labelled_arms(
@@ -188,6 +197,7 @@ fn labelled_arms(
     Ok((arms, Some(other)))
 }
 
+/// `arm { ";" arm } [ ";" | [ ";" ] other ] | other`
 #[cycle(statement)]
 #[tactic(auto, unfolding(ep_grammar::specs::Statements::case_arms))]
 fn case_arms(
@@ -203,6 +213,7 @@ fn case_arms(
     labelled_arms(alloc, reader, room)
 }
 
+/// `"case" expr "of" ( arms | other ) "end"`
 #[cycle(statement)]
 #[tactic(auto, unfolding(ep_grammar::specs::Statements::case_statement))]
 fn case_statement(alloc: Global, reader: &mut Reader<'_>, room: u32) -> Result<Statement, Stop>
@@ -218,6 +229,7 @@ fn case_statement(alloc: Global, reader: &mut Reader<'_>, room: u32) -> Result<S
     Ok(Statement::Case(line, selector, parts.0, parts.1))
 }
 
+/// `"while" expr "do" stmt`
 #[cycle(statement)]
 #[tactic(auto, unfolding(ep_grammar::specs::Statements::while_statement))]
 fn while_statement(alloc: Global, reader: &mut Reader<'_>, room: u32) -> Result<Statement, Stop>
@@ -232,6 +244,7 @@ fn while_statement(alloc: Global, reader: &mut Reader<'_>, room: u32) -> Result<
     Ok(Statement::While(line, condition, body))
 }
 
+/// `"repeat" stmts "until" expr`
 #[cycle(statement)]
 #[tactic(auto, unfolding(ep_grammar::specs::Statements::repeat_statement))]
 fn repeat_statement(alloc: Global, reader: &mut Reader<'_>, room: u32) -> Result<Statement, Stop>
@@ -246,6 +259,7 @@ fn repeat_statement(alloc: Global, reader: &mut Reader<'_>, room: u32) -> Result
     Ok(Statement::Repeat(line, statements, condition))
 }
 
+/// `":=" expr ( "to" | "downto" ) expr "do" stmt`, after the name.
 #[cycle(statement)]
 #[tactic(auto, unfolding(ep_grammar::specs::Statements::for_range))]
 fn for_range(
@@ -266,6 +280,7 @@ fn for_range(
     Ok(Statement::For(line, name, from, direction, to, body))
 }
 
+/// `"in" expr "do" stmt`, after the name.
 #[cycle(statement)]
 #[tactic(auto, unfolding(ep_grammar::specs::Statements::for_members))]
 fn for_members(
@@ -284,6 +299,7 @@ fn for_members(
     Ok(Statement::ForIn(line, name, members, body))
 }
 
+/// `"for" id ( ":=" expr ( "to" | "downto" ) expr | "in" expr ) "do" stmt`
 #[cycle(statement)]
 #[tactic(auto, unfolding(ep_grammar::specs::Statements::for_statement))]
 fn for_statement(alloc: Global, reader: &mut Reader<'_>, room: u32) -> Result<Statement, Stop>
@@ -297,6 +313,7 @@ fn for_statement(alloc: Global, reader: &mut Reader<'_>, room: u32) -> Result<St
     Ok(statement)
 }
 
+/// `":=" expr ( "to" | "downto" ) expr "do" stmt | "in" expr "do" stmt`, after the name
 #[cycle(statement)]
 fn for_rest(
     alloc: Global,
@@ -313,11 +330,12 @@ fn for_rest(
     for_range(alloc, reader, room, line, name)
 }
 
+/// `access { "," access }`
 #[tactic(auto, unfolding(ep_grammar::specs::Statements::accesses))]
 fn accesses(alloc: Global, reader: &mut Reader<'_>, room: u32) -> Result<List<Access>, Stop>
     ensures { Reads (read (inside_at room) accesses reader.old) result reader.new }
 {
-    let mut found = List::new(alloc);
+    let mut found = List::with_room(alloc, 1)?;
     found.push(access(alloc, reader, room)?)?;
     for _turn in 0..reader.left() {
         if !reader.sees_symbol(symbol::COMMA) {
@@ -329,6 +347,7 @@ fn accesses(alloc: Global, reader: &mut Reader<'_>, room: u32) -> Result<List<Ac
     Ok(found)
 }
 
+/// `"with" access { "," access } "do" stmt`
 #[cycle(statement)]
 #[tactic(auto, unfolding(ep_grammar::specs::Statements::with_statement))]
 fn with_statement(alloc: Global, reader: &mut Reader<'_>, room: u32) -> Result<Statement, Stop>
@@ -343,6 +362,7 @@ fn with_statement(alloc: Global, reader: &mut Reader<'_>, room: u32) -> Result<S
     Ok(Statement::With(line, accesses, body))
 }
 
+/// `access [ ":=" cvalue ]`
 #[tactic(auto, unfolding(ep_grammar::specs::Statements::simple_statement))]
 fn simple_statement(alloc: Global, reader: &mut Reader<'_>, room: u32) -> Result<Statement, Stop>
     ensures { Reads (read (inside_at room) simple_statement reader.old) result reader.new }
@@ -357,6 +377,7 @@ fn simple_statement(alloc: Global, reader: &mut Reader<'_>, room: u32) -> Result
     Ok(Statement::Assignment(line, access, value))
 }
 
+/// A statement that begins with `while`, `repeat`, `for` or `with`.
 #[cycle(statement)]
 #[tactic(auto, unfolding(ep_grammar::specs::Statements::loop_statement))]
 fn loop_statement(alloc: Global, reader: &mut Reader<'_>, room: u32) -> Result<Statement, Stop>
@@ -373,6 +394,7 @@ fn loop_statement(alloc: Global, reader: &mut Reader<'_>, room: u32) -> Result<S
     }
 }
 
+/// `stmt`
 #[cycle(statement)]
 #[tactic(auto, unfolding(ep_grammar::specs::Statements::statement))]
 fn statement(alloc: Global, reader: &mut Reader<'_>, room: u32) -> Result<Statement, Stop>

@@ -18,12 +18,12 @@ use ep_tree::{
 };
 use std::alloc::Global;
 
-/// Reads names with commas between them.
+/// `ids = id { "," id }`
 #[tactic(auto, unfolding(ep_grammar::specs::Types::names))]
 pub fn names(alloc: Global, reader: &mut Reader<'_>, room: u32) -> Result<Names, Stop>
     ensures { Reads (read (inside_at room) names reader.old) result reader.new }
 {
-    let mut found = List::new(alloc);
+    let mut found = List::with_room(alloc, 1)?;
     found.push(reader.name(alloc)?)?;
     for _turn in 0..reader.left() {
         if !reader.sees_symbol(symbol::COMMA) {
@@ -35,7 +35,7 @@ pub fn names(alloc: Global, reader: &mut Reader<'_>, room: u32) -> Result<Names,
     Ok(found)
 }
 
-/// Reads names in parentheses.
+/// `"(" ids ")"`
 #[tactic(auto, unfolding(ep_grammar::specs::Types::names_in_parentheses))]
 pub fn names_in_parentheses(
     alloc: Global,
@@ -50,6 +50,7 @@ pub fn names_in_parentheses(
     Ok(found)
 }
 
+/// `[ "value" cvalue ]`
 #[tactic(auto, unfolding(ep_grammar::specs::Types::initial))]
 fn initial(
     alloc: Global,
@@ -66,14 +67,16 @@ fn initial(
     Ok(Some(value))
 }
 
+/// `plain`, one level deeper.
 #[cycle(types)]
-fn inner_plain(alloc: Global, reader: &mut Reader<'_>, room: u32) -> Result<Plain, Stop>
+fn inner_plain(alloc: Global, reader: &mut Reader<'_>, room: u32) -> Result<Boxed<Plain>, Stop>
     ensures { Reads (read_inside (inside_at room) plains reader.old) result reader.new }
 {
     let inner = level(room, true)?;
     plain(alloc, reader, inner)
 }
 
+/// `fields`, one level deeper.
 #[cycle(types)]
 fn inner_field_list(alloc: Global, reader: &mut Reader<'_>, room: u32) -> Result<Fields, Stop>
     ensures { Reads (read_inside (inside_at room) field_lists reader.old) result reader.new }
@@ -82,7 +85,7 @@ fn inner_field_list(alloc: Global, reader: &mut Reader<'_>, room: u32) -> Result
     fields(alloc, reader, inner)
 }
 
-/// Reads a type denoter.
+/// `type = plain [ "value" cvalue ]`
 #[cycle(types)]
 #[tactic(auto, unfolding(ep_grammar::specs::Types::type_denoter))]
 pub fn type_denoter(alloc: Global, reader: &mut Reader<'_>, room: u32) -> Result<TypeDenoter, Stop>
@@ -98,6 +101,7 @@ pub fn type_denoter(alloc: Global, reader: &mut Reader<'_>, room: u32) -> Result
     })
 }
 
+/// `"(" ids ")"`
 #[tactic(auto, unfolding(ep_grammar::specs::Types::enumeration))]
 fn enumeration(alloc: Global, reader: &mut Reader<'_>, room: u32) -> Result<Core, Stop>
     ensures { Reads (read (inside_at room) enumeration reader.old) result reader.new }
@@ -107,6 +111,7 @@ fn enumeration(alloc: Global, reader: &mut Reader<'_>, room: u32) -> Result<Core
     Ok(Core::Enumeration(line, names))
 }
 
+/// `"^" name`
 #[tactic(auto, unfolding(ep_grammar::specs::Types::pointer))]
 fn pointer(alloc: Global, reader: &mut Reader<'_>, room: u32) -> Result<Core, Stop>
     ensures { Reads (read (inside_at room) pointer reader.old) result reader.new }
@@ -117,6 +122,7 @@ fn pointer(alloc: Global, reader: &mut Reader<'_>, room: u32) -> Result<Core, St
     Ok(Core::Pointer(line, name))
 }
 
+/// `"restricted" name`
 #[tactic(auto, unfolding(ep_grammar::specs::Types::restricted))]
 fn restricted(alloc: Global, reader: &mut Reader<'_>, room: u32) -> Result<Core, Stop>
     ensures { Reads (read (inside_at room) restricted reader.old) result reader.new }
@@ -127,6 +133,7 @@ fn restricted(alloc: Global, reader: &mut Reader<'_>, room: u32) -> Result<Core,
     Ok(Core::Restricted(line, name))
 }
 
+/// `"type" "of" name`
 #[tactic(auto, unfolding(ep_grammar::specs::Types::type_of))]
 fn type_of(alloc: Global, reader: &mut Reader<'_>, room: u32) -> Result<Core, Stop>
     ensures { Reads (read (inside_at room) type_of reader.old) result reader.new }
@@ -138,12 +145,13 @@ fn type_of(alloc: Global, reader: &mut Reader<'_>, room: u32) -> Result<Core, St
     Ok(Core::TypeOf(line, name))
 }
 
+/// `".." expr`, after the lower bound.
 #[tactic(auto, unfolding(ep_grammar::specs::Types::range_end))]
 fn range_end(
     alloc: Global,
     reader: &mut Reader<'_>,
     room: u32,
-    low: Expression,
+    low: Boxed<Expression>,
     line: Line,
 ) -> Result<Core, Stop>
     ensures { Reads (applied (λ r. r low line) (read (inside_at room) range_end reader.old)) result reader.new }
@@ -153,6 +161,7 @@ fn range_end(
     Ok(Core::Range(line, low, high))
 }
 
+/// `name [ "(" expr { "," expr } ")" ] | expr ".." expr`
 #[tactic(auto, unfolding(ep_grammar::specs::Types::named_or_range))]
 fn named_or_range(alloc: Global, reader: &mut Reader<'_>, room: u32) -> Result<Core, Stop>
     ensures { Reads (read (inside_at room) named_or_range reader.old) result reader.new }
@@ -162,29 +171,31 @@ fn named_or_range(alloc: Global, reader: &mut Reader<'_>, room: u32) -> Result<C
     if reader.sees_symbol(symbol::RANGE) {
         return range_end(alloc, reader, room, low, line);
     }
-    let Some((name, arguments)) = low.into_named(alloc)? else {
+    let Some((name, arguments)) = low.into_inner().into_named(alloc)? else {
         return Err(Stop::Syntax);
     };
     Ok(Core::Named(line, name, arguments))
 }
 
+/// `plain { "," plain }`
 #[cycle(types)]
 #[tactic(auto, unfolding(ep_grammar::specs::Types::inner_plains))]
 fn inner_plains(alloc: Global, reader: &mut Reader<'_>, room: u32) -> Result<List<Plain>, Stop>
     ensures { Reads (read (inside_at room) inner_plains reader.old) result reader.new }
 {
-    let mut found = List::new(alloc);
-    found.push(inner_plain(alloc, reader, room)?)?;
+    let mut found = List::with_room(alloc, 1)?;
+    found.push(inner_plain(alloc, reader, room)?.into_inner())?;
     for _turn in 0..reader.left() {
         if !reader.sees_symbol(symbol::COMMA) {
             return Ok(found);
         }
         reader.symbol(symbol::COMMA)?;
-        found.push(inner_plain(alloc, reader, room)?)?;
+        found.push(inner_plain(alloc, reader, room)?.into_inner())?;
     }
     Ok(found)
 }
 
+/// `"array" "[" plain { "," plain } "]" "of" plain`
 #[cycle(types)]
 #[tactic(auto, unfolding(ep_grammar::specs::Types::array))]
 fn array(alloc: Global, reader: &mut Reader<'_>, room: u32) -> Result<Structure, Stop>
@@ -197,9 +208,10 @@ fn array(alloc: Global, reader: &mut Reader<'_>, room: u32) -> Result<Structure,
     reader.symbol(symbol::RIGHT_BRACKET)?;
     reader.keyword(word::OF)?;
     let component = inner_plain(alloc, reader, room)?;
-    Ok(Structure::Array(line, indexes, Boxed::new(alloc, component)?))
+    Ok(Structure::Array(line, indexes, component))
 }
 
+/// `"record" fields "end"`
 #[cycle(types)]
 #[tactic(auto, unfolding(ep_grammar::specs::Types::record_structure))]
 fn record_structure(alloc: Global, reader: &mut Reader<'_>, room: u32) -> Result<Structure, Stop>
@@ -212,6 +224,7 @@ fn record_structure(alloc: Global, reader: &mut Reader<'_>, room: u32) -> Result
     Ok(Structure::Record(line, fields))
 }
 
+/// `"set" "of" plain`
 #[cycle(types)]
 #[tactic(auto, unfolding(ep_grammar::specs::Types::set_structure))]
 fn set_structure(alloc: Global, reader: &mut Reader<'_>, room: u32) -> Result<Structure, Stop>
@@ -221,9 +234,10 @@ fn set_structure(alloc: Global, reader: &mut Reader<'_>, room: u32) -> Result<St
     reader.keyword(word::SET)?;
     reader.keyword(word::OF)?;
     let base = inner_plain(alloc, reader, room)?;
-    Ok(Structure::Set(line, Boxed::new(alloc, base)?))
+    Ok(Structure::Set(line, base))
 }
 
+/// `struct`
 #[cycle(types)]
 #[tactic(auto, unfolding(ep_grammar::specs::Types::structure))]
 fn structure(alloc: Global, reader: &mut Reader<'_>, room: u32) -> Result<Structure, Stop>
@@ -238,6 +252,7 @@ fn structure(alloc: Global, reader: &mut Reader<'_>, room: u32) -> Result<Struct
     }
 }
 
+/// `[ "packed" ] struct`
 #[cycle(types)]
 #[tactic(auto, unfolding(ep_grammar::specs::Types::structured))]
 fn structured(alloc: Global, reader: &mut Reader<'_>, room: u32) -> Result<Core, Stop>
@@ -250,6 +265,7 @@ fn structured(alloc: Global, reader: &mut Reader<'_>, room: u32) -> Result<Core,
     Ok(Core::Structured(line, packed, structure))
 }
 
+/// `core`
 #[cycle(types)]
 #[tactic(auto, unfolding(ep_grammar::specs::Types::core))]
 fn core(alloc: Global, reader: &mut Reader<'_>, room: u32) -> Result<Core, Stop>
@@ -270,21 +286,24 @@ fn core(alloc: Global, reader: &mut Reader<'_>, room: u32) -> Result<Core, Stop>
     }
 }
 
+/// `plain = [ "bindable" ] core`
 #[cycle(types)]
 #[tactic(auto, unfolding(ep_grammar::specs::Types::plain))]
-fn plain(alloc: Global, reader: &mut Reader<'_>, room: u32) -> Result<Plain, Stop>
+fn plain(alloc: Global, reader: &mut Reader<'_>, room: u32) -> Result<Boxed<Plain>, Stop>
     ensures { Reads (read (inside_at room) plain reader.old) result reader.new }
 {
     let line = reader.line();
     let bindable = reader.takes_word(word::BINDABLE);
     let core = core(alloc, reader, room)?;
-    Ok(Plain {
+    let plain = Plain {
         line,
         bindable,
         core,
-    })
+    };
+    Ok(Boxed::new(alloc, plain)?)
 }
 
+/// `fsec = ids ":" type`
 #[cycle(types)]
 #[tactic(auto, unfolding(ep_grammar::specs::Types::field_section))]
 fn field_section(alloc: Global, reader: &mut Reader<'_>, room: u32) -> Result<FieldSection, Stop>
@@ -298,6 +317,7 @@ fn field_section(alloc: Global, reader: &mut Reader<'_>, room: u32) -> Result<Fi
     Ok(FieldSection { line, names, of })
 }
 
+/// `id ":" name | id`
 #[tactic(auto, unfolding(ep_grammar::specs::Types::variant_selector))]
 fn variant_selector(
     alloc: Global,
@@ -316,6 +336,7 @@ fn variant_selector(
     Ok(VariantSelector::Tag(line, name, of))
 }
 
+/// `"(" fields ")"`
 #[cycle(types)]
 #[tactic(auto, unfolding(ep_grammar::specs::Types::inner_fields))]
 fn inner_fields(alloc: Global, reader: &mut Reader<'_>, room: u32) -> Result<Fields, Stop>
@@ -327,6 +348,7 @@ fn inner_fields(alloc: Global, reader: &mut Reader<'_>, room: u32) -> Result<Fie
     Ok(fields)
 }
 
+/// `variant = labels ":" "(" fields ")"`
 #[cycle(types)]
 #[tactic(auto, unfolding(ep_grammar::specs::Types::variant))]
 fn variant(alloc: Global, reader: &mut Reader<'_>, room: u32) -> Result<Variant, Stop>
@@ -344,12 +366,13 @@ fn variant(alloc: Global, reader: &mut Reader<'_>, room: u32) -> Result<Variant,
     })
 }
 
+/// `variant { ";" variant } [ ";" ]`
 #[cycle(types)]
 #[tactic(auto, unfolding(ep_grammar::specs::Types::variants))]
 fn variants(alloc: Global, reader: &mut Reader<'_>, room: u32) -> Result<List<Variant>, Stop>
     ensures { Reads (read (inside_at room) variants reader.old) result reader.new }
 {
-    let mut found = List::new(alloc);
+    let mut found = List::with_room(alloc, 1)?;
     found.push(variant(alloc, reader, room)?)?;
     for _turn in 0..reader.left() {
         if !reader.sees_symbol(symbol::SEMICOLON) {
@@ -364,6 +387,7 @@ fn variants(alloc: Global, reader: &mut Reader<'_>, room: u32) -> Result<List<Va
     Ok(found)
 }
 
+/// `"otherwise" "(" fields ")" [ ";" ]`
 #[cycle(types)]
 #[tactic(auto, unfolding(ep_grammar::specs::Types::other_fields))]
 fn other_fields(alloc: Global, reader: &mut Reader<'_>, room: u32) -> Result<Fields, Stop>
@@ -379,6 +403,7 @@ fn other_fields(alloc: Global, reader: &mut Reader<'_>, room: u32) -> Result<Fie
     Ok(fields)
 }
 
+/// `[ "otherwise" "(" fields ")" [ ";" ] ]`
 #[cycle(types)]
 fn other_part(
     alloc: Global,
@@ -394,6 +419,7 @@ fn other_part(
     Ok(Some(Boxed::new(alloc, other)?))
 }
 
+/// `vpart = "case" selector "of" variant { ";" variant } [ [ ";" ] "otherwise" "(" fields ")" ]`
 #[cycle(types)]
 #[tactic(auto, unfolding(ep_grammar::specs::Types::variant_part))]
 fn variant_part(alloc: Global, reader: &mut Reader<'_>, room: u32) -> Result<VariantPart, Stop>
@@ -414,6 +440,7 @@ fn variant_part(alloc: Global, reader: &mut Reader<'_>, room: u32) -> Result<Var
     })
 }
 
+/// `fsec { ";" fsec } [ ";" ]`
 #[cycle(types)]
 #[tactic(auto, unfolding(ep_grammar::specs::Types::sections))]
 fn sections(
@@ -423,7 +450,7 @@ fn sections(
 ) -> Result<(List<FieldSection>, bool), Stop>
     ensures { Reads (read (inside_at room) sections reader.old) result reader.new }
 {
-    let mut found = List::new(alloc);
+    let mut found = List::with_room(alloc, 1)?;
     found.push(field_section(alloc, reader, room)?)?;
     for _turn in 0..reader.left() {
         if !reader.sees_symbol(symbol::SEMICOLON) {
@@ -438,6 +465,7 @@ fn sections(
     Ok((found, false))
 }
 
+/// `vpart`, after sections and a semicolon.
 #[cycle(types)]
 #[tactic(auto, unfolding(ep_grammar::specs::Types::sections_end))]
 fn sections_end(
@@ -449,7 +477,7 @@ fn sections_end(
 ) -> Result<Fields, Stop>
     ensures { Reads (applied (λ r. r sections line) (read (inside_at room) sections_end reader.old)) result reader.new }
 {
-    let variants = variant_part(alloc, reader, room)?;
+    let variants = Boxed::new(alloc, variant_part(alloc, reader, room)?)?;
     Ok(Fields {
         line,
         sections,
@@ -457,6 +485,7 @@ fn sections_end(
     })
 }
 
+/// `fsec { ";" fsec } [ ";" [ vpart ] ]`
 #[cycle(types)]
 #[tactic(auto, unfolding(ep_grammar::specs::Types::section_fields))]
 fn section_fields(alloc: Global, reader: &mut Reader<'_>, room: u32) -> Result<Fields, Stop>
@@ -476,13 +505,14 @@ fn section_fields(alloc: Global, reader: &mut Reader<'_>, room: u32) -> Result<F
     })
 }
 
+/// `vpart`, without sections before it.
 #[cycle(types)]
 #[tactic(auto, unfolding(ep_grammar::specs::Types::variant_fields))]
 fn variant_fields(alloc: Global, reader: &mut Reader<'_>, room: u32) -> Result<Fields, Stop>
     ensures { Reads (read (inside_at room) variant_fields reader.old) result reader.new }
 {
     let line = reader.line();
-    let variants = variant_part(alloc, reader, room)?;
+    let variants = Boxed::new(alloc, variant_part(alloc, reader, room)?)?;
     Ok(Fields {
         line,
         sections: List::new(alloc),
@@ -490,6 +520,7 @@ fn variant_fields(alloc: Global, reader: &mut Reader<'_>, room: u32) -> Result<F
     })
 }
 
+/// `fields = [ ( fsec { ";" fsec } [ ";" vpart ] | vpart ) [ ";" ] ]`
 #[cycle(types)]
 #[tactic(auto, unfolding(ep_grammar::specs::Types::fields))]
 fn fields(alloc: Global, reader: &mut Reader<'_>, room: u32) -> Result<Fields, Stop>

@@ -19,6 +19,7 @@ use ep_tree::{
 };
 use std::alloc::Global;
 
+/// `id "=" cvalue ";"`
 #[tactic(auto, unfolding(ep_grammar::specs::Declarations::constant_definition))]
 fn constant_definition(
     alloc: Global,
@@ -35,6 +36,7 @@ fn constant_definition(
     Ok(ConstantDefinition { line, name, value })
 }
 
+/// `id "=" cvalue ";" { id "=" cvalue ";" }`
 #[tactic(auto, unfolding(ep_grammar::specs::Declarations::constant_definitions))]
 fn constant_definitions(
     alloc: Global,
@@ -43,7 +45,7 @@ fn constant_definitions(
 ) -> Result<List<ConstantDefinition>, Stop>
     ensures { Reads (read (inside_at room) constant_definitions reader.old) result reader.new }
 {
-    let mut found = List::new(alloc);
+    let mut found = List::with_room(alloc, 1)?;
     found.push(constant_definition(alloc, reader, room)?)?;
     for _turn in 0..reader.left() {
         if !reader.sees_name() {
@@ -54,7 +56,7 @@ fn constant_definitions(
     Ok(found)
 }
 
-/// Reads constant definitions.
+/// `consts = "const" id "=" cvalue ";" { id "=" cvalue ";" }`
 #[tactic(auto, unfolding(ep_grammar::specs::Declarations::constants))]
 pub(crate) fn constants(
     alloc: Global,
@@ -69,6 +71,7 @@ pub(crate) fn constants(
     Ok(Constants { line, definitions })
 }
 
+/// `dsec = ids ":" name`
 #[tactic(auto, unfolding(ep_grammar::specs::Declarations::discriminant_section))]
 fn discriminant_section(
     alloc: Global,
@@ -84,6 +87,7 @@ fn discriminant_section(
     Ok(DiscriminantSection { line, names, of })
 }
 
+/// `dsec { ";" dsec }`
 #[tactic(auto, unfolding(ep_grammar::specs::Declarations::discriminant_sections))]
 fn discriminant_sections(
     alloc: Global,
@@ -92,7 +96,7 @@ fn discriminant_sections(
 ) -> Result<List<DiscriminantSection>, Stop>
     ensures { Reads (read (inside_at room) discriminant_sections reader.old) result reader.new }
 {
-    let mut found = List::new(alloc);
+    let mut found = List::with_room(alloc, 1)?;
     found.push(discriminant_section(alloc, reader, room)?)?;
     for _turn in 0..reader.left() {
         if !reader.sees_symbol(symbol::SEMICOLON) {
@@ -104,6 +108,7 @@ fn discriminant_sections(
     Ok(found)
 }
 
+/// `[ "(" dsec { ";" dsec } ")" ]`
 #[tactic(auto, unfolding(ep_grammar::specs::Declarations::discriminants))]
 fn discriminants(
     alloc: Global,
@@ -121,6 +126,7 @@ fn discriminants(
     Ok(found)
 }
 
+/// `tdef ";"`, where `tdef = id [ "(" dsec { ";" dsec } ")" ] "=" type`
 #[tactic(auto, unfolding(ep_grammar::specs::Declarations::type_definition))]
 fn type_definition(
     alloc: Global,
@@ -144,6 +150,7 @@ fn type_definition(
     })
 }
 
+/// `tdef ";" { tdef ";" }`
 #[tactic(auto, unfolding(ep_grammar::specs::Declarations::type_definitions))]
 fn type_definitions(
     alloc: Global,
@@ -152,7 +159,7 @@ fn type_definitions(
 ) -> Result<List<TypeDefinition>, Stop>
     ensures { Reads (read (inside_at room) type_definitions reader.old) result reader.new }
 {
-    let mut found = List::new(alloc);
+    let mut found = List::with_room(alloc, 1)?;
     found.push(type_definition(alloc, reader, room)?)?;
     for _turn in 0..reader.left() {
         if !reader.sees_name() {
@@ -163,7 +170,7 @@ fn type_definitions(
     Ok(found)
 }
 
-/// Reads type definitions.
+/// `types = "type" tdef ";" { tdef ";" }`
 #[tactic(auto, unfolding(ep_grammar::specs::Declarations::types))]
 pub(crate) fn types(alloc: Global, reader: &mut Reader<'_>, room: u32) -> Result<Types, Stop>
     ensures { Reads (read (inside_at room) types reader.old) result reader.new }
@@ -175,6 +182,7 @@ pub(crate) fn types(alloc: Global, reader: &mut Reader<'_>, room: u32) -> Result
     Ok(Types { line, definitions })
 }
 
+/// `ids ":" type ";"`
 #[tactic(auto, unfolding(ep_grammar::specs::Declarations::variable_declaration))]
 fn variable_declaration(
     alloc: Global,
@@ -192,6 +200,7 @@ fn variable_declaration(
     Ok(VariableDeclaration { line, names, of })
 }
 
+/// `ids ":" type ";" { ids ":" type ";" }`
 #[tactic(auto, unfolding(ep_grammar::specs::Declarations::variable_declarations))]
 fn variable_declarations(
     alloc: Global,
@@ -200,7 +209,7 @@ fn variable_declarations(
 ) -> Result<List<VariableDeclaration>, Stop>
     ensures { Reads (read (inside_at room) variable_declarations reader.old) result reader.new }
 {
-    let mut found = List::new(alloc);
+    let mut found = List::with_room(alloc, 1)?;
     found.push(variable_declaration(alloc, reader, room)?)?;
     for _turn in 0..reader.left() {
         if !reader.sees_name() {
@@ -211,7 +220,7 @@ fn variable_declarations(
     Ok(found)
 }
 
-/// Reads variable declarations.
+/// `vars = "var" ids ":" type ";" { ids ":" type ";" }`
 #[tactic(auto, unfolding(ep_grammar::specs::Declarations::variables))]
 pub(crate) fn variables(
     alloc: Global,
@@ -227,6 +236,7 @@ pub(crate) fn variables(
     Ok(Variables { line, declarations })
 }
 
+/// `"type" "of" name`
 #[tactic(auto, unfolding(ep_grammar::specs::Declarations::formal_type_of))]
 fn formal_type_of(alloc: Global, reader: &mut Reader<'_>, room: u32) -> Result<FormalType, Stop>
     ensures { Reads (read (inside_at room) formal_type_of reader.old) result reader.new }
@@ -238,6 +248,7 @@ fn formal_type_of(alloc: Global, reader: &mut Reader<'_>, room: u32) -> Result<F
     Ok(FormalType::TypeOf(line, name))
 }
 
+/// `name | "type" "of" name`
 #[tactic(auto, unfolding(ep_grammar::specs::Declarations::formal_type))]
 fn formal_type(alloc: Global, reader: &mut Reader<'_>, room: u32) -> Result<FormalType, Stop>
     ensures { Reads (read (inside_at room) formal_type reader.old) result reader.new }
@@ -249,6 +260,7 @@ fn formal_type(alloc: Global, reader: &mut Reader<'_>, room: u32) -> Result<Form
     Ok(FormalType::Named(name))
 }
 
+/// `psec = [ "protected" ] [ "var" ] ids ":" ( name | "type" "of" name )`
 #[tactic(auto, unfolding(ep_grammar::specs::Declarations::formal_section))]
 fn formal_section(alloc: Global, reader: &mut Reader<'_>, room: u32) -> Result<FormalSection, Stop>
     ensures { Reads (read (inside_at room) formal_section reader.old) result reader.new }
@@ -268,6 +280,7 @@ fn formal_section(alloc: Global, reader: &mut Reader<'_>, room: u32) -> Result<F
     })
 }
 
+/// `psec { ";" psec }`
 #[tactic(auto, unfolding(ep_grammar::specs::Declarations::formal_sections))]
 fn formal_sections(
     alloc: Global,
@@ -276,7 +289,7 @@ fn formal_sections(
 ) -> Result<List<FormalSection>, Stop>
     ensures { Reads (read (inside_at room) formal_sections reader.old) result reader.new }
 {
-    let mut found = List::new(alloc);
+    let mut found = List::with_room(alloc, 1)?;
     found.push(formal_section(alloc, reader, room)?)?;
     for _turn in 0..reader.left() {
         if !reader.sees_symbol(symbol::SEMICOLON) {
@@ -288,6 +301,7 @@ fn formal_sections(
     Ok(found)
 }
 
+/// `[ formals ]`, where `formals = "(" psec { ";" psec } ")"`
 #[tactic(auto, unfolding(ep_grammar::specs::Declarations::formals))]
 fn formals(alloc: Global, reader: &mut Reader<'_>, room: u32) -> Result<List<FormalSection>, Stop>
     ensures { Reads (read (inside_at room) formals reader.old) result reader.new }
@@ -301,6 +315,7 @@ fn formals(alloc: Global, reader: &mut Reader<'_>, room: u32) -> Result<List<For
     Ok(found)
 }
 
+/// `"procedure" id [ formals ]`
 #[tactic(auto, unfolding(ep_grammar::specs::Declarations::procedure))]
 fn procedure(alloc: Global, reader: &mut Reader<'_>, room: u32) -> Result<RoutineHeading, Stop>
     ensures { Reads (read (inside_at room) procedure reader.old) result reader.new }
@@ -312,6 +327,7 @@ fn procedure(alloc: Global, reader: &mut Reader<'_>, room: u32) -> Result<Routin
     Ok(RoutineHeading::Procedure(line, name, formals))
 }
 
+/// `[ "=" id ]`
 #[tactic(auto, unfolding(ep_grammar::specs::Declarations::result_name))]
 fn result_name(alloc: Global, reader: &mut Reader<'_>, room: u32) -> Result<Option<Name>, Stop>
     ensures { Reads (read (inside_at room) result_name reader.old) result reader.new }
@@ -324,6 +340,7 @@ fn result_name(alloc: Global, reader: &mut Reader<'_>, room: u32) -> Result<Opti
     Ok(Some(name))
 }
 
+/// `"function" id [ formals ] [ "=" id ] ":" name`
 #[tactic(auto, unfolding(ep_grammar::specs::Declarations::function))]
 fn function(alloc: Global, reader: &mut Reader<'_>, room: u32) -> Result<RoutineHeading, Stop>
     ensures { Reads (read (inside_at room) function reader.old) result reader.new }
@@ -338,7 +355,7 @@ fn function(alloc: Global, reader: &mut Reader<'_>, room: u32) -> Result<Routine
     Ok(RoutineHeading::Function(line, name, formals, result, of))
 }
 
-/// Reads the heading of a routine.
+/// `rhead`
 #[tactic(auto, unfolding(ep_grammar::specs::Declarations::routine_heading))]
 pub(crate) fn routine_heading(
     alloc: Global,
@@ -353,6 +370,7 @@ pub(crate) fn routine_heading(
     function(alloc, reader, room)
 }
 
+/// `"function" id [ [ formals ] [ "=" id ] ":" name ]`
 #[tactic(auto, unfolding(ep_grammar::specs::Declarations::function_start, ep_grammar::specs::Declarations::function_rest))]
 fn function_start(alloc: Global, reader: &mut Reader<'_>, room: u32) -> Result<RoutineStart, Stop>
     ensures { Reads (read (inside_at room) function_start reader.old) result reader.new }
@@ -370,6 +388,7 @@ fn function_start(alloc: Global, reader: &mut Reader<'_>, room: u32) -> Result<R
     Ok(RoutineStart::Heading(RoutineHeading::Function(line, name, formals, result, of)))
 }
 
+/// `rhead | "function" id`
 #[tactic(auto, unfolding(ep_grammar::specs::Declarations::routine_start))]
 fn routine_start(alloc: Global, reader: &mut Reader<'_>, room: u32) -> Result<RoutineStart, Stop>
     ensures { Reads (read (inside_at room) routine_start reader.old) result reader.new }
@@ -381,6 +400,7 @@ fn routine_start(alloc: Global, reader: &mut Reader<'_>, room: u32) -> Result<Ro
     Ok(RoutineStart::Heading(heading))
 }
 
+/// `rdecl`, one level deeper.
 #[cycle(routine)]
 fn inner_routine(alloc: Global, reader: &mut Reader<'_>, room: u32) -> Result<Routine, Stop>
     ensures { Reads (read_inside (inside_at room) routines reader.old) result reader.new }
@@ -389,6 +409,7 @@ fn inner_routine(alloc: Global, reader: &mut Reader<'_>, room: u32) -> Result<Ro
     routine(alloc, reader, inner)
 }
 
+/// `rdecl` as a part.
 #[cycle(routine)]
 #[tactic(auto, unfolding(ep_grammar::specs::Declarations::routine_part))]
 fn routine_part(alloc: Global, reader: &mut Reader<'_>, room: u32) -> Result<Part, Stop>
@@ -399,6 +420,7 @@ fn routine_part(alloc: Global, reader: &mut Reader<'_>, room: u32) -> Result<Par
     Ok(Part::Routine(routine))
 }
 
+/// `consts | types | vars | rdecl`
 #[cycle(routine)]
 #[tactic(auto, unfolding(ep_grammar::specs::Declarations::part))]
 fn part(alloc: Global, reader: &mut Reader<'_>, room: u32) -> Result<Part, Stop>
@@ -419,7 +441,7 @@ fn part(alloc: Global, reader: &mut Reader<'_>, room: u32) -> Result<Part, Stop>
     routine_part(alloc, reader, room)
 }
 
-/// Reads the parts of a block.
+/// `parts = { consts | types | vars | rdecl }`
 #[cycle(routine)]
 #[tactic(auto, unfolding(ep_grammar::specs::Declarations::parts))]
 pub(crate) fn parts(alloc: Global, reader: &mut Reader<'_>, room: u32) -> Result<List<Part>, Stop>
@@ -435,6 +457,7 @@ pub(crate) fn parts(alloc: Global, reader: &mut Reader<'_>, room: u32) -> Result
     Ok(found)
 }
 
+/// `"forward"`
 #[tactic(auto, unfolding(ep_grammar::specs::Declarations::forward_body))]
 fn forward_body(alloc: Global, reader: &mut Reader<'_>, room: u32) -> Result<RoutineBody, Stop>
     ensures { Reads (read (inside_at room) forward_body reader.old) result reader.new }
@@ -444,6 +467,7 @@ fn forward_body(alloc: Global, reader: &mut Reader<'_>, room: u32) -> Result<Rou
     Ok(RoutineBody::Forward(line))
 }
 
+/// `parts compound`
 #[cycle(routine)]
 #[tactic(auto, unfolding(ep_grammar::specs::Declarations::block_body))]
 fn block_body(alloc: Global, reader: &mut Reader<'_>, room: u32) -> Result<RoutineBody, Stop>
@@ -456,6 +480,7 @@ fn block_body(alloc: Global, reader: &mut Reader<'_>, room: u32) -> Result<Routi
     Ok(RoutineBody::Block(line, parts, body))
 }
 
+/// `"forward" | parts compound`
 #[cycle(routine)]
 #[tactic(auto, unfolding(ep_grammar::specs::Declarations::routine_body))]
 fn routine_body(alloc: Global, reader: &mut Reader<'_>, room: u32) -> Result<RoutineBody, Stop>
@@ -467,6 +492,7 @@ fn routine_body(alloc: Global, reader: &mut Reader<'_>, room: u32) -> Result<Rou
     block_body(alloc, reader, room)
 }
 
+/// `rdecl = ( rhead | "function" id ) ";" ( "forward" | parts compound ) ";"`
 #[cycle(routine)]
 #[tactic(auto, unfolding(ep_grammar::specs::Declarations::routine))]
 fn routine(alloc: Global, reader: &mut Reader<'_>, room: u32) -> Result<Routine, Stop>

@@ -10,7 +10,7 @@ ghost use Rattle.ep_grammar.specs.declared.stop.Stop.TheVariants.{NoMemory};
 use crate::declarations::{constants, parts, routine_heading, types, variables};
 use ep_base::{Boxed, Line, List, Name, Names, NoMemory};
 use ep_grammar::Stop;
-use ep_parse_stmt::{compound, inner_statement};
+use ep_parse_stmt::{boxed_statement, compound};
 use ep_parse_type::names_in_parentheses;
 use ep_reader::{Reader, level};
 use ep_token::{symbol, word};
@@ -23,6 +23,7 @@ use std::alloc::Global;
 /// What a module does at the start of a program and at its end, each in a box while the rest is read.
 type Actions = (Option<Boxed<Statement>>, Option<Boxed<Statement>>);
 
+/// `[ "(" ids ")" ]`
 #[tactic(auto, unfolding(ep_grammar::specs::Units::parameters))]
 fn parameters(alloc: Global, reader: &mut Reader<'_>, room: u32) -> Result<Names, Stop>
     ensures { Reads (read (inside_at room) parameters reader.old) result reader.new }
@@ -33,6 +34,7 @@ fn parameters(alloc: Global, reader: &mut Reader<'_>, room: u32) -> Result<Names
     names_in_parentheses(alloc, reader, room)
 }
 
+/// `[ "=>" id ]`
 #[tactic(auto, unfolding(ep_grammar::specs::Units::renaming))]
 fn renaming(alloc: Global, reader: &mut Reader<'_>, room: u32) -> Result<Option<Name>, Stop>
     ensures { Reads (read (inside_at room) renaming reader.old) result reader.new }
@@ -45,6 +47,7 @@ fn renaming(alloc: Global, reader: &mut Reader<'_>, room: u32) -> Result<Option<
     Ok(Some(name))
 }
 
+/// `iitem = id [ "=>" id ]`
 #[tactic(auto, unfolding(ep_grammar::specs::Units::import_item))]
 fn import_item(alloc: Global, reader: &mut Reader<'_>, room: u32) -> Result<ImportItem, Stop>
     ensures { Reads (read (inside_at room) import_item reader.old) result reader.new }
@@ -59,11 +62,12 @@ fn import_item(alloc: Global, reader: &mut Reader<'_>, room: u32) -> Result<Impo
     })
 }
 
+/// `iitem { "," iitem }`
 #[tactic(auto, unfolding(ep_grammar::specs::Units::import_items))]
 fn import_items(alloc: Global, reader: &mut Reader<'_>, room: u32) -> Result<List<ImportItem>, Stop>
     ensures { Reads (read (inside_at room) import_items reader.old) result reader.new }
 {
-    let mut found = List::new(alloc);
+    let mut found = List::with_room(alloc, 1)?;
     found.push(import_item(alloc, reader, room)?)?;
     for _turn in 0..reader.left() {
         if !reader.sees_symbol(symbol::COMMA) {
@@ -75,6 +79,7 @@ fn import_items(alloc: Global, reader: &mut Reader<'_>, room: u32) -> Result<Lis
     Ok(found)
 }
 
+/// `"(" iitem { "," iitem } ")"`
 #[tactic(auto, unfolding(ep_grammar::specs::Units::import_list))]
 fn import_list(alloc: Global, reader: &mut Reader<'_>, room: u32) -> Result<List<ImportItem>, Stop>
     ensures { Reads (read (inside_at room) import_list reader.old) result reader.new }
@@ -85,6 +90,7 @@ fn import_list(alloc: Global, reader: &mut Reader<'_>, room: u32) -> Result<List
     Ok(found)
 }
 
+/// `[ [ "only" ] "(" iitem { "," iitem } ")" ]`
 #[tactic(auto, unfolding(ep_grammar::specs::Units::import_part))]
 fn import_part(
     alloc: Global,
@@ -105,6 +111,7 @@ fn import_part(
     Ok((false, items))
 }
 
+/// `import ";"`, where `import = id [ "qualified" ] [ [ "only" ] "(" iitem { "," iitem } ")" ]`
 #[tactic(auto, unfolding(ep_grammar::specs::Units::import_specification))]
 fn import_specification(alloc: Global, reader: &mut Reader<'_>, room: u32) -> Result<Import, Stop>
     ensures { Reads (read (inside_at room) import_specification reader.old) result reader.new }
@@ -123,6 +130,7 @@ fn import_specification(alloc: Global, reader: &mut Reader<'_>, room: u32) -> Re
     })
 }
 
+/// `import ";" { import ";" }`
 #[tactic(auto, unfolding(ep_grammar::specs::Units::import_specifications))]
 fn import_specifications(
     alloc: Global,
@@ -131,7 +139,7 @@ fn import_specifications(
 ) -> Result<List<Import>, Stop>
     ensures { Reads (read (inside_at room) import_specifications reader.old) result reader.new }
 {
-    let mut found = List::new(alloc);
+    let mut found = List::with_room(alloc, 1)?;
     found.push(import_specification(alloc, reader, room)?)?;
     for _turn in 0..reader.left() {
         if !reader.sees_name() {
@@ -142,6 +150,7 @@ fn import_specifications(
     Ok(found)
 }
 
+/// `imports = [ "import" import ";" { import ";" } ]`
 #[tactic(auto, unfolding(ep_grammar::specs::Units::imports))]
 fn imports(alloc: Global, reader: &mut Reader<'_>, room: u32) -> Result<List<Import>, Stop>
     ensures { Reads (read (inside_at room) imports reader.old) result reader.new }
@@ -153,6 +162,7 @@ fn imports(alloc: Global, reader: &mut Reader<'_>, room: u32) -> Result<List<Imp
     import_specifications(alloc, reader, room)
 }
 
+/// `"protected" id [ "=>" id ]`
 #[tactic(auto, unfolding(ep_grammar::specs::Units::protected_item))]
 fn protected_item(alloc: Global, reader: &mut Reader<'_>, room: u32) -> Result<ExportItem, Stop>
     ensures { Reads (read (inside_at room) protected_item reader.old) result reader.new }
@@ -164,6 +174,7 @@ fn protected_item(alloc: Global, reader: &mut Reader<'_>, room: u32) -> Result<E
     Ok(ExportItem::Constituent(line, true, name, renamed))
 }
 
+/// `id [ "=>" id ] | id ".." id`
 #[tactic(auto, unfolding(ep_grammar::specs::Units::plain_item, ep_grammar::specs::Units::item_range, ep_grammar::specs::Units::item_alone))]
 fn plain_item(alloc: Global, reader: &mut Reader<'_>, room: u32) -> Result<ExportItem, Stop>
     ensures { Reads (read (inside_at room) plain_item reader.old) result reader.new }
@@ -179,6 +190,7 @@ fn plain_item(alloc: Global, reader: &mut Reader<'_>, room: u32) -> Result<Expor
     Ok(ExportItem::Range(line, name, last))
 }
 
+/// `eitem = [ "protected" ] id [ "=>" id ] | id ".." id`
 #[tactic(auto, unfolding(ep_grammar::specs::Units::export_item))]
 fn export_item(alloc: Global, reader: &mut Reader<'_>, room: u32) -> Result<ExportItem, Stop>
     ensures { Reads (read (inside_at room) export_item reader.old) result reader.new }
@@ -189,11 +201,12 @@ fn export_item(alloc: Global, reader: &mut Reader<'_>, room: u32) -> Result<Expo
     plain_item(alloc, reader, room)
 }
 
+/// `eitem { "," eitem }`
 #[tactic(auto, unfolding(ep_grammar::specs::Units::export_items))]
 fn export_items(alloc: Global, reader: &mut Reader<'_>, room: u32) -> Result<List<ExportItem>, Stop>
     ensures { Reads (read (inside_at room) export_items reader.old) result reader.new }
 {
-    let mut found = List::new(alloc);
+    let mut found = List::with_room(alloc, 1)?;
     found.push(export_item(alloc, reader, room)?)?;
     for _turn in 0..reader.left() {
         if !reader.sees_symbol(symbol::COMMA) {
@@ -205,6 +218,7 @@ fn export_items(alloc: Global, reader: &mut Reader<'_>, room: u32) -> Result<Lis
     Ok(found)
 }
 
+/// `export ";"`, where `export = id "=" "(" eitem { "," eitem } ")"`
 #[tactic(auto, unfolding(ep_grammar::specs::Units::export_part))]
 fn export_part(alloc: Global, reader: &mut Reader<'_>, room: u32) -> Result<Export, Stop>
     ensures { Reads (read (inside_at room) export_part reader.old) result reader.new }
@@ -219,11 +233,12 @@ fn export_part(alloc: Global, reader: &mut Reader<'_>, room: u32) -> Result<Expo
     Ok(Export { line, name, items })
 }
 
+/// `export ";" { export ";" }`
 #[tactic(auto, unfolding(ep_grammar::specs::Units::export_parts))]
 fn export_parts(alloc: Global, reader: &mut Reader<'_>, room: u32) -> Result<List<Export>, Stop>
     ensures { Reads (read (inside_at room) export_parts reader.old) result reader.new }
 {
-    let mut found = List::new(alloc);
+    let mut found = List::with_room(alloc, 1)?;
     found.push(export_part(alloc, reader, room)?)?;
     for _turn in 0..reader.left() {
         if !reader.sees_name() {
@@ -234,6 +249,7 @@ fn export_parts(alloc: Global, reader: &mut Reader<'_>, room: u32) -> Result<Lis
     Ok(found)
 }
 
+/// `exports = "export" export ";" { export ";" }`
 #[tactic(auto, unfolding(ep_grammar::specs::Units::exports))]
 fn exports(alloc: Global, reader: &mut Reader<'_>, room: u32) -> Result<List<Export>, Stop>
     ensures { Reads (read (inside_at room) exports reader.old) result reader.new }
@@ -242,6 +258,7 @@ fn exports(alloc: Global, reader: &mut Reader<'_>, room: u32) -> Result<List<Exp
     export_parts(alloc, reader, room)
 }
 
+/// `rhead ";"`
 #[tactic(auto, unfolding(ep_grammar::specs::Units::heading_routine))]
 fn heading_routine(alloc: Global, reader: &mut Reader<'_>, room: u32) -> Result<HeadingPart, Stop>
     ensures { Reads (read (inside_at room) heading_routine reader.old) result reader.new }
@@ -251,6 +268,7 @@ fn heading_routine(alloc: Global, reader: &mut Reader<'_>, room: u32) -> Result<
     Ok(HeadingPart::Routine(heading))
 }
 
+/// `consts | types | vars | rhead ";"`
 #[tactic(auto, unfolding(ep_grammar::specs::Units::heading_part))]
 fn heading_part(alloc: Global, reader: &mut Reader<'_>, room: u32) -> Result<HeadingPart, Stop>
     ensures { Reads (read (inside_at room) heading_part reader.old) result reader.new }
@@ -270,6 +288,7 @@ fn heading_part(alloc: Global, reader: &mut Reader<'_>, room: u32) -> Result<Hea
     heading_routine(alloc, reader, room)
 }
 
+/// `{ consts | types | vars | rhead ";" }`
 #[tactic(auto, unfolding(ep_grammar::specs::Units::heading_parts))]
 fn heading_parts(
     alloc: Global,
@@ -288,6 +307,7 @@ fn heading_parts(
     Ok(found)
 }
 
+/// `[ "(" ids ")" ] ";" exports imports { consts | types | vars | rhead ";" } "end"`
 #[tactic(auto, unfolding(ep_grammar::specs::Units::heading_rest))]
 fn heading_rest(
     alloc: Global,
@@ -305,16 +325,18 @@ fn heading_rest(
     Ok((parameters, exports, imports, parts))
 }
 
+/// `"do" stmt ";"`
 #[tactic(auto, unfolding(ep_grammar::specs::Units::action))]
 fn action(alloc: Global, reader: &mut Reader<'_>, room: u32) -> Result<Boxed<Statement>, Stop>
     ensures { Reads (read (inside_at room) action reader.old) result reader.new }
 {
     reader.keyword(word::DO)?;
-    let statement = Boxed::new(alloc, inner_statement(alloc, reader, room)?)?;
+    let statement = boxed_statement(alloc, reader, room)?;
     reader.symbol(symbol::SEMICOLON)?;
     Ok(statement)
 }
 
+/// `"to" "end" "do" stmt ";"`
 #[tactic(auto, unfolding(ep_grammar::specs::Units::finalization))]
 fn finalization(alloc: Global, reader: &mut Reader<'_>, room: u32) -> Result<Boxed<Statement>, Stop>
     ensures { Reads (read (inside_at room) finalization reader.old) result reader.new }
@@ -325,6 +347,7 @@ fn finalization(alloc: Global, reader: &mut Reader<'_>, room: u32) -> Result<Box
     action(alloc, reader, room)
 }
 
+/// `"begin" "do" stmt ";" [ "to" "end" "do" stmt ";" ]`
 #[tactic(auto, unfolding(ep_grammar::specs::Units::begin_action))]
 fn begin_action(alloc: Global, reader: &mut Reader<'_>, room: u32) -> Result<Actions, Stop>
     ensures { Reads (read (inside_at room) begin_action reader.old) result reader.new }
@@ -338,6 +361,7 @@ fn begin_action(alloc: Global, reader: &mut Reader<'_>, room: u32) -> Result<Act
     Ok((Some(first), Some(last)))
 }
 
+/// `"end" "do" stmt ";"`
 #[tactic(auto, unfolding(ep_grammar::specs::Units::end_action))]
 fn end_action(alloc: Global, reader: &mut Reader<'_>, room: u32) -> Result<Actions, Stop>
     ensures { Reads (read (inside_at room) end_action reader.old) result reader.new }
@@ -347,6 +371,7 @@ fn end_action(alloc: Global, reader: &mut Reader<'_>, room: u32) -> Result<Actio
     Ok((None, Some(last)))
 }
 
+/// `"to" ( "begin" "do" stmt ";" [ "to" "end" "do" stmt ";" ] | "end" "do" stmt ";" )`
 #[tactic(auto, unfolding(ep_grammar::specs::Units::some_actions))]
 fn some_actions(alloc: Global, reader: &mut Reader<'_>, room: u32) -> Result<Actions, Stop>
     ensures { Reads (read (inside_at room) some_actions reader.old) result reader.new }
@@ -359,6 +384,7 @@ fn some_actions(alloc: Global, reader: &mut Reader<'_>, room: u32) -> Result<Act
     end_action(alloc, reader, room)
 }
 
+/// `[ "to" "begin" "do" stmt ";" ] [ "to" "end" "do" stmt ";" ]`
 #[tactic(auto, unfolding(ep_grammar::specs::Units::actions))]
 fn actions(alloc: Global, reader: &mut Reader<'_>, room: u32) -> Result<Actions, Stop>
     ensures { Reads (read (inside_at room) actions reader.old) result reader.new }
@@ -369,6 +395,7 @@ fn actions(alloc: Global, reader: &mut Reader<'_>, room: u32) -> Result<Actions,
     Ok((None, None))
 }
 
+/// `modblock = imports parts [ "to" "begin" "do" stmt ";" ] [ "to" "end" "do" stmt ";" ] "end"`
 #[tactic(auto, unfolding(ep_grammar::specs::Units::block))]
 fn block(alloc: Global, reader: &mut Reader<'_>, room: u32) -> Result<Block, Stop>
     ensures { Reads (read (inside_at room) block reader.old) result reader.new }
@@ -382,11 +409,12 @@ fn block(alloc: Global, reader: &mut Reader<'_>, room: u32) -> Result<Block, Sto
         line,
         imports,
         parts,
-        initialization: unboxed(initialization),
-        finalization: unboxed(finalization),
+        initialization,
+        finalization,
     })
 }
 
+/// `program = "program" id [ "(" ids ")" ] ";" imports parts compound`
 #[tactic(auto, unfolding(ep_grammar::specs::Units::program))]
 fn program(alloc: Global, reader: &mut Reader<'_>, room: u32) -> Result<Program, Stop>
     ensures { Reads (read (inside_at room) program reader.old) result reader.new }
@@ -409,6 +437,7 @@ fn program(alloc: Global, reader: &mut Reader<'_>, room: u32) -> Result<Program,
     })
 }
 
+/// `"interface"` and the rest of a heading, after its name.
 #[tactic(auto, unfolding(ep_grammar::specs::Units::interface_rest))]
 fn interface_rest(
     alloc: Global,
@@ -432,6 +461,7 @@ fn interface_rest(
     Ok(Component::Heading(heading))
 }
 
+/// `"implementation" ";" modblock`, after the name.
 #[tactic(auto, unfolding(ep_grammar::specs::Units::implementation_rest))]
 fn implementation_rest(
     alloc: Global,
@@ -448,6 +478,7 @@ fn implementation_rest(
     Ok(Component::Block(Implementation { line, name, block }))
 }
 
+/// The rest of a heading and `";" modblock`, after the name.
 #[tactic(auto, unfolding(ep_grammar::specs::Units::module_rest))]
 fn module_rest(
     alloc: Global,
@@ -476,6 +507,7 @@ fn module_rest(
     }))
 }
 
+/// `module = head ";" modblock | ihead | "module" id "implementation" ";" modblock`
 #[tactic(auto, unfolding(ep_grammar::specs::Units::module_component))]
 fn module_component(alloc: Global, reader: &mut Reader<'_>, room: u32) -> Result<Component, Stop>
     ensures { Reads (read (inside_at room) module_component reader.old) result reader.new }
@@ -492,6 +524,7 @@ fn module_component(alloc: Global, reader: &mut Reader<'_>, room: u32) -> Result
     module_rest(alloc, reader, room, line, name)
 }
 
+/// `program` as a component.
 #[tactic(auto, unfolding(ep_grammar::specs::Units::program_component))]
 fn program_component(alloc: Global, reader: &mut Reader<'_>, room: u32) -> Result<Component, Stop>
     ensures { Reads (read (inside_at room) program_component reader.old) result reader.new }
@@ -500,6 +533,7 @@ fn program_component(alloc: Global, reader: &mut Reader<'_>, room: u32) -> Resul
     Ok(Component::Program(program))
 }
 
+/// `program | module`
 #[tactic(auto, unfolding(ep_grammar::specs::Units::unit))]
 fn unit(alloc: Global, reader: &mut Reader<'_>, room: u32) -> Result<Component, Stop>
     ensures { Reads (read (inside_at room) unit reader.old) result reader.new }
@@ -510,16 +544,17 @@ fn unit(alloc: Global, reader: &mut Reader<'_>, room: u32) -> Result<Component, 
     module_component(alloc, reader, room)
 }
 
+/// `component = ( program | module ) "."`
 #[tactic(auto, unfolding(ep_grammar::specs::Units::component))]
 fn component(alloc: Global, reader: &mut Reader<'_>, room: u32) -> Result<Component, Stop>
     ensures { Reads (read (inside_at room) component reader.old) result reader.new }
 {
-    let component = Boxed::new(alloc, unit(alloc, reader, room)?)?;
+    let component = unit(alloc, reader, room)?;
     reader.symbol(symbol::PERIOD)?;
-    Ok(component.into_inner())
+    Ok(component)
 }
 
-/// Reads all components of a text.
+/// `component { component }`
 #[tactic(auto, unfolding(ep_grammar::specs::Units::components))]
 pub fn all_components(
     alloc: Global,
@@ -546,14 +581,4 @@ fn add(found: &mut Vec<Component>, component: Component) -> Result<(), NoMemory>
 {
     found.push(component)?;
     Ok(())
-}
-
-/// The statement, moved out of its box.
-fn unboxed(statement: Option<Boxed<Statement>>) -> Option<Statement>
-    ensures { result ≡ statement }
-{
-    match statement {
-        Some(boxed) => Some(boxed.into_inner()),
-        None => None,
-    }
 }

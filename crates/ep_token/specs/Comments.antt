@@ -1,9 +1,10 @@
 -- What a comment is.
 use Rattle.std.specs.Prelude.{◌≡◌, ℕ, ◌&&◌, ◌||◌, ◌==◌, Bool, List, ◌++◌, codes, slice_index, ◌⊎◌}
+use Rattle.ep_token.specs.Bytes as byte
 
 -- whether bytes begin with `{` or `(*`
 abbrev pub opens_comment : List ℕ → Bool
-opens_comment bytes = slice_index bytes 0 == 123 || (slice_index bytes 0 == 40 && slice_index bytes 1 == 42)
+opens_comment bytes = slice_index bytes 0 == byte.left_brace || (slice_index bytes 0 == byte.left_parenthesis && slice_index bytes 1 == byte.star)
 
 -- a text that opens a comment
 abbrev pub IsOpener : List ℕ → Type 0

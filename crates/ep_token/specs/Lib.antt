@@ -1,3 +1,4 @@
+pub mod Bytes
 pub mod Comments
 pub mod Numbers
 pub mod Reading

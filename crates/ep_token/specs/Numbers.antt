@@ -2,6 +2,7 @@
 use Rattle.std.specs.Prelude.{◌≡◌, ◌≢◌, ℕ, ◌+◌, ◌-◌, ◌*◌, ◌≤◌, Bool, true, ◌||◌, ◌==◌, nat_lt, if◌then◌else◌, List, [], ◌∷◌, ◌++◌, fold, ◌⊎◌}
 use Rattle.std.specs.List.{list_all}
 use Rattle.std.specs.Char.{is_ascii_alphabetic, is_ascii_alphanumeric, is_ascii_digit, to_ascii_lowercase}
+use Rattle.ep_token.specs.Bytes as byte
 
 -- the greatest integer, `maxint` (ISO 10206, 6.4.2.2; its value is an own rule)
 abbrev pub maxint : ℕ
@@ -30,7 +31,7 @@ pub record IsInRadix (text : List ℕ) (value : ℕ) : Type 0 where
   pub front : List ℕ
   pub digits : List ℕ
   pub radix : ℕ
-  pub split : text ≡ front ++ 35 ∷ digits
+  pub split : text ≡ front ++ byte.number_sign ∷ digits
   pub radix_is : IsNumeral 10 front radix
   pub least : 2 ≤ radix
   pub greatest : radix ≤ 36
@@ -42,4 +43,4 @@ IsNumber text value = (IsNumeral 10 text value ⊎ IsInRadix text value) × (val
 
 -- a letter, a digit, an underscore or `#`, which may not follow a number directly (own rule)
 unfoldable pub continues_number : ℕ → Bool
-continues_number b = is_ascii_alphanumeric b || (b == 95 || b == 35)
+continues_number b = is_ascii_alphanumeric b || (b == byte.underscore || b == byte.number_sign)

@@ -13,6 +13,8 @@ use Rattle.ep_token.specs.Symbols.{special_symbols, reference_spelling}
 use Rattle.ep_token.specs.Numbers.{maxint, is_digit_of, value_of, continues_number}
 use Rattle.ep_token.specs.Comments.{opens_comment}
 use Rattle.ep_token.specs.Tokens.{Piece, is_separator}
+use Rattle.ep_token.specs.Bytes as byte
+use Rattle.ep_base.specs.declared.name.TheConstants.{MAX_NAME}
 
 -- What a call returned is what reading gives, unless memory ran out.
 abbrev pub Fails : {X : Type 0} → TokenRefusal → Result X TokenRefusal → Type 0
@@ -31,23 +33,23 @@ Gives (Err refusal) read = Fails refusal read
 -- the end of the longest identifier: of the bytes before i the first end are one, and an underscore may stand behind them
 unfoldable pub name_end : Bool → ℕ → ℕ → List ℕ → ℕ
 name_end underscore end i [] = end
-name_end underscore end i (b ∷ bs) = if is_ascii_alphanumeric b then name_end false (i + 1) (i + 1) bs else if (b == 95 && not underscore) then name_end true end (i + 1) bs else end
+name_end underscore end i (b ∷ bs) = if is_ascii_alphanumeric b then name_end false (i + 1) (i + 1) bs else if (b == byte.underscore && not underscore) then name_end true end (i + 1) bs else end
 
 -- the end of the longest character string that has begun: after i bytes it is open, or closed there
 unfoldable pub string_end : Bool → Option ℕ → ℕ → List ℕ → Option ℕ
 string_end is_open end i [] = end
-string_end true end i (b ∷ bs) = if b == 10 then end else if b == 39 then string_end false (Some (i + 1)) (i + 1) bs else string_end true end (i + 1) bs
-string_end false end i (b ∷ bs) = if b == 39 then string_end true end (i + 1) bs else end
+string_end true end i (b ∷ bs) = if b == byte.line_feed then end else if b == byte.quote then string_end false (Some (i + 1)) (i + 1) bs else string_end true end (i + 1) bs
+string_end false end i (b ∷ bs) = if b == byte.quote then string_end true end (i + 1) bs else end
 
 -- the bytes that a character string stands for, from those between its quotes
 unfoldable pub undoubled : Bool → List ℕ → List ℕ
 undoubled after_quote [] = []
-undoubled after_quote (b ∷ bs) = if (b == 39 && after_quote) then undoubled false bs else b ∷ undoubled (b == 39) bs
+undoubled after_quote (b ∷ bs) = if (b == byte.quote && after_quote) then undoubled false bs else b ∷ undoubled (b == byte.quote) bs
 
 -- the end of a comment that has begun
 unfoldable pub comment_end : Bool → ℕ → List ℕ → Option ℕ
 comment_end after_star i [] = None
-comment_end after_star i (b ∷ bs) = if (b == 125 || (b == 41 && after_star)) then Some (i + 1) else comment_end (b == 42) (i + 1) bs
+comment_end after_star i (b ∷ bs) = if (b == byte.right_brace || (b == byte.right_parenthesis && after_star)) then Some (i + 1) else comment_end (b == byte.star) (i + 1) bs
 
 -- the value of digits of a radix, of at most maxint
 unfoldable pub numeral : ℕ → List ℕ → Option ℕ
@@ -66,7 +68,7 @@ split_number (Some mark) text = in_radix (numeral 10 (take mark text)) (drop (ma
 
 -- the value of a number
 unfoldable pub number_value : List ℕ → Option ℕ
-number_value text = split_number (position (λ b. b == 35) text) text
+number_value text = split_number (position (λ b. b == byte.number_sign) text) text
 
 -- a comment, from the length of its opening mark and the end of the rest
 abbrev pub comment_found : ℕ → ℕ → Option ℕ → Result Piece TokenRefusal
@@ -75,7 +77,7 @@ comment_found line opener (Some n) = Ok (opener + n, None)
 
 -- the comment at the front
 unfoldable pub comment_at : ℕ → List ℕ → Result Piece TokenRefusal
-comment_at line bytes = if slice_index bytes 0 == 123 then comment_found line 1 (comment_end false 0 (drop 1 bytes)) else comment_found line 2 (comment_end false 0 (drop 2 bytes))
+comment_at line bytes = if slice_index bytes 0 == byte.left_brace then comment_found line 1 (comment_end false 0 (drop 1 bytes)) else comment_found line 2 (comment_end false 0 (drop 2 bytes))
 
 -- a character string, from the end of the rest
 abbrev pub string_found : ℕ → List ℕ → Option ℕ → Result Piece TokenRefusal
@@ -102,7 +104,7 @@ name_kind (Some word) name = Word word
 
 -- an identifier or word symbol, from its end
 abbrev pub name_found : ℕ → ℕ → List ℕ → Result Piece TokenRefusal
-name_found line n text = if nat_lt 255 n then Err (LongName line) else Ok (n, Some (name_kind (place_of word_symbols (lower_case text)) (lower_case text)))
+name_found line n text = if nat_lt MAX_NAME n then Err (LongName line) else Ok (n, Some (name_kind (place_of word_symbols (lower_case text)) (lower_case text)))
 
 -- the identifier or word symbol at the front
 unfoldable pub name_at : ℕ → List ℕ → Result Piece TokenRefusal
@@ -131,7 +133,7 @@ unfoldable pub piece_at : ℕ → List ℕ → Result Piece TokenRefusal
 piece_at line bytes =
     if is_separator (slice_index bytes 0) then Ok (1, None)
     else if opens_comment bytes then comment_at line bytes
-    else if slice_index bytes 0 == 39 then string_at line bytes
+    else if slice_index bytes 0 == byte.quote then string_at line bytes
     else if is_ascii_digit (slice_index bytes 0) then number_at line bytes
     else if is_ascii_alphabetic (slice_index bytes 0) then name_at line bytes
     else symbol_at line bytes

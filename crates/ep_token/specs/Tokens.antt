@@ -14,10 +14,12 @@ use Rattle.ep_token.specs.Symbols.{special_symbols, reference_spelling}
 use Rattle.ep_token.specs.Numbers.{IsNumber, continues_number}
 use Rattle.ep_token.specs.Strings.{IsString}
 use Rattle.ep_token.specs.Comments.{IsComment, opens_comment}
+use Rattle.ep_token.specs.Bytes as byte
+use Rattle.ep_base.specs.declared.name.TheConstants.{MAX_NAME}
 
 -- tab, line feed, carriage return and space separate tokens (own rule)
 unfoldable pub is_separator : ℕ → Bool
-is_separator b = (b == 9 || b == 10) || (b == 13 || b == 32)
+is_separator b = (b == byte.tab || b == byte.line_feed) || (b == byte.carriage_return || b == byte.blank)
 
 -- one separating byte
 abbrev pub IsSeparator : List ℕ → Type 0
@@ -27,7 +29,7 @@ IsSeparator text = (b : ℕ) × (text ≡ b ∷ []) × (is_separator b ≡ true)
 abbrev pub IsSpelled : List ℕ → Option TokenKind → Type 0
 IsSpelled text None = IsSeparator text ⊎ IsComment text
 IsSpelled text (Some (Word word)) = (is_identifier text ≡ true) × (place_of word_symbols (lower_case text) ≡ Some word)
-IsSpelled text (Some (Id name)) = (is_identifier text ≡ true) × (length text ≤ 255) × (place_of word_symbols (lower_case text) ≡ None) × (name ≡ lower_case text)
+IsSpelled text (Some (Id name)) = (is_identifier text ≡ true) × (length text ≤ MAX_NAME) × (place_of word_symbols (lower_case text) ≡ None) × (name ≡ lower_case text)
 IsSpelled text (Some (Number value)) = (n : ℕ) × IsNumber text n × (value ≡ pos n)
 IsSpelled text (Some (Str bytes)) = IsString text bytes
 IsSpelled text (Some (Sym symbol)) = place_of special_symbols (reference_spelling text) ≡ Some symbol
@@ -48,7 +50,7 @@ MayPrecede text (Some (Word word)) rest = IsLongestName text rest
 MayPrecede text (Some (Id name)) rest = IsLongestName text rest
 MayPrecede text (Some (Number value)) rest = begins continues_number rest ≡ false
 MayPrecede text (Some (Str bytes)) rest = Unit {0}
-MayPrecede text (Some (Sym symbol)) rest = text ≡ 40 ∷ [] → begins (λ b. b == 42) rest ≡ false
+MayPrecede text (Some (Sym symbol)) rest = text ≡ byte.left_parenthesis ∷ [] → begins (λ b. b == byte.star) rest ≡ false
 
 -- the first n bytes can be taken so
 pub record CanBeTaken (bytes : List ℕ) (n : ℕ) (kind : Option TokenKind) : Type 0 where
@@ -70,9 +72,9 @@ abbrev pub AreTaken : List ℕ → List Piece → List ℕ → Type 0
 AreTaken bytes [] rest = bytes ≡ rest
 AreTaken bytes (piece ∷ pieces) rest = IsTaken bytes piece.0 piece.1 × AreTaken (drop piece.0 bytes) pieces rest
 
--- the line of a place: a line ends with byte 10, and lines are counted from 1
+-- the line of a place: a line ends with a line feed, and lines are counted from 1
 abbrev pub line_at : List ℕ → ℕ → ℕ
-line_at bytes place = suc (count_by (λ b. b == 10) (take place bytes))
+line_at bytes place = suc (count_by (λ b. b == byte.line_feed) (take place bytes))
 
 -- a token as the code has it
 abbrev pub token_of : ℕ → ℕ → ℕ → TokenKind → Token
@@ -95,15 +97,15 @@ pub record Tokens (bytes : List ℕ) (list : List Token) : Type 0 where
 
 -- an identifier of more than 255 bytes begins here
 abbrev pub BeginsLongName : List ℕ → Type 0
-BeginsLongName bytes = (n : ℕ) × (255 < n) × (n ≤ length bytes) × (is_identifier (take n bytes) ≡ true)
+BeginsLongName bytes = (n : ℕ) × (MAX_NAME < n) × (n ≤ length bytes) × (is_identifier (take n bytes) ≡ true)
 
 -- what a place on a line where nothing can be taken is refused with, by what stands there
 abbrev pub HasCause : List ℕ → ℕ → TokenRefusal → Type 0
 HasCause bytes line (OpenComment at) = (at ≡ line) × (opens_comment bytes ≡ true)
-HasCause bytes line (OpenString at) = (at ≡ line) × (begins (λ b. b == 39) bytes ≡ true)
+HasCause bytes line (OpenString at) = (at ≡ line) × (begins (λ b. b == byte.quote) bytes ≡ true)
 HasCause bytes line (BadNumber at) = (at ≡ line) × (begins is_ascii_digit bytes ≡ true)
 HasCause bytes line (LongName at) = (at ≡ line) × BeginsLongName bytes
-HasCause bytes line (NoToken at) = (at ≡ line) × (opens_comment bytes ≡ false) × (begins (λ b. b == 39) bytes ≡ false) × (begins is_ascii_digit bytes ≡ false) × (BeginsLongName bytes → ⊥)
+HasCause bytes line (NoToken at) = (at ≡ line) × (opens_comment bytes ≡ false) × (begins (λ b. b == byte.quote) bytes ≡ false) × (begins is_ascii_digit bytes ≡ false) × (BeginsLongName bytes → ⊥)
 HasCause bytes line NoMemory = ⊥
 
 -- the bytes before the place are pieces, each the longest at its place, and none can be taken at the place

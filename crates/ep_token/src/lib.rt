@@ -22,6 +22,3 @@ pub mod word;
 pub use refusal::TokenRefusal;
 pub use source::{MAX_SOURCE, one_reading, tokens};
 pub use token::{Token, TokenKind};
-
-#[cfg(test)]
-mod tests;

@@ -3,7 +3,7 @@
 use ep_base::{Bytes, Line, Name};
 
 /// A token: the bytes `start..end` of the source, on the line where it begins.
-#[derive(Debug, Drop)]
+#[derive(Drop)]
 pub struct Token {
     pub kind: TokenKind,
     pub line: Line,
@@ -12,7 +12,7 @@ pub struct Token {
 }
 
 /// The kind of a token, with what it means (ISO 10206, 6.1).
-#[derive(Debug, Drop)]
+#[derive(Drop)]
 pub enum TokenKind {
     /// A word symbol, one of `word`.
     Word(u8),

@@ -9,6 +9,7 @@ use Rattle.ep_typed.specs.declared.operations.Unary.TheVariants as unary
 use Rattle.ep_typed.specs.declared.operations.Binary.TheVariants as binary
 use Rattle.ep_typed.specs.declared.operations.Print.TheVariants as print
 use Rattle.ep_typed.specs.declared.types.TypeValue.TheVariants.{Ordinal}
+use Rattle.ep_typed.specs.declared.run_error.TheConstants as run_error
 
 -- what a statement of unit p comes to, with one variable x of type integer
 abbrev run : Stmt → ℕ → Outcome (Unit {0})
@@ -29,14 +30,14 @@ equals e z = Two binary.Equal e (Constant z)
 abbrev x : tree.Place
 x = Variable (codes "p") 0
 
-overflow : end_of (run (Compound (next (Assign 3 x (Constant (pos 9223372036854775807))) (next (Assign 4 x (Two binary.Add (Read x) (Constant (pos 1)))) none))) 100) ≡ Error 8 (codes "p") 4
+overflow : end_of (run (Compound (next (Assign 3 x (Constant (pos 9223372036854775807))) (next (Assign 4 x (Two binary.Add (Read x) (Constant (pos 1)))) none))) 100) ≡ Error run_error.OVERFLOW (codes "p") 4
 overflow = refl
 
 division : trace_of (run (tree.Write 3 (Plain print.Boolean (equals (Two binary.Divide (One unary.Negate (Constant (pos 7))) (Constant (pos 2))) (negsuc 2)) ∷ Wide print.Boolean (equals (Two binary.Modulo (One unary.Negate (Constant (pos 7))) (Constant (pos 2))) (pos 1)) (Constant (pos 6)) ∷ []) true) 100)
     ≡ Write (codes "True") ∷ Write (codes "  True") ∷ Write (10 ∷ []) ∷ []
 division = refl
 
-negative_divisor : end_of (run (tree.Write 3 (Plain print.Integer (Two binary.Modulo (Constant (pos 7)) (One unary.Negate (Constant (pos 2)))) ∷ []) true) 100) ≡ Error 9 (codes "p") 3
+negative_divisor : end_of (run (tree.Write 3 (Plain print.Integer (Two binary.Modulo (Constant (pos 7)) (One unary.Negate (Constant (pos 2)))) ∷ []) true) 100) ≡ Error run_error.DIVISOR (codes "p") 3
 negative_divisor = refl
 
 -- a loop without an end writes as long as there are steps

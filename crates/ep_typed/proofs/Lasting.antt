@@ -14,6 +14,7 @@ use Rattle.ep_typed.specs.declared.unit.Unit.{Unit as TypedUnit}
 use Rattle.ep_typed.specs.declared.unit.UnitVariable.{UnitVariable}
 use Rattle.ep_typed.specs.Laws.{IsLonger, MeaningsLast}
 use Rattle.ep_typed.proofs.Steady.{grows_trans, grows_quiet, grows_events, grows_type, grows_made, steady_give, steady_stop, steady_bind, steady_spend, steady_change, steady_fetch, steady_turns, steady_assign}
+use Rattle.ep_typed.specs.declared.run_error.TheConstants as run_error
 
 -- What one computation comes to, another one comes to with more steps.
 pub record Lasting {A : Type 0} (c d : Computation A) : Type 0 where
@@ -123,7 +124,7 @@ module _ (g j : ℕ) (unit : List ℕ) where
   -- a value in so many places
   lasting_write_wide : (line : ℕ) (print : Print) (r : Result) (width : ℤ) → Lasting (write_wide g unit line print r width) (write_wide (g + j) unit line print r width)
   lasting_write_wide line print r (pos width) = lasting_write_piece (wide_text print width r)
-  lasting_write_wide line print r (negsuc n) = lasting_stop (Error 21 unit line)
+  lasting_write_wide line print r (negsuc n) = lasting_stop (Error run_error.NEGATIVE_WIDTH unit line)
 
   -- an item
   lasting_write_item : (line : ℕ) (i : Item) → Lasting (write_item g unit line i) (write_item (g + j) unit line i)
@@ -145,7 +146,7 @@ module _ (g j : ℕ) (unit : List ℕ) where
   lasting_assign : (line n : ℕ) (z : ℤ) → Lasting (assign g unit line n z) (assign (g + j) unit line n z)
   lasting_assign line n z = record { steady = steady_assign (g + j) unit line n z; by = λ m k s. go m k s (is_within (type_at n s) z) }
     where
-      go : (m k : ℕ) (s : State) (b : Bool) → IsLonger k ((if b then spend 1 (change (assigned n (Word z))) else stop (Error 2 unit line)) m s) ((if b then spend 1 (change (assigned n (Word z))) else stop (Error 2 unit line)) (m + k) s)
+      go : (m k : ℕ) (s : State) (b : Bool) → IsLonger k ((if b then spend 1 (change (assigned n (Word z))) else stop (Error run_error.OUTSIDE_TYPE unit line)) m s) ((if b then spend 1 (change (assigned n (Word z))) else stop (Error run_error.OUTSIDE_TYPE unit line)) (m + k) s)
       go m k s true =
           let x = lasting_assigned n z in x.by m k s
       go m k s false = refl

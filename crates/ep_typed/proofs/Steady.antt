@@ -16,6 +16,7 @@ use Rattle.ep_typed.specs.declared.operations.Print.{Print}
 use Rattle.ep_typed.specs.declared.types.TypeValue.{TypeValue}
 use Rattle.ep_typed.specs.declared.unit.Unit.{Unit as TypedUnit}
 use Rattle.ep_typed.specs.declared.unit.UnitVariable.{UnitVariable}
+use Rattle.ep_typed.specs.declared.run_error.TheConstants as run_error
 
 -- ---- states that grow
 
@@ -149,7 +150,7 @@ module _ (g : ℕ) (unit : List ℕ) where
   -- a value in so many places
   pub steady_write_wide : (line : ℕ) (print : Print) (r : Result) (width : ℤ) → Steady (write_wide g unit line print r width)
   steady_write_wide line print r (pos width) = steady_write_piece (wide_text print width r)
-  steady_write_wide line print r (negsuc n) = steady_stop (Error 21 unit line)
+  steady_write_wide line print r (negsuc n) = steady_stop (Error run_error.NEGATIVE_WIDTH unit line)
 
   -- an item
   pub steady_write_item : (line : ℕ) (i : Item) → Steady (write_item g unit line i)
@@ -171,7 +172,7 @@ module _ (g : ℕ) (unit : List ℕ) where
   pub steady_assign : (line n : ℕ) (z : ℤ) → Steady (assign g unit line n z)
   steady_assign line n z = record { by = λ m s. go m s (is_within (type_at n s) z) }
     where
-      go : (m : ℕ) (s : State) (b : Bool) → Grows s (state_of ((if b then spend 1 (change (assigned n (Word z))) else stop (Error 2 unit line)) m s))
+      go : (m : ℕ) (s : State) (b : Bool) → Grows s (state_of ((if b then spend 1 (change (assigned n (Word z))) else stop (Error run_error.OUTSIDE_TYPE unit line)) m s))
       go m s true =
           let x = steady_assigned n z in x.by m s
       go m s false = grows_refl s

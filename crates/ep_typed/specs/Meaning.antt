@@ -4,9 +4,10 @@ use Rattle.ep_typed.specs.Trees.{Place, Variable, Expr, Constant, Text, Read, On
 use Rattle.ep_typed.specs.Viewed.{stmt_of}
 use Rattle.ep_typed.specs.Steps.{Normal, Halted, Error, Word, Outcome, Computation, give, cut, stop, bind, spend, change, fetch, with_events, word_at, assigned, type_at, is_within, size_of, with_type, made, first_state}
 use Rattle.ep_typed.specs.Operations.{Answer, Number, Fault, unary_answer, binary_answer, step_answer, is_true}
-use Rattle.ep_typed.specs.Printing.{Result, Bytes, number_of, plain_text, wide_text, piece_events}
+use Rattle.ep_typed.specs.Printing.{Result, Bytes, number_of, line_end, plain_text, wide_text, piece_events}
 use Rattle.ep_typed.specs.Printing as result
 use Rattle.ep_typed.specs.declared.operations.Print.{Print}
+use Rattle.ep_typed.specs.declared.run_error.TheConstants as run_error
 use Rattle.ep_typed.specs.declared.unit.UnitVariable.{UnitVariable}
 use Rattle.ep_typed.specs.declared.unit.Unit.{Unit as TypedUnit}
 
@@ -21,15 +22,15 @@ module _ (g : ℕ) (unit : List ℕ) where
   answered line (Number z) = give z
   answered line (Fault error) = stop (Error error unit line)
 
-  -- a place is an allocation; error 1 where the variable is not made yet
+  -- a place is an allocation; an undefined value where the variable is not made yet
   abbrev pub place : ℕ → Place → Computation ℕ
-  place line (Variable u k) = bind (fetch (Error 1 unit line) (λ s. s.variables u k)) (λ n. spend 1 (give n))
+  place line (Variable u k) = bind (fetch (Error run_error.UNDEFINED_VALUE unit line) (λ s. s.variables u k)) (λ n. spend 1 (give n))
 
   -- an expression spends a step and its weight when it is done
   abbrev pub eval : ℕ → Expr → Computation Result
   eval line (Constant z) = spend 1 (give (result.Number z))
   eval line (Text bytes) = spend (suc (length bytes)) (give (Bytes bytes))
-  eval line (Read p) = bind (place line p) (λ n. bind (fetch (Error 1 unit line) (word_at n)) (λ w. spend 1 (give (result.Number w))))
+  eval line (Read p) = bind (place line p) (λ n. bind (fetch (Error run_error.UNDEFINED_VALUE unit line) (word_at n)) (λ w. spend 1 (give (result.Number w))))
   eval line (One operation x) = bind (eval line x) (λ a. bind (answered line (unary_answer operation (number_of a))) (λ z. spend 1 (give (result.Number z))))
   eval line (Two operation x y) =
       bind (eval line x) (λ a. bind (eval line y) (λ b. bind (answered line (binary_answer operation (number_of a) (number_of b))) (λ z. spend 1 (give (result.Number z)))))
@@ -40,10 +41,10 @@ module _ (g : ℕ) (unit : List ℕ) where
   abbrev pub write_piece : List ℕ → Computation (Unit {0})
   write_piece bytes = spend (suc (length bytes)) (change (with_events (piece_events bytes)))
 
-  -- the width is an integer; error 21 for a negative one
+  -- the width is an integer, and a negative one is an error
   abbrev pub write_wide : ℕ → Print → Result → ℤ → Computation (Unit {0})
   write_wide line print r (pos width) = write_piece (wide_text print width r)
-  write_wide line print r (negsuc n) = stop (Error 21 unit line)
+  write_wide line print r (negsuc n) = stop (Error run_error.NEGATIVE_WIDTH unit line)
 
   abbrev pub write_item : ℕ → Item → Computation (Unit {0})
   write_item line (Plain print x) = bind (eval line x) (λ r. write_piece (plain_text print r))
@@ -52,12 +53,12 @@ module _ (g : ℕ) (unit : List ℕ) where
   -- the items, then the line end where there is one, and then the statement's step
   abbrev pub write_items : ℕ → List Item → Bool → Computation (Unit {0})
   write_items line [] false = spend 1 (give tt)
-  write_items line [] true = bind (write_piece (10 ∷ [])) (λ _. spend 1 (give tt))
+  write_items line [] true = bind (write_piece (line_end ∷ [])) (λ _. spend 1 (give tt))
   write_items line (i ∷ is) ends_line = bind (write_item line i) (λ _. write_items line is ends_line)
 
-  -- error 2 where the value is outside the type of the variable
+  -- an error where the value is outside the type of the variable
   abbrev pub assign : ℕ → ℕ → ℤ → Computation (Unit {0})
-  assign line n z m s = (if is_within (type_at n s) z then spend 1 (change (assigned n (Word z))) else stop (Error 2 unit line)) m s
+  assign line n z m s = (if is_within (type_at n s) z then spend 1 (change (assigned n (Word z))) else stop (Error run_error.OUTSIDE_TYPE unit line)) m s
 
   -- at most so many turns; a turn spends a step, and so does the statement in the end
   abbrev pub turns : ℕ → Computation Result → Computation (Unit {0}) → Computation (Unit {0})

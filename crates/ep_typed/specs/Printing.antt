@@ -30,9 +30,16 @@ plain_text print.Char r = unsigned_abs (number_of r) ∷ []
 plain_text print.Boolean r = boolean_text (number_of r)
 plain_text print.Text r = bytes_of r
 
+-- the byte that ends a line of the output, and the blank
+abbrev pub line_end : ℕ
+line_end = 10
+
+abbrev pub blank : ℕ
+blank = 32
+
 -- blanks before the bytes, up to so many places
 abbrev pub right_set : ℕ → List ℕ → List ℕ
-right_set width bytes = replicate (width - length bytes) 32 ++ bytes
+right_set width bytes = replicate (width - length bytes) blank ++ bytes
 
 -- the text of a value in so many places: a number is never cut, and other texts are
 abbrev pub wide_text : Print → ℕ → Result → List ℕ

@@ -152,8 +152,14 @@ same_type (Ordinal l h) Text = false
 same_type Text (Ordinal l h) = false
 
 -- every run has room for so many words and types
+abbrev pub room_for_words : ℕ
+room_for_words = 4194304
+
+abbrev pub room_for_types : ℕ
+room_for_types = 262000
+
 abbrev pub has_room : Resources → Bool
-has_room r = nat_le r.words 4194304 && nat_le (length r.types) 262000
+has_room r = nat_le r.words room_for_words && nat_le (length r.types) room_for_types
 
 -- room that was lost stays lost
 abbrev pub watched : Resources → Resources

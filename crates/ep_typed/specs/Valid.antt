@@ -1,7 +1,7 @@
 -- Which typed trees the static rules give: each form has parts of the kinds, types and numbers that it asks for.
-use Rattle.std.specs.Prelude.{◌≡◌, ℕ, ℤ, pos, negsuc, Bool, true, false, ◌&&◌, List, [], ◌∷◌, slice_get, Option, Some, None, IsTrue, int_le, ⊤, if◌then◌else◌}
+use Rattle.std.specs.Prelude.{◌≡◌, ℕ, ℤ, pos, neg_ℤ, Bool, true, false, ◌&&◌, List, [], ◌∷◌, slice_get, Option, Some, None, IsTrue, int_le, ⊤, if◌then◌else◌}
 use Rattle.std.specs.Str.{bytes_eq}
-use Rattle.ep_typed.specs.Operations.{is_integer}
+use Rattle.ep_typed.specs.Operations.{maxint, last_char, is_integer}
 use Rattle.ep_typed.specs.Trees.{Place, Variable, Expr, Constant, Text, Read, One, Two, Step, Item, Plain, Wide, Stmt, Stmts, Empty, Compound, Assign, If, While, Halt, Write, none, next}
 use Rattle.ep_typed.specs.Viewed.{stmt_of}
 use Rattle.ep_typed.specs.declared.operations.Unary.{Unary}
@@ -24,14 +24,14 @@ pub data Kind : Type 0 where
 
 -- the least and the greatest value of a host
 abbrev pub least : Host → ℤ
-least host.Integer = negsuc 9223372036854775806
+least host.Integer = neg_ℤ (pos maxint)
 least host.Char = pos 0
 least host.Boolean = pos 0
 least (host.Enumeration last) = pos 0
 
 abbrev pub greatest : Host → ℤ
-greatest host.Integer = pos 9223372036854775807
-greatest host.Char = pos 255
+greatest host.Integer = pos maxint
+greatest host.Char = pos last_char
 greatest host.Boolean = pos 1
 greatest (host.Enumeration last) = pos last
 

@@ -8,6 +8,7 @@
 
 mod laws;
 mod operations;
+pub mod run_error;
 mod tree;
 mod types;
 mod unit;

@@ -1,7 +1,7 @@
 //! Operators and the required functions that are built.
 
 /// An operator or a required function of one operand.
-#[derive(Clone, Copy, Debug, Drop)]
+#[derive(Clone, Copy, Drop)]
 pub enum Unary {
     /// The value as it is: the sign `+`, and `ord`.
     Same,
@@ -20,7 +20,7 @@ pub enum Unary {
 }
 
 /// An operator of two operands.
-#[derive(Clone, Copy, Debug, Drop)]
+#[derive(Clone, Copy, Drop)]
 pub enum Binary {
     /// `+`
     Add,
@@ -51,7 +51,7 @@ pub enum Binary {
 }
 
 /// How a value is printed.
-#[derive(Clone, Copy, Debug, Drop)]
+#[derive(Clone, Copy, Drop)]
 pub enum Print {
     /// As an integer.
     Integer,

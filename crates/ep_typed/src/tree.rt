@@ -4,7 +4,7 @@ use crate::operations::{Binary, Print, Unary};
 use ep_base::{Boxed, Bytes, Line, List, Name};
 
 /// A place, which is where a variable is (ISO 10206, 6.5.1).
-#[derive(Debug, Drop)]
+#[derive(Drop)]
 pub enum TypedPlace {
     /// The variable of this number of the unit of this name.
     Variable(Name, u32),

@@ -1,7 +1,7 @@
 //! Type values.
 
 /// A type with all bounds as numbers.
-#[derive(Clone, Copy, Debug, Drop)]
+#[derive(Clone, Copy, Drop)]
 pub enum TypeValue {
     /// An ordinal type with its least and its greatest value (ISO 10206, 6.4.2).
     Ordinal(i64, i64),
@@ -10,7 +10,7 @@ pub enum TypeValue {
 }
 
 /// The host type of an ordinal type, of which each of its subranges has the operations (ISO 10206, 6.4.2.4).
-#[derive(Clone, Copy, Debug, Drop)]
+#[derive(Clone, Copy, Drop)]
 pub enum Host {
     /// The integers from -maxint to maxint.
     Integer,

@@ -5,7 +5,7 @@ use crate::types::{Host, TypeValue};
 use ep_base::{Line, List, Name};
 
 /// A variable of a unit, with the line of its declaration.
-#[derive(Debug, Drop)]
+#[derive(Drop)]
 pub struct UnitVariable {
     /// Its name.
     pub name: Name,
@@ -21,7 +21,6 @@ pub struct UnitVariable {
 pub type UnitVariables = List<UnitVariable>;
 
 /// A whole unit.
-#[derive(Drop)]
 pub struct Unit {
     /// Its name.
     pub name: Name,
@@ -31,4 +30,15 @@ pub struct Unit {
     pub variables: UnitVariables,
     /// What it does when it is started. For a program this is its block.
     pub start: TypedStmt,
+}
+
+impl Drop for Unit {
+    fn drop(self) {
+        let Unit {
+            name: _,
+            line: _,
+            variables: _,
+            start: _,
+        } = self;
+    }
 }

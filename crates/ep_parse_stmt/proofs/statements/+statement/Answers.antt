@@ -8,7 +8,7 @@ use Rattle.ep_parse_stmt.proofs.statements.+statement.Goals as goal
 
 pub inner_statements-loop-turn-init : goal.inner_statements-loop-turn-init
 unfolding inner_statements
-inner_statements-loop-turn-init t c = separated_begun _ c.in_ok-inner_statement.ensures c.new-found.ensures c.in_ok-push.ensures.ok c.left-turn-end.ensures
+inner_statements-loop-turn-init t c = separated_begun _ c.in_ok-inner_statement.ensures c.in_ok-found.ensures c.in_ok-push.ensures.ok c.left-turn-end.ensures
 
 pub inner_statements-returns-then-not-sees_symbol : goal.inner_statements-returns-then-not-sees_symbol
 inner_statements-returns-then-not-sees_symbol t c = after_none c.loop-turn.invariant c.loop-turn-test.true c.if-not-sees_symbol.ensures
@@ -26,7 +26,7 @@ inner_statements-returns t c = turns_over c.loop-turn.invariant c.loop-turn-test
 
 pub arms-loop-turn-init : goal.arms-loop-turn-init
 unfolding arms
-arms-loop-turn-init t c = closed_begun _ c.in_ok-arm.ensures c.new-found.ensures c.in_ok-push.ensures.ok c.left-turn-end.ensures
+arms-loop-turn-init t c = closed_begun _ c.in_ok-arm.ensures c.in_ok-found.ensures c.in_ok-push.ensures.ok c.left-turn-end.ensures
 
 pub arms-returns-then-not-sees_symbol : goal.arms-returns-then-not-sees_symbol
 arms-returns-then-not-sees_symbol t c = after_none c.loop-turn.invariant c.loop-turn-test.true c.if-not-sees_symbol.ensures

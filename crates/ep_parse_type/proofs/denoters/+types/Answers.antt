@@ -1,4 +1,4 @@
-use Rattle.std.proofs.Common.{refl, rules, arith}
+use Rattle.std.proofs.Common.{[], ◌∷◌, ◌++◌, ◌∙◌, ap, refl, rules, arith}
 use Rattle.std.proofs.lemmas.Grind.{common_steps}
 use Rattle.ep_grammar.specs.Types.{field_section, inner_plains, other_fields, sections, structured, variant, variant_part, variants}
 use Rattle.ep_reader.proofs.Levels.{handed, opened, unopened}
@@ -8,7 +8,7 @@ use Rattle.ep_parse_type.proofs.denoters.+types.Goals as goal
 
 pub inner_plains-loop-turn-init : goal.inner_plains-loop-turn-init
 unfolding inner_plains
-inner_plains-loop-turn-init t c = separated_begun _ c.in_ok-inner_plain.ensures c.new-found.ensures c.in_ok-push.ensures.ok c.left-turn-end.ensures
+inner_plains-loop-turn-init t c = separated_begun _ c.in_ok-inner_plain.ensures c.in_ok-found.ensures (c.in_ok-push.ensures.ok ∙ ap (λ w. c.in_ok-found.found ++ w ∷ []) c.into_inner.ensures) c.left-turn-end.ensures
 
 pub inner_plains-returns-then-not-sees_symbol : goal.inner_plains-returns-then-not-sees_symbol
 inner_plains-returns-then-not-sees_symbol t c = after_none c.loop-turn.invariant c.loop-turn-test.true c.if-not-sees_symbol.ensures
@@ -19,14 +19,14 @@ inner_plains-returns-in_err-inner_plain-2 t c =
     first_of (search rules, grind (arith, common_steps))
 
 pub inner_plains-loop-turn-preserved : goal.inner_plains-loop-turn-preserved
-inner_plains-loop-turn-preserved t c = after_more c.loop-turn.invariant c.loop-turn-test.true c.if-not-sees_symbol.ensures c.in_ok-symbol.ensures c.in_ok-inner_plain-2.ensures c.in_ok-push-2.ensures.ok
+inner_plains-loop-turn-preserved t c = after_more c.loop-turn.invariant c.loop-turn-test.true c.if-not-sees_symbol.ensures c.in_ok-symbol.ensures c.in_ok-inner_plain-2.ensures (c.in_ok-push-2.ensures.ok ∙ ap (λ w. c.loop-turn.found ++ w ∷ []) c.into_inner-in-loop-turn.ensures)
 
 pub inner_plains-returns : goal.inner_plains-returns
 inner_plains-returns t c = turns_over c.loop-turn.invariant c.loop-turn-test.false
 
 pub variants-loop-turn-init : goal.variants-loop-turn-init
 unfolding variants
-variants-loop-turn-init t c = closed_begun _ c.in_ok-variant.ensures c.new-found.ensures c.in_ok-push.ensures.ok c.left-turn-end.ensures
+variants-loop-turn-init t c = closed_begun _ c.in_ok-variant.ensures c.in_ok-found.ensures c.in_ok-push.ensures.ok c.left-turn-end.ensures
 
 pub variants-returns-then-not-sees_symbol : goal.variants-returns-then-not-sees_symbol
 variants-returns-then-not-sees_symbol t c = after_none c.loop-turn.invariant c.loop-turn-test.true c.if-not-sees_symbol.ensures
@@ -47,7 +47,7 @@ variants-returns t c = turns_over c.loop-turn.invariant c.loop-turn-test.false
 
 pub sections-loop-turn-init : goal.sections-loop-turn-init
 unfolding sections
-sections-loop-turn-init t c = ended_begun field_section _ c.in_ok-field_section.ensures c.new-found.ensures c.in_ok-push.ensures.ok c.left-turn-end.ensures
+sections-loop-turn-init t c = ended_begun field_section _ c.in_ok-field_section.ensures c.in_ok-found.ensures c.in_ok-push.ensures.ok c.left-turn-end.ensures
 
 pub sections-returns-then-not-sees_symbol : goal.sections-returns-then-not-sees_symbol
 sections-returns-then-not-sees_symbol t c = after_none c.loop-turn.invariant c.loop-turn-test.true c.if-not-sees_symbol.ensures

@@ -1,4 +1,4 @@
-use Rattle.std.proofs.Common.{Some, ◌∙◌, subst, sym, refl}
+use Rattle.std.proofs.Common.{Some, ◌∙◌, ap, subst, sym, refl}
 use Rattle.ep_token.specs.declared.symbol.TheConstants as symbols
 use Rattle.ep_tree.specs.Shapes.{as_named}
 use Rattle.ep_tree.specs.declared.types.Core.{Core}
@@ -19,4 +19,4 @@ returns-then-sees_symbol c =
 pub returns : goal.returns
 unfolding named_or_range
 returns c =
-    shaped_second (inside_at c.args.room) expression Some (on symbols.RANGE) range_end as_named (give named_core) c.args.reader.now c.line-line.ensures c.in_ok-low.ensures (one_of _ _ c.if-sees_symbol.ensures) (sym c.in_ok-name.ensures ∙ c.in-Some.is)
+    shaped_second (inside_at c.args.room) expression Some (on symbols.RANGE) range_end as_named (give named_core) c.args.reader.now c.line-line.ensures c.in_ok-low.ensures (one_of _ _ c.if-sees_symbol.ensures) (ap as_named (sym c.into_inner.ensures) ∙ sym c.in_ok-name.ensures ∙ c.in-Some.is)

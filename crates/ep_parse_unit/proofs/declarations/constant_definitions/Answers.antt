@@ -6,7 +6,7 @@ use Rattle.ep_parse_unit.proofs.declarations.constant_definitions.Goals as goal
 
 pub loop-turn-init : goal.loop-turn-init
 unfolding constant_definitions
-loop-turn-init c = some_begun _ c.in_ok-constant_definition.ensures c.new-found.ensures c.in_ok-push.ensures.ok c.left-turn-end.ensures
+loop-turn-init c = some_begun _ c.in_ok-constant_definition.ensures c.in_ok-found.ensures c.in_ok-push.ensures.ok c.left-turn-end.ensures
 
 pub returns-then-not-sees_name : goal.returns-then-not-sees_name
 returns-then-not-sees_name c = item_none c.loop-turn.invariant c.loop-turn-test.true c.if-not-sees_name.ensures

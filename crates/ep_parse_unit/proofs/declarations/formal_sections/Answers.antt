@@ -6,7 +6,7 @@ use Rattle.ep_parse_unit.proofs.declarations.formal_sections.Goals as goal
 
 pub loop-turn-init : goal.loop-turn-init
 unfolding formal_sections
-loop-turn-init c = separated_begun _ c.in_ok-formal_section.ensures c.new-found.ensures c.in_ok-push.ensures.ok c.left-turn-end.ensures
+loop-turn-init c = separated_begun _ c.in_ok-formal_section.ensures c.in_ok-found.ensures c.in_ok-push.ensures.ok c.left-turn-end.ensures
 
 pub returns-then-not-sees_symbol : goal.returns-then-not-sees_symbol
 returns-then-not-sees_symbol c = after_none c.loop-turn.invariant c.loop-turn-test.true c.if-not-sees_symbol.ensures

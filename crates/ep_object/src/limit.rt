@@ -1,0 +1,6 @@
+//! What a run may use at most.
+
+/// The most words that may live. A variable counts its words and one more, and a type that was added counts one.
+pub const LIVE_WORDS: u64 = 16_777_216;
+/// The most types that there may be.
+pub const TYPES: u64 = 1_048_576;

@@ -1,0 +1,255 @@
+//! Rows of the machine's table, on code that is written as texts: `Unit:-1:1 Push:7` is `Unit` with -1 and 1 and then
+//! `Push` with 7. Each line of a table is the code, what is written, the end and the ticks of one run of 10,000 ticks
+//! or of two runs with the budgets that follow.
+
+use ep_base::{Bytes, List, Name};
+use ep_machine::{End, Machine};
+use ep_object::{Image, ImageRoutine, ImageUnit, Instr, Instrs};
+use ep_outside::{SureFiles, SureSink, SureSource};
+use std::alloc::{AllocError, Global};
+use std::test::Fail;
+
+/// The instructions in the order of their codes.
+const NAMES: &str = "\
+Push Text Drop Dup Jump JumpFalse Fail Halt Call Return Arg Peek Slot Unit Bind Make New \
+Dispose Deref Field Index Disc Load Store Undefine Add Sub Mul Div Mod Neg Abs Sqr Odd Not \
+And Or Cmp Between Check Step SetNone SetAdd SetSpan SetOp SetCmp In Card Next Like Same \
+TOrd TSet TArr TStr TRec TSch TInit TConst Chars ToChar Join TextCmp Length Find Cut Trim \
+Form Put Get GetLine Eof Eoln Open BindFile Unbind Binding Defined";
+
+/// The code of an instruction, or the first one that is not in the table.
+fn op_named(name: &str) -> u8 {
+    let mut code: u8 = 0;
+    for known in NAMES.split_whitespace() {
+        if known == name {
+            return code;
+        }
+        code = code.saturating_add(1);
+    }
+    code
+}
+
+fn field(text: Option<&str>) -> i64 {
+    match text {
+        Some(text) => text.parse::<i64>().unwrap_or(0),
+        None => 0,
+    }
+}
+
+fn code(alloc: Global, text: &str) -> Result<Instrs, AllocError> {
+    let mut code = List::new(alloc);
+    let mut line: u32 = 1;
+    for token in text.split_whitespace() {
+        let mut fields = token.split(':');
+        let op = op_named(fields.next().unwrap_or(""));
+        let a = field(fields.next());
+        let b = u32::try_from(field(fields.next())).unwrap_or(0);
+        code.push(Instr { op, a, b, line })?;
+        line = line.wrapping_add(1);
+    }
+    Ok(code)
+}
+
+/// The code alone, in a unit `p` with one slot, with the texts `hi` and the empty one.
+fn image(alloc: Global, text: &str) -> Result<Image, Fail> {
+    let Ok(name) = Name::from_bytes(alloc, b"p") else {
+        return Err(Fail::from("name"));
+    };
+    let mut image = Image {
+        units: List::new(alloc),
+        routines: List::new(alloc),
+        texts: List::new(alloc),
+        constant_types: List::new(alloc),
+        instructions: code(alloc, text)?,
+    };
+    image.units.push(ImageUnit {
+        name,
+        slots: 1,
+        start: 0,
+        stop: 0,
+    })?;
+    image.routines.push(ImageRoutine {
+        entry: 0,
+        unit: 0,
+        arguments: 0,
+        slots: 0,
+    })?;
+    image.texts.push(List::from_slice(alloc, b"hi")?)?;
+    image.texts.push(List::new(alloc))?;
+    Ok(image)
+}
+
+fn told(alloc: Global, end: &End) -> Result<String, AllocError> {
+    match end {
+        End::Normal => String::from_str(alloc, "normal"),
+        End::Halt => String::from_str(alloc, "halt"),
+        End::Error { number, line, .. } => format!(in alloc; "error {number} at {line}"),
+        End::Budget => String::from_str(alloc, "budget"),
+        End::Broken { pc } => format!(in alloc; "broken at {pc}"),
+        _ => String::from_str(alloc, "fault"),
+    }
+}
+
+/// What was written, the end, and the ticks, of two runs with these budgets.
+fn ran(alloc: Global, text: &str, first: u32, second: u32) -> Result<String, Fail> {
+    let image = image(alloc, text)?;
+    let mut machine = Machine::new(alloc, &image)?;
+    let mut files = SureFiles::new(alloc);
+    let mut input = SureSource::new(Bytes::new(alloc));
+    let mut output = SureSink::new(alloc);
+    let _ = machine.run(first as u64, &mut files, &mut input, &mut output);
+    if machine.ticks() > 1_000_000_000 {
+        return Err(Fail::from("ticks"));
+    }
+    let end = told(
+        alloc,
+        &machine.run(second as u64, &mut files, &mut input, &mut output),
+    )?;
+    let ticks = machine.ticks();
+    let written = str::from_utf8(output.held()).unwrap_or("no text");
+    Ok(format!(in alloc; "{written}|{end}|{ticks}")?)
+}
+
+fn number(text: &str) -> u32 {
+    text.parse::<u32>().unwrap_or(0)
+}
+
+/// The lines of a table that come to something else, with what they come to.
+fn differing(alloc: Global, table: &str) -> Result<String, Fail> {
+    let mut all = String::new(alloc);
+    for line in table.lines() {
+        let mut parts = line.split('=');
+        let text = parts.next().unwrap_or("");
+        let wanted = parts.next().unwrap_or("");
+        let first = parts.next().map_or(10_000, number);
+        let second = parts.next().map_or(0, number);
+        let told = ran(alloc, text, first, second)?;
+        if told.as_str() != wanted {
+            write!(all, "{line} comes to {told}; ")?;
+        }
+    }
+    Ok(all)
+}
+
+/// Words and texts on the operand stack.
+const OPERANDS: &str = "\
+Unit:-1:1 Push:7 Form Put Return=7|normal|7\n\
+Push:7:1=|broken at 0|1\n\
+Unit:-1:1 Text:0 Put Return=hi|normal|8\n\
+Unit:-1:1 Text:1 Put Return=|normal|4\n\
+Text:2=|broken at 0|1\n\
+Text:0 Drop Return=|normal|7\n\
+Drop=|broken at 0|1\n\
+Text:0 Dup Halt=|halt|11\n\
+Unit:-1:1 Push:4 Dup Add Form Put Return=8|normal|9";
+
+/// Jumps, halt and what is not in the table.
+const JUMPS: &str = "\
+Jump:2 Halt Return=|normal|2\n\
+Jump:3 Halt Return=|broken at 0|1\n\
+Push:0 JumpFalse:3 Halt Return=|normal|3\n\
+Push:1 JumpFalse:3 Halt Return=|halt|3\n\
+Push:1 JumpFalse:4 Halt Return=|broken at 1|2\n\
+Text:0 JumpFalse:2 Return=|broken at 1|4\n\
+Halt:1=|broken at 0|1\n\
+Push:1=|broken at 1|2\n\
+Unknown=|broken at 0|1\n\
+Fail:1=|broken at 0|1";
+
+/// Slots and variables.
+const VARIABLES: &str = "\
+Slot:0=|error 1 at 1|1\n\
+Slot:1=|broken at 0|1\n\
+Slot:0:1=|broken at 0|1\n\
+Unit:0:0=|error 1 at 1|1\n\
+Unit:-1:2=|broken at 0|1\n\
+Push:0 Make:0 Unit:0:0 Push:5 Store Unit:-1:1 Slot:0 Load Form Put Return=5|normal|14\n\
+Push:0 Make:0 Slot:0 Load=|error 1 at 4|5\n\
+Push:2 Make:0 Slot:0 Push:2 Store=|error 2 at 5|6\n\
+Push:9 Make:0=|broken at 1|2\n\
+Push:0 Make:1=|broken at 1|2\n\
+Unit:-1:1 Load=|broken at 1|2\n\
+Push:0 Make:0 Slot:0 Text:0 Store=|broken at 4|8";
+
+/// Numbers.
+const SUMS: &str = "\
+Push:9223372036854775807 Push:1 Add=|error 8 at 3|3\n\
+Push:-9223372036854775807 Push:1 Sub=|error 8 at 3|3\n\
+Unit:-1:1 Push:-7 Push:6 Mul Form Put Return=-42|normal|13\n\
+Unit:-1:1 Push:-7 Push:2 Div Form Put Return=-3|normal|11\n\
+Unit:-1:1 Push:-7 Push:2 Mod Form Put Return=1|normal|9\n\
+Push:7 Push:-2 Mod=|error 9 at 3|3\n\
+Push:7 Push:0 Div=|error 9 at 3|3\n\
+Unit:-1:1 Push:7 Neg Abs Sqr Form Put Return=49|normal|12\n\
+Unit:-1:1 Push:-3 Odd Form Put Return=1|normal|8\n\
+Push:1 Add=|broken at 1|2\n\
+Push:1 Text:0 Add=|broken at 2|5\n\
+Push:1 Push:1 Add:1=|broken at 2|3";
+
+/// Truth values, comparisons and bounds.
+const TRUTHS: &str = "\
+Unit:-1:1 Push:0 Not Form:1 Put Return=True|normal|14\n\
+Push:2 Not=|broken at 1|2\n\
+Unit:-1:1 Push:1 Push:0 And Form Put Return=0|normal|9\n\
+Unit:-1:1 Push:1 Push:0 Or Form Put Return=1|normal|9\n\
+Push:1 Push:2 Or=|broken at 2|3\n\
+Unit:-1:1 Push:1 Push:2 Cmp:2 Form Put Return=1|normal|9\n\
+Unit:-1:1 Push:1 Push:2 Cmp:5 Form Put Return=0|normal|9\n\
+Push:1 Push:2 Cmp:6=|broken at 2|3\n\
+Unit:-1:1 Push:3 Push:1 Push:5 Between Form Put Return=1|normal|10\n\
+Push:6 Push:1 Push:5 Check:3=|error 3 at 4|4\n\
+Push:3 Push:1 Push:5 Check:26=|broken at 3|4\n\
+Unit:-1:1 Push:5 Push:2 Push:1 Push:7 Step Form Put Return=7|normal|11\n\
+Push:5 Push:3 Push:1 Push:7 Step=|error 14 at 5|5";
+
+/// Ordinal types.
+const TYPES: &str = "\
+Unit:-1:1 Push:1 Push:5 TOrd Drop Push:0 Push:255 TOrd Form Put Return=1|normal|13\n\
+Unit:-1:1 Push:1 Push:5 TOrd Drop Push:1 Push:5 TOrd Form Put Return=5|normal|13\n\
+Push:5 Push:1 TOrd=|error 5 at 3|3\n\
+Push:1 Push:5 TOrd Make:0 Slot:0 Push:6 Store=|error 2 at 7|8";
+
+/// What is printed.
+const PRINTS: &str = "\
+Unit:-1:1 Push:65 Chars Put Return=A|normal|7\n\
+Push:256 Chars=|broken at 1|2\n\
+Unit:-1:1 Push:-12 Push:5 Form:0:1 Put Return=  -12|normal|16\n\
+Unit:-1:1 Push:-12 Push:2 Form:0:1 Put Return=-12|normal|12\n\
+Unit:-1:1 Push:1 Push:2 Form:1:1 Put Return=Tr|normal|10\n\
+Unit:-1:1 Text:0 Push:1 Form:2:1 Put Return=h|normal|12\n\
+Text:0 Push:-1 Form:2:1=|error 21 at 3|7\n\
+Push:2 Form:1=|broken at 1|2\n\
+Push:2 Form:3=|broken at 1|2\n\
+Unit:-1:0 Text:0 Put=|error 18 at 3|7\n\
+Push:1 Text:0 Put=|broken at 2|5\n\
+Push:0 Make:0 Slot:0 Text:0 Put=|broken at 4|8";
+
+#[test]
+fn each_row_comes_to_what_the_table_of_instructions_says(rt: HostRuntime) -> Result<(), Fail> {
+    for table in [OPERANDS, JUMPS, VARIABLES, SUMS, TRUTHS, TYPES, PRINTS] {
+        let differing = differing(rt.alloc(), table)?;
+        assert_eq!(rt; differing.as_str(), "");
+    }
+    Ok(())
+}
+
+/// Budgets of two runs, after the second one of which this is told.
+const BUDGETS: &str = "\
+Unit:-1:1 Text:0 Put Return=|budget|0=0=0\n\
+Unit:-1:1 Text:0 Put Return=|budget|1=1=0\n\
+Unit:-1:1 Text:0 Put Return=|budget|1=3=0\n\
+Unit:-1:1 Text:0 Put Return=|budget|4=4=0\n\
+Unit:-1:1 Text:0 Put Return=|budget|4=6=0\n\
+Unit:-1:1 Text:0 Put Return=hi|budget|7=7=0\n\
+Unit:-1:1 Text:0 Put Return=hi|normal|8=8=0\n\
+Unit:-1:1 Text:0 Put Return=|budget|4=3=5\n\
+Unit:-1:1 Text:0 Put Return=hi|normal|8=3=7\n\
+Push:1 Push:0 Div=|error 9 at 3|3=9=9\n\
+Return=|normal|1=0=1";
+
+#[test]
+fn a_run_stops_at_its_budget_and_a_further_one_goes_on(rt: HostRuntime) -> Result<(), Fail> {
+    let differing = differing(rt.alloc(), BUDGETS)?;
+    assert_eq!(rt; differing.as_str(), "");
+    Ok(())
+}

@@ -1,0 +1,432 @@
+//! The code of typed trees and of a typed program, with instructions by hand.
+
+mod builder;
+
+use builder::{Builder, Step, Unbuilt};
+use ep_base::{Line, List, Name};
+use ep_gen_expr::{Code, expression_code, laws_of_code};
+use ep_gen_unit::{laws_of_programs, laws_of_statements, program_code, statement_code};
+use ep_object::{Instr, Object, op};
+use ep_typed::{
+    Binary, Host, Print, TypeValue, TypedStmt, Unary, Unit, UnitVariable, UnitVariables, run_error,
+};
+use std::alloc::Global;
+use std::test::Fail;
+
+/// An instruction: its code, its two fields and its line.
+type Row = (u8, i64, u32, Line);
+
+/// Trees, the code of one after another, and how many texts and references it has.
+type Trees = (&'static [Step], &'static [Row], usize, usize);
+
+/// Expressions, at line 3.
+const EXPRESSIONS: &[Trees] = &[
+    // -7 mod 2
+    (
+        &[
+            Step::Constant(7),
+            Step::One(Unary::Negate),
+            Step::Constant(2),
+            Step::Two(Binary::Modulo),
+        ],
+        &[
+            (op::PUSH, 7, 0, 3),
+            (op::NEG, 0, 0, 3),
+            (op::PUSH, 2, 0, 3),
+            (op::MOD, 0, 0, 3),
+        ],
+        0,
+        0,
+    ),
+    // chr(65)
+    (
+        &[Step::Constant(65), Step::One(Unary::Character)],
+        &[
+            (op::PUSH, 65, 0, 3),
+            (op::PUSH, 0, 0, 3),
+            (op::PUSH, 255, 0, 3),
+            (op::CHECK, run_error::SUCCESSOR as i64, 0, 3),
+        ],
+        0,
+        0,
+    ),
+    // pred of a char, two back
+    (
+        &[Step::Constant(67), Step::Constant(2), Step::CharStep(true)],
+        &[
+            (op::PUSH, 67, 0, 3),
+            (op::PUSH, 2, 0, 3),
+            (op::NEG, 0, 0, 3),
+            (op::PUSH, 0, 0, 3),
+            (op::PUSH, 255, 0, 3),
+            (op::STEP, 0, 0, 3),
+        ],
+        0,
+        0,
+    ),
+    // one variable < another one
+    (
+        &[
+            Step::Variable(4),
+            Step::Variable(0),
+            Step::Two(Binary::Less),
+        ],
+        &[
+            (op::UNIT, 0, 0, 3),
+            (op::LOAD, 0, 0, 3),
+            (op::UNIT, 1, 0, 3),
+            (op::LOAD, 0, 0, 3),
+            (op::CMP, 2, 0, 3),
+        ],
+        0,
+        2,
+    ),
+    // the same text twice
+    (
+        &[Step::Text(b"ab"), Step::Text(b"ab")],
+        &[(op::TEXT, 0, 0, 3), (op::TEXT, 0, 0, 3)],
+        1,
+        0,
+    ),
+];
+
+/// Statements.
+const STATEMENTS: &[Trees] = &[
+    // x := 7
+    (
+        &[Step::Constant(7), Step::Assign(4, 5)],
+        &[
+            (op::UNIT, 0, 0, 4),
+            (op::PUSH, 7, 0, 4),
+            (op::STORE, 0, 0, 4),
+        ],
+        0,
+        1,
+    ),
+    // if true then halt else halt, on lines 4, 5 and 6
+    (
+        &[Step::Halt(5), Step::Halt(6), Step::Constant(1), Step::If(4)],
+        &[
+            (op::PUSH, 1, 0, 4),
+            (op::JUMP_FALSE, 4, 0, 4),
+            (op::HALT, 0, 0, 5),
+            (op::JUMP, 5, 0, 4),
+            (op::HALT, 0, 0, 6),
+        ],
+        0,
+        0,
+    ),
+    // if true then halt
+    (
+        &[Step::Halt(5), Step::Empty, Step::Constant(1), Step::If(4)],
+        &[
+            (op::PUSH, 1, 0, 4),
+            (op::JUMP_FALSE, 4, 0, 4),
+            (op::HALT, 0, 0, 5),
+            (op::JUMP, 4, 0, 4),
+        ],
+        0,
+        0,
+    ),
+    // begin halt; while false do halt end
+    (
+        &[
+            Step::Halt(4),
+            Step::Halt(6),
+            Step::Constant(0),
+            Step::While(5),
+            Step::Compound,
+        ],
+        &[
+            (op::HALT, 0, 0, 4),
+            (op::PUSH, 0, 0, 5),
+            (op::JUMP_FALSE, 5, 0, 5),
+            (op::HALT, 0, 0, 6),
+            (op::JUMP, 1, 0, 5),
+        ],
+        0,
+        0,
+    ),
+    // writeln
+    (
+        &[Step::Write(4, true)],
+        &[
+            (op::UNIT, -1, 1, 4),
+            (op::PUSH, 10, 0, 4),
+            (op::CHARS, 0, 0, 4),
+            (op::PUT, 0, 0, 4),
+        ],
+        0,
+        0,
+    ),
+];
+
+/// `write` of one value.
+const WRITES: &[Trees] = &[
+    (
+        &[
+            Step::Constant(65),
+            Step::Plain(Print::Integer),
+            Step::Write(4, false),
+        ],
+        &[
+            (op::UNIT, -1, 1, 4),
+            (op::PUSH, 65, 0, 4),
+            (op::FORM, 0, 0, 4),
+            (op::PUT, 0, 0, 4),
+        ],
+        0,
+        0,
+    ),
+    (
+        &[
+            Step::Constant(65),
+            Step::Plain(Print::Char),
+            Step::Write(4, false),
+        ],
+        &[
+            (op::UNIT, -1, 1, 4),
+            (op::PUSH, 65, 0, 4),
+            (op::CHARS, 0, 0, 4),
+            (op::PUT, 0, 0, 4),
+        ],
+        0,
+        0,
+    ),
+    (
+        &[
+            Step::Constant(65),
+            Step::Plain(Print::Boolean),
+            Step::Write(4, false),
+        ],
+        &[
+            (op::UNIT, -1, 1, 4),
+            (op::PUSH, 65, 0, 4),
+            (op::FORM, 1, 0, 4),
+            (op::PUT, 0, 0, 4),
+        ],
+        0,
+        0,
+    ),
+    (
+        &[
+            Step::Text(b"ab"),
+            Step::Plain(Print::Text),
+            Step::Write(4, false),
+        ],
+        &[
+            (op::UNIT, -1, 1, 4),
+            (op::TEXT, 0, 0, 4),
+            (op::PUT, 0, 0, 4),
+        ],
+        1,
+        0,
+    ),
+    (
+        &[
+            Step::Constant(65),
+            Step::Constant(8),
+            Step::Wide(Print::Integer),
+            Step::Write(4, false),
+        ],
+        &[
+            (op::UNIT, -1, 1, 4),
+            (op::PUSH, 65, 0, 4),
+            (op::PUSH, 8, 0, 4),
+            (op::FORM, 0, 1, 4),
+            (op::PUT, 0, 0, 4),
+        ],
+        0,
+        0,
+    ),
+    (
+        &[
+            Step::Constant(65),
+            Step::Constant(8),
+            Step::Wide(Print::Char),
+            Step::Write(4, false),
+        ],
+        &[
+            (op::UNIT, -1, 1, 4),
+            (op::PUSH, 65, 0, 4),
+            (op::CHARS, 0, 0, 4),
+            (op::PUSH, 8, 0, 4),
+            (op::FORM, 2, 1, 4),
+            (op::PUT, 0, 0, 4),
+        ],
+        0,
+        0,
+    ),
+    (
+        &[
+            Step::Constant(65),
+            Step::Constant(8),
+            Step::Wide(Print::Boolean),
+            Step::Write(4, false),
+        ],
+        &[
+            (op::UNIT, -1, 1, 4),
+            (op::PUSH, 65, 0, 4),
+            (op::PUSH, 8, 0, 4),
+            (op::FORM, 1, 1, 4),
+            (op::PUT, 0, 0, 4),
+        ],
+        0,
+        0,
+    ),
+    (
+        &[
+            Step::Constant(65),
+            Step::Constant(8),
+            Step::Wide(Print::Text),
+            Step::Write(4, false),
+        ],
+        &[
+            (op::UNIT, -1, 1, 4),
+            (op::PUSH, 65, 0, 4),
+            (op::PUSH, 8, 0, 4),
+            (op::FORM, 2, 1, 4),
+            (op::PUT, 0, 0, 4),
+        ],
+        0,
+        0,
+    ),
+];
+
+/// Whether the instructions are these.
+fn are(instructions: &[Instr], want: &[Row]) -> bool {
+    if instructions.len() != want.len() {
+        return false;
+    }
+    for (instr, row) in instructions.iter().zip(want) {
+        if (instr.op, instr.a, instr.b, instr.line) != *row {
+            return false;
+        }
+    }
+    true
+}
+
+/// A unit `main` at line 3 with these variables, which does these statements.
+fn unit_of(
+    alloc: Global,
+    variables: UnitVariables,
+    statements: List<TypedStmt>,
+) -> Result<Unit, Unbuilt> {
+    let name = Name::from_bytes(alloc, b"main")?;
+    Ok(Unit {
+        name,
+        line: 3,
+        variables,
+        start: TypedStmt::Compound(statements),
+    })
+}
+
+/// No code yet, at line 3.
+fn no_code(alloc: Global) -> Result<Code, Unbuilt> {
+    let unit = unit_of(alloc, List::new(alloc), List::new(alloc))?;
+    Ok(Code::new(alloc, &unit))
+}
+
+/// Appends the code of the expressions that steps left, and then of the statements.
+fn append(alloc: Global, built: &Builder, code: &mut Code) -> Result<(), Unbuilt> {
+    for e in built.expressions.items() {
+        expression_code(alloc, e.get(), code)?;
+    }
+    for s in built.statements.items() {
+        statement_code(alloc, s, code)?;
+    }
+    Ok(())
+}
+
+/// Whether the trees that steps build have their code and the tables that it names.
+fn have_code(alloc: Global, trees: Trees) -> Result<bool, Unbuilt> {
+    let (steps, want, texts, references) = trees;
+    let mut code = no_code(alloc)?;
+    let built = Builder::after(alloc, steps)?;
+    append(alloc, &built, &mut code)?;
+    let tables = code.texts.items().len() == texts && code.references.items().len() == references;
+    Ok(tables && are(code.instructions.items(), want))
+}
+
+/// The first row of a table whose trees have other code.
+fn first_wrong(alloc: Global, table: &[Trees]) -> Result<Option<usize>, Unbuilt> {
+    for (number, trees) in table.iter().enumerate() {
+        if !have_code(alloc, *trees)? {
+            return Ok(Some(number));
+        }
+    }
+    Ok(None)
+}
+
+#[test]
+fn trees_have_their_code(rt: HostRuntime) -> Result<(), Fail> {
+    for table in [EXPRESSIONS, STATEMENTS, WRITES] {
+        assert_eq!(rt; first_wrong(rt.alloc(), table)?, None);
+    }
+    laws_of_code();
+    laws_of_statements();
+    Ok(())
+}
+
+/// A variable of the type from 0 to 9.
+fn digit(alloc: Global, name: &[u8], line: Line) -> Result<UnitVariable, Unbuilt> {
+    Ok(UnitVariable {
+        name: Name::from_bytes(alloc, name)?,
+        line,
+        host: Host::Integer,
+        type_value: TypeValue::Ordinal(0, 9),
+    })
+}
+
+/// The variables `x` and `y`, on lines 1 and 2.
+fn two_digits(alloc: Global) -> Result<UnitVariables, Unbuilt> {
+    let mut variables = List::new(alloc);
+    variables.push(digit(alloc, b"x", 1)?)?;
+    variables.push(digit(alloc, b"y", 2)?)?;
+    Ok(variables)
+}
+
+/// The object of a program with these variables, whose block is `y := 7` on line 4.
+fn program(alloc: Global) -> Result<Object, Unbuilt> {
+    let steps = [Step::Constant(7), Step::Assign(4, 1)];
+    let variables = two_digits(alloc)?;
+    let statements = Builder::after(alloc, &steps)?.into_statements();
+    let unit = unit_of(alloc, variables, statements)?;
+    Ok(program_code(alloc, &unit)?)
+}
+
+/// The code of that program.
+const PROGRAM: &[Row] = &[
+    (op::PUSH, 0, 0, 1),
+    (op::PUSH, 9, 0, 1),
+    (op::T_ORD, 0, 0, 1),
+    (op::MAKE, 0, 0, 1),
+    (op::PUSH, 0, 0, 2),
+    (op::PUSH, 9, 0, 2),
+    (op::T_ORD, 0, 0, 2),
+    (op::MAKE, 1, 0, 2),
+    (op::UNIT, 0, 0, 4),
+    (op::PUSH, 7, 0, 4),
+    (op::STORE, 0, 0, 4),
+    (op::RETURN, 0, 0, 3),
+    (op::RETURN, 0, 0, 3),
+];
+
+/// Whether an object has this code, its start at 0 and its stop at 12.
+fn is_program(object: &Object) -> bool {
+    let [start, stop] = object.routines.items() else {
+        return false;
+    };
+    let entries = start.entry == 0 && stop.entry == 12;
+    let numbers = object.start == 0 && object.stop == 1 && object.unit_slots == 2;
+    let references = object.references.items().len() == 1;
+    entries && numbers && references && are(object.instructions.items(), PROGRAM)
+}
+
+#[test]
+fn a_program_has_its_object(rt: HostRuntime) -> Result<(), Fail> {
+    let object = program(rt.alloc())?;
+    assert!(rt; is_program(&object));
+    laws_of_programs();
+    Ok(())
+}

@@ -1,0 +1,225 @@
+//! Typed trees, built by steps.
+
+use ep_base::{Boxed, Bytes, Line, List, Name, NameRefusal};
+use ep_typed::{Binary, Print, TypedExpr, TypedPlace, TypedStmt, Unary, WriteItem};
+use std::alloc::{AllocError, Global};
+
+/// A step that builds a tree of what the steps before it left, the last first.
+#[derive(Clone, Copy)]
+pub(crate) enum Step {
+    /// A constant.
+    Constant(i64),
+    /// A text.
+    Text(&'static [u8]),
+    /// The value of a variable of `main`.
+    Variable(u32),
+    /// An operation with one operand.
+    One(Unary),
+    /// An operation with two operands.
+    Two(Binary),
+    /// `succ` of a char and a count, or with the flag `pred`.
+    CharStep(bool),
+    /// A value that is written.
+    Plain(Print),
+    /// A value that is written, and its width.
+    Wide(Print),
+    /// The empty statement.
+    Empty,
+    /// An assignment of a value to a variable of `main`.
+    Assign(Line, u32),
+    /// `if` with a condition and two statements.
+    If(Line),
+    /// `while` with a condition and a statement.
+    While(Line),
+    /// `halt`
+    Halt(Line),
+    /// `write` of all values that are written, or with the flag `writeln`.
+    Write(Line, bool),
+    /// All statements in order, as one.
+    Compound,
+}
+
+/// Why a tree is not built.
+#[derive(Clone, Copy, Debug, Drop, PartialEq, Eq)]
+pub(crate) enum Unbuilt {
+    /// The steps before one left too little.
+    Lacking,
+    /// Memory is wanting.
+    NoMemory,
+}
+
+impl From<AllocError> for Unbuilt {
+    fn from(_e: AllocError) -> Unbuilt {
+        Unbuilt::NoMemory
+    }
+}
+
+impl From<NameRefusal> for Unbuilt {
+    fn from(_e: NameRefusal) -> Unbuilt {
+        Unbuilt::NoMemory
+    }
+}
+
+/// What the steps so far left.
+#[derive(Drop)]
+pub(crate) struct Builder {
+    alloc: Global,
+    pub(crate) expressions: List<Boxed<TypedExpr>>,
+    items: List<WriteItem>,
+    pub(crate) statements: List<TypedStmt>,
+}
+
+impl Builder {
+    /// What all these steps leave.
+    pub(crate) fn after(alloc: Global, steps: &[Step]) -> Result<Builder, Unbuilt> {
+        let mut builder = Builder {
+            alloc,
+            expressions: List::new(alloc),
+            items: List::new(alloc),
+            statements: List::new(alloc),
+        };
+        for step in steps {
+            builder.take(*step)?;
+        }
+        Ok(builder)
+    }
+
+    /// The statements that are left.
+    pub(crate) fn into_statements(self) -> List<TypedStmt> {
+        self.statements
+    }
+
+    /// Takes one step.
+    fn take(&mut self, step: Step) -> Result<(), Unbuilt> {
+        match step {
+            Step::Constant(value) => self.push(TypedExpr::Constant(value)),
+            Step::Text(bytes) => self.text(bytes),
+            Step::Variable(number) => self.variable(number),
+            Step::One(operation) => self.one(operation),
+            Step::Two(operation) => self.two(operation),
+            Step::CharStep(down) => self.char_step(down),
+            Step::Plain(print) => self.plain(print),
+            Step::Wide(print) => self.wide(print),
+            Step::Empty => self.put(TypedStmt::Empty),
+            Step::Assign(line, number) => self.assign(line, number),
+            Step::If(line) => self.choice(line),
+            Step::While(line) => self.repetition(line),
+            Step::Halt(line) => self.put(TypedStmt::Halt(line)),
+            Step::Write(line, ends_line) => self.write(line, ends_line),
+            Step::Compound => self.compound(),
+        }
+    }
+
+    /// The last expression.
+    fn expression(&mut self) -> Result<Boxed<TypedExpr>, Unbuilt> {
+        self.expressions.pop().ok_or(Unbuilt::Lacking)
+    }
+
+    /// The last statement.
+    fn statement(&mut self) -> Result<Boxed<TypedStmt>, Unbuilt> {
+        match self.statements.pop() {
+            Some(s) => Ok(Boxed::new(self.alloc, s)?),
+            None => Err(Unbuilt::Lacking),
+        }
+    }
+
+    /// Leaves an expression.
+    fn push(&mut self, e: TypedExpr) -> Result<(), Unbuilt> {
+        let boxed = Boxed::new(self.alloc, e)?;
+        Ok(self.expressions.push(boxed)?)
+    }
+
+    /// Leaves a statement.
+    fn put(&mut self, s: TypedStmt) -> Result<(), Unbuilt> {
+        Ok(self.statements.push(s)?)
+    }
+
+    fn text(&mut self, bytes: &[u8]) -> Result<(), Unbuilt> {
+        let text = Bytes::from_slice(self.alloc, bytes)?;
+        self.push(TypedExpr::Text(text))
+    }
+
+    /// The place of a variable of `main`.
+    fn place(&self, number: u32) -> Result<TypedPlace, Unbuilt> {
+        let unit = Name::from_bytes(self.alloc, b"main")?;
+        Ok(TypedPlace::Variable(unit, number))
+    }
+
+    fn variable(&mut self, number: u32) -> Result<(), Unbuilt> {
+        let place = self.place(number)?;
+        self.push(TypedExpr::Read(place))
+    }
+
+    fn one(&mut self, operation: Unary) -> Result<(), Unbuilt> {
+        let operand = self.expression()?;
+        self.push(TypedExpr::Unary(operation, operand))
+    }
+
+    fn two(&mut self, operation: Binary) -> Result<(), Unbuilt> {
+        let right = self.expression()?;
+        let left = self.expression()?;
+        self.push(TypedExpr::Binary(operation, left, right))
+    }
+
+    fn char_step(&mut self, down: bool) -> Result<(), Unbuilt> {
+        let count = self.expression()?;
+        let value = self.expression()?;
+        self.push(TypedExpr::Step(down, 0, 255, value, count))
+    }
+
+    fn plain(&mut self, print: Print) -> Result<(), Unbuilt> {
+        let value = self.expression()?;
+        self.item(print, value, None)
+    }
+
+    fn wide(&mut self, print: Print) -> Result<(), Unbuilt> {
+        let width = self.expression()?;
+        let value = self.expression()?;
+        self.item(print, value, Some(width))
+    }
+
+    /// Leaves a value that is written.
+    fn item(
+        &mut self,
+        print: Print,
+        value: Boxed<TypedExpr>,
+        width: Option<Boxed<TypedExpr>>,
+    ) -> Result<(), Unbuilt> {
+        Ok(
+            self.items.push(WriteItem {
+                print,
+                value: value.into_inner(),
+                width: width.map(Boxed::into_inner),
+            })?,
+        )
+    }
+
+    fn assign(&mut self, line: Line, number: u32) -> Result<(), Unbuilt> {
+        let value = self.expression()?;
+        let place = self.place(number)?;
+        self.put(TypedStmt::Assign(line, place, value.into_inner()))
+    }
+
+    fn choice(&mut self, line: Line) -> Result<(), Unbuilt> {
+        let condition = self.expression()?;
+        let else_part = self.statement()?;
+        let then_part = self.statement()?;
+        self.put(TypedStmt::If(line, condition.into_inner(), then_part, else_part))
+    }
+
+    fn repetition(&mut self, line: Line) -> Result<(), Unbuilt> {
+        let condition = self.expression()?;
+        let body = self.statement()?;
+        self.put(TypedStmt::While(line, condition.into_inner(), body))
+    }
+
+    fn write(&mut self, line: Line, ends_line: bool) -> Result<(), Unbuilt> {
+        let items = std::mem::replace(&mut self.items, List::new(self.alloc));
+        self.put(TypedStmt::Write(line, items, ends_line))
+    }
+
+    fn compound(&mut self) -> Result<(), Unbuilt> {
+        let statements = std::mem::replace(&mut self.statements, List::new(self.alloc));
+        self.put(TypedStmt::Compound(statements))
+    }
+}
