@@ -3,10 +3,9 @@
 use crate::declaration::{Constants, RoutineHeading, Types, Variables};
 use crate::routine::Part;
 use crate::statement::{Compound, Statement};
-use ep_base::{Line, List, Name, Names};
+use ep_base::{Boxed, Line, List, Name, Names};
 
 /// `component = program "." | module "."`
-#[derive(Drop)]
 pub enum Component {
     /// A program.
     Program(Program),
@@ -18,9 +17,19 @@ pub enum Component {
     Module(Module),
 }
 
+impl Drop for Component {
+    fn drop(self) {
+        match self {
+            Component::Program(_) => {}
+            Component::Heading(_) => {}
+            Component::Block(_) => {}
+            Component::Module(_) => {}
+        }
+    }
+}
+
 /// `program = "program" id [ "(" ids ")" ] ";" imports parts compound`; without parentheses there are no
 /// parameters.
-#[derive(Drop)]
 pub struct Program {
     pub line: Line,
     pub name: Name,
@@ -30,25 +39,55 @@ pub struct Program {
     pub body: Compound,
 }
 
+impl Drop for Program {
+    fn drop(self) {
+        let Program {
+            line: _,
+            name: _,
+            parameters: _,
+            imports: _,
+            parts: _,
+            body: _,
+        } = self;
+    }
+}
+
 /// `head ";" modblock`
-#[derive(Drop)]
 pub struct Module {
     pub line: Line,
     pub heading: Heading,
     pub block: Block,
 }
 
+impl Drop for Module {
+    fn drop(self) {
+        let Module {
+            line: _,
+            heading: _,
+            block: _,
+        } = self;
+    }
+}
+
 /// `"module" id "implementation" ";" modblock`
-#[derive(Drop)]
 pub struct Implementation {
     pub line: Line,
     pub name: Name,
     pub block: Block,
 }
 
+impl Drop for Implementation {
+    fn drop(self) {
+        let Implementation {
+            line: _,
+            name: _,
+            block: _,
+        } = self;
+    }
+}
+
 /// `head = "module" id [ "(" ids ")" ] ";" hparts`, and `ihead`, which is the same with `interface` after the
 /// name. `hparts = exports imports { consts | types | vars | rhead ";" } "end"`.
-#[derive(Drop)]
 pub struct Heading {
     pub line: Line,
     pub name: Name,
@@ -58,8 +97,20 @@ pub struct Heading {
     pub parts: List<HeadingPart>,
 }
 
+impl Drop for Heading {
+    fn drop(self) {
+        let Heading {
+            line: _,
+            name: _,
+            parameters: _,
+            exports: _,
+            imports: _,
+            parts: _,
+        } = self;
+    }
+}
+
 /// One of `{ consts | types | vars | rhead ";" }`
-#[derive(Drop)]
 pub enum HeadingPart {
     /// `consts`
     Constants(Constants),
@@ -71,26 +122,56 @@ pub enum HeadingPart {
     Routine(RoutineHeading),
 }
 
+impl Drop for HeadingPart {
+    fn drop(self) {
+        match self {
+            HeadingPart::Constants(_) => {}
+            HeadingPart::Types(_) => {}
+            HeadingPart::Variables(_) => {}
+            HeadingPart::Routine(_) => {}
+        }
+    }
+}
+
 /// `modblock = imports parts [ "to" "begin" "do" stmt ";" ] [ "to" "end" "do" stmt ";" ] "end"`
-#[derive(Drop)]
 pub struct Block {
     pub line: Line,
     pub imports: List<Import>,
     pub parts: List<Part>,
-    pub initialization: Option<Statement>,
-    pub finalization: Option<Statement>,
+    pub initialization: Option<Boxed<Statement>>,
+    pub finalization: Option<Boxed<Statement>>,
+}
+
+impl Drop for Block {
+    fn drop(self) {
+        let Block {
+            line: _,
+            imports: _,
+            parts: _,
+            initialization: _,
+            finalization: _,
+        } = self;
+    }
 }
 
 /// `export = id "=" "(" eitem { "," eitem } ")"`
-#[derive(Drop)]
 pub struct Export {
     pub line: Line,
     pub name: Name,
     pub items: List<ExportItem>,
 }
 
+impl Drop for Export {
+    fn drop(self) {
+        let Export {
+            line: _,
+            name: _,
+            items: _,
+        } = self;
+    }
+}
+
 /// `eitem = [ "protected" ] id [ "=>" id ] | id ".." id`
-#[derive(Drop)]
 pub enum ExportItem {
     /// `[ "protected" ] id [ "=>" id ]`
     Constituent(Line, bool, Name, Option<Name>),
@@ -98,9 +179,17 @@ pub enum ExportItem {
     Range(Line, Name, Name),
 }
 
+impl Drop for ExportItem {
+    fn drop(self) {
+        match self {
+            ExportItem::Constituent(_, _, _, _) => {}
+            ExportItem::Range(_, _, _) => {}
+        }
+    }
+}
+
 /// `import = id [ "qualified" ] [ [ "only" ] "(" iitem { "," iitem } ")" ]`; without parentheses there are no
 /// items, and `only` is false.
-#[derive(Drop)]
 pub struct Import {
     pub line: Line,
     pub interface: Name,
@@ -109,10 +198,31 @@ pub struct Import {
     pub items: List<ImportItem>,
 }
 
+impl Drop for Import {
+    fn drop(self) {
+        let Import {
+            line: _,
+            interface: _,
+            qualified: _,
+            only: _,
+            items: _,
+        } = self;
+    }
+}
+
 /// `iitem = id [ "=>" id ]`
-#[derive(Drop)]
 pub struct ImportItem {
     pub line: Line,
     pub name: Name,
     pub renamed: Option<Name>,
+}
+
+impl Drop for ImportItem {
+    fn drop(self) {
+        let ImportItem {
+            line: _,
+            name: _,
+            renamed: _,
+        } = self;
+    }
 }

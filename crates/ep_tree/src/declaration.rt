@@ -6,29 +6,53 @@ use crate::types::TypeDenoter;
 use ep_base::{Line, List, Name, Names};
 
 /// `consts = "const" id "=" cvalue ";" { id "=" cvalue ";" }`
-#[derive(Drop)]
 pub struct Constants {
     pub line: Line,
     pub definitions: List<ConstantDefinition>,
 }
 
+impl Drop for Constants {
+    fn drop(self) {
+        let Constants {
+            line: _,
+            definitions: _,
+        } = self;
+    }
+}
+
 /// `id "=" cvalue`
-#[derive(Drop)]
 pub struct ConstantDefinition {
     pub line: Line,
     pub name: Name,
     pub value: ComponentValue,
 }
 
+impl Drop for ConstantDefinition {
+    fn drop(self) {
+        let ConstantDefinition {
+            line: _,
+            name: _,
+            value: _,
+        } = self;
+    }
+}
+
 /// `types = "type" tdef ";" { tdef ";" }`
-#[derive(Drop)]
 pub struct Types {
     pub line: Line,
     pub definitions: List<TypeDefinition>,
 }
 
+impl Drop for Types {
+    fn drop(self) {
+        let Types {
+            line: _,
+            definitions: _,
+        } = self;
+    }
+}
+
 /// `tdef = id [ "(" dsec { ";" dsec } ")" ] "=" type`; without parentheses there are no discriminants.
-#[derive(Drop)]
 pub struct TypeDefinition {
     pub line: Line,
     pub name: Name,
@@ -36,31 +60,67 @@ pub struct TypeDefinition {
     pub of: TypeDenoter,
 }
 
+impl Drop for TypeDefinition {
+    fn drop(self) {
+        let TypeDefinition {
+            line: _,
+            name: _,
+            discriminants: _,
+            of: _,
+        } = self;
+    }
+}
+
 /// `dsec = ids ":" name`
-#[derive(Drop)]
 pub struct DiscriminantSection {
     pub line: Line,
     pub names: Names,
     pub of: QualifiedName,
 }
 
+impl Drop for DiscriminantSection {
+    fn drop(self) {
+        let DiscriminantSection {
+            line: _,
+            names: _,
+            of: _,
+        } = self;
+    }
+}
+
 /// `vars = "var" ids ":" type ";" { ids ":" type ";" }`
-#[derive(Drop)]
 pub struct Variables {
     pub line: Line,
     pub declarations: List<VariableDeclaration>,
 }
 
+impl Drop for Variables {
+    fn drop(self) {
+        let Variables {
+            line: _,
+            declarations: _,
+        } = self;
+    }
+}
+
 /// `ids ":" type`
-#[derive(Drop)]
 pub struct VariableDeclaration {
     pub line: Line,
     pub names: Names,
     pub of: TypeDenoter,
 }
 
+impl Drop for VariableDeclaration {
+    fn drop(self) {
+        let VariableDeclaration {
+            line: _,
+            names: _,
+            of: _,
+        } = self;
+    }
+}
+
 /// `rhead`; without parentheses there are no formals.
-#[derive(Drop)]
 pub enum RoutineHeading {
     /// `"procedure" id [ formals ]`
     Procedure(Line, Name, List<FormalSection>),
@@ -68,8 +128,16 @@ pub enum RoutineHeading {
     Function(Line, Name, List<FormalSection>, Option<Name>, QualifiedName),
 }
 
+impl Drop for RoutineHeading {
+    fn drop(self) {
+        match self {
+            RoutineHeading::Procedure(_, _, _) => {}
+            RoutineHeading::Function(_, _, _, _, _) => {}
+        }
+    }
+}
+
 /// `psec = [ "protected" ] [ "var" ] ids ":" ( name | "type" "of" name )`
-#[derive(Drop)]
 pub struct FormalSection {
     pub line: Line,
     pub protected: bool,
@@ -78,11 +146,31 @@ pub struct FormalSection {
     pub of: FormalType,
 }
 
+impl Drop for FormalSection {
+    fn drop(self) {
+        let FormalSection {
+            line: _,
+            protected: _,
+            variable: _,
+            names: _,
+            of: _,
+        } = self;
+    }
+}
+
 /// `name | "type" "of" name`
-#[derive(Drop)]
 pub enum FormalType {
     /// A type or a schema.
     Named(QualifiedName),
     /// The type of a variable.
     TypeOf(Line, QualifiedName),
+}
+
+impl Drop for FormalType {
+    fn drop(self) {
+        match self {
+            FormalType::Named(_) => {}
+            FormalType::TypeOf(_, _) => {}
+        }
+    }
 }

@@ -11,7 +11,7 @@ use ep_base::{Boxed, Bytes, Line, List, Name};
 pub struct Expression {
     pub line: Line,
     pub left: Simple,
-    pub right: Option<Comparison>,
+    pub right: Option<Boxed<Comparison>>,
 }
 
 /// The second half of a comparison.
@@ -45,7 +45,7 @@ pub struct Addend {
 #[derive(Drop)]
 pub struct Term {
     pub line: Line,
-    pub first: Factor,
+    pub first: Boxed<Factor>,
     pub more: List<Multiplier>,
 }
 
@@ -54,7 +54,7 @@ pub struct Term {
 #[derive(Drop)]
 pub struct Multiplier {
     pub operator: MultiplyingOperator,
-    pub factor: Factor,
+    pub factor: Boxed<Factor>,
 }
 
 /// `factor`
@@ -76,7 +76,7 @@ pub enum Factor {
     /// `"[" [ label { "," label } ] "]"`
     Set(Line, List<Label>),
     /// `name "[" values "]"`
-    Structured(Line, QualifiedName, Values),
+    Structured(Line, QualifiedName, Boxed<Values>),
 }
 
 /// `access = id { selector }`
@@ -107,8 +107,8 @@ pub enum Selector {
 #[derive(Drop)]
 pub struct Argument {
     pub line: Line,
-    pub value: Expression,
-    pub width: Option<Expression>,
+    pub value: Boxed<Expression>,
+    pub width: Option<Boxed<Expression>>,
 }
 
 /// `label = expr [ ".." expr ]`
@@ -116,8 +116,8 @@ pub struct Argument {
 #[derive(Drop)]
 pub struct Label {
     pub line: Line,
-    pub low: Expression,
-    pub high: Option<Expression>,
+    pub low: Boxed<Expression>,
+    pub high: Option<Boxed<Expression>>,
 }
 
 /// `cvalue = expr | "[" values "]"`
@@ -125,9 +125,9 @@ pub struct Label {
 #[derive(Drop)]
 pub enum ComponentValue {
     /// An expression.
-    Expression(Expression),
+    Expression(Boxed<Expression>),
     /// A structured value without the name of its type.
-    Bracketed(Line, Values),
+    Bracketed(Line, Boxed<Values>),
 }
 
 /// `values = element { ";" element } [ [ ";" ] "otherwise" cvalue ] [ ";" ] | "otherwise" cvalue [ ";" ]`
@@ -146,5 +146,5 @@ pub enum Element {
     /// `labels ":" cvalue`
     Labelled(Line, List<Label>, ComponentValue),
     /// `"case" [ id ":" ] expr "of" "[" [ values ] "]"`
-    Variant(Line, Option<Name>, Expression, Option<Boxed<Values>>),
+    Variant(Line, Option<Name>, Boxed<Expression>, Option<Boxed<Values>>),
 }

@@ -10,6 +10,7 @@ mod types;
 
 use crate::component::{Block, Component, Heading, HeadingPart};
 use crate::statement::Statement;
+use ep_base::Boxed;
 
 /// The nesting of a component, at most the greatest `u32`. It takes no memory.
 pub fn nesting(c: &Component) -> u32
@@ -60,11 +61,11 @@ fn block(b: &Block) -> u32
         .max(action(&b.finalization))
 }
 
-fn action(s: &Option<Statement>) -> u32
+fn action(s: &Option<Boxed<Statement>>) -> u32
     ensures { result ≡ min (action_nesting s.now) u32.MAX }
 {
     match s {
         None => 0,
-        Some(s) => statements::statement(s),
+        Some(s) => statements::statement(s.get()),
     }
 }

@@ -3,11 +3,20 @@
 use ep_base::{Line, Name};
 
 /// A name, or an interface's name and a constituent's: `id [ "." id ]`.
-#[derive(Drop)]
 pub struct QualifiedName {
     pub line: Line,
     pub first: Name,
     pub second: Option<Name>,
+}
+
+impl Drop for QualifiedName {
+    fn drop(self) {
+        let QualifiedName {
+            line: _,
+            first: _,
+            second: _,
+        } = self;
+    }
 }
 
 /// A relational operator (ISO 10206, 6.8.1).

@@ -28,12 +28,20 @@ pub struct Routine {
 }
 
 /// `rhead | "function" id`
-#[derive(Drop)]
 pub enum RoutineStart {
     /// `rhead`
     Heading(RoutineHeading),
     /// `"function" id`
     Function(Line, Name),
+}
+
+impl Drop for RoutineStart {
+    fn drop(self) {
+        match self {
+            RoutineStart::Heading(_) => {}
+            RoutineStart::Function(_, _) => {}
+        }
+    }
 }
 
 /// `"forward" | parts compound`

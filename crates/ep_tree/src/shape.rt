@@ -6,12 +6,12 @@ ghost use Rattle.ep_tree.specs.Shapes.{all_single, all_plain, single_label, plai
 
 use crate::expression::{Access, Argument, Expression, Factor, Label, Selector, Simple, Term};
 use crate::operator::QualifiedName;
-use ep_base::{Line, List, Name, NoMemory};
+use ep_base::{Boxed, Line, List, Name, NoMemory};
 use std::alloc::Global;
 
 impl Expression {
     /// The expression's factor, if the expression is nothing more.
-    fn into_factor(self) -> Option<Factor>
+    fn into_factor(self) -> Option<Boxed<Factor>>
         ensures { result ≡ bare self }
     {
         let Expression { left, right, .. } = self;
@@ -39,30 +39,25 @@ impl Expression {
     pub fn into_identifier(self) -> Option<Name>
         ensures { result ≡ as_identifier self }
     {
-        match self.into_factor() {
-            Some(
-                Factor::Access(
-                    Access {
-                        name,
-                        selectors,
-                        ..
-                    },
-                ),
-            ) => {
-                if selectors.items().is_empty() {
-                    Some(name)
-                } else {
-                    None
-                }
-            }
-            _ => None,
+        let Factor::Access(access) = self.into_factor()?.into_inner() else {
+            return None;
+        };
+        let Access {
+            name,
+            selectors,
+            ..
+        } = access;
+        if selectors.items().is_empty() {
+            Some(name)
+        } else {
+            None
         }
     }
 }
 
 impl Label {
     /// The label's expression, if it has one alone.
-    fn into_single(self) -> Option<Expression>
+    fn into_single(self) -> Option<Boxed<Expression>>
         ensures { result ≡ single_label self }
     {
         let Label { low, high, .. } = self;
@@ -72,7 +67,7 @@ impl Label {
 
 impl Argument {
     /// The argument's value, if it has no width.
-    fn into_plain(self) -> Option<Expression>
+    fn into_plain(self) -> Option<Boxed<Expression>>
         ensures { result ≡ plain_argument self }
     {
         let Argument { value, width, .. } = self;
@@ -107,7 +102,7 @@ pub fn single_labels(
         let Some(one) = label.into_single() else {
             return Ok(None);
         };
-        found.push(one)?;
+        found.push(one.into_inner())?;
     }
     Ok(Some(turned(alloc, found)?))
 }
@@ -126,7 +121,7 @@ pub fn plain_arguments(
         let Some(one) = argument.into_plain() else {
             return Ok(None);
         };
-        found.push(one)?;
+        found.push(one.into_inner())?;
     }
     Ok(Some(turned(alloc, found)?))
 }
@@ -139,15 +134,16 @@ impl Expression {
     ) -> Result<Option<(QualifiedName, List<Expression>)>, NoMemory>
         ensures { IfOk result (λ found. found ≡ as_named self) }
     {
-        match self.into_factor() {
-            Some(
-                Factor::Access(
-                    Access {
-                        line,
-                        name,
-                        selectors,
-                    },
-                ),
+        let Some(factor) = self.into_factor() else {
+            return Ok(None);
+        };
+        match factor.into_inner() {
+            Factor::Access(
+                Access {
+                    line,
+                    name,
+                    selectors,
+                },
             ) => named_parts(alloc, line, name, selectors),
             _ => Ok(None),
         }

@@ -17,17 +17,17 @@ pub enum Statement {
     /// `compound`
     Compound(Compound),
     /// `"if" expr "then" stmt [ "else" stmt ]`
-    If(Line, Expression, Boxed<Statement>, Option<Boxed<Statement>>),
+    If(Line, Boxed<Expression>, Boxed<Statement>, Option<Boxed<Statement>>),
     /// `"case" expr "of" ( arm { ";" arm } [ ";" | [ ";" ] other ] | other ) "end"`
-    Case(Line, Expression, List<Arm>, Option<Otherwise>),
+    Case(Line, Boxed<Expression>, List<Arm>, Option<Otherwise>),
     /// `"while" expr "do" stmt`
-    While(Line, Expression, Boxed<Statement>),
+    While(Line, Boxed<Expression>, Boxed<Statement>),
     /// `"repeat" stmts "until" expr`
-    Repeat(Line, List<Statement>, Expression),
+    Repeat(Line, List<Statement>, Boxed<Expression>),
     /// `"for" id ":=" expr ( "to" | "downto" ) expr "do" stmt`
-    For(Line, Name, Expression, Direction, Expression, Boxed<Statement>),
+    For(Line, Name, Boxed<Expression>, Direction, Boxed<Expression>, Boxed<Statement>),
     /// `"for" id "in" expr "do" stmt`
-    ForIn(Line, Name, Expression, Boxed<Statement>),
+    ForIn(Line, Name, Boxed<Expression>, Boxed<Statement>),
     /// `"with" access { "," access } "do" stmt`
     With(Line, List<Access>, Boxed<Statement>),
 }

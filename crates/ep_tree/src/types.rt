@@ -9,7 +9,7 @@ use ep_base::{Boxed, Line, List, Name, Names};
 #[derive(Drop)]
 pub struct TypeDenoter {
     pub line: Line,
-    pub plain: Plain,
+    pub plain: Boxed<Plain>,
     pub initial: Option<ComponentValue>,
 }
 
@@ -29,7 +29,7 @@ pub enum Core {
     /// `name [ "(" expr { "," expr } ")" ]`
     Named(Line, QualifiedName, List<Expression>),
     /// `expr ".." expr`
-    Range(Line, Expression, Expression),
+    Range(Line, Boxed<Expression>, Boxed<Expression>),
     /// `"(" ids ")"`
     Enumeration(Line, Names),
     /// `"^" name`
@@ -60,7 +60,7 @@ pub enum Structure {
 pub struct Fields {
     pub line: Line,
     pub sections: List<FieldSection>,
-    pub variants: Option<VariantPart>,
+    pub variants: Option<Boxed<VariantPart>>,
 }
 
 /// `fsec = ids ":" type`
@@ -83,12 +83,20 @@ pub struct VariantPart {
 }
 
 /// `id ":" name | id`
-#[derive(Drop)]
 pub enum VariantSelector {
     /// A tag field and its type.
     Tag(Line, Name, QualifiedName),
     /// A discriminant.
     Discriminant(Line, Name),
+}
+
+impl Drop for VariantSelector {
+    fn drop(self) {
+        match self {
+            VariantSelector::Tag(_, _, _) => {}
+            VariantSelector::Discriminant(_, _) => {}
+        }
+    }
 }
 
 /// `variant = labels ":" "(" fields ")"`

@@ -18,9 +18,9 @@ pub(super) fn expression(e: &Expression) -> Option<Line>
     match &e.right {
         None => left,
         Some(comparison) => at_node(
-            forms::relation_is_built(comparison.operator),
+            forms::relation_is_built(comparison.get().operator),
             e.line,
-            first_of(left, simple(&comparison.right)),
+            first_of(left, simple(&comparison.get().right)),
         ),
     }
 }
@@ -66,7 +66,7 @@ fn term(t: &Term) -> Option<Line>
     at_node(
         multipliers_are_built(more),
         t.line,
-        first_of(factor(&t.first), multipliers(more)),
+        first_of(factor(t.first.get()), multipliers(more)),
     )
 }
 
@@ -86,7 +86,7 @@ fn multipliers(all: &[Multiplier]) -> Option<Line>
     ensures { result ≡ operand_lines (map multiplier_operand all.now) }
 {
     for multiplier in all {
-        let line = factor(&multiplier.factor);
+        let line = factor(multiplier.factor.get());
         if line.is_some() {
             return line;
         }
@@ -107,7 +107,7 @@ fn factor(f: &Factor) -> Option<Line>
         Factor::Parenthesized(line, inner) => at_node(built, *line, expression(inner.get())),
         Factor::Not(line, inner) => at_node(built, *line, factor(inner.get())),
         Factor::Set(line, members) => at_node(built, *line, labels(members.items())),
-        Factor::Structured(line, _, v) => at_node(built, *line, values(v)),
+        Factor::Structured(line, _, v) => at_node(built, *line, values(v.get())),
     }
 }
 
@@ -176,10 +176,10 @@ fn argument(a: &Argument) -> Option<Line>
     ensures { result ≡ argument_unbuilt a.now }
 {
     let built = forms::argument_is_built(a);
-    let value = expression(&a.value);
+    let value = expression(a.value.get());
     match &a.width {
         None => at_node(built, a.line, value),
-        Some(width) => at_node(built, a.line, first_of(value, expression(width))),
+        Some(width) => at_node(built, a.line, first_of(value, expression(width.get()))),
     }
 }
 
@@ -200,10 +200,10 @@ pub(super) fn labels(all: &[Label]) -> Option<Line>
 fn label(l: &Label) -> Option<Line>
     ensures { result ≡ label_unbuilt l.now }
 {
-    let low = expression(&l.low);
+    let low = expression(l.low.get());
     match &l.high {
         None => low,
-        Some(high) => first_of(low, expression(high)),
+        Some(high) => first_of(low, expression(high.get())),
     }
 }
 
@@ -212,9 +212,9 @@ pub(super) fn component_value(v: &ComponentValue) -> Option<Line>
     ensures { result ≡ component_value_unbuilt v.now }
 {
     match v {
-        ComponentValue::Expression(e) => expression(e),
+        ComponentValue::Expression(e) => expression(e.get()),
         ComponentValue::Bracketed(line, inner) => {
-            at_node(forms::brackets_are_built(), *line, values(inner))
+            at_node(forms::brackets_are_built(), *line, values(inner.get()))
         }
     }
 }
@@ -251,9 +251,9 @@ fn element(e: &Element) -> Option<Line>
         Element::Labelled(_, all, value) => {
             first_of(labels(all.items()), component_value(value))
         }
-        Element::Variant(_, _, chosen, None) => expression(chosen),
+        Element::Variant(_, _, chosen, None) => expression(chosen.get()),
         Element::Variant(_, _, chosen, Some(inner)) => {
-            first_of(expression(chosen), values(inner.get()))
+            first_of(expression(chosen.get()), values(inner.get()))
         }
     }
 }

@@ -43,36 +43,36 @@ fn statement(s: &Statement) -> Option<Line>
         Statement::Call(line, a) => at_node(built, *line, access(a)),
         Statement::Compound(c) => at_node(built, c.line, compound(c)),
         Statement::If(line, condition, then, None) => {
-            let inner = first_of(expression(condition), statement(then.get()));
+            let inner = first_of(expression(condition.get()), statement(then.get()));
             at_node(built, *line, inner)
         }
         Statement::If(line, condition, then, Some(other)) => {
             let both = first_of(statement(then.get()), statement(other.get()));
-            at_node(built, *line, first_of(expression(condition), both))
+            at_node(built, *line, first_of(expression(condition.get()), both))
         }
         Statement::Case(line, selector, all, None) => {
-            let inner = first_of(expression(selector), arms(all.items()));
+            let inner = first_of(expression(selector.get()), arms(all.items()));
             at_node(built, *line, inner)
         }
         Statement::Case(line, selector, all, Some(other)) => {
             let otherwise = statements(other.statements.items());
             let all = first_of(arms(all.items()), otherwise);
-            at_node(built, *line, first_of(expression(selector), all))
+            at_node(built, *line, first_of(expression(selector.get()), all))
         }
         Statement::While(line, condition, body) => {
-            let inner = first_of(expression(condition), statement(body.get()));
+            let inner = first_of(expression(condition.get()), statement(body.get()));
             at_node(built, *line, inner)
         }
         Statement::Repeat(line, all, condition) => {
-            let inner = first_of(statements(all.items()), expression(condition));
+            let inner = first_of(statements(all.items()), expression(condition.get()));
             at_node(built, *line, inner)
         }
         Statement::For(line, _, start, _, end, body) => {
-            let inner = first_of(expression(end), statement(body.get()));
-            at_node(built, *line, first_of(expression(start), inner))
+            let inner = first_of(expression(end.get()), statement(body.get()));
+            at_node(built, *line, first_of(expression(start.get()), inner))
         }
         Statement::ForIn(line, _, members, body) => {
-            let inner = first_of(expression(members), statement(body.get()));
+            let inner = first_of(expression(members.get()), statement(body.get()));
             at_node(built, *line, inner)
         }
         Statement::With(line, all, body) => {

@@ -15,7 +15,7 @@ pub(super) fn expression(e: &Expression) -> u32
     let left = simple(&e.left);
     match &e.right {
         None => left,
-        Some(comparison) => simple(&comparison.right).max(left),
+        Some(comparison) => simple(&comparison.get().right).max(left),
     }
 }
 
@@ -41,7 +41,7 @@ fn addends(all: &[Addend]) -> u32
 fn term(t: &Term) -> u32
     ensures { result ≡ min (term_nesting t.now) u32.MAX }
 {
-    factor(&t.first).max(multipliers(t.more.items()))
+    factor(t.first.get()).max(multipliers(t.more.items()))
 }
 
 #[cycle(levels)]
@@ -50,7 +50,7 @@ fn multipliers(all: &[Multiplier]) -> u32
 {
     let mut most = 0;
     for multiplier in all {
-        most = factor(&multiplier.factor).max(most);
+        most = factor(multiplier.factor.get()).max(most);
     }
     most
 }
@@ -67,7 +67,7 @@ fn factor(f: &Factor) -> u32
         Factor::Parenthesized(_, inner) => expression(inner.get()).saturating_add(1),
         Factor::Not(_, inner) => factor(inner.get()).saturating_add(1),
         Factor::Set(_, members) => inner_labels(members.items()),
-        Factor::Structured(_, _, v) => values(v),
+        Factor::Structured(_, _, v) => values(v.get()),
     }
 }
 
@@ -128,10 +128,10 @@ fn inner_arguments(all: &[Argument]) -> u32
 fn argument(a: &Argument) -> u32
     ensures { result ≡ min (argument_nesting a.now) u32.MAX }
 {
-    let value = expression(&a.value);
+    let value = expression(a.value.get());
     match &a.width {
         None => value,
-        Some(width) => expression(width).max(value),
+        Some(width) => expression(width.get()).max(value),
     }
 }
 
@@ -151,10 +151,10 @@ fn inner_labels(all: &[Label]) -> u32
 fn label(l: &Label) -> u32
     ensures { result ≡ min (label_nesting l.now) u32.MAX }
 {
-    let low = expression(&l.low);
+    let low = expression(l.low.get());
     match &l.high {
         None => low,
-        Some(high) => expression(high).max(low),
+        Some(high) => expression(high.get()).max(low),
     }
 }
 
@@ -175,8 +175,8 @@ pub(super) fn component_value(v: &ComponentValue) -> u32
     ensures { result ≡ min (component_value_nesting v.now) u32.MAX }
 {
     match v {
-        ComponentValue::Expression(e) => expression(e),
-        ComponentValue::Bracketed(_, inner) => values(inner),
+        ComponentValue::Expression(e) => expression(e.get()),
+        ComponentValue::Bracketed(_, inner) => values(inner.get()),
     }
 }
 
@@ -208,9 +208,9 @@ fn element(e: &Element) -> u32
 {
     match e {
         Element::Labelled(_, all, value) => labels(all.items()).max(component_value(value)),
-        Element::Variant(_, _, chosen, None) => expression(chosen),
+        Element::Variant(_, _, chosen, None) => expression(chosen.get()),
         Element::Variant(_, _, chosen, Some(inner)) => {
-            expression(chosen).max(values(inner.get()))
+            expression(chosen.get()).max(values(inner.get()))
         }
     }
 }

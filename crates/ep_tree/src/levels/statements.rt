@@ -19,45 +19,45 @@ pub(super) fn statement(s: &Statement) -> u32
         Statement::Call(_, a) => access(a).saturating_add(1),
         Statement::Compound(c) => compound(c).saturating_add(1),
         Statement::If(_, condition, then, None) => {
-            expression(condition)
+            expression(condition.get())
                 .max(statement(then.get()))
                 .saturating_add(1)
         }
         Statement::If(_, condition, then, Some(other)) => {
-            expression(condition)
+            expression(condition.get())
                 .max(statement(then.get()))
                 .max(statement(other.get()))
                 .saturating_add(1)
         }
         Statement::Case(_, selector, all, None) => {
-            expression(selector)
+            expression(selector.get())
                 .max(arms(all.items()))
                 .saturating_add(1)
         }
         Statement::Case(_, selector, all, Some(other)) => {
-            expression(selector)
+            expression(selector.get())
                 .max(arms(all.items()))
                 .max(statements(other.statements.items()))
                 .saturating_add(1)
         }
         Statement::While(_, condition, body) => {
-            expression(condition)
+            expression(condition.get())
                 .max(statement(body.get()))
                 .saturating_add(1)
         }
         Statement::Repeat(_, all, condition) => {
             statements(all.items())
-                .max(expression(condition))
+                .max(expression(condition.get()))
                 .saturating_add(1)
         }
         Statement::For(_, _, start, _, end, body) => {
-            expression(start)
-                .max(expression(end))
+            expression(start.get())
+                .max(expression(end.get()))
                 .max(statement(body.get()))
                 .saturating_add(1)
         }
         Statement::ForIn(_, _, members, body) => {
-            expression(members)
+            expression(members.get())
                 .max(statement(body.get()))
                 .saturating_add(1)
         }

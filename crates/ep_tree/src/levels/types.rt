@@ -12,7 +12,7 @@ use crate::types::{
 pub(super) fn type_denoter(t: &TypeDenoter) -> u32
     ensures { result ≡ min (type_denoter_nesting t.now) u32.MAX }
 {
-    let most = plain(&t.plain);
+    let most = plain(t.plain.get());
     match &t.initial {
         None => most,
         Some(value) => expressions::component_value(value).max(most),
@@ -33,7 +33,7 @@ fn core(c: &Core) -> u32
     match c {
         Core::Named(_, _, values) => expressions::inner_expressions(values.items()),
         Core::Range(_, low, high) => {
-            expressions::expression(low).max(expressions::expression(high))
+            expressions::expression(low.get()).max(expressions::expression(high.get()))
         }
         Core::Enumeration(_, _) => 0,
         Core::Pointer(_, _) => 0,
@@ -74,7 +74,7 @@ fn fields(f: &Fields) -> u32
     let most = sections(f.sections.items());
     match &f.variants {
         None => most.saturating_add(1),
-        Some(part) => variant_part(part).max(most).saturating_add(1),
+        Some(part) => variant_part(part.get()).max(most).saturating_add(1),
     }
 }
 
