@@ -27,7 +27,12 @@ pub struct Fails {
 
 impl Drop for Fails {
     fn drop(self) {
-        let Fails { files: _, input: _, output: _, report: _ } = self;
+        let Fails {
+            files: _,
+            input: _,
+            output: _,
+            report: _,
+        } = self;
     }
 }
 
@@ -210,7 +215,10 @@ impl Case {
         let mut spelled = Vec::new(self.alloc);
         self.is_sound &= spell(self.alloc, name, &mut spelled)?;
         let bytes = Vec::new(self.alloc);
-        self.files.push(NamedBytes { name: spelled, bytes })?;
+        self.files.push(NamedBytes {
+            name: spelled,
+            bytes,
+        })?;
         self.open = Open::File;
         self.take_text(value)
     }
@@ -231,7 +239,10 @@ impl Case {
         let mut spelled = Vec::new(self.alloc);
         self.is_sound &= spell(self.alloc, name, &mut spelled)?;
         let bytes = Vec::new(self.alloc);
-        self.after.push(NamedBytes { name: spelled, bytes })?;
+        self.after.push(NamedBytes {
+            name: spelled,
+            bytes,
+        })?;
         self.open = Open::After;
         self.take_text(value)
     }

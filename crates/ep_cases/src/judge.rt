@@ -50,12 +50,7 @@ fn tell_answer(case: &Case, came: Answer<'_>, told: &mut String) -> Result<(), A
 
 /// Tells how a case differs at some budget: below the end the budget is spent and a front of the output is there, no
 /// shorter than with fewer ticks, and from the end on the answer is the whole one.
-fn tell_budgets(
-    alloc: Global,
-    case: &Case,
-    end: u64,
-    told: &mut String,
-) -> Result<(), AllocError> {
+fn tell_budgets(alloc: Global, case: &Case, end: u64, told: &mut String) -> Result<(), AllocError> {
     let mut least = 0usize;
     for ticks in 1..=end.saturating_add(1) {
         least = tell_budget(alloc, case, ticks, ticks < end, least, told)?;

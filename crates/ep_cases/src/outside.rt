@@ -69,7 +69,10 @@ impl Outside {
     pub fn are_files_right(&self, case: &Case) -> bool {
         let after = case.after.as_slice();
         after.iter().all(|file| self.holds(file))
-            && case.files.iter().all(|file| self.holds(file) || is_named(file, after))
+            && case
+                .files
+                .iter()
+                .all(|file| self.holds(file) || is_named(file, after))
     }
 
     /// Whether this file is there.

@@ -50,12 +50,7 @@ fn take_usage(words: &str, case: &mut Case) -> Result<(), AllocError> {
 }
 
 /// A row whose text is run and prints what stands behind the arrow.
-fn take_prints(
-    alloc: Global,
-    frame: &str,
-    value: &str,
-    case: &mut Case,
-) -> Result<(), AllocError> {
+fn take_prints(alloc: Global, frame: &str, value: &str, case: &mut Case) -> Result<(), AllocError> {
     let Some((text, output)) = value.rsplit_once("->") else {
         case.is_sound = false;
         return Ok(());
@@ -76,7 +71,11 @@ fn take_text(alloc: Global, key: &str, text: &str, case: &mut Case) -> Result<()
         return Ok(());
     };
     let line = take_marked(before, behind.trim_start(), case)?;
-    let status = if key == "not built" { key } else { "source refused" };
+    let status = if key == "not built" {
+        key
+    } else {
+        "source refused"
+    };
     case.take_pair("status", status)?;
     let report = format!(in alloc; "{SOURCE}: line {line}: {key}\\n")?;
     case.take_pair("report", report.as_str())

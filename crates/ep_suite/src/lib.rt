@@ -1,9 +1,10 @@
-//! Tests across the crates: what texts are read as or refused for, and what the top call answers to them.
+//! What is tried of trees, across the crates of the front end: which of two readings was taken, how deep a text nests,
+//! and that each production puts its parts where they belong. What words and answers say is tried by ep_cases.
 #![tactic(auto)]
 
 #[cfg(test)]
-mod go;
+mod choices;
 #[cfg(test)]
-mod syntax;
+mod nesting;
 #[cfg(test)]
-mod trees;
+mod texts;
