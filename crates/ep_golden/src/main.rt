@@ -14,29 +14,33 @@ mod types;
 
 use dump::Dump;
 use ep_token::{MAX_SOURCE, tokens};
+use ep_tree::Component;
 use std::alloc::Global;
 use std::io;
 
 fn main(rt: HostRuntime) -> io::Result<()> {
     let source = io::read_to_string(rt.alloc(), rt.reader())?;
     let mut dump = Dump::new(rt.alloc());
-    tell(rt.alloc(), source.as_bytes(), &mut dump)?;
+    tell(rt.alloc(), source.as_bytes(), &mut dump);
     println!(rt; "{}", dump.text())
 }
 
 /// Tells the components of a source, or that it has none.
-fn tell(alloc: Global, source: &[u8], dump: &mut Dump) -> io::Result<()> {
+fn tell(alloc: Global, source: &[u8], dump: &mut Dump) {
+    match parsed(alloc, source) {
+        Some(found) => components::all(found.as_slice(), dump),
+        None => dump.word("refused"),
+    }
+}
+
+/// The components of a source, or `None` where it is refused.
+fn parsed(alloc: Global, source: &[u8]) -> Option<Vec<Component>> {
     if source.len() > MAX_SOURCE {
-        return Ok(dump.word("too long")?);
+        return None;
     }
-    let Ok(found) = tokens(alloc, source) else {
-        return Ok(dump.word("no tokens")?);
-    };
+    let found = tokens(alloc, source).ok()?;
     if found.len() > MAX_SOURCE {
-        return Ok(dump.word("too long")?);
+        return None;
     }
-    match ep_parse::components(alloc, found.as_slice()) {
-        Ok(all) => Ok(components::all(all.as_slice(), dump)?),
-        Err(_) => Ok(dump.word("refused")?),
-    }
+    ep_parse::components(alloc, found.as_slice()).ok()
 }
