@@ -2,7 +2,7 @@
 
 use crate::answer::{Answer, status_of};
 use crate::spelling::spell;
-use std::alloc::{AllocError, Global};
+use std::alloc::Global;
 
 /// The name of the source where none is said.
 pub const SOURCE: &str = "x.pas";
@@ -148,28 +148,27 @@ impl Case {
     }
 
     /// A line with a margin, which ends the line of what it adds to.
-    pub fn take_margin(&mut self, text: &str) -> Result<(), AllocError> {
-        self.take_text(text)?;
-        self.take_text("\\n")
+    pub fn take_margin(&mut self, text: &str) {
+        self.take_text(text);
+        self.take_text("\\n");
     }
 
     /// Bytes of what is open.
-    pub fn take_text(&mut self, text: &str) -> Result<(), AllocError> {
+    pub fn take_text(&mut self, text: &str) {
         let alloc = self.alloc;
         let is_spelled = match self.open {
             Open::Nothing => false,
-            Open::File => spell_last(alloc, text, &mut self.files)?,
-            Open::After => spell_last(alloc, text, &mut self.after)?,
-            Open::Input => spell(alloc, text, &mut self.input)?,
-            Open::Output => spell(alloc, text, &mut self.output)?,
-            Open::Report => spell(alloc, text, &mut self.report)?,
+            Open::File => spell_last(alloc, text, &mut self.files),
+            Open::After => spell_last(alloc, text, &mut self.after),
+            Open::Input => spell(alloc, text, &mut self.input),
+            Open::Output => spell(alloc, text, &mut self.output),
+            Open::Report => spell(alloc, text, &mut self.report),
         };
         self.is_sound &= is_spelled;
-        Ok(())
     }
 
     /// A line with a key and a value.
-    pub fn take_pair(&mut self, key: &str, value: &str) -> Result<(), AllocError> {
+    pub fn take_pair(&mut self, key: &str, value: &str) {
         match key.split_once(' ') {
             Some(("file", name)) => self.take_file(name, value),
             Some(("after", name)) => self.take_after(name, value),
@@ -179,10 +178,10 @@ impl Case {
     }
 
     /// A line whose key is one word, or `ends at`.
-    fn take_plain(&mut self, key: &str, value: &str) -> Result<(), AllocError> {
+    fn take_plain(&mut self, key: &str, value: &str) {
         match key {
-            "source" => return self.take_file(SOURCE, value),
-            "words" => self.words = Some(String::from_str(self.alloc, value)?),
+            "source" => self.take_file(SOURCE, value),
+            "words" => self.take_words(value),
             "status" => self.take_status(value),
             "ends at" => self.take_end(value),
             "input" => self.open = Open::Input,
@@ -190,10 +189,15 @@ impl Case {
             "report" => self.open = Open::Report,
             _ => self.is_sound = false,
         }
-        match key {
-            "input" | "output" | "report" => self.take_text(value),
-            _ => Ok(()),
+        if matches!(key, "input" | "output" | "report") {
+            self.take_text(value);
         }
+    }
+
+    /// The words of the command.
+    fn take_words(&mut self, value: &str) {
+        self.words = String::from_str(self.alloc, value).ok();
+        self.is_sound &= self.words.is_some();
     }
 
     /// The status that is wanted.
@@ -211,71 +215,66 @@ impl Case {
     }
 
     /// A file that is there before the call.
-    pub fn take_file(&mut self, name: &str, value: &str) -> Result<(), AllocError> {
-        let mut spelled = Vec::new(self.alloc);
-        self.is_sound &= spell(self.alloc, name, &mut spelled)?;
-        let bytes = Vec::new(self.alloc);
-        self.files.push(NamedBytes {
-            name: spelled,
-            bytes,
-        })?;
+    pub fn take_file(&mut self, name: &str, value: &str) {
+        self.is_sound &= push_file(self.alloc, name, &mut self.files);
         self.open = Open::File;
-        self.take_text(value)
+        self.take_text(value);
     }
 
     /// A program that is there as a file of these bytes, and is run.
-    pub fn take_program(&mut self, name: &str, bytes: Vec<u8>) -> Result<(), AllocError> {
-        let spelled = Vec::from_slice(self.alloc, name.as_bytes())?;
-        self.files.push(NamedBytes {
-            name: spelled,
-            bytes,
-        })?;
-        self.words = Some(format!(in self.alloc; "go {name}")?);
-        Ok(())
+    pub fn take_program(&mut self, name: &str, bytes: Vec<u8>) {
+        self.take_file(name, "");
+        if let Some(file) = self.files.last_mut() {
+            file.bytes = bytes;
+        }
+        self.words = format!(in self.alloc; "go {name}").ok();
+        self.is_sound &= self.words.is_some();
     }
 
     /// A file as it is to be after the call.
-    fn take_after(&mut self, name: &str, value: &str) -> Result<(), AllocError> {
-        let mut spelled = Vec::new(self.alloc);
-        self.is_sound &= spell(self.alloc, name, &mut spelled)?;
-        let bytes = Vec::new(self.alloc);
-        self.after.push(NamedBytes {
-            name: spelled,
-            bytes,
-        })?;
+    fn take_after(&mut self, name: &str, value: &str) {
+        self.is_sound &= push_file(self.alloc, name, &mut self.after);
         self.open = Open::After;
-        self.take_text(value)
+        self.take_text(value);
     }
 
     /// The numbers of the calls of an object that are to fail.
-    fn take_fails(&mut self, object: &str, value: &str) -> Result<(), AllocError> {
+    fn take_fails(&mut self, object: &str, value: &str) {
         let is_read = match object {
-            "files" => push_numbers(value, &mut self.fails.files)?,
-            "input" => push_numbers(value, &mut self.fails.input)?,
-            "output" => push_numbers(value, &mut self.fails.output)?,
-            "report" => push_numbers(value, &mut self.fails.report)?,
+            "files" => push_numbers(value, &mut self.fails.files),
+            "input" => push_numbers(value, &mut self.fails.input),
+            "output" => push_numbers(value, &mut self.fails.output),
+            "report" => push_numbers(value, &mut self.fails.report),
             _ => false,
         };
         self.is_sound &= is_read;
-        Ok(())
     }
 }
 
+/// Pushes an empty file of the name that a text spells, and tells whether it spells one.
+fn push_file(alloc: Global, text: &str, files: &mut Vec<NamedBytes>) -> bool {
+    let mut name = Vec::new(alloc);
+    let is_spelled = spell(alloc, text, &mut name);
+    let bytes = Vec::new(alloc);
+    files.push(NamedBytes { name, bytes }).is_ok() && is_spelled
+}
+
 /// Appends the bytes that a text spells to the last of the files, and tells whether it spells any.
-fn spell_last(alloc: Global, text: &str, files: &mut Vec<NamedBytes>) -> Result<bool, AllocError> {
+fn spell_last(alloc: Global, text: &str, files: &mut Vec<NamedBytes>) -> bool {
     match files.last_mut() {
         Some(file) => spell(alloc, text, &mut file.bytes),
-        None => Ok(false),
+        None => false,
     }
 }
 
 /// Appends the numbers of a text, and tells whether all its words are some.
-fn push_numbers(text: &str, into: &mut Vec<u64>) -> Result<bool, AllocError> {
+fn push_numbers(text: &str, into: &mut Vec<u64>) -> bool {
+    let mut are_read = true;
     for word in text.split_whitespace() {
-        match word.parse::<u64>() {
-            Ok(number) => into.push(number)?,
-            Err(_) => return Ok(false),
-        }
+        are_read &= match word.parse::<u64>() {
+            Ok(number) => into.push(number).is_ok(),
+            Err(_) => false,
+        };
     }
-    Ok(true)
+    are_read
 }

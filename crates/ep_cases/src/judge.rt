@@ -11,81 +11,99 @@ const SPENT: &[u8] = b"budget spent\n";
 /// The status of a budget that is spent.
 const BUDGET: u8 = 7;
 
-/// Tells how a case differs from what is wanted, and nothing where it does not.
-pub fn tell(alloc: Global, case: &Case, told: &mut String) -> Result<(), AllocError> {
+/// Whether a case differs from what is wanted, which is told as far as memory lets it.
+pub fn differs(alloc: Global, case: &Case, told: &mut String) -> Result<bool, AllocError> {
     if !case.is_sound {
-        return told.push_str("cannot be read");
+        let _ = told.push_str("cannot be read");
+        return Ok(true);
     }
-    tell_one(alloc, case, told)?;
+    if differs_once(alloc, case, told)? {
+        return Ok(true);
+    }
     match case.ends_at {
-        Some(end) if told.is_empty() => tell_budgets(alloc, case, end, told),
-        _ => Ok(()),
+        Some(end) => differs_at_budgets(alloc, case, end, told),
+        None => Ok(false),
     }
 }
 
 /// The same with the words as they are.
-fn tell_one(alloc: Global, case: &Case, told: &mut String) -> Result<(), AllocError> {
+fn differs_once(alloc: Global, case: &Case, told: &mut String) -> Result<bool, AllocError> {
     let mut outside = Outside::of(alloc, case)?;
-    tell_answer(case, outside.call(alloc, case, None)?, told)?;
-    if !outside.are_files_right(case) {
-        told.push_str("another file is held")?;
+    let came = outside.call(alloc, case, None)?;
+    if !is_wanted(case, came) {
+        show_both(case, came, told);
+        return Ok(true);
     }
-    Ok(())
+    let are_right = outside.are_files_right(case);
+    if !are_right {
+        let _ = told.push_str("another file is held");
+    }
+    Ok(!are_right)
 }
 
-/// Tells what is wanted and what came, where these differ.
-fn tell_answer(case: &Case, came: Answer<'_>, told: &mut String) -> Result<(), AllocError> {
+/// Whether an answer is what the case wants.
+fn is_wanted(case: &Case, came: Answer<'_>) -> bool {
     if case.is_accepted {
-        if came.is_accepted() {
-            return Ok(());
-        }
-        return came.show("wanted a text that is accepted, came", told);
+        came.is_accepted()
+    } else {
+        came.is(case.wanted())
     }
-    if came.is(case.wanted()) {
-        return Ok(());
-    }
-    case.wanted().show("wanted", told)?;
-    came.show(", came", told)
 }
 
-/// Tells how a case differs at some budget: below the end the budget is spent and a front of the output is there, no
+/// Shows what is wanted and what came.
+fn show_both(case: &Case, came: Answer<'_>, told: &mut String) {
+    if case.is_accepted {
+        came.show("wanted a text that is accepted, came", told);
+        return;
+    }
+    case.wanted().show("wanted", told);
+    came.show(", came", told);
+}
+
+/// Whether a case differs at some budget: below the end the budget is spent and a front of the output is there, no
 /// shorter than with fewer ticks, and from the end on the answer is the whole one.
-fn tell_budgets(alloc: Global, case: &Case, end: u64, told: &mut String) -> Result<(), AllocError> {
+fn differs_at_budgets(
+    alloc: Global,
+    case: &Case,
+    end: u64,
+    told: &mut String,
+) -> Result<bool, AllocError> {
     let mut least = 0usize;
     for ticks in 1..=end.saturating_add(1) {
-        least = tell_budget(alloc, case, ticks, ticks < end, least, told)?;
+        match written(alloc, case, ticks, ticks < end, told)? {
+            Some(count) if count >= least => least = count,
+            Some(_) => {
+                let _ = told.push_str("with more ticks less is written");
+                return Ok(true);
+            }
+            None => return Ok(true),
+        }
     }
-    Ok(())
+    Ok(false)
 }
 
-/// The same at one budget. It answers how many bytes were written.
-fn tell_budget(
+/// How many bytes are written at one budget, or `None` where the answer is not what is wanted there.
+fn written(
     alloc: Global,
     case: &Case,
     ticks: u64,
     is_spent: bool,
-    least: usize,
     told: &mut String,
-) -> Result<usize, AllocError> {
+) -> Result<Option<usize>, AllocError> {
     let option = format!(in alloc; "--ticks={ticks}")?;
     let mut outside = Outside::of(alloc, case)?;
     let came = outside.call(alloc, case, Some(option.as_str()))?;
-    let is_right = if is_spent {
-        is_front(case.wanted(), came, least)
-    } else {
-        came.is(case.wanted())
-    };
-    if !is_right && told.is_empty() {
-        write!(told, "with {ticks} ticks")?;
-        came.show("", told)?;
+    if is_right(case.wanted(), came, is_spent) {
+        return Ok(Some(came.output.len()));
     }
-    Ok(came.output.len())
+    came.show(option.as_str(), told);
+    Ok(None)
 }
 
-/// Whether an answer is that of a budget that is spent, with at least so many bytes of the output.
-fn is_front(wanted: Answer<'_>, came: Answer<'_>, least: usize) -> bool {
-    came.status == BUDGET
-        && came.report == SPENT
-        && came.output.len() >= least
-        && wanted.output.starts_with(came.output)
+/// Whether an answer is that of a budget that is spent, or else the whole one.
+fn is_right(wanted: Answer<'_>, came: Answer<'_>, is_spent: bool) -> bool {
+    if !is_spent {
+        return came.is(wanted);
+    }
+    came.status == BUDGET && came.report == SPENT && wanted.output.starts_with(came.output)
 }

@@ -18,20 +18,14 @@ fn is_rule(text: &str) -> bool {
 }
 
 /// Fills a case by a row.
-pub fn take_row(
-    alloc: Global,
-    frame: &str,
-    key: &str,
-    value: &str,
-    case: &mut Case,
-) -> Result<(), AllocError> {
+pub fn take_row(alloc: Global, frame: &str, key: &str, value: &str, case: &mut Case) {
     match key {
         "usage" => take_usage(value, case),
         "prints" => take_prints(alloc, frame, value, case),
-        _ => {
-            let text = framed(alloc, frame, value)?;
-            take_text(alloc, key, text.as_str(), case)
-        }
+        _ => match framed(alloc, frame, value) {
+            Ok(text) => take_text(alloc, key, text.as_str(), case),
+            Err(_) => case.is_sound = false,
+        },
     }
 }
 
@@ -42,59 +36,63 @@ fn framed(alloc: Global, frame: &str, text: &str) -> Result<String, AllocError> 
 }
 
 /// A row of words that are no command, whatever the source is.
-fn take_usage(words: &str, case: &mut Case) -> Result<(), AllocError> {
-    case.take_file(SOURCE, "program p; begin end.")?;
-    case.take_pair("words", words)?;
-    case.take_pair("status", "usage")?;
-    case.take_pair("report", "usage\\n")
+fn take_usage(words: &str, case: &mut Case) {
+    case.take_file(SOURCE, "program p; begin end.");
+    case.take_pair("words", words);
+    case.take_pair("status", "usage");
+    case.take_pair("report", "usage\\n");
 }
 
 /// A row whose text is run and prints what stands behind the arrow.
-fn take_prints(alloc: Global, frame: &str, value: &str, case: &mut Case) -> Result<(), AllocError> {
-    let Some((text, output)) = value.rsplit_once("->") else {
-        case.is_sound = false;
-        return Ok(());
-    };
-    let text = framed(alloc, frame, text.trim())?;
-    case.take_file(SOURCE, text.as_str())?;
-    case.take_pair("output", output.trim())
+fn take_prints(alloc: Global, frame: &str, value: &str, case: &mut Case) {
+    let (text, output) = value.rsplit_once("->").unwrap_or((value, "\\"));
+    match framed(alloc, frame, text.trim()) {
+        Ok(text) => case.take_file(SOURCE, text.as_str()),
+        Err(_) => case.is_sound = false,
+    }
+    case.take_pair("output", output.trim());
 }
 
 /// A row whose whole text is accepted, or refused for the cause that the key names.
-fn take_text(alloc: Global, key: &str, text: &str, case: &mut Case) -> Result<(), AllocError> {
+fn take_text(alloc: Global, key: &str, text: &str, case: &mut Case) {
     if key == "accepted" {
         case.is_accepted = true;
-        return case.take_file(SOURCE, text);
+        case.take_file(SOURCE, text);
+        return;
     }
-    let Some((before, behind)) = text.split_once('|') else {
-        case.is_sound = false;
-        return Ok(());
-    };
-    let line = take_marked(before, behind.trim_start(), case)?;
-    let status = if key == "not built" {
-        key
-    } else {
-        "source refused"
-    };
-    case.take_pair("status", status)?;
-    let report = format!(in alloc; "{SOURCE}: line {line}: {key}\\n")?;
-    case.take_pair("report", report.as_str())
+    match text.split_once('|') {
+        Some((before, behind)) => {
+            let line = take_marked(before, behind.trim_start(), case);
+            take_refusal(alloc, key, line, case);
+        }
+        None => case.is_sound = false,
+    }
+}
+
+/// The status and the report of a text that is refused on this line.
+fn take_refusal(alloc: Global, key: &str, line: u64, case: &mut Case) {
+    let is_unbuilt = key == "not built";
+    case.take_pair("status", if is_unbuilt { key } else { "source refused" });
+    match format!(in alloc; "{SOURCE}: line {line}: {key}\\n") {
+        Ok(report) => case.take_pair("report", report.as_str()),
+        Err(_) => case.is_sound = false,
+    }
 }
 
 /// A source whose part behind the bar, up to the next blank, is put on a line of its own, and the number of that line.
 /// Where nothing stands behind it, it is the line of the last token.
-fn take_marked(before: &str, behind: &str, case: &mut Case) -> Result<u64, AllocError> {
-    case.take_file(SOURCE, before)?;
+fn take_marked(before: &str, behind: &str, case: &mut Case) -> u64 {
+    case.take_file(SOURCE, before);
     if behind.is_empty() {
-        return Ok(last_line(case.last_file()));
+        return last_line(case.last_file());
     }
     let line = line_feeds(case.last_file()).saturating_add(2);
     let (token, after) = behind.split_once(' ').unwrap_or((behind, ""));
-    case.take_text("\\n")?;
-    case.take_text(token)?;
-    case.take_text("\\n")?;
-    case.take_text(after)?;
-    Ok(line)
+    case.take_text("\\n");
+    case.take_text(token);
+    case.take_text("\\n");
+    case.take_text(after);
+    line
 }
 
 /// How many line feeds there are.

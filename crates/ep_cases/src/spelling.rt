@@ -1,6 +1,6 @@
 //! The bytes that a text of a table spells: `\n`, `\xFF`, `\\`, `\e` for nothing, and `\3{piece}` for repetitions.
 
-use std::alloc::{AllocError, Global};
+use std::alloc::Global;
 
 /// What may follow in a text.
 #[derive(Clone, Copy)]
@@ -27,8 +27,8 @@ struct Speller<'a> {
     is_sound: bool,
 }
 
-/// Appends the bytes that the text spells, and tells whether it spells any.
-pub fn spell(alloc: Global, text: &str, out: &mut Vec<u8>) -> Result<bool, AllocError> {
+/// Appends the bytes that the text spells, and tells whether it spells any and all are there.
+pub fn spell(alloc: Global, text: &str, out: &mut Vec<u8>) -> bool {
     let mut piece = Vec::new(alloc);
     let mut speller = Speller {
         out,
@@ -38,9 +38,9 @@ pub fn spell(alloc: Global, text: &str, out: &mut Vec<u8>) -> Result<bool, Alloc
         is_sound: true,
     };
     for byte in text.as_bytes() {
-        speller.take(*byte)?;
+        speller.take(*byte);
     }
-    Ok(speller.is_done())
+    speller.is_done()
 }
 
 impl Speller<'_> {
@@ -50,54 +50,41 @@ impl Speller<'_> {
     }
 
     /// Goes on after one more byte of the text.
-    fn take(&mut self, byte: u8) -> Result<(), AllocError> {
+    fn take(&mut self, byte: u8) {
         match self.expected {
             Expected::Any => self.take_any(byte),
             Expected::Escape => self.take_escape(byte),
             Expected::HighDigit => {
                 self.expected = Expected::LowDigit(self.digit(byte));
-                Ok(())
             }
             Expected::LowDigit(high) => {
                 let low = self.digit(byte);
-                self.put(high.wrapping_mul(16).wrapping_add(low))
+                self.put(high.wrapping_mul(16).wrapping_add(low));
             }
-            Expected::Times(times) => {
-                self.take_times(times, byte);
-                Ok(())
-            }
+            Expected::Times(times) => self.take_times(times, byte),
         }
     }
 
     /// A byte where any may stand.
-    fn take_any(&mut self, byte: u8) -> Result<(), AllocError> {
+    fn take_any(&mut self, byte: u8) {
         match (byte, self.times) {
-            (b'\\', _) => {
-                self.expected = Expected::Escape;
-                Ok(())
-            }
+            (b'\\', _) => self.expected = Expected::Escape,
             (b'}', Some(times)) => self.repeat(times),
             _ => self.put(byte),
         }
     }
 
     /// A byte behind a backslash.
-    fn take_escape(&mut self, byte: u8) -> Result<(), AllocError> {
+    fn take_escape(&mut self, byte: u8) {
         self.expected = Expected::Any;
         match byte {
             b'n' => self.put(b'\n'),
             b'r' => self.put(b'\r'),
             b't' => self.put(b'\t'),
             b'\\' | b'}' => self.put(byte),
-            b'e' => Ok(()),
-            b'x' => {
-                self.expected = Expected::HighDigit;
-                Ok(())
-            }
-            _ => {
-                self.take_times(0, byte);
-                Ok(())
-            }
+            b'e' => {}
+            b'x' => self.expected = Expected::HighDigit,
+            _ => self.take_times(0, byte),
         }
     }
 
@@ -128,23 +115,22 @@ impl Speller<'_> {
     }
 
     /// Puts a byte where the text is.
-    fn put(&mut self, byte: u8) -> Result<(), AllocError> {
+    fn put(&mut self, byte: u8) {
         self.expected = Expected::Any;
-        if self.times.is_some() {
-            self.piece.push(byte)?;
-        } else {
-            self.out.push(byte)?;
-        }
-        Ok(())
+        let done = match self.times {
+            Some(_) => self.piece.push(byte),
+            None => self.out.push(byte),
+        };
+        self.is_sound &= done.is_ok();
     }
 
     /// Puts the piece so many times.
-    fn repeat(&mut self, times: u32) -> Result<(), AllocError> {
+    fn repeat(&mut self, times: u32) {
         self.times = None;
         for _ in 0..times {
-            self.out.extend_from_slice(self.piece.as_slice())?;
+            let done = self.out.extend_from_slice(self.piece.as_slice());
+            self.is_sound &= done.is_ok();
         }
         self.piece.clear();
-        Ok(())
     }
 }

@@ -1,7 +1,7 @@
 //! The lines of a table.
 
 use crate::case::Case;
-use crate::judge::tell;
+use crate::judge::differs;
 use crate::row::{is_row, take_row};
 use crate::tally::Tally;
 use std::alloc::Global;
@@ -51,15 +51,13 @@ impl Table<'_> {
             return Ok(());
         }
         match line.strip_prefix('|') {
-            Some(text) => self.take_margin(number, text.strip_prefix(' ').unwrap_or(text)),
+            Some(text) => {
+                let text = text.strip_prefix(' ').unwrap_or(text);
+                self.open_case(number).take_margin(text);
+                Ok(())
+            }
             None => self.take_key(rt, number, line, tally),
         }
-    }
-
-    /// A line of bytes.
-    fn take_margin(&mut self, number: u64, text: &str) -> io::Result<()> {
-        self.open_case(number).take_margin(text)?;
-        Ok(())
     }
 
     /// A line that begins with a key, which may begin a case.
@@ -77,21 +75,17 @@ impl Table<'_> {
             return self.take_pair(rt, number, key, value.trim());
         }
         self.end_case(rt, tally)?;
-        self.begin_case(number, is_wrong, key, value.trim())
-    }
-
-    /// Begins a case by its first line, or by the only one of a row.
-    fn begin_case(
-        &mut self,
-        number: u64,
-        is_wrong: bool,
-        key: &str,
-        value: &str,
-    ) -> io::Result<()> {
-        self.case = Some(Case::new(self.alloc, number, is_wrong));
-        if let (Some(case), true) = (&mut self.case, key != "case") {
-            take_row(self.alloc, self.frame.as_str(), key, value, case)?;
+        let mut case = Case::new(self.alloc, number, is_wrong);
+        if key != "case" {
+            take_row(
+                self.alloc,
+                self.frame.as_str(),
+                key,
+                value.trim(),
+                &mut case,
+            );
         }
+        self.case = Some(case);
         Ok(())
     }
 
@@ -107,9 +101,9 @@ impl Table<'_> {
             "frame" => self.frame = String::from_str(self.alloc, value)?,
             "program" => {
                 let bytes = fs::read(rt, value)?;
-                self.open_case(number).take_program(value, bytes)?;
+                self.open_case(number).take_program(value, bytes);
             }
-            _ => self.open_case(number).take_pair(key, value)?,
+            _ => self.open_case(number).take_pair(key, value),
         }
         Ok(())
     }
@@ -126,16 +120,13 @@ impl Table<'_> {
             return Ok(());
         };
         let mut told = String::new(self.alloc);
-        tell(self.alloc, &case, &mut told)?;
-        let differs = told.is_empty() == case.is_wrong;
-        tally.count(differs);
-        if !differs {
+        let is_right = differs(self.alloc, &case, &mut told)? == case.is_wrong;
+        tally.count(!is_right);
+        if is_right {
             return Ok(());
         }
-        if case.is_wrong {
-            told.push_str("is to differ")?;
-        }
-        println!(rt; "{}:{}: {told}", self.name, case.line)
+        let also = if case.is_wrong { "is to differ" } else { "" };
+        println!(rt; "{}:{}: {told}{also}", self.name, case.line)
     }
 }
 

@@ -23,7 +23,7 @@ pub fn words_of(
 /// Pushes the word that a text spells. One that is no UTF-8 is left as it is written.
 fn push_word(alloc: Global, text: &str, words: &mut Vec<String>) -> Result<(), AllocError> {
     let mut bytes = Vec::new(alloc);
-    let _ = spell(alloc, text, &mut bytes)?;
+    let _ = spell(alloc, text, &mut bytes);
     let word = str::from_utf8(bytes.as_slice()).unwrap_or(text);
     words.push(String::from_str(alloc, word)?)?;
     Ok(())
