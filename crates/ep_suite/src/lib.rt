@@ -1,18 +1,19 @@
-//! Tests across the crates: the tokens of texts, what texts are read as or refused for, what the top call answers to
-//! them, the code of typed trees, what the machine does with single instructions, and the objects in memory.
+//! What is tried across the crates and no words and answers say: the tokens of texts, which of two trees a text has and
+//! how deep it nests, the code of typed trees, single instructions of the machine, and the objects in memory. What words
+//! and answers say is tried by ep_cases.
 #![tactic(auto)]
 
 #[cfg(test)]
-mod go;
+mod choices;
 #[cfg(test)]
 mod machine;
 #[cfg(test)]
+mod nesting;
+#[cfg(test)]
 mod outside;
 #[cfg(test)]
-mod syntax;
+mod texts;
 #[cfg(test)]
 mod tokens;
-#[cfg(test)]
-mod trees;
 #[cfg(test)]
 mod typed_programs;

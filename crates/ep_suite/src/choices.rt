@@ -1,15 +1,15 @@
 //! Where a text could be read in two ways, the tree shows which was taken.
 
-use super::parsed;
+use crate::texts::parsed;
 use ep_tree::{
     Component, ComponentValue, Core, Expression, Factor, Part, Selector, Statement, Structure,
 };
-use std::alloc::Global;
+use std::alloc::{AllocError, Global};
 use std::test::Fail;
 
 /// What an expression begins with.
 fn beginning(e: &Expression) -> &'static str {
-    match &e.left.first.first {
+    match e.left.first.first.get() {
         Factor::Access(access) => match access.selectors.items() {
             [Selector::Index(_, _), ..] => "index",
             _ => "access",
@@ -23,7 +23,7 @@ fn beginning(e: &Expression) -> &'static str {
 /// What a component value is.
 fn form_of_value(value: &ComponentValue) -> &'static str {
     match value {
-        ComponentValue::Expression(e) => beginning(e),
+        ComponentValue::Expression(e) => beginning(e.get()),
         ComponentValue::Bracketed(_, _) => "values",
     }
 }
@@ -63,7 +63,7 @@ fn form_of_core(core: &Core) -> &'static str {
 fn form(parts: &[Part], statements: &[Statement]) -> &'static str {
     match parts {
         [Part::Types(types), ..] => match types.definitions.items() {
-            [definition, ..] => form_of_core(&definition.of.plain.core),
+            [definition, ..] => form_of_core(&definition.of.plain.get().core),
             [] => "no type",
         },
         _ => match statements {
@@ -74,36 +74,53 @@ fn form(parts: &[Part], statements: &[Statement]) -> &'static str {
 }
 
 /// What the first type or statement of a program is.
-fn form_of_program(alloc: Global, text: &str) -> Result<&'static str, Fail> {
-    match parsed(alloc, text)? {
-        Some(Ok(found)) => match found.as_slice() {
-            [Component::Program(p)] => Ok(form(p.parts.items(), p.body.statements.items())),
-            _ => Ok("no program"),
-        },
-        _ => Ok("refused"),
+fn form_of_program(alloc: Global, text: &str) -> &'static str {
+    let Some(found) = parsed(alloc, text) else {
+        return "refused";
+    };
+    match found.as_slice() {
+        [Component::Program(p)] => form(p.parts.items(), p.body.statements.items()),
+        _ => "no program",
     }
+}
+
+/// Tells of each text of a table, between two others, whose form is not what is wanted.
+fn told(
+    alloc: Global,
+    before: &str,
+    after: &str,
+    table: &[(&str, &str)],
+) -> Result<String, AllocError> {
+    let mut out = String::new(alloc);
+    for (text, want) in table {
+        let whole = format!(in alloc; "{before} {text} {after}")?;
+        let found = form_of_program(alloc, whole.as_str());
+        if found != *want {
+            write!(&mut out, "{text}: wanted {want}, found {found}\n")?;
+        }
+    }
+    Ok(out)
 }
 
 /// An `else` belongs to the nearest `if` that can take it.
 #[test]
 fn of_an_else(rt: HostRuntime) -> Result<(), Fail> {
-    for (text, want) in [
+    let table = [
         ("if a then if b then x else y", "inner"),
         ("if a then if b then x else y else z", "outer"),
         ("if a then begin if b then x end else y", "outer"),
         ("if a then while b do if c then x else y", "none"),
         ("if a then if b then x; y", "none"),
-    ] {
-        let whole = format!(in rt.alloc(); "program p; begin {text} end.")?;
-        assert_eq!(rt; form_of_program(rt.alloc(), &whole)?, want, "{text}");
-    }
+    ];
+    let out = told(rt.alloc(), "program p; begin", "end.", &table)?;
+    assert_eq!(rt; out.as_str(), "");
     Ok(())
 }
 
 /// A type that begins with a parenthesis is an enumeration, and a name with `..` after it begins a range.
 #[test]
 fn of_a_type(rt: HostRuntime) -> Result<(), Fail> {
-    for (text, want) in [
+    let table = [
         ("(a)", "enumeration"),
         ("(a, b)", "enumeration"),
         ("(a)..b", "refused"),
@@ -117,17 +134,16 @@ fn of_a_type(rt: HostRuntime) -> Result<(), Fail> {
         ("a[1]", "refused"),
         ("a[1]..b", "range"),
         ("1 + (a)..b", "range"),
-    ] {
-        let whole = format!(in rt.alloc(); "program p; type t = {text}; begin end.")?;
-        assert_eq!(rt; form_of_program(rt.alloc(), &whole)?, want, "{text}");
-    }
+    ];
+    let out = told(rt.alloc(), "program p; type t =", "; begin end.", &table)?;
+    assert_eq!(rt; out.as_str(), "");
     Ok(())
 }
 
 /// A bracket with `:`, `otherwise` or `case` at its own level holds values.
 #[test]
 fn of_a_bracket(rt: HostRuntime) -> Result<(), Fail> {
-    for (text, want) in [
+    let table = [
         ("[]", "set"),
         ("[1, 2..3]", "set"),
         ("[a[1: 2]]", "set"),
@@ -147,9 +163,8 @@ fn of_a_bracket(rt: HostRuntime) -> Result<(), Fail> {
         ("a[]", "refused"),
         ("a[1..2]", "refused"),
         ("[[1: 2]]", "refused"),
-    ] {
-        let whole = format!(in rt.alloc(); "program p; begin x := {text} end.")?;
-        assert_eq!(rt; form_of_program(rt.alloc(), &whole)?, want, "{text}");
-    }
+    ];
+    let out = told(rt.alloc(), "program p; begin x :=", "end.", &table)?;
+    assert_eq!(rt; out.as_str(), "");
     Ok(())
 }

@@ -1,0 +1,1 @@
+program p(output); begin writeln('hello') end.

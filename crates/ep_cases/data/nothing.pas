@@ -1,0 +1,3 @@
+program nothing;
+begin
+end.
