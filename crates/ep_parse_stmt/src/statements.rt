@@ -1,7 +1,7 @@
 //! Statements.
 
-ghost use Rattle.ep_grammar.specs.Descriptions.{either, statements};
-ghost use Rattle.ep_grammar.specs.Expressions.{name, on_word};
+ghost use Rattle.ep_grammar.specs.Descriptions.{either, optional, statements};
+ghost use Rattle.ep_grammar.specs.Expressions.{access, name, of_expression, on_word};
 ghost use Rattle.ep_token.specs.declared.word.TheConstants as word;
 ghost use Rattle.ep_grammar.specs.Statements.{accesses, arm, arms, case_arms, case_statement, compound, compound_statement, else_part, for_members, for_range, for_statement, if_statement, inner_statements, labelled_arms, loop_statement, other, other_arms, repeat_statement, simple_statement, statement, while_statement, with_statement};
 ghost use Rattle.ep_grammar.specs.Reading.{Reads, applied, read, read_inside};
@@ -10,7 +10,7 @@ ghost use Rattle.ep_grammar.specs.Rules.{inside_at};
 use ep_base::{Boxed, Line, List, Name};
 use ep_grammar::Stop;
 use ep_parse_expr::{access, component_value, expression, labels};
-use ep_reader::{Reader, level};
+use ep_reader::{Reader, closed, level, separated};
 use ep_token::{symbol, word};
 use ep_tree::{Access, Arm, Compound, Otherwise, Statement};
 use std::alloc::Global;
@@ -39,7 +39,6 @@ pub fn boxed_statement(
 
 /// `stmts = stmt { ";" stmt }`
 #[cycle(statement)]
-#[tactic(auto, unfolding(ep_grammar::specs::Statements::inner_statements))]
 fn inner_statements(
     alloc: Global,
     reader: &mut Reader<'_>,
@@ -47,16 +46,14 @@ fn inner_statements(
 ) -> Result<List<Statement>, Stop>
     ensures { Reads (read (inside_at room) inner_statements reader.old) result reader.new }
 {
-    let mut found = List::with_room(alloc, 1)?;
-    found.push(inner_statement(alloc, reader, room)?)?;
-    for _turn in 0..reader.left() {
-        if !reader.sees_symbol(symbol::SEMICOLON) {
-            return Ok(found);
-        }
-        reader.symbol(symbol::SEMICOLON)?;
-        found.push(inner_statement(alloc, reader, room)?)?;
-    }
-    Ok(found)
+    separated(
+        alloc,
+        reader,
+        symbol::SEMICOLON,
+        |reader: &mut Reader<'_>| -> Result<Statement, Stop>
+            ensures { Reads (read_inside (inside_at room) statements reader.entry.now) result reader.exit.now }
+        { inner_statement(alloc, reader, room) },
+    )
 }
 
 /// `compound = "begin" stmts "end"`
@@ -139,17 +136,18 @@ fn arms(alloc: Global, reader: &mut Reader<'_>, room: u32) -> Result<List<Arm>, 
 {
     let mut found = List::with_room(alloc, 1)?;
     found.push(arm(alloc, reader, room)?)?;
-    for _turn in 0..reader.left() {
-        if !reader.sees_symbol(symbol::SEMICOLON) {
-            return Ok(found);
-        }
-        reader.symbol(symbol::SEMICOLON)?;
-        if !reader.begins_expression() {
-            return Ok(found);
-        }
-        found.push(arm(alloc, reader, room)?)?;
-    }
-    Ok(found)
+    closed(
+        reader,
+        found,
+        |reader: &mut Reader<'_>| -> Result<Option<Arm>, Stop>
+            ensures { Reads (read (inside_at room) (optional of_expression arm) reader.entry.now) result reader.exit.now }
+        {
+            if !reader.begins_expression() {
+                return Ok(None);
+            }
+            Ok(Some(arm(alloc, reader, room)?))
+        },
+    )
 }
 
 /// `other = "otherwise" stmts`
@@ -331,20 +329,17 @@ fn for_rest(
 }
 
 /// `access { "," access }`
-#[tactic(auto, unfolding(ep_grammar::specs::Statements::accesses))]
 fn accesses(alloc: Global, reader: &mut Reader<'_>, room: u32) -> Result<List<Access>, Stop>
     ensures { Reads (read (inside_at room) accesses reader.old) result reader.new }
 {
-    let mut found = List::with_room(alloc, 1)?;
-    found.push(access(alloc, reader, room)?)?;
-    for _turn in 0..reader.left() {
-        if !reader.sees_symbol(symbol::COMMA) {
-            return Ok(found);
-        }
-        reader.symbol(symbol::COMMA)?;
-        found.push(access(alloc, reader, room)?)?;
-    }
-    Ok(found)
+    separated(
+        alloc,
+        reader,
+        symbol::COMMA,
+        |reader: &mut Reader<'_>| -> Result<Access, Stop>
+            ensures { Reads (read (inside_at room) access reader.entry.now) result reader.exit.now }
+        { access(alloc, reader, room) },
+    )
 }
 
 /// `"with" access { "," access } "do" stmt`

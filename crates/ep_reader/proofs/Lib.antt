@@ -1,3 +1,4 @@
+pub mod Begun
 pub mod Calls
 pub mod Levels
 pub mod Onto

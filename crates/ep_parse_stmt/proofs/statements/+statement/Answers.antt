@@ -1,49 +1,24 @@
-use Rattle.std.proofs.Common.{refl, rules, arith}
+use Rattle.std.proofs.Common.{of_calls, refl, rules, arith}
 use Rattle.std.proofs.lemmas.Grind.{common_steps}
 use Rattle.ep_grammar.specs.Statements.{arm, arms, case_statement, compound, for_members, for_range, for_statement, if_statement, inner_statements, other, repeat_statement, while_statement, with_statement}
 use Rattle.ep_reader.proofs.Levels.{handed, opened, unopened}
 use Rattle.ep_reader.proofs.Shaped.{one_of}
-use Rattle.ep_reader.proofs.RowLoops.{turns_over, separated_begun, after_more, after_refused, after_none, closed_begun, end_more, end_refused, end_reached}
+use Rattle.ep_grammar.specs.Descriptions.{statements}
+use Rattle.ep_grammar.specs.Expressions.{of_expression}
+use Rattle.ep_grammar.specs.Reading.{read, read_inside}
+use Rattle.ep_grammar.specs.Rules.{inside_at}
+use Rattle.ep_reader.proofs.Begun.{closed_behind}
 use Rattle.ep_parse_stmt.proofs.statements.+statement.Goals as goal
 
-pub inner_statements-loop-turn-init : goal.inner_statements-loop-turn-init
-unfolding inner_statements
-inner_statements-loop-turn-init t c = separated_begun _ c.in_ok-inner_statement.ensures c.in_ok-found.ensures c.in_ok-push.ensures.ok c.left-turn-end.ensures
-
-pub inner_statements-returns-then-not-sees_symbol : goal.inner_statements-returns-then-not-sees_symbol
-inner_statements-returns-then-not-sees_symbol t c = after_none c.loop-turn.invariant c.loop-turn-test.true c.if-not-sees_symbol.ensures
-
-pub inner_statements-returns-in_err-inner_statement-2 : goal.inner_statements-returns-in_err-inner_statement-2
-inner_statements-returns-in_err-inner_statement-2 t c =
-    let refused = after_refused c.loop-turn.invariant c.loop-turn-test.true c.if-not-sees_symbol.ensures c.in_ok-symbol.ensures c.in_err-inner_statement-2.ensures in
-    first_of (search rules, grind (arith, common_steps))
-
-pub inner_statements-loop-turn-preserved : goal.inner_statements-loop-turn-preserved
-inner_statements-loop-turn-preserved t c = after_more c.loop-turn.invariant c.loop-turn-test.true c.if-not-sees_symbol.ensures c.in_ok-symbol.ensures c.in_ok-inner_statement-2.ensures c.in_ok-push-2.ensures.ok
-
 pub inner_statements-returns : goal.inner_statements-returns
-inner_statements-returns t c = turns_over c.loop-turn.invariant c.loop-turn-test.false
-
-pub arms-loop-turn-init : goal.arms-loop-turn-init
-unfolding arms
-arms-loop-turn-init t c = closed_begun _ c.in_ok-arm.ensures c.in_ok-found.ensures c.in_ok-push.ensures.ok c.left-turn-end.ensures
-
-pub arms-returns-then-not-sees_symbol : goal.arms-returns-then-not-sees_symbol
-arms-returns-then-not-sees_symbol t c = after_none c.loop-turn.invariant c.loop-turn-test.true c.if-not-sees_symbol.ensures
-
-pub arms-returns-then-not-begins_expression : goal.arms-returns-then-not-begins_expression
-arms-returns-then-not-begins_expression t c = end_reached c.loop-turn.invariant c.loop-turn-test.true c.if-not-sees_symbol.ensures c.in_ok-symbol.ensures c.if-not-begins_expression.ensures
-
-pub arms-returns-in_err-arm-2 : goal.arms-returns-in_err-arm-2
-arms-returns-in_err-arm-2 t c =
-    let refused = end_refused c.loop-turn.invariant c.loop-turn-test.true c.if-not-sees_symbol.ensures c.in_ok-symbol.ensures c.if-not-begins_expression.ensures c.in_err-arm-2.ensures in
-    first_of (search rules, grind (arith, common_steps))
-
-pub arms-loop-turn-preserved : goal.arms-loop-turn-preserved
-arms-loop-turn-preserved t c = end_more c.loop-turn.invariant c.loop-turn-test.true c.if-not-sees_symbol.ensures c.in_ok-symbol.ensures c.if-not-begins_expression.ensures c.in_ok-arm-2.ensures c.in_ok-push-2.ensures.ok
+unfolding inner_statements
+inner_statements-returns t c = c.separated.ensures (read_inside (inside_at c.args.room) statements) (λ i j r called. search of_calls)
 
 pub arms-returns : goal.arms-returns
-arms-returns t c = turns_over c.loop-turn.invariant c.loop-turn-test.false
+unfolding arms
+arms-returns t c =
+    closed_behind (inside_at c.args.room) of_expression arm c.args.reader.now c.in_ok-arm.ensures c.in_ok-found.ensures c.in_ok-push.ensures.ok c.closed.result c.closed.new.reader
+    (c.closed.ensures of_expression (read (inside_at c.args.room) arm) (λ i j r called. search of_calls))
 
 pub compound-returns-in_err-_inner : goal.compound-returns-in_err-_inner
 unfolding compound
