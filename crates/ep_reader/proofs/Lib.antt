@@ -7,4 +7,3 @@ pub mod RowLoops
 pub mod Turning
 pub mod Shaped
 pub mod Spellings
-pub mod Turns

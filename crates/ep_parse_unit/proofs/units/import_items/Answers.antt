@@ -4,7 +4,7 @@ use Rattle.ep_token.specs.declared.symbol.TheConstants as sym
 use Rattle.ep_grammar.specs.Descriptions.{item_after}
 use Rattle.ep_grammar.specs.Reading.{read, turns, steps}
 use Rattle.ep_grammar.specs.Rules.{inside_at}
-use Rattle.ep_reader.proofs.Turns.{one_more, no_more}
+use Rattle.ep_reader.proofs.Turning.{one_more, no_more}
 use Rattle.ep_grammar.specs.Expressions.{on}
 use Rattle.ep_grammar.specs.Units.{import_item}
 use Rattle.ep_parse_unit.proofs.units.import_items.Goals as goal
