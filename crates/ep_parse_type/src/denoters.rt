@@ -2,15 +2,15 @@
 
 ghost use Rattle.ep_token.specs.declared.word.TheConstants as word;
 ghost use Rattle.ep_grammar.specs.Descriptions.{plains, field_lists, optional};
-ghost use Rattle.ep_grammar.specs.Expressions.{on_word};
+ghost use Rattle.ep_grammar.specs.Expressions.{name, of_expression, on_word};
 ghost use Rattle.ep_grammar.specs.Types.{array, core, enumeration, field_section, fields, initial, inner_fields, inner_plains, named_or_range, names, names_in_parentheses, other_fields, plain, pointer, range_end, record_structure, restricted, section_fields, sections, sections_end, set_structure, structure, structured, type_denoter, type_of, variant, variant_fields, variant_part, variant_selector, variants};
 ghost use Rattle.ep_grammar.specs.Reading.{Reads, applied, read, read_inside};
 ghost use Rattle.ep_grammar.specs.Rules.{inside_at};
 
-use ep_base::{Boxed, Line, List, Names};
+use ep_base::{Boxed, Line, List, Name, Names};
 use ep_grammar::Stop;
 use ep_parse_expr::{component_value, expression, labels, qualified_name};
-use ep_reader::{Reader, level};
+use ep_reader::{Reader, closed, level, separated};
 use ep_token::{symbol, word};
 use ep_tree::{
     ComponentValue, Core, Expression, FieldSection, Fields, Plain, Structure, TypeDenoter, Variant,
@@ -19,20 +19,17 @@ use ep_tree::{
 use std::alloc::Global;
 
 /// `ids = id { "," id }`
-#[tactic(auto, unfolding(ep_grammar::specs::Types::names))]
 pub fn names(alloc: Global, reader: &mut Reader<'_>, room: u32) -> Result<Names, Stop>
     ensures { Reads (read (inside_at room) names reader.old) result reader.new }
 {
-    let mut found = List::with_room(alloc, 1)?;
-    found.push(reader.name(alloc)?)?;
-    for _turn in 0..reader.left() {
-        if !reader.sees_symbol(symbol::COMMA) {
-            return Ok(found);
-        }
-        reader.symbol(symbol::COMMA)?;
-        found.push(reader.name(alloc)?)?;
-    }
-    Ok(found)
+    separated(
+        alloc,
+        reader,
+        symbol::COMMA,
+        |reader: &mut Reader<'_>| -> Result<Name, Stop>
+            ensures { Reads (read (inside_at room) name reader.entry.now) result reader.exit.now }
+        { reader.name(alloc) },
+    )
 }
 
 /// `"(" ids ")"`
@@ -179,20 +176,17 @@ fn named_or_range(alloc: Global, reader: &mut Reader<'_>, room: u32) -> Result<C
 
 /// `plain { "," plain }`
 #[cycle(types)]
-#[tactic(auto, unfolding(ep_grammar::specs::Types::inner_plains))]
 fn inner_plains(alloc: Global, reader: &mut Reader<'_>, room: u32) -> Result<List<Plain>, Stop>
     ensures { Reads (read (inside_at room) inner_plains reader.old) result reader.new }
 {
-    let mut found = List::with_room(alloc, 1)?;
-    found.push(inner_plain(alloc, reader, room)?.into_inner())?;
-    for _turn in 0..reader.left() {
-        if !reader.sees_symbol(symbol::COMMA) {
-            return Ok(found);
-        }
-        reader.symbol(symbol::COMMA)?;
-        found.push(inner_plain(alloc, reader, room)?.into_inner())?;
-    }
-    Ok(found)
+    separated(
+        alloc,
+        reader,
+        symbol::COMMA,
+        |reader: &mut Reader<'_>| -> Result<Plain, Stop>
+            ensures { Reads (read_inside (inside_at room) plains reader.entry.now) result reader.exit.now }
+        { Ok(inner_plain(alloc, reader, room)?.into_inner()) },
+    )
 }
 
 /// `"array" "[" plain { "," plain } "]" "of" plain`
@@ -374,17 +368,18 @@ fn variants(alloc: Global, reader: &mut Reader<'_>, room: u32) -> Result<List<Va
 {
     let mut found = List::with_room(alloc, 1)?;
     found.push(variant(alloc, reader, room)?)?;
-    for _turn in 0..reader.left() {
-        if !reader.sees_symbol(symbol::SEMICOLON) {
-            return Ok(found);
-        }
-        reader.symbol(symbol::SEMICOLON)?;
-        if !reader.begins_expression() {
-            return Ok(found);
-        }
-        found.push(variant(alloc, reader, room)?)?;
-    }
-    Ok(found)
+    closed(
+        reader,
+        found,
+        |reader: &mut Reader<'_>| -> Result<Option<Variant>, Stop>
+            ensures { Reads (read (inside_at room) (optional of_expression variant) reader.entry.now) result reader.exit.now }
+        {
+            if !reader.begins_expression() {
+                return Ok(None);
+            }
+            Ok(Some(variant(alloc, reader, room)?))
+        },
+    )
 }
 
 /// `"otherwise" "(" fields ")" [ ";" ]`

@@ -1,49 +1,25 @@
-use Rattle.std.proofs.Common.{[], ◌∷◌, ◌++◌, ◌∙◌, ap, refl, rules, arith}
+use Rattle.std.proofs.Common.{of_calls, refl, rules, arith}
 use Rattle.std.proofs.lemmas.Grind.{common_steps}
 use Rattle.ep_grammar.specs.Types.{field_section, inner_plains, other_fields, sections, structured, variant, variant_part, variants}
 use Rattle.ep_reader.proofs.Levels.{handed, opened, unopened}
 use Rattle.ep_reader.proofs.Shaped.{one_of}
-use Rattle.ep_reader.proofs.RowLoops.{turns_over, separated_begun, after_more, after_refused, after_none, closed_begun, ended_begun, end_more, end_refused, end_reached}
+use Rattle.ep_grammar.specs.Descriptions.{plains}
+use Rattle.ep_grammar.specs.Expressions.{of_expression}
+use Rattle.ep_grammar.specs.Reading.{read, read_inside}
+use Rattle.ep_grammar.specs.Rules.{inside_at}
+use Rattle.ep_reader.proofs.Begun.{closed_behind}
+use Rattle.ep_reader.proofs.RowLoops.{turns_over, after_none, ended_begun, end_more, end_refused, end_reached}
 use Rattle.ep_parse_type.proofs.denoters.+types.Goals as goal
 
-pub inner_plains-loop-turn-init : goal.inner_plains-loop-turn-init
-unfolding inner_plains
-inner_plains-loop-turn-init t c = separated_begun _ c.in_ok-inner_plain.ensures c.in_ok-found.ensures (c.in_ok-push.ensures.ok ∙ ap (λ w. c.in_ok-found.found ++ w ∷ []) c.into_inner.ensures) c.left-turn-end.ensures
-
-pub inner_plains-returns-then-not-sees_symbol : goal.inner_plains-returns-then-not-sees_symbol
-inner_plains-returns-then-not-sees_symbol t c = after_none c.loop-turn.invariant c.loop-turn-test.true c.if-not-sees_symbol.ensures
-
-pub inner_plains-returns-in_err-inner_plain-2 : goal.inner_plains-returns-in_err-inner_plain-2
-inner_plains-returns-in_err-inner_plain-2 t c =
-    let refused = after_refused c.loop-turn.invariant c.loop-turn-test.true c.if-not-sees_symbol.ensures c.in_ok-symbol.ensures c.in_err-inner_plain-2.ensures in
-    first_of (search rules, grind (arith, common_steps))
-
-pub inner_plains-loop-turn-preserved : goal.inner_plains-loop-turn-preserved
-inner_plains-loop-turn-preserved t c = after_more c.loop-turn.invariant c.loop-turn-test.true c.if-not-sees_symbol.ensures c.in_ok-symbol.ensures c.in_ok-inner_plain-2.ensures (c.in_ok-push-2.ensures.ok ∙ ap (λ w. c.loop-turn.found ++ w ∷ []) c.into_inner-in-loop-turn.ensures)
-
 pub inner_plains-returns : goal.inner_plains-returns
-inner_plains-returns t c = turns_over c.loop-turn.invariant c.loop-turn-test.false
-
-pub variants-loop-turn-init : goal.variants-loop-turn-init
-unfolding variants
-variants-loop-turn-init t c = closed_begun _ c.in_ok-variant.ensures c.in_ok-found.ensures c.in_ok-push.ensures.ok c.left-turn-end.ensures
-
-pub variants-returns-then-not-sees_symbol : goal.variants-returns-then-not-sees_symbol
-variants-returns-then-not-sees_symbol t c = after_none c.loop-turn.invariant c.loop-turn-test.true c.if-not-sees_symbol.ensures
-
-pub variants-returns-then-not-begins_expression : goal.variants-returns-then-not-begins_expression
-variants-returns-then-not-begins_expression t c = end_reached c.loop-turn.invariant c.loop-turn-test.true c.if-not-sees_symbol.ensures c.in_ok-symbol.ensures c.if-not-begins_expression.ensures
-
-pub variants-returns-in_err-variant-2 : goal.variants-returns-in_err-variant-2
-variants-returns-in_err-variant-2 t c =
-    let refused = end_refused c.loop-turn.invariant c.loop-turn-test.true c.if-not-sees_symbol.ensures c.in_ok-symbol.ensures c.if-not-begins_expression.ensures c.in_err-variant-2.ensures in
-    first_of (search rules, grind (arith, common_steps))
-
-pub variants-loop-turn-preserved : goal.variants-loop-turn-preserved
-variants-loop-turn-preserved t c = end_more c.loop-turn.invariant c.loop-turn-test.true c.if-not-sees_symbol.ensures c.in_ok-symbol.ensures c.if-not-begins_expression.ensures c.in_ok-variant-2.ensures c.in_ok-push-2.ensures.ok
+unfolding inner_plains
+inner_plains-returns t c = c.separated.ensures (read_inside (inside_at c.args.room) plains) (λ i j r called. search of_calls)
 
 pub variants-returns : goal.variants-returns
-variants-returns t c = turns_over c.loop-turn.invariant c.loop-turn-test.false
+unfolding variants
+variants-returns t c =
+    closed_behind (inside_at c.args.room) of_expression variant c.args.reader.now c.in_ok-variant.ensures c.in_ok-found.ensures c.in_ok-push.ensures.ok c.closed.result c.closed.new.reader
+    (c.closed.ensures of_expression (read (inside_at c.args.room) variant) (λ i j r called. search of_calls))
 
 pub sections-loop-turn-init : goal.sections-loop-turn-init
 unfolding sections
