@@ -1,6 +1,6 @@
 -- The bytes that a source in memory has left.
 use Rattle.std.specs.Prelude.{ℕ, List, drop}
-use Rattle.ep_outside.specs.declared.mem_source.Remainder.{Remainder}
+use Rattle.ep_outside.specs.declared.remainder.Remainder.{Remainder}
 
 -- what comes after the front that was taken
 abbrev pub bytes_left : Remainder → List ℕ

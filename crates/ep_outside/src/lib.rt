@@ -9,6 +9,7 @@ mod answers;
 mod mem_files;
 mod mem_sink;
 mod mem_source;
+mod remainder;
 mod schedule;
 mod traits;
 

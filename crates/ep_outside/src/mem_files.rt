@@ -1,8 +1,11 @@
 //! Files in memory.
 
-ghost use Rattle.std.specs.Prelude.{◌≡◌, ◌≢◌, ℕ, List, [], ◌++◌, None, Some, is_ok, if◌then◌else◌, IfOk, OnOk, OnErr, unwrap_or};
+ghost use Rattle.std.specs.Prelude.{◌≡◌, ◌≢◌, ◌↔◌, ◌+◌, ℕ, List, [], ◌++◌, None, Some, is_ok, if◌then◌else◌, IfOk, OnOk, OnErr, unwrap_or};
 ghost use Rattle.std.specs.Option.{option_map};
+ghost use Rattle.ep_outside.specs.Answers.{write_faults, load_faults, Loads, Creates, AppendsTo};
+ghost use Rattle.ep_outside.specs.InMemory.{files_schedule, file_map, files_faults, sure_map, CreatesNothing, AppendsHalf};
 ghost use Rattle.ep_outside.specs.Known.{with_file, appended, ChangesBy, KeepsFiles, HasFile};
+ghost use Rattle.ep_outside.specs.Schedules.{Begins, FailsNext, CountsCall};
 
 use crate::answers::{LoadAnswer, WriteAnswer};
 use crate::schedule::Schedule;
@@ -74,7 +77,6 @@ impl FileTable {
 
 impl FileTable {
     ghost use Rattle.ep_outside.specs.FileTables.{directory_of};
-    ghost use Rattle.ep_outside.specs.Answers.{Loads};
 
     /// Puts the bytes of a file into the buffer, where there are at most `limit`.
     fn load(&self, name: &[u8], limit: u32, into: &mut Vec<u8>) -> LoadAnswer
@@ -116,7 +118,8 @@ pub struct MemFiles {
 impl MemFiles {
     /// No file, and calls of these numbers, counted from 1, fail. It takes no memory.
     pub fn new(alloc: Global, fails: Vec<u64>) -> MemFiles
-        ensures { (name : List ℕ) → HasFile (⟦<MemFiles as Files>⟧.files result) name None }
+        ensures files { (name : List ℕ) → HasFile (⟦<MemFiles as Files>⟧.files result) name None }
+        ensures schedule { Begins fails.items (files_schedule result) }
     {
         MemFiles {
             table: FileTable::new(alloc),
@@ -129,6 +132,7 @@ impl MemFiles {
         ensures ok { OnOk result (ChangesBy (λ files. with_file files name.now bytes.now) (⟦<MemFiles as Files>⟧.files self.old) (⟦<MemFiles as Files>⟧.files self.new)) }
         ensures err { OnErr result (KeepsFiles (⟦<MemFiles as Files>⟧.files self.old) (⟦<MemFiles as Files>⟧.files self.new)) }
         ensures faults { ⟦<MemFiles as Files>⟧.faults self.new ≡ ⟦<MemFiles as Files>⟧.faults self.old }
+        ensures schedule { files_schedule self.new ≡ files_schedule self.old }
     {
         let bytes = Vec::from_slice(self.table.alloc, bytes)?;
         self.table.put(name, bytes)
@@ -143,30 +147,48 @@ impl MemFiles {
 }
 
 impl Files for MemFiles {
-    ghost use Rattle.std.specs.Prelude.{Some};
-    ghost use Rattle.ep_outside.specs.FileTables.{directory_of};
-    ghost use Rattle.ep_outside.specs.Schedules.{faults_of};
+    ghost use Rattle.ep_outside.specs.InMemory.{file_map, files_faults};
 
-    ghost files = { λ s. Some (directory_of s.table) };
+    ghost files = { file_map };
 
-    ghost faults = { λ s. faults_of s.schedule };
+    ghost faults = { files_faults };
 
-    fn load(&mut self, name: &[u8], limit: u32, into: &mut Vec<u8>) -> LoadAnswer {
+    fn load(&mut self, name: &[u8], limit: u32, into: &mut Vec<u8>) -> LoadAnswer
+        requires { into.old.items ≡ [] }
+        ensures loads { Loads result (file_map self.old) name.now limit into.new.items }
+        ensures files { KeepsFiles (file_map self.old) (file_map self.new) }
+        ensures fails { (result ≡ LoadAnswer.Failed) ↔ FailsNext (files_schedule self.old) }
+        ensures faults { files_faults self.new ≡ files_faults self.old + load_faults result }
+        ensures counts { CountsCall (files_schedule self.old) (files_schedule self.new) }
+    {
         if self.schedule.next_fails() {
             return LoadAnswer::Failed;
         }
         self.table.load(name, limit, into)
     }
 
-    fn create(&mut self, name: &[u8]) -> WriteAnswer {
+    fn create(&mut self, name: &[u8]) -> WriteAnswer
+        ensures creates { Creates result (file_map self.old) (file_map self.new) name.now }
+        ensures nothing { CreatesNothing result (file_map self.old) (file_map self.new) }
+        ensures fails { (result ≡ WriteAnswer.Failed) ↔ FailsNext (files_schedule self.old) }
+        ensures faults { files_faults self.new ≡ files_faults self.old + write_faults result }
+        ensures counts { CountsCall (files_schedule self.old) (files_schedule self.new) }
+    {
         if self.schedule.next_fails() {
+            // No file changes.
             return WriteAnswer::Failed;
         }
         let empty = Vec::new(self.table.alloc);
         answer(self.table.put(name, empty))
     }
 
-    fn append(&mut self, name: &[u8], bytes: &[u8]) -> WriteAnswer {
+    fn append(&mut self, name: &[u8], bytes: &[u8]) -> WriteAnswer
+        ensures appends { AppendsTo result (file_map self.old) (file_map self.new) name.now bytes.now }
+        ensures half { AppendsHalf result (file_map self.old) (file_map self.new) name.now bytes.now }
+        ensures fails { (result ≡ WriteAnswer.Failed) ↔ FailsNext (files_schedule self.old) }
+        ensures faults { files_faults self.new ≡ files_faults self.old + write_faults result }
+        ensures counts { CountsCall (files_schedule self.old) (files_schedule self.new) }
+    {
         if self.schedule.next_fails() {
             // Where memory is wanting nothing of it is kept.
             let _ = self.table.append(name, &bytes[..bytes.len() / 2]);
@@ -210,23 +232,33 @@ impl SureFiles {
 }
 
 impl Files for SureFiles {
-    ghost use Rattle.std.specs.Prelude.{Some};
-    ghost use Rattle.ep_outside.specs.FileTables.{directory_of};
+    ghost use Rattle.ep_outside.specs.InMemory.{sure_map};
 
-    ghost files = { λ s. Some (directory_of s.table) };
+    ghost files = { sure_map };
 
     ghost faults = { λ _. 0 };
 
-    fn load(&mut self, name: &[u8], limit: u32, into: &mut Vec<u8>) -> LoadAnswer {
+    fn load(&mut self, name: &[u8], limit: u32, into: &mut Vec<u8>) -> LoadAnswer
+        requires { into.old.items ≡ [] }
+        ensures loads { Loads result (sure_map self.old) name.now limit into.new.items }
+        ensures files { KeepsFiles (sure_map self.old) (sure_map self.new) }
+        ensures sure { result ≢ LoadAnswer.Failed }
+    {
         self.table.load(name, limit, into)
     }
 
-    fn create(&mut self, name: &[u8]) -> WriteAnswer {
+    fn create(&mut self, name: &[u8]) -> WriteAnswer
+        ensures creates { Creates result (sure_map self.old) (sure_map self.new) name.now }
+        ensures sure { result ≢ WriteAnswer.Failed }
+    {
         let empty = Vec::new(self.table.alloc);
         answer(self.table.put(name, empty))
     }
 
-    fn append(&mut self, name: &[u8], bytes: &[u8]) -> WriteAnswer {
+    fn append(&mut self, name: &[u8], bytes: &[u8]) -> WriteAnswer
+        ensures appends { AppendsTo result (sure_map self.old) (sure_map self.new) name.now bytes.now }
+        ensures sure { result ≢ WriteAnswer.Failed }
+    {
         answer(self.table.append(name, bytes))
     }
 }

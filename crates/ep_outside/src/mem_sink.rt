@@ -1,6 +1,9 @@
 //! Sinks in memory.
 
-ghost use Rattle.std.specs.Prelude.{◌≡◌, ℕ, List, [], Option, Some};
+ghost use Rattle.std.specs.Prelude.{◌≡◌, ◌≢◌, ◌↔◌, ◌+◌, ℕ, List, [], Option, Some};
+ghost use Rattle.ep_outside.specs.Answers.{write_faults, Writes};
+ghost use Rattle.ep_outside.specs.InMemory.{sink_schedule, sink_held, sink_faults, sure_held, WritesHalf};
+ghost use Rattle.ep_outside.specs.Schedules.{Begins, FailsNext, CountsCall};
 
 use crate::answers::WriteAnswer;
 use crate::schedule::Schedule;
@@ -18,7 +21,8 @@ pub struct MemSink {
 impl MemSink {
     /// An empty sink whose calls of these numbers, counted from 1, fail. It takes no memory.
     pub fn new(alloc: Global, fails: Vec<u64>) -> MemSink
-        ensures { ⟦<MemSink as Sink>⟧.held result ≡ Some [] }
+        ensures held { ⟦<MemSink as Sink>⟧.held result ≡ Some [] }
+        ensures schedule { Begins fails.items (sink_schedule result) }
     {
         MemSink {
             held: Vec::new(alloc),
@@ -35,14 +39,19 @@ impl MemSink {
 }
 
 impl Sink for MemSink {
-    ghost use Rattle.std.specs.Prelude.{Some};
-    ghost use Rattle.ep_outside.specs.Schedules.{faults_of};
+    ghost use Rattle.ep_outside.specs.InMemory.{sink_held, sink_faults};
 
-    ghost held = { λ s. Some s.held.items };
+    ghost held = { sink_held };
 
-    ghost faults = { λ s. faults_of s.schedule };
+    ghost faults = { sink_faults };
 
-    fn write(&mut self, piece: &[u8]) -> WriteAnswer {
+    fn write(&mut self, piece: &[u8]) -> WriteAnswer
+        ensures writes { Writes result (sink_held self.old) (sink_held self.new) piece.now }
+        ensures half { WritesHalf result (sink_held self.old) (sink_held self.new) piece.now }
+        ensures fails { (result ≡ WriteAnswer.Failed) ↔ FailsNext (sink_schedule self.old) }
+        ensures faults { sink_faults self.new ≡ sink_faults self.old + write_faults result }
+        ensures counts { CountsCall (sink_schedule self.old) (sink_schedule self.new) }
+    {
         if self.schedule.next_fails() {
             // Where memory is wanting the half that is kept is the empty one.
             let _ = self.held.extend_from_slice(&piece[..piece.len() / 2]);
@@ -80,13 +89,16 @@ impl SureSink {
 }
 
 impl Sink for SureSink {
-    ghost use Rattle.std.specs.Prelude.{Some};
+    ghost use Rattle.ep_outside.specs.InMemory.{sure_held};
 
-    ghost held = { λ s. Some s.held.items };
+    ghost held = { sure_held };
 
     ghost faults = { λ _. 0 };
 
-    fn write(&mut self, piece: &[u8]) -> WriteAnswer {
+    fn write(&mut self, piece: &[u8]) -> WriteAnswer
+        ensures writes { Writes result (sure_held self.old) (sure_held self.new) piece.now }
+        ensures sure { result ≢ WriteAnswer.Failed }
+    {
         match self.held.extend_from_slice(piece) {
             Ok(()) => WriteAnswer::Done,
             Err(_) => WriteAnswer::NoMemory,

@@ -1,42 +1,15 @@
 //! Sources in memory.
 
-ghost use Rattle.std.specs.Prelude.{◌≡◌, ◌<◌, ◌≤◌, ℕ, List, [], ◌++◌, length, take, drop, Some};
+ghost use Rattle.std.specs.Prelude.{◌≡◌, ◌≢◌, ◌↔◌, ◌+◌, ◌<◌, length, Some};
+ghost use Rattle.ep_outside.specs.Answers.{read_faults, Reads};
+ghost use Rattle.ep_outside.specs.InMemory.{source_schedule, source_left, source_faults, sure_left};
+ghost use Rattle.ep_outside.specs.Schedules.{Begins, FailsNext, CountsCall};
 
 use crate::answers::ReadAnswer;
+use crate::remainder::Remainder;
 use crate::schedule::Schedule;
 use crate::traits::Source;
 use ep_base::Bytes;
-
-/// Bytes of which a front was taken.
-#[derive(Drop)]
-struct Remainder {
-    held: Bytes,
-    place: usize,
-    ghost within: { place ≤ length held },
-}
-
-impl Remainder {
-    ghost use Rattle.ep_outside.specs.Remainders.{bytes_left};
-
-    fn new(held: Bytes) -> Remainder
-        ensures { bytes_left result ≡ held }
-    {
-        Remainder { held, place: 0 }
-    }
-
-    /// Puts the next bytes in front of the buffer, as many as there are and fit, and tells how many.
-    fn take(&mut self, into: &mut [u8]) -> usize
-        ensures fits { result ≤ length into.old }
-        ensures taken { bytes_left self.old ≡ take result into.new ++ bytes_left self.new }
-        ensures end { result ≡ 0 → 0 < length into.old → bytes_left self.new ≡ [] }
-    {
-        let rest = &self.held.items()[self.place..];
-        let count = rest.len().min(into.len());
-        into[..count].copy_from_slice(&rest[..count]);
-        self.place += count;
-        count
-    }
-}
 
 /// A source in memory whose calls of given numbers fail.
 #[derive(Drop)]
@@ -48,7 +21,8 @@ pub struct MemSource {
 impl MemSource {
     /// A source with these bytes left, whose calls of these numbers, counted from 1, fail. It takes no memory.
     pub fn new(held: Bytes, fails: Vec<u64>) -> MemSource
-        ensures { ⟦<MemSource as Source>⟧.left result ≡ Some held }
+        ensures left { ⟦<MemSource as Source>⟧.left result ≡ Some held }
+        ensures schedule { Begins fails.items (source_schedule result) }
     {
         MemSource {
             remainder: Remainder::new(held),
@@ -58,15 +32,20 @@ impl MemSource {
 }
 
 impl Source for MemSource {
-    ghost use Rattle.std.specs.Prelude.{Some};
-    ghost use Rattle.ep_outside.specs.Schedules.{faults_of};
-    ghost use Rattle.ep_outside.specs.Remainders.{bytes_left};
+    ghost use Rattle.ep_outside.specs.InMemory.{source_left, source_faults};
 
-    ghost left = { λ s. Some (bytes_left s.remainder) };
+    ghost left = { source_left };
 
-    ghost faults = { λ s. faults_of s.schedule };
+    ghost faults = { source_faults };
 
-    fn read(&mut self, into: &mut [u8]) -> ReadAnswer {
+    fn read(&mut self, into: &mut [u8]) -> ReadAnswer
+        requires { 0 < length into.old }
+        ensures reads { Reads result (source_left self.old) (source_left self.new) into.new }
+        ensures buffer { result ≡ ReadAnswer.Failed → into.new ≡ into.old }
+        ensures fails { (result ≡ ReadAnswer.Failed) ↔ FailsNext (source_schedule self.old) }
+        ensures faults { source_faults self.new ≡ source_faults self.old + read_faults result }
+        ensures counts { CountsCall (source_schedule self.old) (source_schedule self.new) }
+    {
         if self.schedule.next_fails() {
             return ReadAnswer::Failed;
         }
@@ -92,14 +71,17 @@ impl SureSource {
 }
 
 impl Source for SureSource {
-    ghost use Rattle.std.specs.Prelude.{Some};
-    ghost use Rattle.ep_outside.specs.Remainders.{bytes_left};
+    ghost use Rattle.ep_outside.specs.InMemory.{sure_left};
 
-    ghost left = { λ s. Some (bytes_left s.remainder) };
+    ghost left = { sure_left };
 
     ghost faults = { λ _. 0 };
 
-    fn read(&mut self, into: &mut [u8]) -> ReadAnswer {
+    fn read(&mut self, into: &mut [u8]) -> ReadAnswer
+        requires { 0 < length into.old }
+        ensures reads { Reads result (sure_left self.old) (sure_left self.new) into.new }
+        ensures sure { result ≢ ReadAnswer.Failed }
+    {
         ReadAnswer::Got(self.remainder.take(into))
     }
 }
