@@ -2,12 +2,12 @@
 
 ghost use Rattle.std.specs.Prelude.{◌≡◌, ◌≢◌, ◌⊎◌, ℕ, ◌<◌, ◌≤◌, ◌+◌, ◌^◌, length, List, [], Option, Some, None, IsTrue, IfOk, MatchOption};
 ghost use Rattle.ep_object.specs.Runs.{begin as beginning, run_to, timed, trace_of};
-ghost use Rattle.ep_typed.specs.Events.{Trace, DoesPart, Outside};
+ghost use Rattle.ep_typed.specs.Events.{Trace, DoesFront, DoesPart, Outside};
 ghost use Rattle.ep_object.specs.State.{State};
-ghost use Rattle.ep_machine.specs.Answers.{Answers, RunsTo, UnlessStopped, OnStopped, OnWriteFaultEnd, IsEnd, outside};
+ghost use Rattle.ep_machine.specs.Answers.{Answers, RunsTo, UnlessStopped, OnNoMemoryEnd, OnWriteFaultEnd, IsEnd, outside};
 ghost use Rattle.ep_machine.specs.Turns.{ended_at};
 ghost use Rattle.ep_machine.specs.declared.end.Ended.TheVariants as ended;
-ghost use Rattle.ep_machine.specs.Turns.{UnlessFailed, OnFailed, OnWriteFault, Ran, RanPart, is_ready, is_known};
+ghost use Rattle.ep_machine.specs.Turns.{UnlessFailed, OnFailed, OnWriteFault, Ran, RunFailed, is_ready, is_known};
 
 use crate::end::{End, Ended};
 use crate::parts::Parts;
@@ -79,7 +79,7 @@ impl<'a> Machine<'a> {
     fn resume<O: Sink>(&mut self, budget: u64, output: &mut O)
         requires { ticks_of self.old + budget < 2 ^ 61 }
         ensures exact { UnlessFailed (ended_of self.new) (Ran (image_of self.old) (ticks_of self.old + budget) (standing self.old) (standing self.new) (O.held output.old) (O.held output.new)) }
-        ensures failed { OnFailed (ended_of self.new) (RanPart (image_of self.old) (ticks_of self.old + budget) (standing self.old) (O.held output.old) (O.held output.new)) }
+        ensures failed { OnFailed (ended_of self.new) (RunFailed (image_of self.old) (ticks_of self.old + budget) (standing self.old) (O.held output.old) (O.held output.new)) }
         ensures image { image_of self.new ≡ image_of self.old }
         ensures within { ticks_of self.new < 2 ^ 61 }
         ensures counts { O.faults output.old ≤ O.faults output.new }
@@ -104,7 +104,8 @@ impl<'a> Machine<'a> {
 
     /// Goes on for at most so many ticks. `Budget` says that a further call goes on from here; any other end is
     /// answered again by a further call, which does nothing. The name of a unit takes memory, so `NoMemory` may come
-    /// in place of an error. Nothing is read, and no file is touched.
+    /// in place of an error. With `NoMemory` whole events were done and no half of one. Nothing is read, and no file
+    /// is touched.
     pub fn run<F: Files, I: Source, O: Sink>(
         &mut self,
         budget: u64,
@@ -114,7 +115,8 @@ impl<'a> Machine<'a> {
     ) -> End
         requires { ticks_of self.old + budget < 2 ^ 61 }
         ensures exact { UnlessStopped result (RunsTo (image_of self.old) (ticks_of self.old + budget) (standing self.old) (standing self.new) (outside (O.held output.old) (F.files files.old)) (outside (O.held output.new) (F.files files.new))) }
-        ensures part { OnStopped result (DoesPart (trace_of (run_to (image_of self.old) (ticks_of self.old + budget) (standing self.old [])).going) (outside (O.held output.old) (F.files files.old)) (outside (O.held output.new) (F.files files.new))) }
+        ensures part { OnWriteFaultEnd result (DoesPart (trace_of (run_to (image_of self.old) (ticks_of self.old + budget) (standing self.old [])).going) (outside (O.held output.old) (F.files files.old)) (outside (O.held output.new) (F.files files.new))) }
+        ensures whole { OnNoMemoryEnd result (DoesFront (trace_of (run_to (image_of self.old) (ticks_of self.old + budget) (standing self.old [])).going) (outside (O.held output.old) (F.files files.old)) (outside (O.held output.new) (F.files files.new))) }
         ensures end { (trace : Trace) → IsEnd result (standing self.new trace).going }
         ensures image { image_of self.new ≡ image_of self.old }
         ensures within { ticks_of self.new < 2 ^ 61 }

@@ -2,7 +2,7 @@
 use Rattle.std.proofs.Common.{◌≡◌, ℕ, List, [], ◌∷◌, ◌++◌, Option, None, Some, inl, inr, refl, sym, ap, ◌∙◌, subst, append_assoc, append-nil}
 use Rattle.std.proofs.KnownBytes.{Keeps-refl, Keeps-trans, Appends-nil, Appends-trans, Appends-kept}
 use Rattle.ep_outside.specs.Known.{Appends, Directory, created, appended, ChangesBy, KeepsFiles}
-use Rattle.ep_typed.specs.Events.{Event, Write, Create, Append, Trace, output_of, files_after, Outside, Same, Does, InHand, MayBegin, DoesPart}
+use Rattle.ep_typed.specs.Events.{Event, Write, Create, Append, Trace, output_of, files_after, Outside, Same, Does, InHand, MayBegin, DoesPart, DoesFront}
 
 same_functions : {A B : Type 0} {f g : A → B} → ((x : A) → f x ≡ g x) → f ≡ g
 same_functions h i x = h x i
@@ -90,3 +90,40 @@ does_part-all a s t p = record { done = a; left = []; is = sym (append-nil a); m
 -- the first event of a trace is in hand
 pub does_part-in_hand : (event : Event) (rest : Trace) (s t : Outside) → InHand event s t → DoesPart (event ∷ rest) s t
 does_part-in_hand event rest s t p = record { done = []; left = event ∷ rest; is = refl; middle = s; does = does-nil s s (same-refl s); begins = inr p }
+
+-- ---- whole events only
+
+-- a whole front is a part
+pub does_front-part : (a : Trace) (s t : Outside) → DoesFront a s t → DoesPart a s t
+does_front-part a s t p = record { done = p.done; left = p.left; is = p.is; middle = t; does = p.does; begins = may_begin-append [] p.left t t (same-refl t) }
+
+-- a whole front of a front of a trace is one of it
+pub does_front-front : (a b : Trace) (s t : Outside) → DoesFront a s t → DoesFront (a ++ b) s t
+does_front-front a b s t p =
+    record { done = p.done; left = p.left ++ b; is = ap (λ l. l ++ b) p.is ∙ append_assoc p.done p.left b; does = p.does }
+
+-- a whole front, and then one of the events that were left
+pub does_front-trans : (a : Trace) (s t u : Outside) (p : DoesFront a s t) → DoesFront p.left t u → DoesFront a s u
+does_front-trans a s t u p q = record {
+  done = p.done ++ q.done;
+  left = q.left;
+  is = p.is ∙ (ap (λ l. p.done ++ l) q.is ∙ sym (append_assoc p.done q.done q.left));
+  does = does-trans p.done q.done s t u p.does q.does;
+}
+
+-- all of a trace, and then a whole front of another one
+pub does_front-after : (a b : Trace) (s t u : Outside) → Does a s t → DoesFront b t u → DoesFront (a ++ b) s u
+does_front-after a b s t u p q = record {
+  done = a ++ q.done;
+  left = q.left;
+  is = ap (λ l. a ++ l) q.is ∙ sym (append_assoc a q.done q.left);
+  does = does-trans a q.done s t u p q.does;
+}
+
+-- nothing of a trace
+pub does_front-none : (a : Trace) (s t : Outside) → Same s t → DoesFront a s t
+does_front-none a s t p = record { done = []; left = a; is = refl; does = does-nil s t p }
+
+-- the whole of a trace
+pub does_front-all : (a : Trace) (s t : Outside) → Does a s t → DoesFront a s t
+does_front-all a s t p = record { done = a; left = []; is = sym (append-nil a); does = p }

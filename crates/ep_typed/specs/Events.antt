@@ -60,3 +60,10 @@ pub record DoesPart (trace : Trace) (old new : Outside) : Type 0 where
   pub middle : Outside
   pub does : Does done old middle
   pub begins : MayBegin left middle new
+
+-- all of some first events of the trace were done, in order, and nothing else
+pub record DoesFront (trace : Trace) (old new : Outside) : Type 0 where
+  pub done : Trace
+  pub left : Trace
+  pub is : trace ≡ done ++ left
+  pub does : Does done old new
