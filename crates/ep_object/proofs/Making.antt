@@ -285,10 +285,10 @@ met_lost a b t r new full few live = go (list_any (same_type t) r.types) new
 
 -- The type is met, or the machine ends for want of storage where room is lost.
 pub elaborates : {declared : Declarations} {G : Image} {injection : Injection} {memory : Memory} (place line : ℕ) (low high : ℤ) (below : List Operand) (s : meaning.State) → IsTrue (int_le low high) → slice_get G.instructions place ≡ Some (ordinal_instr line) → Matches declared G injection s memory
-    → Elaborates declared G injection memory place below (type.Ordinal low high) (before_type place low high below memory s.trace) s ⊎ GivesUp G (before_type place low high below memory s.trace) (meaning.with_type (type.Ordinal low high) s)
+    → Elaborates declared G injection memory place below (type.Ordinal low high) (before_type place low high below memory s.trace) s ⊎ GivesUp G (before_type place low high below memory s.trace) 0 1 (meaning.with_type (type.Ordinal low high) s)
 elaborates {declared} {G} {injection} {memory} place line low high below s ordered fetch m = by_number (ordinal_number low high memory.types) refl
   where
-    added : (b : Bool) → fits_one_more (before_type place low high below memory s.trace) ≡ b → ordinal_number low high memory.types ≡ None → Elaborates declared G injection memory place below (type.Ordinal low high) (before_type place low high below memory s.trace) s ⊎ GivesUp G (before_type place low high below memory s.trace) (meaning.with_type (type.Ordinal low high) s)
+    added : (b : Bool) → fits_one_more (before_type place low high below memory s.trace) ≡ b → ordinal_number low high memory.types ≡ None → Elaborates declared G injection memory place below (type.Ordinal low high) (before_type place low high below memory s.trace) s ⊎ GivesUp G (before_type place low high below memory s.trace) 0 1 (meaning.with_type (type.Ordinal low high) s)
     added true fits none =
         inl (record {
           number = length memory.types;
@@ -304,6 +304,7 @@ elaborates {declared} {G} {injection} {memory} place line low high below s order
         inr (record {
           lost = met_lost (length memory.types) memory.live (type.Ordinal low high) s.resources (not_known low high m.types none) full m.types.count m.live;
           ticks = 1;
+          fast = omega arith;
           number = run_error.STORAGE_LIMIT;
           is_limit = inl refl;
           unit = unit_in G memory.frames;
@@ -313,7 +314,7 @@ elaborates {declared} {G} {injection} {memory} place line low high below s order
           begins = record { rest = []; is = sym (append-nil s.trace) };
         })
 
-    by_number : (o : Option ℕ) → ordinal_number low high memory.types ≡ o → Elaborates declared G injection memory place below (type.Ordinal low high) (before_type place low high below memory s.trace) s ⊎ GivesUp G (before_type place low high below memory s.trace) (meaning.with_type (type.Ordinal low high) s)
+    by_number : (o : Option ℕ) → ordinal_number low high memory.types ≡ o → Elaborates declared G injection memory place below (type.Ordinal low high) (before_type place low high below memory s.trace) s ⊎ GivesUp G (before_type place low high below memory s.trace) 0 1 (meaning.with_type (type.Ordinal low high) s)
     by_number (Some n) found =
         inl (record {
           number = n;
