@@ -9,7 +9,7 @@ use Rattle.ep_typed.specs.Operations.{Answer, Number, Fault, is_true}
 use Rattle.ep_typed.specs.Printing.{Result, number_of, plain_text, wide_text, piece_events}
 use Rattle.ep_typed.specs.Printing as result
 use Rattle.ep_typed.specs.Steady.{Grows, Steady}
-use Rattle.ep_typed.specs.Steps.{End, Normal, Halted, Error, Word, State, Outcome, Gives, Ends, Cut, state_of, Computation, give, cut, stop, go_on, bind, spend, change, found, fetch, with_events, assigned, type_at, is_within, size_of, same_type, Resources, watched, met, with_type, made}
+use Rattle.ep_typed.specs.Steps.{End, Normal, Halted, Error, Word, State, Outcome, Gives, Ends, Cut, state_of, Computation, give, cut, stop, go_on, bind, spend, change, found, fetch, with_events, assigned, type_at, is_within, size_of, same_type, Resources, watched, words_of_type, met, with_type, made}
 use Rattle.ep_typed.specs.Trees.{Place, Variable, Expr, Constant, Text, Read, One, Two, Step, Item, Plain, Wide, Stmt, Stmts, Empty, Compound, Assign, If, While, Halt, Write, none, next}
 use Rattle.ep_typed.specs.Viewed.{stmt_of}
 use Rattle.ep_typed.specs.declared.operations.Print.{Print}
@@ -50,7 +50,7 @@ watched_lost r h = rw h refl
 met_lost : (t : TypeValue) (r : Resources) → IsTrue r.lost → IsTrue (met t r).lost
 met_lost t r h = go (list_any (same_type t) r.types)
   where
-    go : (b : Bool) → IsTrue (watched (if b then r else record r { types = t ∷ r.types; words = r.words + 1 })).lost
+    go : (b : Bool) → IsTrue (watched (if b then r else record r { types = t ∷ r.types; words = r.words + words_of_type t })).lost
     go true = rw h refl
     go false = rw h refl
 

@@ -1,9 +1,10 @@
 -- Computations, which spend steps and change a state.
-use Rattle.std.specs.Prelude.{ℕ, ℤ, zero, suc, ◌+◌, Bool, true, false, ◌&&◌, ◌||◌, not, nat_le, List, [], ◌∷◌, ◌++◌, Option, Some, None, length, slice_get, slice_set, if◌then◌else◌}
+use Rattle.std.specs.Prelude.{ℕ, ℤ, pos, neg_ℤ, zero, suc, ◌+◌, Bool, true, false, ◌&&◌, ◌||◌, not, nat_le, List, [], ◌∷◌, ◌++◌, Option, Some, None, length, slice_get, slice_set, if◌then◌else◌}
 use Rattle.std.specs.List.{list_any}
 use Rattle.std.specs.Str.{bytes_eq}
 use Rattle.std.specs.Prelude.{int_le}
 use Rattle.ep_typed.specs.Events.{Trace}
+use Rattle.ep_typed.specs.Operations.{maxint, last_char}
 use Rattle.ep_typed.specs.declared.types.TypeValue.{TypeValue}
 use Rattle.ep_typed.specs.declared.types.TypeValue.TheVariants.{Ordinal, Text}
 
@@ -165,9 +166,17 @@ has_room r = nat_le r.words room_for_words && nat_le (length r.types) room_for_t
 abbrev pub watched : Resources → Resources
 watched r = record r { lost = r.lost || not (has_room r) }
 
+-- the types that are there before any is elaborated: integer, char, Boolean and text
+abbrev pub first_types : List TypeValue
+first_types = Ordinal (neg_ℤ (pos maxint)) (pos maxint) ∷ Ordinal (pos 0) (pos last_char) ∷ Ordinal (pos 0) (pos 1) ∷ Text ∷ []
+
+-- the words of a new type value, of which the first types have none
+abbrev pub words_of_type : TypeValue → ℕ
+words_of_type t = if list_any (same_type t) first_types then 0 else 1
+
 -- one more type that is elaborated, which counts where it is a new one
 abbrev pub met : TypeValue → Resources → Resources
-met t r = watched (if list_any (same_type t) r.types then r else record r { types = t ∷ r.types; words = r.words + 1 })
+met t r = watched (if list_any (same_type t) r.types then r else record r { types = t ∷ r.types; words = r.words + words_of_type t })
 
 abbrev pub with_type : TypeValue → State → State
 with_type t s = record s { resources = met t s.resources }
