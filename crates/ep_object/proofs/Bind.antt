@@ -194,6 +194,10 @@ follows_give {k = k} a {e = e} le h = record { by = λ m l. inl (record { ticks 
 pub follows_changed : {Within : State → Type 0} {G : Image} {n : ℕ} {k : State} {s : meaning.State} (f : meaning.State → meaning.State) {P : Unit {0} → meaning.State → State → Type 0} {d : ℕ} {e : Unit {0} → ℕ} → e tt ≤ d → P tt (f s) k → Follows Within G n k s (meaning.change f) P d e
 follows_changed {k = k} f {e = e} le h = record { by = λ m l. inl (record { ticks = 0; to = k; runs = refl; pays = record { spent = 0; all = omega arith; slow = omega arith; fast = omega arith }; post = h }) }
 
+-- a change of the state that counts, without an instruction, and what is followed then
+pub follows_counted : {A : Type 0} {Within : State → Type 0} {G : Image} {n : ℕ} {k : State} {s : meaning.State} {c : Computation A} {P : A → meaning.State → State → Type 0} {d : ℕ} {e : A → ℕ} (count : meaning.State → meaning.State) → Follows Within G n k (count s) c P d e → Follows Within G n k s (bind (meaning.change count) (λ _. c)) P d e
+follows_counted count h = record { by = λ m l. h.by m l }
+
 -- no step is left
 pub follows_cut : {A : Type 0} {Within : State → Type 0} {G : Image} {k : State} {s : meaning.State} {P : A → meaning.State → State → Type 0} {d : ℕ} {e : A → ℕ} → Within k → k.trace ≡ s.trace → Follows Within G 0 k s cut P d e
 follows_cut {k = k} within same = record { by = λ m l. inl (record { ticks = 0; wait = 0; to = k; runs = refl; within = within; same = same; slow = omega arith; fast = omega arith }) }
@@ -217,13 +221,9 @@ pub gives_up : {G : Image} {v number : ℕ} {unit : List ℕ} {line : ℕ} {k : 
 gives_up {G = G} {v = v} {number = number} {unit = unit} {line = line} {k = k} {trace = trace} o limit begins lost =
     record { lost = lost; ticks = suc v; fast = omega arith; number = number; is_limit = limit; unit = unit; line = line; trace = trace; runs = run_instruction G k v (Stopped (Error number unit line) trace) o; begins = begins }
 
--- where the machine ends for want of room, and the computation loses it in any case
-pub follows_lost : {A : Type 0} {Within : State → Type 0} {G : Image} {n : ℕ} {k : State} {s : meaning.State} {c : Computation A} {P : A → meaning.State → State → Type 0} {d : ℕ} {e : A → ℕ} → ((m : ℕ) → m ≤ n → GivesUp G k m d (state_of (c m s))) → Follows Within G n k s c P d e
-follows_lost h = record { by = λ m l. inr (h m l) }
-
--- where room was lost already
-pub follows_gives_up : {A : Type 0} {Within : State → Type 0} {G : Image} {n : ℕ} {k : State} {s : meaning.State} {c : Computation A} {P : A → meaning.State → State → Type 0} {d : ℕ} {e : A → ℕ} → Steady c → GivesUp G k 0 d s → Follows Within G n k s c P d e
-follows_gives_up {Within = Within} {G = G} {k = k} {s = s} {c = c} steady h = follows_lost (λ m l. gives_up_grown s (state_of (c m s)) (steady.by m s) (gives_up_weaken (omega arith) h))
+-- where room was lost already, at the next tick
+pub follows_gives_up : {A : Type 0} {Within : State → Type 0} {G : Image} {n : ℕ} {k : State} {s : meaning.State} {c : Computation A} {P : A → meaning.State → State → Type 0} {d : ℕ} {e : A → ℕ} → Steady c → 1 ≤ d → GivesUp G k 0 1 s → Follows Within G n k s c P d e
+follows_gives_up {Within = Within} {G = G} {k = k} {s = s} {c = c} steady enough h = record { by = λ m l. inr (gives_up_grown s (state_of (c m s)) (steady.by m s) (gives_up_weaken (omega (arith, enough)) h)) }
 
 -- where a change of the state loses it
 pub follows_change_lost : {Within : State → Type 0} {G : Image} {n : ℕ} {k : State} {s : meaning.State} {f : meaning.State → meaning.State} {P : Unit {0} → meaning.State → State → Type 0} {d : ℕ} {e : Unit {0} → ℕ} → GivesUp G k 0 d (f s) → Follows Within G n k s (meaning.change f) P d e

@@ -189,14 +189,21 @@ taken n r = watched (record r { words = r.words + n })
 abbrev pub bound : List ℕ → ℕ → ℕ → (List ℕ → ℕ → Option ℕ) → List ℕ → ℕ → Option ℕ
 bound unit number n variables u k = if bytes_eq unit u && (nat_le number k && nat_le k number) then Some n else variables u k
 
--- a new variable, undefined: an allocation of its type, whose words and one more live
+-- the words of a variable of a type, and one more, are counted
+abbrev pub counted : TypeValue → State → State
+counted t s = record s { resources = taken (size_of t + 1) s.resources }
+
+-- a new variable, undefined, once its words are counted: an allocation of its type
 abbrev pub made : List ℕ → ℕ → TypeValue → State → State
 made unit number t s =
     record s {
       allocations = s.allocations ++ record { type_value = t; value = Undefined } ∷ [];
       variables = bound unit number (suc (length s.allocations)) s.variables;
-      resources = taken (size_of t + 1) s.resources;
     }
+
+-- A variable is made: its words are counted, and then it is there, which spends its size. So room is lost before the steps that it is wanted for.
+abbrev pub allocate : List ℕ → ℕ → TypeValue → Computation (Unit {0})
+allocate unit number t = bind (change (counted t)) (λ _. spend (size_of t) (change (made unit number t)))
 
 -- the state before the first unit is started: `input` and `output` are there
 abbrev pub first_state : State
