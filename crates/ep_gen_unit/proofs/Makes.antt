@@ -15,14 +15,14 @@ use Rattle.ep_object.specs.declared.code.ImageUnit.{ImageUnit}
 use Rattle.ep_object.specs.declared.code.Reference.{Reference}
 use Rattle.ep_object.proofs.Fragments.{inside_bind, fragment_bind_bare, fragment_give, fragment_from, fragment_to, fragment_less, fragment_one, fragment_waits}
 use Rattle.ep_object.proofs.Growing.{inside_here}
-use Rattle.ep_object.proofs.Losing.{fragment_effect_or_lost}
+use Rattle.ep_object.proofs.Losing.{fragment_counted}
 use Rattle.ep_object.proofs.MakeRow.{HasTypesOfHosts, make_does}
 use Rattle.ep_object.proofs.NewTypes.{TypeOnTop, ord_does, fragment_change_or_lost}
 use Rattle.ep_object.proofs.Rows.{push_pushes}
-use Rattle.ep_typed.proofs.Steady.{steady_spend, steady_change, grows_made, steady_make_all}
+use Rattle.ep_typed.proofs.Steady.{grows_made, steady_allocate, steady_make_all}
 use Rattle.ep_typed.specs.Operations.{is_integer}
 use Rattle.ep_typed.specs.Meaning.{make, make_all}
-use Rattle.ep_typed.specs.Steps.{Undefined, Computation, bind, spend, change, with_type, size_of, made}
+use Rattle.ep_typed.specs.Steps.{Undefined, Computation, bind, spend, change, with_type, counted, made, allocate}
 use Rattle.ep_typed.specs.Valid.{Declarations, IsTypeOf}
 use Rattle.ep_typed.specs.declared.types.Host.{Host}
 use Rattle.ep_typed.specs.declared.types.TypeValue.{TypeValue}
@@ -36,7 +36,7 @@ same_frame G x before after r h = ap (λ k. slice_get G.units k) r.unit ∙ h
 
 -- the type of a variable is elaborated, and then the variable is made
 abbrev making_of : List ℕ → ℕ → TypeValue → Computation (Unit {0})
-making_of unit number t = spend 1 (bind (change (with_type t)) (λ _. spend (size_of t) (change (made unit number t))))
+making_of unit number t = spend 1 (bind (change (with_type t)) (λ _. allocate unit number t))
 
 -- from a place of the object to another one, the machine follows the computation in a frame of the unit and leaves the
 -- operands as they were
@@ -53,10 +53,10 @@ module _ (declared : Declarations) (G : Image) (ps : List Placement) (p : Placem
   module _ (number line at : ℕ) (within : number < x.slots) where
     -- `Make`, over the number of the type
     make_row_moves : (low high : ℤ) (type_number : ℕ) → IsTrue (is_integer low) → IsTrue (is_integer high) → ((v : UnitVariable) → declared x.name number ≡ Some v → v.type_value ≡ type.Ordinal low high) → (place : ℕ) → slice_get G.instructions place ≡ Some (instr op.MAKE (pos number) 0 line)
-        → (injection : Injection) (memory : Memory) (below : List Operand) (d : ℕ) → slice_get G.units memory.frames.unit ≡ Some x → Describes memory.types type_number (type.Ordinal low high)
-        → Fragment declared G n injection memory place (Word (pos type_number) ∷ below) (spend 1 (change (made x.name number (type.Ordinal low high)))) (place + 1) (λ a. Inside injection memory (Bare below a)) d (λ a. d)
-    make_row_moves low high type_number low_fits high_fits declared_so place has injection memory below d home described =
-        fragment_less {n = suc n} (omega arith) (fragment_effect_or_lost {weight = 1} (made x.name number (type.Ordinal low high)) (λ s matches. make_does declared G place line below low high type_number number x has distinct low_fits high_fits types_valid declared_so injection memory s home within described matches) (omega arith) (omega arith))
+        → (injection : Injection) (memory : Memory) (below : List Operand) (d : ℕ) → 1 ≤ d → slice_get G.units memory.frames.unit ≡ Some x → Describes memory.types type_number (type.Ordinal low high)
+        → Fragment declared G n injection memory place (Word (pos type_number) ∷ below) (allocate x.name number (type.Ordinal low high)) (place + 1) (λ a. Inside injection memory (Bare below a)) d (λ a. d)
+    make_row_moves low high type_number low_fits high_fits declared_so place has injection memory below d enough home described =
+        fragment_less {n = suc n} (omega arith) (fragment_counted {weight = 1} 0 (counted (type.Ordinal low high)) (made x.name number (type.Ordinal low high)) (λ s. refl) (grows_made x.name number (type.Ordinal low high)) (λ s matches. make_does declared G place line below low high type_number number x has distinct low_fits high_fits types_valid declared_so injection memory s home within described matches) enough (omega arith) (omega arith) (omega arith))
 
     -- the code that makes a variable of a type
     make_typed : (t : TypeValue) (host : Host) → IsTypeOf host t → IsValueOf t Undefined → ((v : UnitVariable) → declared x.name number ≡ Some v → v.type_value ≡ t) → CodeStands G ps p references at (type_code line t ++ instr op.MAKE (pos number) 0 line ∷ []) → MovesIn declared G p n x at (at + length (type_code line t ++ instr op.MAKE (pos number) 0 line ∷ [])) (making_of x.name number t)
@@ -68,11 +68,11 @@ module _ (declared : Declarations) (G : Image) (ps : List Placement) (p : Placem
         let last : p.instructions.before + (at + 1 + 1 + 1) + 1 ≡ p.instructions.before + (at + 4) = omega arith in
         fragment_less {n = suc n} (omega arith) (fragment_one {d1 = d + 3} (λ s matches. push_pushes G (p.instructions.before + at) line below low stands.0 memory s.trace) (omega arith)
         (fragment_from second (fragment_waits {d1 = d + 2} (λ s matches. push_pushes G (p.instructions.before + (at + 1)) line (Word low ∷ below) high stands.1.0 memory s.trace) (omega arith)
-        (fragment_from third (inside_bind {middle = p.instructions.before + (at + 1 + 1) + 1} {First = λ a. TypeOnTop (type.Ordinal low high) below} {e = λ a. d} (λ a. steady_spend 1 (steady_change (grows_made x.name number (type.Ordinal low high))))
+        (fragment_from third (inside_bind {middle = p.instructions.before + (at + 1 + 1) + 1} {First = λ a. TypeOnTop (type.Ordinal low high) below} {e = λ a. d} (λ a. steady_allocate x.name number (type.Ordinal low high))
         (fragment_change_or_lost {weight = 0} (with_type (type.Ordinal low high)) (λ s matches. ord_does declared G (p.instructions.before + (at + 1 + 1)) line below low high valid.0 stands.1.1.0 injection memory s matches) (omega arith))
         (λ a longer after pushed grown routine top.
-        subst (λ o. Fragment declared G n longer after (p.instructions.before + (at + 1 + 1) + 1) o (spend 1 (change (made x.name number (type.Ordinal low high)))) (p.instructions.before + (at + 4)) (λ b. Inside longer after (Bare below b)) d (λ b. d)) (sym top.is)
-        (fragment_from fourth (fragment_to last (make_row_moves low high top.number fits.0 fits.1 declared_so (p.instructions.before + (at + 1 + 1 + 1)) stands.1.1.1.0 longer after below d (same_frame G x memory.frames after.frames routine home) top.described)))))))))
+        subst (λ o. Fragment declared G n longer after (p.instructions.before + (at + 1 + 1) + 1) o (allocate x.name number (type.Ordinal low high)) (p.instructions.before + (at + 4)) (λ b. Inside longer after (Bare below b)) d (λ b. d)) (sym top.is)
+        (fragment_from fourth (fragment_to last (make_row_moves low high top.number fits.0 fits.1 declared_so (p.instructions.before + (at + 1 + 1 + 1)) stands.1.1.1.0 longer after below d (omega (arith, enough)) (same_frame G x memory.frames after.frames routine home) top.described)))))))))
 
   -- a variable is made in its slot
   one_moves : (g number at : ℕ) (v : UnitVariable) → declared x.name number ≡ Some v → IsValueOf v.type_value Undefined → number < x.slots → CodeStands G ps p references at (make_code number v) → MovesIn declared G p n x at (at + length (make_code number v)) (make g x.name number v)

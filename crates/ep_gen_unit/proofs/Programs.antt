@@ -9,7 +9,7 @@ use Rattle.ep_object.proofs.Alone.{placements_alone, stands-alone, distinct-alon
 use Rattle.ep_object.proofs.Beginning.{first_memory, first_injection, first_matches}
 use Rattle.ep_object.proofs.Bind.{follows_bind, follows_stop}
 use Rattle.ep_object.proofs.Simulating.{simulation_follows, leaves_enters}
-use Rattle.ep_object.proofs.Tells.{Never, tells, tells_close}
+use Rattle.ep_object.proofs.Tells.{Never, tells, tells_at_end, tells_close}
 use Rattle.ep_object.specs.Follows.{Follows, Bare, SameRoutine}
 use Rattle.ep_object.specs.Laws.{EndsAt}
 use Rattle.ep_object.specs.Matching.{at as standing}
@@ -17,7 +17,7 @@ use Rattle.ep_object.specs.Placing.{alone, first_placement, moved, placed_routin
 use Rattle.ep_object.specs.Runs.{begin, outcome, enter, run_from}
 use Rattle.ep_object.specs.Simulates.{Enters, Leaves}
 use Rattle.ep_object.specs.State.{State, Frames, End, Running, Stopped, Normal, first_frames}
-use Rattle.ep_object.specs.Tells.{Tells, AreClose, spare_ticks}
+use Rattle.ep_object.specs.Tells.{Tells, TellsAtEnd, AreClose, spare_ticks}
 use Rattle.ep_object.specs.declared.code.Object.{Object}
 use Rattle.ep_typed.proofs.Steady.{steady_stop}
 use Rattle.ep_typed.specs.Events.{Trace}
@@ -77,6 +77,11 @@ module _ (u : TypedUnit) (o : Object) (is : IsProgramCode u o) where
     program_tells t =
         subst (λ g. Tells (meaning_of (u ∷ [])) t (run_from (alone o) t g)) (sym begins)
         (tells (λ k. SameRoutine start_frames k.frames) (alone o) start_state (meaning_of (u ∷ [])) (λ a. 41) (λ m. let f = program_follows m in f.by m (omega arith)) t)
+
+    -- What it tells at its end.
+    pub program_tells_at_end : (t : ℕ) (end : End) (trace : Trace) → EndsAt (alone o) (begin (alone o)) 0 t end trace → TellsAtEnd (meaning_of (u ∷ [])) t end trace
+    program_tells_at_end t end trace at =
+        tells_at_end (λ k. SameRoutine start_frames k.frames) (alone o) start_state (meaning_of (u ∷ [])) (λ a. 41) (λ m. let f = program_follows m in f.by m (omega arith)) t end trace (subst (λ g. EndsAt (alone o) g 0 t end trace) begins at)
 
     -- The ticks of a run of the program's image that ends and the steps of its meaning bound one another.
     pub program_spends : (t : ℕ) (end : End) (trace : Trace) → EndsAt (alone o) (begin (alone o)) 0 t end trace

@@ -1,7 +1,7 @@
 //! The laws of the code of statements.
 
 ghost use Rattle.ep_gen_unit.specs.Laws.{StmtCodeStays, StmtCodeIsShort};
-ghost use Rattle.ep_gen_unit.specs.ProgramLaws.{ProgramsTell, ProgramsSpend};
+ghost use Rattle.ep_gen_unit.specs.ProgramLaws.{ProgramsTell, ProgramsTellAtEnd, ProgramsSpend};
 ghost use Rattle.ep_gen_unit.specs.UnitLaws.{StartsAreSimulated, StartsAreSimulatedUnder, StopsAreSimulated};
 
 /// Does nothing: its contract states what holds of the code of every statement. It stays code when the tables grow,
@@ -21,11 +21,12 @@ pub fn laws_of_units()
 
 /// Does nothing: its contract states that a run of the image of a program tells what the program means. A run that has
 /// ended has done the same events and ended in the same way, and the events of one that goes on are a front of those of
-/// the meaning, and begin with all that the meaning does in one step for 64 ticks; but where a run needs more words or
-/// types than every run has room for, the machine may have ended for want of storage. Where both end and room is kept, a
-/// run that has ended after exactly t ticks and a meaning that spends m steps have m at most 64 * (t + 1) and t at most
+/// the meaning, and begin with all that the meaning does in one step for 64 ticks. Only where the meaning needs more words
+/// or types than every run has room for may the machine have ended for want of storage. A run that has ended after exactly
+/// t ticks and the m steps of the meaning, by its end or where room was lost, have m at most 64 * (t + 1) and t at most
 /// 64 * (m + 1).
 pub fn laws_of_programs()
     ensures tell { ProgramsTell }
+    ensures tell_at_end { ProgramsTellAtEnd }
     ensures spend { ProgramsSpend }
 {}

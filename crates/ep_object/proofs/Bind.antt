@@ -16,7 +16,7 @@ use Rattle.ep_typed.specs.declared.run_error.TheConstants as run_error
 
 -- what is met, or room was lost
 abbrev pub Met : {A : Type 0} → (State → Type 0) → Image → State → ℕ → (A → meaning.State → State → Type 0) → ℕ → (A → ℕ) → meaning.Outcome A → Type 0
-Met Within G k m P d e o = Meets Within G k m P d e o ⊎ GivesUp G k (state_of o)
+Met Within G k m P d e o = Meets Within G k m P d e o ⊎ GivesUp G k m d (state_of o)
 
 -- ---- a run that goes on from where a run has come
 
@@ -44,17 +44,21 @@ meets_from Within G k k1 {t = t} f P (Ends l x s) r p h = record { ticks = t + h
 meets_from Within G k k1 {t = t} f P (Cut s) r p h = record { ticks = t + h.ticks; wait = h.wait; to = h.to; runs = run_then G t h.ticks k k1 r ∙ h.runs; within = h.within; same = h.same; slow = omega (arith, p.slow, p.all, h.slow); fast = omega (arith, p.fast, p.all, h.fast) }
 
 -- what gives up later gives up
-gives_up_from : (G : Image) (k k1 : State) (t : ℕ) (s : meaning.State) → run G t 0 k ≡ Running 0 k1 → GivesUp G k1 s → GivesUp G k s
-gives_up_from G k k1 t s r h = record { lost = h.lost; ticks = t + h.ticks; number = h.number; is_limit = h.is_limit; unit = h.unit; line = h.line; trace = h.trace; runs = run_then G t h.ticks k k1 r ∙ h.runs; begins = h.begins }
+gives_up_from : (G : Image) (k k1 : State) {m left t d e : ℕ} (s : meaning.State) → run G t 0 k ≡ Running 0 k1 → Pays m left t d e → GivesUp G k1 left e s → GivesUp G k m d s
+gives_up_from G k k1 {t = t} s r p h = record { lost = h.lost; ticks = t + h.ticks; fast = omega (arith, p.fast, p.all, h.fast); number = h.number; is_limit = h.is_limit; unit = h.unit; line = h.line; trace = h.trace; runs = run_then G t h.ticks k k1 r ∙ h.runs; begins = h.begins }
 
 -- and it does so where the state has grown
-gives_up_grown : (G : Image) (k : State) (s t : meaning.State) → Grows s t → GivesUp G k s → GivesUp G k t
-gives_up_grown G k s t g h = record { lost = g.lost h.lost; ticks = h.ticks; number = h.number; is_limit = h.is_limit; unit = h.unit; line = h.line; trace = h.trace; runs = h.runs; begins = prefix_then h.begins g.events }
+gives_up_grown : {G : Image} {k : State} {m d : ℕ} (s t : meaning.State) → Grows s t → GivesUp G k m d s → GivesUp G k m d t
+gives_up_grown s t g h = record { lost = g.lost h.lost; ticks = h.ticks; fast = h.fast; number = h.number; is_limit = h.is_limit; unit = h.unit; line = h.line; trace = h.trace; runs = h.runs; begins = prefix_then h.begins g.events }
+
+-- with more credit
+pub gives_up_weaken : {G : Image} {k : State} {m d m2 d2 : ℕ} {s : meaning.State} → 64 * m + d ≤ 64 * m2 + d2 → GivesUp G k m d s → GivesUp G k m2 d2 s
+gives_up_weaken more h = record { lost = h.lost; ticks = h.ticks; fast = omega (arith, h.fast, more); number = h.number; is_limit = h.is_limit; unit = h.unit; line = h.line; trace = h.trace; runs = h.runs; begins = h.begins }
 
 -- both together
 met_from : {A : Type 0} (Within : State → Type 0) (G : Image) (k k1 : State) {m left t d e : ℕ} (f : A → ℕ) (P : A → meaning.State → State → Type 0) (o : meaning.Outcome A) → run G t 0 k ≡ Running 0 k1 → Pays m left t d e → Met Within G k1 left P e f o → Met Within G k m P d f o
 met_from Within G k k1 f P o r p (inl h) = inl (meets_from Within G k k1 f P o r p h)
-met_from Within G k k1 {t = t} f P o r p (inr h) = inr (gives_up_from G k k1 t (state_of o) r h)
+met_from Within G k k1 f P o r p (inr h) = inr (gives_up_from G k k1 (state_of o) r p h)
 
 -- ---- one computation after another
 
@@ -68,7 +72,7 @@ follows_bind {A = A} {Within = Within} {G = G} {n = n} {k = k} {s = s} {c = c} {
         let z = then a s1 h.to h.post in
         met_from Within G k h.to g Q (f a left s1) h.runs w (z.by left (omega (arith, w.all)))
     go m le (Gives left a s1) (inr h) =
-        let z = steady a in inr (gives_up_grown G k s1 (state_of (f a left s1)) (z.by left s1) h)
+        let z = steady a in inr (gives_up_grown s1 (state_of (f a left s1)) (z.by left s1) h)
     go m le (Ends left x s1) (inl h) = inl h
     go m le (Ends left x s1) (inr h) = inr h
     go m le (Cut s1) (inl h) = inl h
@@ -83,7 +87,7 @@ pub follows_weaken : {A : Type 0} {Within : State → Type 0} {G : Image} {n : �
 follows_weaken {A = A} {Within = Within} {G = G} {k = k} {s = s} {c = c} {P = P} {Q = Q} {d = d} {d2 = d2} {e = e} {e2 = e2} more less post h = record { by = λ m l. go m (c m s) (h.by m l) }
   where
     go : (m : ℕ) (o : meaning.Outcome A) → Met Within G k m P d e o → Met Within G k m Q d2 e2 o
-    go m o (inr h) = inr h
+    go m o (inr h) = inr (gives_up_weaken (omega (arith, more)) h)
     go m (Gives left a s1) (inl h) = inl (record { ticks = h.ticks; to = h.to; runs = h.runs; pays = pays_weaken (less a) h.pays; post = post a s1 h.to h.post })
     go m (Ends left x s1) (inl h) = inl (record { ticks = h.ticks; wait = h.wait; last = h.last; runs = h.runs; within = h.within; ends = h.ends; spent = h.spent; all = h.all; slow = omega (arith, h.slow); fast = omega (arith, h.fast) })
     go m (Cut s1) (inl h) = inl (record { ticks = h.ticks; wait = h.wait; to = h.to; runs = h.runs; within = h.within; same = h.same; slow = omega (arith, h.slow); fast = omega (arith, h.fast) })
@@ -190,6 +194,10 @@ follows_give {k = k} a {e = e} le h = record { by = λ m l. inl (record { ticks 
 pub follows_changed : {Within : State → Type 0} {G : Image} {n : ℕ} {k : State} {s : meaning.State} (f : meaning.State → meaning.State) {P : Unit {0} → meaning.State → State → Type 0} {d : ℕ} {e : Unit {0} → ℕ} → e tt ≤ d → P tt (f s) k → Follows Within G n k s (meaning.change f) P d e
 follows_changed {k = k} f {e = e} le h = record { by = λ m l. inl (record { ticks = 0; to = k; runs = refl; pays = record { spent = 0; all = omega arith; slow = omega arith; fast = omega arith }; post = h }) }
 
+-- a change of the state that counts, without an instruction, and what is followed then
+pub follows_counted : {A : Type 0} {Within : State → Type 0} {G : Image} {n : ℕ} {k : State} {s : meaning.State} {c : Computation A} {P : A → meaning.State → State → Type 0} {d : ℕ} {e : A → ℕ} (count : meaning.State → meaning.State) → Follows Within G n k (count s) c P d e → Follows Within G n k s (bind (meaning.change count) (λ _. c)) P d e
+follows_counted count h = record { by = λ m l. h.by m l }
+
 -- no step is left
 pub follows_cut : {A : Type 0} {Within : State → Type 0} {G : Image} {k : State} {s : meaning.State} {P : A → meaning.State → State → Type 0} {d : ℕ} {e : A → ℕ} → Within k → k.trace ≡ s.trace → Follows Within G 0 k s cut P d e
 follows_cut {k = k} within same = record { by = λ m l. inl (record { ticks = 0; wait = 0; to = k; runs = refl; within = within; same = same; slow = omega arith; fast = omega arith }) }
@@ -209,18 +217,14 @@ follows_stop {Within = Within} {G = G} {v = v} {k = k} {s = s} {x = x} within o 
     record { by = λ m l. inl (record { ticks = v; wait = v; last = k; runs = run_waiting G k v v (Stopped (end_of x) s.trace) o (omega arith); within = within; ends = tick_at G k v (Stopped (end_of x) s.trace) o; spent = 0; all = omega arith; slow = omega arith; fast = omega arith }) }
 
 -- an instruction for which there is no storage left, where room was lost
-pub gives_up : {G : Image} {v number : ℕ} {unit : List ℕ} {line : ℕ} {k : State} {s : meaning.State} {trace : Trace} → outcome G k ≡ record { weight = v; to = Stopped (Error number unit line) trace } → (number ≡ run_error.STORAGE_LIMIT) ⊎ (number ≡ run_error.CALL_DEPTH) → IsPrefix trace s.trace → IsTrue s.resources.lost → GivesUp G k s
+pub gives_up : {G : Image} {v number : ℕ} {unit : List ℕ} {line : ℕ} {k : State} {s : meaning.State} {trace : Trace} → outcome G k ≡ record { weight = v; to = Stopped (Error number unit line) trace } → (number ≡ run_error.STORAGE_LIMIT) ⊎ (number ≡ run_error.CALL_DEPTH) → IsPrefix trace s.trace → IsTrue s.resources.lost → GivesUp G k 0 (suc v) s
 gives_up {G = G} {v = v} {number = number} {unit = unit} {line = line} {k = k} {trace = trace} o limit begins lost =
-    record { lost = lost; ticks = suc v; number = number; is_limit = limit; unit = unit; line = line; trace = trace; runs = run_instruction G k v (Stopped (Error number unit line) trace) o; begins = begins }
+    record { lost = lost; ticks = suc v; fast = omega arith; number = number; is_limit = limit; unit = unit; line = line; trace = trace; runs = run_instruction G k v (Stopped (Error number unit line) trace) o; begins = begins }
 
--- where the machine ends for want of room, and the computation loses it in any case
-pub follows_lost : {A : Type 0} {Within : State → Type 0} {G : Image} {n : ℕ} {k : State} {s : meaning.State} {c : Computation A} {P : A → meaning.State → State → Type 0} {d : ℕ} {e : A → ℕ} → ((m : ℕ) → m ≤ n → GivesUp G k (state_of (c m s))) → Follows Within G n k s c P d e
-follows_lost h = record { by = λ m l. inr (h m l) }
-
--- where room was lost already
-pub follows_gives_up : {A : Type 0} {Within : State → Type 0} {G : Image} {n : ℕ} {k : State} {s : meaning.State} {c : Computation A} {P : A → meaning.State → State → Type 0} {d : ℕ} {e : A → ℕ} → Steady c → GivesUp G k s → Follows Within G n k s c P d e
-follows_gives_up {Within = Within} {G = G} {k = k} {s = s} {c = c} steady h = follows_lost (λ m l. gives_up_grown G k s (state_of (c m s)) (steady.by m s) h)
+-- where room was lost already, at the next tick
+pub follows_gives_up : {A : Type 0} {Within : State → Type 0} {G : Image} {n : ℕ} {k : State} {s : meaning.State} {c : Computation A} {P : A → meaning.State → State → Type 0} {d : ℕ} {e : A → ℕ} → Steady c → 1 ≤ d → GivesUp G k 0 1 s → Follows Within G n k s c P d e
+follows_gives_up {Within = Within} {G = G} {k = k} {s = s} {c = c} steady enough h = record { by = λ m l. inr (gives_up_grown s (state_of (c m s)) (steady.by m s) (gives_up_weaken (omega (arith, enough)) h)) }
 
 -- where a change of the state loses it
-pub follows_change_lost : {Within : State → Type 0} {G : Image} {n : ℕ} {k : State} {s : meaning.State} {f : meaning.State → meaning.State} {P : Unit {0} → meaning.State → State → Type 0} {d : ℕ} {e : Unit {0} → ℕ} → GivesUp G k (f s) → Follows Within G n k s (meaning.change f) P d e
-follows_change_lost h = record { by = λ m l. inr h }
+pub follows_change_lost : {Within : State → Type 0} {G : Image} {n : ℕ} {k : State} {s : meaning.State} {f : meaning.State → meaning.State} {P : Unit {0} → meaning.State → State → Type 0} {d : ℕ} {e : Unit {0} → ℕ} → GivesUp G k 0 d (f s) → Follows Within G n k s (meaning.change f) P d e
+follows_change_lost h = record { by = λ m l. inr (gives_up_weaken (omega arith) h) }

@@ -20,6 +20,7 @@ pub mod Pieces
 pub mod PlaceRows
 pub mod Rows
 pub mod Simulating
+mod Spinning
 pub mod Standing
 pub mod Stays
 pub mod Tells

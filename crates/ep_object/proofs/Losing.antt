@@ -1,25 +1,24 @@
 -- Fragments of code that may end for want of room.
-use Rattle.std.proofs.Common.{ℕ, zero, suc, ◌+◌, ◌*◌, ◌≤◌, ◌⊎◌, inl, inr, List, refl, arith}
+use Rattle.std.proofs.Common.{◌≡◌, ℕ, suc, ◌+◌, ◌*◌, ◌≤◌, ◌⊎◌, inl, inr, List, sym, arith}
 use Rattle.ep_object.specs.Follows.{GivesUp, Follows, Fragment, After, Lands, SameRoutine}
 use Rattle.ep_object.specs.Matching.{Memory, at, Injection, Matches}
 use Rattle.ep_object.specs.Operands.{Operand}
 use Rattle.ep_object.specs.declared.code.Image.{Image}
-use Rattle.ep_object.proofs.Bind.{Met, follows_paid, follows_changed}
+use Rattle.ep_object.proofs.Bind.{follows_paid, follows_changed, follows_counted, follows_gives_up}
 use Rattle.ep_object.proofs.Fragments.{Does, landed}
 use Rattle.ep_object.proofs.Growing.{same_routine-refl}
-use Rattle.ep_typed.specs.Steps.{spend, change}
+use Rattle.ep_typed.proofs.Steady.{steady_spend, steady_change}
+use Rattle.ep_typed.specs.Steady.{Grows}
+use Rattle.ep_typed.specs.Steps.{bind, spend, change}
 use Rattle.ep_typed.specs.Steps as meaning
 use Rattle.ep_typed.specs.Valid.{Declarations}
 
--- an instruction that changes the state with a step, or ends for want of room that the change loses
-pub fragment_effect_or_lost : {declared : Declarations} {G : Image} {n : ℕ} {injection : Injection} {memory : Memory} {place to weight : ℕ} {operands : List Operand} {P : Unit {0} → After} {d : ℕ} {e : Unit {0} → ℕ} (f : meaning.State → meaning.State) → ((s : meaning.State) → Matches declared G injection s memory → Does declared G (at place operands memory s.trace) weight to (P tt) (f s) ⊎ GivesUp G (at place operands memory s.trace) (f s)) → 1 + e tt ≤ 64 * suc weight + d → suc weight + e tt ≤ 64 + d → Fragment declared G (suc n) injection memory place operands (spend 1 (change f)) to P d e
-fragment_effect_or_lost {declared = declared} {G = G} {n = n} {injection = injection} {memory = memory} {place = place} {to = to} {weight = weight} {operands = operands} {P = P} {d = d} {e = e} f does slow fast = record { by = λ s matches. go s (does s matches) }
+-- room is counted, and then an instruction changes the state, with steps, or ends for want of room that the count loses
+pub fragment_counted : {declared : Declarations} {G : Image} {n : ℕ} {injection : Injection} {memory : Memory} {place to weight : ℕ} {operands : List Operand} {P : Unit {0} → After} {d : ℕ} {e : Unit {0} → ℕ} (w : ℕ) (count f : meaning.State → meaning.State) → ((s : meaning.State) → (count s).trace ≡ s.trace) → ((s : meaning.State) → Grows s (f s))
+    → ((s : meaning.State) → Matches declared G injection s memory → Does declared G (at place operands memory s.trace) weight to (P tt) (f (count s)) ⊎ GivesUp G (at place operands memory s.trace) 0 1 (count s))
+    → 1 ≤ d → w ≤ 64 * weight + d → suc w + e tt ≤ 64 * suc weight + d → suc weight + e tt ≤ 64 * suc w + d → Fragment declared G (suc n) injection memory place operands (bind (change count) (λ _. spend (suc w) (change f))) to P d e
+fragment_counted {declared = declared} {G = G} {n = n} {injection = injection} {memory = memory} {place = place} {to = to} {weight = weight} {operands = operands} {P = P} {d = d} {e = e} w count f quiet grows does enough inside slow fast = record { by = λ s matches. follows_counted count (go s (does s matches)) }
   where
-    -- a run that is cut before the step is one in which the instruction is not begun
-    gone : (s : meaning.State) → GivesUp G (at place operands memory s.trace) (f s) → (m : ℕ) → Met (λ k. SameRoutine memory.frames k.frames) G (at place operands memory s.trace) m (λ a. Lands declared G to (P a)) d e (spend 1 (change f) m s)
-    gone s x zero = inl (record { ticks = 0; wait = 0; to = at place operands memory s.trace; runs = refl; within = same_routine-refl memory.frames; same = refl; slow = omega arith; fast = omega arith })
-    gone s x (suc m) = inr x
-
-    go : (s : meaning.State) → Does declared G (at place operands memory s.trace) weight to (P tt) (f s) ⊎ GivesUp G (at place operands memory s.trace) (f s) → Follows (λ k. SameRoutine memory.frames k.frames) G (suc n) (at place operands memory s.trace) s (spend 1 (change f)) (λ a. Lands declared G to (P a)) d e
-    go s (inl x) = follows_paid {v = weight} {w = 0} {d1 = e tt} (same_routine-refl memory.frames) refl x.does (omega arith) (omega (arith, slow)) (omega (arith, fast)) (follows_changed {n = n} f {P = λ a. Lands declared G to (P a)} {d = e tt} {e = e} (omega arith) (landed x))
-    go s (inr x) = record { by = λ m le. gone s x m }
+    go : (s : meaning.State) → Does declared G (at place operands memory s.trace) weight to (P tt) (f (count s)) ⊎ GivesUp G (at place operands memory s.trace) 0 1 (count s) → Follows (λ k. SameRoutine memory.frames k.frames) G (suc n) (at place operands memory s.trace) (count s) (spend (suc w) (change f)) (λ a. Lands declared G to (P a)) d e
+    go s (inl x) = follows_paid {v = weight} {w = w} {d1 = e tt} (same_routine-refl memory.frames) (sym (quiet s)) x.does inside slow fast (follows_changed {n = n} f {P = λ a. Lands declared G to (P a)} {d = e tt} {e = e} (omega arith) (landed x))
+    go s (inr x) = follows_gives_up (steady_spend (suc w) (steady_change grows)) enough x

@@ -30,7 +30,7 @@ use Rattle.ep_object.proofs.Rows.{instr, in_one, outcome_at}
 use Rattle.ep_object.proofs.Standing.{slice_get-some, both}
 use Rattle.ep_typed.specs.Events.{Trace}
 use Rattle.ep_typed.specs.Operations.{is_integer}
-use Rattle.ep_typed.specs.Steps.{Undefined, Allocation, allocation_at, type_in, type_at, bound, made}
+use Rattle.ep_typed.specs.Steps.{Undefined, Allocation, allocation_at, type_in, type_at, bound, counted, made}
 use Rattle.ep_typed.specs.Steps as meaning
 use Rattle.ep_typed.specs.Valid.{Declarations, IsTypeOf}
 use Rattle.ep_typed.specs.declared.types.Host.{Host}
@@ -193,7 +193,7 @@ module _ {declared : Declarations} {G : Image} {injection : Injection} {s : mean
   later = with_variable number (with_place number k frame_here.slots memory) memory
 
   abbrev later_state : meaning.State
-  later_state = made x.name k (type.Ordinal low high) s
+  later_state = made x.name k (type.Ordinal low high) (counted (type.Ordinal low high) s)
 
   -- the place in the slot is that of the new allocation
   new_place_of : IsPlaceOf (with_segment injection memory) later.segments (suc (length s.allocations)) (new_place memory number)
@@ -311,7 +311,7 @@ pub make_does : (declared : Declarations) (G : Image) (place line : ℕ) (below 
     → HasDistinctNames G → IsTrue (is_integer low) → IsTrue (is_integer high)
     → HasTypesOfHosts declared → ((v : UnitVariable) → declared x.name k ≡ Some v → v.type_value ≡ type.Ordinal low high)
     → (injection : Injection) (memory : Memory) (s : meaning.State) → slice_get G.units memory.frames.unit ≡ Some x → k < x.slots → Describes memory.types number (type.Ordinal low high) → Matches declared G injection s memory
-    → Does declared G (at place (Word (pos number) ∷ below) memory s.trace) 1 (place + 1) (Inside injection memory (Bare below tt)) (made x.name k (type.Ordinal low high) s) ⊎ GivesUp G (at place (Word (pos number) ∷ below) memory s.trace) (made x.name k (type.Ordinal low high) s)
+    → Does declared G (at place (Word (pos number) ∷ below) memory s.trace) 1 (place + 1) (Inside injection memory (Bare below tt)) (made x.name k (type.Ordinal low high) (counted (type.Ordinal low high) s)) ⊎ GivesUp G (at place (Word (pos number) ∷ below) memory s.trace) 0 1 (counted (type.Ordinal low high) s)
 make_does declared G place line below low high number k x has distinct low_fits high_fits types_valid declared_so injection memory s is_unit within described matches = go (leb (memory.live + 2) live_limit) refl
   where
     frame : MatchesFrame (with_segment injection memory) s (with_variable number memory.frames memory) memory.frames.unit x
@@ -320,7 +320,7 @@ make_does declared G place line below low high number k x has distinct low_fits 
     leads : (b : Bool) → leb (memory.live + 2) live_limit ≡ b → outcome G (at place (Word (pos number) ∷ below) memory s.trace) ≡ cond b (record { weight = 1; to = Running 0 (at (place + 1) below (with_variable number (with_place number k frame.slots memory) memory) s.trace) }) (in_one (Stopped (Error run_error.STORAGE_LIMIT (unit_in G memory.frames) line) s.trace))
     leads b e = make_outcome G place line below low high number k frame.slots memory s.trace b has frame.is described (omega (arith, within, frame.count)) e
 
-    go : (b : Bool) → leb (memory.live + 2) live_limit ≡ b → Does declared G (at place (Word (pos number) ∷ below) memory s.trace) 1 (place + 1) (Inside injection memory (Bare below tt)) (made x.name k (type.Ordinal low high) s) ⊎ GivesUp G (at place (Word (pos number) ∷ below) memory s.trace) (made x.name k (type.Ordinal low high) s)
+    go : (b : Bool) → leb (memory.live + 2) live_limit ≡ b → Does declared G (at place (Word (pos number) ∷ below) memory s.trace) 1 (place + 1) (Inside injection memory (Bare below tt)) (made x.name k (type.Ordinal low high) (counted (type.Ordinal low high) s)) ⊎ GivesUp G (at place (Word (pos number) ∷ below) memory s.trace) 0 1 (counted (type.Ordinal low high) s)
     go true e =
         inl (record {
           injection = with_segment injection memory;

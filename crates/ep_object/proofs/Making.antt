@@ -11,7 +11,7 @@ use Rattle.ep_object.specs.Matching.{Memory, at, Injection, Describes, MatchesTy
 use Rattle.ep_object.specs.Follows.{GivesUp, SameRoutine}
 use Rattle.ep_object.specs.Operands.{Operand, Word}
 use Rattle.ep_object.specs.Runs.{outcome, outcome_of, after, unit_in, run, tick_of, and_then}
-use Rattle.ep_object.specs.State.{State, TypeTable, Going, Running, text_entry, live_limit, type_limit}
+use Rattle.ep_object.specs.State.{State, TypeTable, Going, Running, integer_entry, char_entry, boolean_entry, text_entry, pointer_entry, first_types, live_limit, type_limit}
 use Rattle.ep_object.specs.Types.{interned}
 use Rattle.ep_object.specs.Table.{typing, with_typing}
 use Rattle.ep_object.specs.Effects.{mapped, Fails, Continues}
@@ -23,7 +23,7 @@ use Rattle.ep_object.specs.declared.state.TypeEntry.{TypeEntry}
 use Rattle.ep_object.proofs.Grows.{prefix_then}
 use Rattle.ep_object.proofs.Growing.{slice_get-prefix, grown_refl, same_routine-refl}
 use Rattle.ep_object.proofs.Elements.{slice_get-push, slice_get-pushed}
-use Rattle.ep_typed.specs.Steps.{Resources, met, watched, same_type}
+use Rattle.ep_typed.specs.Steps.{Resources, words_of_type, met, watched, same_type}
 use Rattle.ep_typed.specs.Steps as meaning
 use Rattle.ep_typed.specs.Steps.{Allocation}
 use Rattle.ep_typed.specs.Valid.{Declarations}
@@ -69,7 +69,7 @@ same_type-refl low high = grind (arith, ints)
 pub met-words : (t : TypeValue) (r : Resources) → r.words ≤ (met t r).words
 met-words t r = go (list_any (same_type t) r.types)
   where
-    go : (b : Bool) → r.words ≤ (watched (if b then r else record r { types = t ∷ r.types; words = r.words + 1 })).words
+    go : (b : Bool) → r.words ≤ (watched (if b then r else record r { types = t ∷ r.types; words = r.words + words_of_type t })).words
     go true = omega arith
     go false = omega arith
 
@@ -111,15 +111,16 @@ position_from-more p xs ys n h =
 position_from-new : {A : Type 0} (p : A → Bool) (xs : List A) (x : A) → IsTrue (p x) → (n : ℕ) × (position p (xs ++ x ∷ []) ≡ Some n)
 position_from-new p xs x h = (position_or_len p (xs ++ x ∷ []), position_of p (xs ++ x ∷ []) (place_new p xs x h))
 
+-- one of two tests
+either : (a b : Bool) → IsTrue (a || b) → IsTrue a ⊎ IsTrue b
+either true b t = inl refl
+either false b t = inr t
+
 -- what is among the types that are counted after one is met
 met_among : (low high l h : ℤ) (r : Resources) → IsTrue (list_any (same_type (type.Ordinal l h)) (met (type.Ordinal low high) r).types) → IsTrue (same_type (type.Ordinal l h) (type.Ordinal low high)) ⊎ IsTrue (list_any (same_type (type.Ordinal l h)) r.types)
 met_among low high l h r = go (list_any (same_type (type.Ordinal low high)) r.types)
   where
-    either : (a b : Bool) → IsTrue (a || b) → IsTrue a ⊎ IsTrue b
-    either true b t = inl refl
-    either false b t = inr t
-
-    go : (b : Bool) → IsTrue (list_any (same_type (type.Ordinal l h)) (watched (if b then r else record r { types = type.Ordinal low high ∷ r.types; words = r.words + 1 })).types) → IsTrue (same_type (type.Ordinal l h) (type.Ordinal low high)) ⊎ IsTrue (list_any (same_type (type.Ordinal l h)) r.types)
+    go : (b : Bool) → IsTrue (list_any (same_type (type.Ordinal l h)) (watched (if b then r else record r { types = type.Ordinal low high ∷ r.types; words = r.words + words_of_type (type.Ordinal low high) })).types) → IsTrue (same_type (type.Ordinal l h) (type.Ordinal low high)) ⊎ IsTrue (list_any (same_type (type.Ordinal l h)) r.types)
     go true t = inr t
     go false t = either (same_type (type.Ordinal l h) (type.Ordinal low high)) (list_any (same_type (type.Ordinal l h)) r.types) t
 
@@ -127,15 +128,15 @@ met_among low high l h r = go (list_any (same_type (type.Ordinal low high)) r.ty
 met_types-le : (t : TypeValue) (r : Resources) → length r.types ≤ length (met t r).types
 met_types-le t r = go (list_any (same_type t) r.types)
   where
-    go : (b : Bool) → length r.types ≤ length (watched (if b then r else record r { types = t ∷ r.types; words = r.words + 1 })).types
+    go : (b : Bool) → length r.types ≤ length (watched (if b then r else record r { types = t ∷ r.types; words = r.words + words_of_type t })).types
     go true = omega arith
     go false = omega arith
 
 -- a type that is not among them is counted
-met_new : (t : TypeValue) (r : Resources) → (IsTrue (list_any (same_type t) r.types) → ⊥) → (suc (length r.types) ≤ length (met t r).types) × (suc r.words ≤ (met t r).words)
+met_new : (t : TypeValue) (r : Resources) → (IsTrue (list_any (same_type t) r.types) → ⊥) → (suc (length r.types) ≤ length (met t r).types) × (r.words + words_of_type t ≤ (met t r).words)
 met_new t r n = go (list_any (same_type t) r.types) n
   where
-    go : (b : Bool) → (IsTrue b → ⊥) → (suc (length r.types) ≤ length (watched (if b then r else record r { types = t ∷ r.types; words = r.words + 1 })).types) × (suc r.words ≤ (watched (if b then r else record r { types = t ∷ r.types; words = r.words + 1 })).words)
+    go : (b : Bool) → (IsTrue b → ⊥) → (suc (length r.types) ≤ length (watched (if b then r else record r { types = t ∷ r.types; words = r.words + words_of_type t })).types) × (r.words + words_of_type t ≤ (watched (if b then r else record r { types = t ∷ r.types; words = r.words + words_of_type t })).words)
     go true f = absurd (f refl)
     go false f = (omega arith, omega arith)
 
@@ -160,6 +161,42 @@ types-found {r = r} {types = types} low high n m found =
 -- a type without a number was never met
 not_known : {r : Resources} {types : TypeTable} (low high : ℤ) → MatchesTypes r types → ordinal_number low high types ≡ None → IsTrue (list_any (same_type (type.Ordinal low high)) r.types) → ⊥
 not_known low high m none t = let k = m.known low high t in let e : ◌≡◌ {A = Option ℕ} None (Some k.0) = sym none ∙ k.1 in cc
+
+-- a first type has a number
+first_known : (low high : ℤ) (rest : TypeTable) → IsTrue (list_any (same_type (type.Ordinal low high)) meaning.first_types) → (n : ℕ) × (ordinal_number low high (first_types ++ rest) ≡ Some n)
+first_known low high rest h =
+    elim (either (is_this integer_entry) (is_this char_entry || (is_this boolean_entry || (false || false))) h) [
+      | inl t ↦ among [] integer_entry (char_entry ∷ boolean_entry ∷ text_entry ∷ pointer_entry ∷ rest) t
+      | inr others ↦
+          elim (either (is_this char_entry) (is_this boolean_entry || (false || false)) others) [
+            | inl t ↦ among (integer_entry ∷ []) char_entry (boolean_entry ∷ text_entry ∷ pointer_entry ∷ rest) t
+            | inr others ↦
+                elim (either (is_this boolean_entry) (false || false) others) [
+                  | inl t ↦ among (integer_entry ∷ char_entry ∷ []) boolean_entry (text_entry ∷ pointer_entry ∷ rest) t
+                  | inr t ↦ absurd cc
+                ]
+          ]
+    ]
+  where
+    is_this : TypeEntry → Bool
+    is_this e = is_ordinal low high e.kind
+
+    among : (before : List TypeEntry) (e : TypeEntry) (after : List TypeEntry) → IsTrue (is_this e) → (n : ℕ) × (ordinal_number low high ((before ++ e ∷ []) ++ after) ≡ Some n)
+    among before e after t = let k = position_from-new is_this before e t in (k.0, position_from-more is_this (before ++ e ∷ []) after k.0 k.1)
+
+-- a type without a number is none of the first ones, and so it has a word
+new_word : {r : Resources} {types : TypeTable} (low high : ℤ) → MatchesTypes r types → ordinal_number low high types ≡ None → words_of_type (type.Ordinal low high) ≡ 1
+new_word {types = types} low high m none = go (list_any (same_type (type.Ordinal low high)) meaning.first_types) first
+  where
+    first : IsTrue (list_any (same_type (type.Ordinal low high)) meaning.first_types) → ⊥
+    first t =
+        let prefix = m.first in
+        let k = first_known low high prefix.rest t in
+        let e : ◌≡◌ {A = Option ℕ} None (Some k.0) = sym none ∙ (ap (ordinal_number low high) prefix.is ∙ k.1) in cc
+
+    go : (b : Bool) → (IsTrue b → ⊥) → ◌≡◌ {A = ℕ} (if b then 0 else 1) 1
+    go true f = absurd (f refl)
+    go false f = refl
 
 -- the type gets a new number
 pub types-added : {r : Resources} {types : TypeTable} (low high : ℤ) → MatchesTypes r types → ordinal_number low high types ≡ None → MatchesTypes (met (type.Ordinal low high) r) (types ++ ordinal_entry low high ∷ [])
@@ -279,23 +316,23 @@ full_lost a b r full few live = go (ltb a type_limit) refl
 met_lost : (a b : ℕ) (t : TypeValue) (r : Resources) → (IsTrue (list_any (same_type t) r.types) → ⊥) → (ltb a type_limit && ltb b live_limit) ≡ false → a ≤ length r.types + 5 → b ≤ r.words → IsTrue (met t r).lost
 met_lost a b t r new full few live = go (list_any (same_type t) r.types) new
   where
-    go : (x : Bool) → (IsTrue x → ⊥) → IsTrue (watched (if x then r else record r { types = t ∷ r.types; words = r.words + 1 })).lost
+    go : (x : Bool) → (IsTrue x → ⊥) → IsTrue (watched (if x then r else record r { types = t ∷ r.types; words = r.words + words_of_type t })).lost
     go true n = absurd (n refl)
-    go false n = full_lost a b (record r { types = t ∷ r.types; words = r.words + 1 }) full (omega (arith, few)) (omega (arith, live))
+    go false n = full_lost a b (record r { types = t ∷ r.types; words = r.words + words_of_type t }) full (omega (arith, few)) (omega (arith, live))
 
 -- The type is met, or the machine ends for want of storage where room is lost.
 pub elaborates : {declared : Declarations} {G : Image} {injection : Injection} {memory : Memory} (place line : ℕ) (low high : ℤ) (below : List Operand) (s : meaning.State) → IsTrue (int_le low high) → slice_get G.instructions place ≡ Some (ordinal_instr line) → Matches declared G injection s memory
-    → Elaborates declared G injection memory place below (type.Ordinal low high) (before_type place low high below memory s.trace) s ⊎ GivesUp G (before_type place low high below memory s.trace) (meaning.with_type (type.Ordinal low high) s)
+    → Elaborates declared G injection memory place below (type.Ordinal low high) (before_type place low high below memory s.trace) s ⊎ GivesUp G (before_type place low high below memory s.trace) 0 1 (meaning.with_type (type.Ordinal low high) s)
 elaborates {declared} {G} {injection} {memory} place line low high below s ordered fetch m = by_number (ordinal_number low high memory.types) refl
   where
-    added : (b : Bool) → fits_one_more (before_type place low high below memory s.trace) ≡ b → ordinal_number low high memory.types ≡ None → Elaborates declared G injection memory place below (type.Ordinal low high) (before_type place low high below memory s.trace) s ⊎ GivesUp G (before_type place low high below memory s.trace) (meaning.with_type (type.Ordinal low high) s)
+    added : (b : Bool) → fits_one_more (before_type place low high below memory s.trace) ≡ b → ordinal_number low high memory.types ≡ None → Elaborates declared G injection memory place below (type.Ordinal low high) (before_type place low high below memory s.trace) s ⊎ GivesUp G (before_type place low high below memory s.trace) 0 1 (meaning.with_type (type.Ordinal low high) s)
     added true fits none =
         inl (record {
           number = length memory.types;
           final = with_entry (ordinal_entry low high) memory;
           does = ordinal_outcome G place line low high below memory s.trace ordered None none fetch ∙ ap (λ b. record { weight = 0; to = adds G (ordinal_instr line) (before_type place low high below memory s.trace) (ordinal_entry low high) below b }) fits;
           matches = matches-types (met (type.Ordinal low high) s.resources) (memory.types ++ ordinal_entry low high ∷ []) (memory.live + 1) (record { rest = ordinal_entry low high ∷ []; is = refl }) (types-added low high m.types none)
-              (let new = met_new (type.Ordinal low high) s.resources (not_known low high m.types none) in omega (arith, new.1, m.live)) m;
+              (let new = met_new (type.Ordinal low high) s.resources (not_known low high m.types none) in omega (arith, new.1, new_word low high m.types none, m.live)) m;
           described = slice_get-pushed memory.types (ordinal_entry low high);
           grown = grown-types injection memory (memory.types ++ ordinal_entry low high ∷ []) (memory.live + 1) (record { rest = ordinal_entry low high ∷ []; is = refl });
           routine = same_routine-refl memory.frames;
@@ -304,6 +341,7 @@ elaborates {declared} {G} {injection} {memory} place line low high below s order
         inr (record {
           lost = met_lost (length memory.types) memory.live (type.Ordinal low high) s.resources (not_known low high m.types none) full m.types.count m.live;
           ticks = 1;
+          fast = omega arith;
           number = run_error.STORAGE_LIMIT;
           is_limit = inl refl;
           unit = unit_in G memory.frames;
@@ -313,7 +351,7 @@ elaborates {declared} {G} {injection} {memory} place line low high below s order
           begins = record { rest = []; is = sym (append-nil s.trace) };
         })
 
-    by_number : (o : Option ℕ) → ordinal_number low high memory.types ≡ o → Elaborates declared G injection memory place below (type.Ordinal low high) (before_type place low high below memory s.trace) s ⊎ GivesUp G (before_type place low high below memory s.trace) (meaning.with_type (type.Ordinal low high) s)
+    by_number : (o : Option ℕ) → ordinal_number low high memory.types ≡ o → Elaborates declared G injection memory place below (type.Ordinal low high) (before_type place low high below memory s.trace) s ⊎ GivesUp G (before_type place low high below memory s.trace) 0 1 (meaning.with_type (type.Ordinal low high) s)
     by_number (Some n) found =
         inl (record {
           number = n;

@@ -14,7 +14,7 @@ use Rattle.ep_object.specs.Runs.{run, run_from, trace_of, outcome, outcome_of, a
 use Rattle.ep_object.specs.Simulates.{routine_credit, Enters, Leaves, Simulates, StaysIn, LeavesAfter, EndsAfter, StaysAfter, AnswersInRoom}
 use Rattle.ep_object.specs.State.{State, Frames, Going, Running, Stopped}
 use Rattle.ep_object.specs.declared.code.Image.{Image}
-use Rattle.ep_object.proofs.Bind.{Met, follows_moves, run_instruction}
+use Rattle.ep_object.proofs.Bind.{Met, gives_up_weaken, follows_moves, run_instruction}
 use Rattle.ep_object.proofs.Growing.{same_routine-refl}
 use Rattle.ep_object.proofs.Grows.{is_prefix, prefix_then, run_grows}
 use Rattle.ep_object.proofs.Stays.{runs_stay, same_between}
@@ -108,7 +108,7 @@ module _ {A : Type 0} {declared : Declarations} {G : Image} {unit routine n : �
       go (Gives left a t) (inl x) = inl (leaves m left a t x)
       go (Ends left end t) (inl x) = inl (ends m left end t x)
       go (Cut t) (inl x) = inl (stays m t x)
-      go o (inr x) = inr x
+      go o (inr x) = inr (gives_up_weaken (omega arith) x)
 
   pub simulation_answers : (steps : ℕ) → steps ≤ n → AnswersInRoom declared G injection memory (Results below) k steps (c steps s)
   simulation_answers steps le = subst (λ (d : Computation A). AnswersInRoom declared G injection memory (Results below) k steps (d steps s)) (sym sim.called) (answers steps le)
@@ -145,7 +145,7 @@ module _ {A : Type 0} {declared : Declarations} {G : Image} {unit routine n : �
           })
       go (Ends left end t) (inl x) = inl (record { ticks = x.ticks; wait = x.wait; last = x.last; runs = x.runs; within = wider x.last x.within; ends = x.ends; spent = suc x.spent; all = omega (arith, x.all); slow = omega (arith, x.slow); fast = omega (arith, x.fast) })
       go (Cut t) (inl x) = inl (record { ticks = x.ticks; wait = x.wait; to = x.to; runs = x.runs; within = wider x.to x.within; same = x.same; slow = omega (arith, x.slow); fast = omega (arith, x.fast) })
-      go o (inr x) = inr x
+      go o (inr x) = inr (gives_up_weaken (omega arith) x)
 
   -- the machine follows the computation up to where the routine is left for a next one, and gains credit
   pub simulation_passes : {Wider : State → Type 0} {Post : A → meaning.State → State → Type 0} → ((l : State) → In l → Wider l) → ((a : A) (t : meaning.State) (l : State) → Leaves declared G injection memory (Results below a) t l → (next : State) × (outcome G l ≡ record { weight = 0; to = Running 0 next }) × Post a t next)

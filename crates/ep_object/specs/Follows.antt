@@ -70,10 +70,11 @@ Meets Within G k m Post d e (Gives left a s) = Reaches G k m left d (e a) (Post 
 Meets Within G k m Post d e (Ends left end s) = EndsToo Within G k m left d end s.trace
 Meets Within G k m Post d e (Cut s) = RunsOn Within G k m d s.trace
 
--- room was lost by then, and the machine ends for want of storage or of depth
-pub record GivesUp (G : Image) (k : State) (s : meaning.State) : Type 0 where
+-- Room was lost by then, with up to m steps, and the machine ends for want of storage or of depth, with no more ticks than so many steps may take.
+pub record GivesUp (G : Image) (k : State) (m d : ℕ) (s : meaning.State) : Type 0 where
   pub lost : IsTrue s.resources.lost
   pub ticks : ℕ
+  pub fast : ticks ≤ 64 * m + d
   pub number : ℕ
   pub is_limit : (number ≡ run_error.STORAGE_LIMIT) ⊎ (number ≡ run_error.CALL_DEPTH)
   pub unit : List ℕ
@@ -82,9 +83,9 @@ pub record GivesUp (G : Image) (k : State) (s : meaning.State) : Type 0 where
   pub runs : run G ticks 0 k ≡ Stopped (Error number unit line) trace
   pub begins : IsPrefix trace s.trace
 
--- the machine follows the computation with up to n steps, and is in such a state where that is cut or ends the run
+-- The machine follows the computation with up to n steps, and is in such a state where that is cut or ends the run. That room is lost lets it end within ticks that the steps bound, and nothing else: where it goes on, it follows.
 pub record Follows {A : Type 0} (Within : State → Type 0) (G : Image) (n : ℕ) (k : State) (s : meaning.State) (c : Computation A) (Post : A → meaning.State → State → Type 0) (d : ℕ) (e : A → ℕ) : Type 0 where
-  pub by : (m : ℕ) → m ≤ n → Meets Within G k m Post d e (c m s) ⊎ GivesUp G k (state_of (c m s))
+  pub by : (m : ℕ) → m ≤ n → Meets Within G k m Post d e (c m s) ⊎ GivesUp G k m d (state_of (c m s))
 
 -- what holds of the injection, the memory and the operands after a fragment of code
 abbrev pub After : Type 1

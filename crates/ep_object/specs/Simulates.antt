@@ -91,9 +91,9 @@ Answers declared G injection memory Then k steps (Gives left a s) = (spent : ℕ
 Answers declared G injection memory Then k steps (Ends left end s) = (spent : ℕ) → left + spent ≡ steps → EndsAfter G k (end_of end) s.trace spent
 Answers declared G injection memory Then k steps (Cut s) = StaysAfter G k s.trace steps
 
--- The same, but where the computation has more words or types than every run has room for, the machine may have ended for want of storage or of depth after a front of the events.
+-- The same, but where the computation has more words or types than every run has room for within so many steps, the machine may end for want of storage or of depth within 64 ticks for each of them, after a front of the events.
 abbrev pub AnswersInRoom : {A : Type 0} → Declarations → Image → Injection → Memory → (A → Operands) → State → ℕ → Outcome A → Type 0
-AnswersInRoom declared G injection memory Then k steps o = Answers declared G injection memory Then k steps o ⊎ GivesUp G k (state_of o)
+AnswersInRoom declared G injection memory Then k steps o = Answers declared G injection memory Then k steps o ⊎ GivesUp G k steps 0 (state_of o)
 
 -- Where a routine simulates a computation without a value with up to n steps, every run from its entry answers it with each number of steps up to n.
 abbrev pub ProceduresAnswer : Type 0

@@ -6,14 +6,14 @@ use Rattle.ep_typed.specs.Operations.{Answer, Number, Fault, is_true}
 use Rattle.ep_typed.specs.Printing.{Result, number_of, plain_text, wide_text, piece_events}
 use Rattle.ep_typed.specs.Printing as result
 use Rattle.ep_typed.specs.Steady.{Grows, Steady}
-use Rattle.ep_typed.specs.Steps.{End, Normal, Halted, Error, Word, State, Outcome, Gives, Ends, Cut, state_of, Computation, give, stop, go_on, bind, spend, change, found, fetch, assigned, type_at, is_within, size_of, with_type, made, first_state}
+use Rattle.ep_typed.specs.Steps.{End, Normal, Halted, Error, Word, State, Outcome, Gives, Ends, Cut, state_of, Computation, give, stop, go_on, bind, spend, change, found, fetch, assigned, type_at, is_within, size_of, with_type, counted, made, allocate, first_state}
 use Rattle.ep_typed.specs.Trees.{Place, Variable, Expr, Constant, Text, Read, One, Two, Step, Item, Plain, Wide, Stmt, Stmts, Empty, Compound, Assign, If, While, Halt, Write, none, next}
 use Rattle.ep_typed.specs.Viewed.{stmt_of}
 use Rattle.ep_typed.specs.declared.operations.Print.{Print}
 use Rattle.ep_typed.specs.declared.unit.Unit.{Unit as TypedUnit}
 use Rattle.ep_typed.specs.declared.unit.UnitVariable.{UnitVariable}
 use Rattle.ep_typed.specs.Laws.{IsLonger, MeaningsLast}
-use Rattle.ep_typed.proofs.Steady.{grows_trans, grows_quiet, grows_events, grows_type, grows_made, steady_give, steady_stop, steady_bind, steady_spend, steady_change, steady_fetch, steady_turns, steady_assign}
+use Rattle.ep_typed.proofs.Steady.{grows_trans, grows_quiet, grows_events, grows_type, grows_counted, grows_made, steady_give, steady_stop, steady_bind, steady_spend, steady_change, steady_fetch, steady_turns, steady_assign}
 use Rattle.ep_typed.specs.declared.run_error.TheConstants as run_error
 
 -- What one computation comes to, another one comes to with more steps.
@@ -169,7 +169,7 @@ module _ (g j : ℕ) (unit : List ℕ) where
   -- a variable
   lasting_make : (number : ℕ) (v : UnitVariable) → Lasting (make g unit number v) (make (g + j) unit number v)
   lasting_make number v =
-      lasting_spend 1 (lasting_bind {c = change (with_type v.type_value)} {f = λ _. spend (size_of v.type_value) (change (made unit number v.type_value))} (lasting_change (grows_type v.type_value)) (λ _. lasting_spend (size_of v.type_value) (lasting_change (grows_made unit number v.type_value))))
+      lasting_spend 1 (lasting_bind {c = change (with_type v.type_value)} {f = λ _. allocate unit number v.type_value} (lasting_change (grows_type v.type_value)) (λ _. lasting_bind {c = change (counted v.type_value)} {f = λ _. spend (size_of v.type_value) (change (made unit number v.type_value))} (lasting_change (grows_counted v.type_value)) (λ _. lasting_spend (size_of v.type_value) (lasting_change (grows_made unit number v.type_value)))))
 
   -- variables
   lasting_make_all : (number : ℕ) (vs : List UnitVariable) → Lasting (make_all g unit number vs) (make_all (g + j) unit number vs)

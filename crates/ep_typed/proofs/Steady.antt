@@ -9,7 +9,7 @@ use Rattle.ep_typed.specs.Operations.{Answer, Number, Fault, is_true}
 use Rattle.ep_typed.specs.Printing.{Result, number_of, plain_text, wide_text, piece_events}
 use Rattle.ep_typed.specs.Printing as result
 use Rattle.ep_typed.specs.Steady.{Grows, Steady}
-use Rattle.ep_typed.specs.Steps.{End, Normal, Halted, Error, Word, State, Outcome, Gives, Ends, Cut, state_of, Computation, give, cut, stop, go_on, bind, spend, change, found, fetch, with_events, assigned, type_at, is_within, size_of, same_type, Resources, watched, met, with_type, made}
+use Rattle.ep_typed.specs.Steps.{End, Normal, Halted, Error, Word, State, Outcome, Gives, Ends, Cut, state_of, Computation, give, cut, stop, go_on, bind, spend, change, found, fetch, with_events, assigned, type_at, is_within, size_of, same_type, Resources, watched, words_of_type, met, with_type, counted, made, allocate}
 use Rattle.ep_typed.specs.Trees.{Place, Variable, Expr, Constant, Text, Read, One, Two, Step, Item, Plain, Wide, Stmt, Stmts, Empty, Compound, Assign, If, While, Halt, Write, none, next}
 use Rattle.ep_typed.specs.Viewed.{stmt_of}
 use Rattle.ep_typed.specs.declared.operations.Print.{Print}
@@ -50,7 +50,7 @@ watched_lost r h = rw h refl
 met_lost : (t : TypeValue) (r : Resources) → IsTrue r.lost → IsTrue (met t r).lost
 met_lost t r h = go (list_any (same_type t) r.types)
   where
-    go : (b : Bool) → IsTrue (watched (if b then r else record r { types = t ∷ r.types; words = r.words + 1 })).lost
+    go : (b : Bool) → IsTrue (watched (if b then r else record r { types = t ∷ r.types; words = r.words + words_of_type t })).lost
     go true = rw h refl
     go false = rw h refl
 
@@ -58,9 +58,13 @@ met_lost t r h = go (list_any (same_type t) r.types)
 pub grows_type : (t : TypeValue) (s : State) → Grows s (with_type t s)
 grows_type t s = record { events = record { rest = []; is = sym (append-nil s.trace) }; lost = met_lost t s.resources }
 
+-- the words of a variable that are counted
+pub grows_counted : (t : TypeValue) (s : State) → Grows s (counted t s)
+grows_counted t s = record { events = record { rest = []; is = sym (append-nil s.trace) }; lost = λ h. rw h refl }
+
 -- a variable that is made
 pub grows_made : (unit : List ℕ) (number : ℕ) (t : TypeValue) (s : State) → Grows s (made unit number t s)
-grows_made unit number t s = record { events = record { rest = []; is = sym (append-nil s.trace) }; lost = λ h. rw h refl }
+grows_made unit number t s = grows_quiet s (made unit number t s) refl refl
 
 -- ---- computations from which the state grows
 
@@ -106,6 +110,11 @@ steady_fetch {A = A} e f = record { by = λ m s. go m s (f s) }
     go : (m : ℕ) (s : State) (o : Option A) → Grows s (state_of (found e o m s))
     go m s None = grows_refl s
     go m s (Some a) = grows_refl s
+
+-- a variable
+pub steady_allocate : (unit : List ℕ) (number : ℕ) (t : TypeValue) → Steady (allocate unit number t)
+steady_allocate unit number t =
+    steady_bind {c = change (counted t)} {f = λ _. spend (size_of t) (change (made unit number t))} (steady_change (grows_counted t)) (λ _. steady_spend (size_of t) (steady_change (grows_made unit number t)))
 
 -- one of two
 pub steady_if : {A : Type 0} (b : Bool) {x y : Computation A} → Steady x → Steady y → Steady (if b then x else y)
@@ -192,10 +201,10 @@ module _ (g : ℕ) (unit : List ℕ) where
     steady_exec_all none = steady_give tt
     steady_exec_all (next s ss) = steady_bind (steady_exec s) (λ _. steady_exec_all ss)
 
-  -- a variable
+  -- a variable of a type that is elaborated
   pub steady_make : (number : ℕ) (v : UnitVariable) → Steady (make g unit number v)
   steady_make number v =
-      steady_spend 1 (steady_bind {c = change (with_type v.type_value)} {f = λ _. spend (size_of v.type_value) (change (made unit number v.type_value))} (steady_change (grows_type v.type_value)) (λ _. steady_spend (size_of v.type_value) (steady_change (grows_made unit number v.type_value))))
+      steady_spend 1 (steady_bind {c = change (with_type v.type_value)} {f = λ _. allocate unit number v.type_value} (steady_change (grows_type v.type_value)) (λ _. steady_allocate unit number v.type_value))
 
   -- variables
   pub steady_make_all : (number : ℕ) (vs : List UnitVariable) → Steady (make_all g unit number vs)

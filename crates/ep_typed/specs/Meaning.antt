@@ -2,7 +2,7 @@
 use Rattle.std.specs.Prelude.{ℕ, ℤ, pos, negsuc, zero, suc, Bool, true, false, List, [], ◌∷◌, length, if◌then◌else◌}
 use Rattle.ep_typed.specs.Trees.{Place, Variable, Expr, Constant, Text, Read, One, Two, Step, Item, Plain, Wide, Stmt, Stmts, Empty, Compound, Assign, If, While, Halt, Write, none, next}
 use Rattle.ep_typed.specs.Viewed.{stmt_of}
-use Rattle.ep_typed.specs.Steps.{Normal, Halted, Error, Word, Outcome, Computation, give, cut, stop, bind, spend, change, fetch, with_events, word_at, assigned, type_at, is_within, size_of, with_type, made, first_state}
+use Rattle.ep_typed.specs.Steps.{Normal, Halted, Error, Word, Outcome, Computation, give, cut, stop, bind, spend, change, fetch, with_events, word_at, assigned, type_at, is_within, with_type, allocate, first_state}
 use Rattle.ep_typed.specs.Operations.{Answer, Number, Fault, unary_answer, binary_answer, step_answer, is_true}
 use Rattle.ep_typed.specs.Printing.{Result, Bytes, number_of, line_end, plain_text, wide_text, piece_events}
 use Rattle.ep_typed.specs.Printing as result
@@ -82,7 +82,7 @@ module _ (g : ℕ) (unit : List ℕ) where
 
   -- The type is elaborated, which spends a step for its node, and then the variable is made, which spends its size.
   abbrev pub make : ℕ → UnitVariable → Computation (Unit {0})
-  make number v = spend 1 (bind (change (with_type v.type_value)) (λ _. spend (size_of v.type_value) (change (made unit number v.type_value))))
+  make number v = spend 1 (bind (change (with_type v.type_value)) (λ _. allocate unit number v.type_value))
 
   -- the variables from this number on, in order
   abbrev pub make_all : ℕ → List UnitVariable → Computation (Unit {0})

@@ -1,9 +1,10 @@
 -- Computations, which spend steps and change a state.
-use Rattle.std.specs.Prelude.{ℕ, ℤ, zero, suc, ◌+◌, Bool, true, false, ◌&&◌, ◌||◌, not, nat_le, List, [], ◌∷◌, ◌++◌, Option, Some, None, length, slice_get, slice_set, if◌then◌else◌}
+use Rattle.std.specs.Prelude.{ℕ, ℤ, pos, neg_ℤ, zero, suc, ◌+◌, Bool, true, false, ◌&&◌, ◌||◌, not, nat_le, List, [], ◌∷◌, ◌++◌, Option, Some, None, length, slice_get, slice_set, if◌then◌else◌}
 use Rattle.std.specs.List.{list_any}
 use Rattle.std.specs.Str.{bytes_eq}
 use Rattle.std.specs.Prelude.{int_le}
 use Rattle.ep_typed.specs.Events.{Trace}
+use Rattle.ep_typed.specs.Operations.{maxint, last_char}
 use Rattle.ep_typed.specs.declared.types.TypeValue.{TypeValue}
 use Rattle.ep_typed.specs.declared.types.TypeValue.TheVariants.{Ordinal, Text}
 
@@ -165,9 +166,17 @@ has_room r = nat_le r.words room_for_words && nat_le (length r.types) room_for_t
 abbrev pub watched : Resources → Resources
 watched r = record r { lost = r.lost || not (has_room r) }
 
+-- the types that are there before any is elaborated: integer, char, Boolean and text
+abbrev pub first_types : List TypeValue
+first_types = Ordinal (neg_ℤ (pos maxint)) (pos maxint) ∷ Ordinal (pos 0) (pos last_char) ∷ Ordinal (pos 0) (pos 1) ∷ Text ∷ []
+
+-- the words of a new type value, of which the first types have none
+abbrev pub words_of_type : TypeValue → ℕ
+words_of_type t = if list_any (same_type t) first_types then 0 else 1
+
 -- one more type that is elaborated, which counts where it is a new one
 abbrev pub met : TypeValue → Resources → Resources
-met t r = watched (if list_any (same_type t) r.types then r else record r { types = t ∷ r.types; words = r.words + 1 })
+met t r = watched (if list_any (same_type t) r.types then r else record r { types = t ∷ r.types; words = r.words + words_of_type t })
 
 abbrev pub with_type : TypeValue → State → State
 with_type t s = record s { resources = met t s.resources }
@@ -180,14 +189,21 @@ taken n r = watched (record r { words = r.words + n })
 abbrev pub bound : List ℕ → ℕ → ℕ → (List ℕ → ℕ → Option ℕ) → List ℕ → ℕ → Option ℕ
 bound unit number n variables u k = if bytes_eq unit u && (nat_le number k && nat_le k number) then Some n else variables u k
 
--- a new variable, undefined: an allocation of its type, whose words and one more live
+-- the words of a variable of a type, and one more, are counted
+abbrev pub counted : TypeValue → State → State
+counted t s = record s { resources = taken (size_of t + 1) s.resources }
+
+-- a new variable, undefined, once its words are counted: an allocation of its type
 abbrev pub made : List ℕ → ℕ → TypeValue → State → State
 made unit number t s =
     record s {
       allocations = s.allocations ++ record { type_value = t; value = Undefined } ∷ [];
       variables = bound unit number (suc (length s.allocations)) s.variables;
-      resources = taken (size_of t + 1) s.resources;
     }
+
+-- A variable is made: its words are counted, and then it is there, which spends its size. So room is lost before the steps that it is wanted for.
+abbrev pub allocate : List ℕ → ℕ → TypeValue → Computation (Unit {0})
+allocate unit number t = bind (change (counted t)) (λ _. spend (size_of t) (change (made unit number t)))
 
 -- the state before the first unit is started: `input` and `output` are there
 abbrev pub first_state : State
