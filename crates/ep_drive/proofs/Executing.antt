@@ -1,6 +1,6 @@
 -- What the run of a typed program answers.
 use Rattle.std.proofs.Common.{◌≡◌, ◌≢◌, ℕ, true, List, [], ◌∷◌, ◌⊎◌, inl, inr, Option, Some, None, refl, sym, ap, ◌∙◌, subst}
-use Rattle.ep_machine.specs.Answers.{IsEnd, RunsTo, UnlessStopped, OnStopped, OnWriteFaultEnd}
+use Rattle.ep_machine.specs.Answers.{IsEnd, RunsTo, UnlessStopped, OnNoMemoryEnd, OnWriteFaultEnd}
 use Rattle.ep_machine.specs.Turns.{ended_at}
 use Rattle.ep_machine.specs.declared.end.End.{End}
 use Rattle.ep_machine.specs.declared.end.End.TheVariants as end
@@ -12,7 +12,7 @@ use Rattle.ep_object.specs.State.{State, Going, Running, Stopped, Normal, Halt, 
 use Rattle.ep_object.specs.Tells.{Tells}
 use Rattle.ep_object.specs.declared.code.Image.{Image}
 use Rattle.ep_typed.proofs.Done.{does_part-none, does_part-front, does_part-all}
-use Rattle.ep_typed.specs.Events.{Trace, Outside, Same, Does, DoesPart}
+use Rattle.ep_typed.specs.Events.{Trace, Outside, Same, Does, DoesFront, DoesPart}
 use Rattle.ep_typed.specs.Meaning.{meaning}
 use Rattle.ep_typed.specs.Steps.{state_of}
 use Rattle.ep_typed.specs.declared.unit.Unit.{Unit as TypedUnit}
@@ -53,25 +53,29 @@ module _ (G : Image) (budget : ℕ) (from to : Trace → Timed) (old new : Outsi
   came-part : DoesPart (trace_of (run_to G budget (from [])).going) old new → DoesPart (trace_of (run_within budget G)) old new
   came-part p = subst (λ g. DoesPart (trace_of g) old new) (sym here) p
 
+  came-front : DoesFront (trace_of (run_to G budget (from [])).going) old new → DoesFront (trace_of (run_within budget G)) old new
+  came-front p = subst (λ g. DoesFront (trace_of g) old new) (sym here) p
+
   -- how far a run came
-  came : (answer : End) → UnlessStopped answer (RunsTo G budget from to old new) → OnStopped answer (DoesPart (trace_of (run_to G budget (from [])).going) old new) → ((t : Trace) → IsEnd answer (to t).going) → CameTo answer (run_within budget G) old new
-  came end.Normal r p is = came-whole end.Normal r is
-  came end.Halt r p is = came-whole end.Halt r is
-  came (end.Error number unit line) r p is = came-whole (end.Error number unit line) r is
-  came end.Budget r p is = came-whole end.Budget r is
-  came (end.Broken pc) r p is = came-whole (end.Broken pc) r is
-  came end.ReadFault r p is = is []
-  came end.WriteFault r p is = came-part p
-  came end.FileFault r p is = is []
-  came end.NoMemory r p is = came-part p
+  came : (answer : End) → UnlessStopped answer (RunsTo G budget from to old new) → OnWriteFaultEnd answer (DoesPart (trace_of (run_to G budget (from [])).going) old new) → OnNoMemoryEnd answer (DoesFront (trace_of (run_to G budget (from [])).going) old new) → ((t : Trace) → IsEnd answer (to t).going) → CameTo answer (run_within budget G) old new
+  came end.Normal r p w is = came-whole end.Normal r is
+  came end.Halt r p w is = came-whole end.Halt r is
+  came (end.Error number unit line) r p w is = came-whole (end.Error number unit line) r is
+  came end.Budget r p w is = came-whole end.Budget r is
+  came (end.Broken pc) r p w is = came-whole (end.Broken pc) r is
+  came end.ReadFault r p w is = is []
+  came end.WriteFault r p w is = came-part p
+  came end.FileFault r p w is = is []
+  came end.NoMemory r p w is = came-front w
 
 -- the same where the image and the limit are known to be these
 pub came_from : (G H : Image) (budget limit : ℕ) (from to : Trace → Timed) (old new : Outside) (answer : End) → H ≡ G → limit ≡ budget → from [] ≡ timed 0 (begin G) → ((t : Trace) → trace_of (to t).going ≡ t)
-    → UnlessStopped answer (RunsTo H limit from to old new) → OnStopped answer (DoesPart (trace_of (run_to H limit (from [])).going) old new) → ((t : Trace) → IsEnd answer (to t).going) → CameTo answer (run_within budget G) old new
-came_from G H budget limit from to old new answer image ticks begins traces r p is =
+    → UnlessStopped answer (RunsTo H limit from to old new) → OnWriteFaultEnd answer (DoesPart (trace_of (run_to H limit (from [])).going) old new) → OnNoMemoryEnd answer (DoesFront (trace_of (run_to H limit (from [])).going) old new) → ((t : Trace) → IsEnd answer (to t).going) → CameTo answer (run_within budget G) old new
+came_from G H budget limit from to old new answer image ticks begins traces r p w is =
     came G budget from to old new begins traces answer
     (subst (λ K. UnlessStopped answer (RunsTo K budget from to old new)) image (subst (λ n. UnlessStopped answer (RunsTo H n from to old new)) ticks r))
-    (subst (λ K. OnStopped answer (DoesPart (trace_of (run_to K budget (from [])).going) old new)) image (subst (λ n. OnStopped answer (DoesPart (trace_of (run_to H n (from [])).going) old new)) ticks p)) is
+    (subst (λ K. OnWriteFaultEnd answer (DoesPart (trace_of (run_to K budget (from [])).going) old new)) image (subst (λ n. OnWriteFaultEnd answer (DoesPart (trace_of (run_to H n (from [])).going) old new)) ticks p))
+    (subst (λ K. OnNoMemoryEnd answer (DoesFront (trace_of (run_to K budget (from [])).going) old new)) image (subst (λ n. OnNoMemoryEnd answer (DoesFront (trace_of (run_to H n (from [])).going) old new)) ticks w)) is
 
 -- the image of a program's object implements the program
 pub implements : (u : TypedUnit) (o : Object) (G : Image) → IsProgramCode u o → IsValid u → G ≡ alone o → Implements G (u ∷ [])

@@ -8,7 +8,7 @@ use Rattle.ep_object.specs.Runs.{trace_of}
 use Rattle.ep_object.specs.State.{Going}
 use Rattle.ep_object.specs.declared.code.Image.{Image}
 use Rattle.ep_outside.specs.Known.{Keeps, AppendsFront}
-use Rattle.ep_typed.specs.Events.{Outside, Does, DoesPart}
+use Rattle.ep_typed.specs.Events.{Outside, Does, DoesFront, DoesPart}
 use Rattle.ep_typed.specs.declared.unit.Unit.{Unit as TypedUnit}
 use Rattle.ep_drive.specs.Calls.{Moment, RanImage, IsTold, IsToldPart, MeansPart}
 use Rattle.ep_drive.specs.ProgramTexts.{IsProgramText}
@@ -41,12 +41,12 @@ answer_line end.Budget = Some budget_line
 answer_line (end.Broken pc) = Some (codes "broken image at " ++ decimal pc ++ codes "\n")
 answer_line _ = None
 
--- All events of the run were done and the answer is where it stands, or a part of them was done and a write had a fault or memory is wanting.
+-- All events of the run were done and the answer is where it stands, or a write had a fault and a part of them was done, or memory is wanting and whole events were done.
 abbrev pub CameTo : End → Going → Outside → Outside → Type 0
 CameTo end.ReadFault g old new = ⊥
 CameTo end.FileFault g old new = ⊥
 CameTo end.WriteFault g old new = DoesPart (trace_of g) old new
-CameTo end.NoMemory g old new = DoesPart (trace_of g) old new
+CameTo end.NoMemory g old new = DoesFront (trace_of g) old new
 CameTo answer g old new = Does (trace_of g) old new × IsEnd answer g
 
 -- where a line was to be reported, a front of it was written

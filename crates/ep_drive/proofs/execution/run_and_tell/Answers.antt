@@ -1,5 +1,6 @@
 use Rattle.std.proofs.Common.{inl}
 use Rattle.std.proofs.KnownBytes.{Keeps-refl}
+use Rattle.ep_typed.proofs.Done.{does_front-part}
 use Rattle.ep_drive.specs.Calls.{moment}
 use Rattle.ep_drive.proofs.Executing.{answers-told, means_part}
 use Rattle.ep_drive.proofs.execution.run_and_tell.Goals as goal
@@ -8,7 +9,7 @@ pub returns-in-WriteFault-clause-answers : goal.returns-in-WriteFault-clause-ans
 returns-in-WriteFault-clause-answers g c = λ unit h. inl (means_part c.args.image.now c.args.budget unit _ _ h c.in-WriteFault.ensures.came, Keeps-refl _, c.in-WriteFault.ensures.fault)
 
 pub returns-in-NoMemory-clause-answers : goal.returns-in-NoMemory-clause-answers
-returns-in-NoMemory-clause-answers g c = λ unit h. (means_part c.args.image.now c.args.budget unit _ _ h c.in-NoMemory.ensures.came, Keeps-refl _)
+returns-in-NoMemory-clause-answers g c = λ unit h. (means_part c.args.image.now c.args.budget unit _ _ h (does_front-part _ _ _ c.in-NoMemory.ensures.came), Keeps-refl _)
 
 pub returns-in_default-clause-answers : goal.returns-in_default-clause-answers
 returns-in_default-clause-answers g c = λ unit h.
