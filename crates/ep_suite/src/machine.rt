@@ -136,13 +136,18 @@ fn outcome(
     told(alloc, &end, ticks)
 }
 
-/// What was written, the end, and the ticks, of two runs of the code with these budgets.
+/// What was written, the end, and the ticks, of two runs with these budgets.
+fn seen(alloc: Global, image: &Image, first: u32, second: u32) -> Result<String, AllocError> {
+    let mut output = SureSink::new(alloc);
+    let outcome = outcome(alloc, image, first, second, &mut output)?;
+    let written = str::from_utf8(output.held()).unwrap_or("no text");
+    format!(in alloc; "{written}|{outcome}")
+}
+
+/// The same of the code.
 fn ran(alloc: Global, text: &str, first: u32, second: u32) -> Result<String, Fail> {
     let image = image(alloc, text)?;
-    let mut output = SureSink::new(alloc);
-    let outcome = outcome(alloc, &image, first, second, &mut output)?;
-    let written = str::from_utf8(output.held()).unwrap_or("no text");
-    Ok(format!(in alloc; "{written}|{outcome}")?)
+    Ok(seen(alloc, &image, first, second)?)
 }
 
 fn number(text: &str) -> u32 {
