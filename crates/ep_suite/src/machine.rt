@@ -4,7 +4,7 @@
 
 use ep_base::{Bytes, List, Name};
 use ep_machine::{End, Machine};
-use ep_object::{Image, ImageRoutine, ImageUnit, Instr, Instrs};
+use ep_object::{Image, ImageRoutine, ImageRoutines, ImageUnit, ImageUnits, Instr, Instrs, Texts};
 use ep_outside::{SureFiles, SureSink, SureSource};
 use std::alloc::{AllocError, Global};
 use std::test::Fail;
@@ -50,64 +50,104 @@ fn code(alloc: Global, text: &str) -> Result<Instrs, AllocError> {
     Ok(code)
 }
 
-/// The code alone, in a unit `p` with one slot, with the texts `hi` and the empty one.
-fn image(alloc: Global, text: &str) -> Result<Image, Fail> {
+/// A unit `p` with one slot.
+fn units(alloc: Global) -> Result<ImageUnits, Fail> {
     let Ok(name) = Name::from_bytes(alloc, b"p") else {
         return Err(Fail::from("name"));
     };
-    let mut image = Image {
-        units: List::new(alloc),
-        routines: List::new(alloc),
-        texts: List::new(alloc),
-        constant_types: List::new(alloc),
-        instructions: code(alloc, text)?,
-    };
-    image.units.push(ImageUnit {
+    let unit = ImageUnit {
         name,
         slots: 1,
         start: 0,
         stop: 0,
-    })?;
-    image.routines.push(ImageRoutine {
+    };
+    let mut units = List::new(alloc);
+    units.push(unit)?;
+    Ok(units)
+}
+
+fn routines(alloc: Global) -> Result<ImageRoutines, AllocError> {
+    let mut routines = List::new(alloc);
+    routines.push(ImageRoutine {
         entry: 0,
         unit: 0,
         arguments: 0,
         slots: 0,
     })?;
-    image.texts.push(List::from_slice(alloc, b"hi")?)?;
-    image.texts.push(List::new(alloc))?;
-    Ok(image)
+    Ok(routines)
 }
 
-fn told(alloc: Global, end: &End) -> Result<String, AllocError> {
+/// The texts `hi` and the empty one.
+fn texts(alloc: Global) -> Result<Texts, AllocError> {
+    let mut texts: Texts = List::new(alloc);
+    texts.push(List::from_slice(alloc, b"hi")?)?;
+    texts.push(List::new(alloc))?;
+    Ok(texts)
+}
+
+/// The code alone in a unit.
+fn image(alloc: Global, text: &str) -> Result<Image, Fail> {
+    let instructions = code(alloc, text)?;
+    let routines = routines(alloc)?;
+    let texts = texts(alloc)?;
+    let units = units(alloc)?;
+    Ok(Image {
+        units,
+        routines,
+        texts,
+        constant_types: List::new(alloc),
+        instructions,
+    })
+}
+
+fn told(alloc: Global, end: &End, ticks: u64) -> Result<String, AllocError> {
     match end {
-        End::Normal => String::from_str(alloc, "normal"),
-        End::Halt => String::from_str(alloc, "halt"),
-        End::Error { number, line, .. } => format!(in alloc; "error {number} at {line}"),
-        End::Budget => String::from_str(alloc, "budget"),
-        End::Broken { pc } => format!(in alloc; "broken at {pc}"),
+        End::Normal => format!(in alloc; "normal|{ticks}"),
+        End::Halt => format!(in alloc; "halt|{ticks}"),
+        End::Error { number, line, .. } => format!(in alloc; "error {number} at {line}|{ticks}"),
+        End::Budget => format!(in alloc; "budget|{ticks}"),
+        End::Broken { pc } => format!(in alloc; "broken at {pc}|{ticks}"),
         _ => String::from_str(alloc, "fault"),
     }
 }
 
-/// What was written, the end, and the ticks, of two runs with these budgets.
-fn ran(alloc: Global, text: &str, first: u32, second: u32) -> Result<String, Fail> {
-    let image = image(alloc, text)?;
-    let mut machine = Machine::new(alloc, &image)?;
+/// How a run with this budget ends.
+fn end_of(alloc: Global, machine: &mut Machine, budget: u32, output: &mut SureSink) -> End {
+    if machine.ticks() > 1_000_000_000 {
+        return End::NoMemory;
+    }
     let mut files = SureFiles::new(alloc);
     let mut input = SureSource::new(Bytes::new(alloc));
-    let mut output = SureSink::new(alloc);
-    let _ = machine.run(first as u64, &mut files, &mut input, &mut output);
-    if machine.ticks() > 1_000_000_000 {
-        return Err(Fail::from("ticks"));
-    }
-    let end = told(
-        alloc,
-        &machine.run(second as u64, &mut files, &mut input, &mut output),
-    )?;
+    machine.run(budget as u64, &mut files, &mut input, output)
+}
+
+/// How the second of two runs with these budgets ends, and the ticks.
+fn outcome(
+    alloc: Global,
+    image: &Image,
+    first: u32,
+    second: u32,
+    output: &mut SureSink,
+) -> Result<String, AllocError> {
+    let mut machine = Machine::new(alloc, image)?;
+    end_of(alloc, &mut machine, first, output);
+    let end = end_of(alloc, &mut machine, second, output);
     let ticks = machine.ticks();
+    told(alloc, &end, ticks)
+}
+
+/// What was written, the end, and the ticks, of two runs with these budgets.
+fn seen(alloc: Global, image: &Image, first: u32, second: u32) -> Result<String, AllocError> {
+    let mut output = SureSink::new(alloc);
+    let outcome = outcome(alloc, image, first, second, &mut output)?;
     let written = str::from_utf8(output.held()).unwrap_or("no text");
-    Ok(format!(in alloc; "{written}|{end}|{ticks}")?)
+    format!(in alloc; "{written}|{outcome}")
+}
+
+/// The same of the code.
+fn ran(alloc: Global, text: &str, first: u32, second: u32) -> Result<String, Fail> {
+    let image = image(alloc, text)?;
+    Ok(seen(alloc, &image, first, second)?)
 }
 
 fn number(text: &str) -> u32 {
