@@ -239,10 +239,9 @@ status_of_end (meant.Error n u l) trace = refl
 -- a run with enough ticks has ended as the meaning does
 settled_status : (units : List TypedUnit) (ticks m l : ℕ) (e : meant.End) (s : State) (g : Going) → Tells (meaning units) ticks g → meaning units m ≡ Ends l e s → s.resources.lost ≡ false → 64 * (m + 1) ≤ ticks → run_status g ≡ end_status e
 settled_status units ticks m l e s (Running wait k) t h room few =
-    elim (t.all m (omega arith)) [
-      | inl goes ↦ let no : ◌≡◌ {A = Outcome (Unit {0})} (Ends l e s) (Cut goes.state) = sym h ∙ goes.is in absurd cc
-      | inr lost ↦ absurd (not_lost s (lost_at_end units m m l e s h lost) room)
-    ]
+    let goes = t.all m (omega arith) in
+    let no : ◌≡◌ {A = Outcome (Unit {0})} (Ends l e s) (Cut goes.state) = sym h ∙ goes.is in
+    absurd cc
 settled_status units ticks m l e s (Stopped end trace) (inl t) h room few =
     let same = one_end units t.steps m t.left l t.its_end e t.state s t.is h in
     ap (λ x. run_status (Stopped x trace)) t.same_end ∙ ap (λ x. run_status (Stopped (end_of x) trace)) same.ends ∙ status_of_end e trace
@@ -354,6 +353,9 @@ write_fault answer words old new a h = go (subst (λ s. Answers s words old new)
 
 pub file_fault : (answer : Status) (words : List (List ℕ)) (old new : Moment) → Answers answer words old new → answer ≡ status.FileFault → old.file_faults < new.file_faults
 file_fault answer words old new a h = let f : Answers status.FileFault words old new = subst (λ s. Answers s words old new) h a in f.2
+
+pub unbegun : (answer : Status) (words : List (List ℕ)) (old new : Moment) → Answers answer words old new → answer ≡ status.FileFault → Same old.outside new.outside
+unbegun answer words old new a h = let f : Answers status.FileFault words old new = subst (λ s. Answers s words old new) h a in f.0
 
 pub quiet : (answer : Status) (words : List (List ℕ)) (old new : Moment) → Answers answer words old new → is_failure answer ≡ true
     → Keeps old.report new.report ⊎ ((answer ≡ status.WriteFault) × (IsCutOff words old.outside.files old.report new.report ⊎ RanUntold words old.outside new.outside old.report new.report))

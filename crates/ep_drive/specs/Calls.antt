@@ -117,7 +117,7 @@ pub record Fails (unit : TypedUnit) (old new : Outside) (old_report new_report :
   pub means : EndsSo unit (meaning.Error number in_unit line) old new ⊎ LosesRoom unit number old new
   pub reports : Appends old_report new_report (error_line number in_unit line)
 
--- Some first events of the meaning of the unit were done. They begin with all that it does within m steps wherever 64 * m + 42 is at most the budget, and it has not ended by then, unless room was lost.
+-- Some first events of the meaning of the unit were done. They begin with all that it does within m steps wherever 64 * m + 42 is at most the budget, and it has not ended by then.
 pub record IsCut (budget : ℕ) (unit : TypedUnit) (old new : Outside) (old_report new_report : Option (List ℕ)) : Type 0 where
   pub trace : Trace
   pub means : GoesOn (meaning (unit ∷ [])) budget trace

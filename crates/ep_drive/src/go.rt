@@ -1,6 +1,6 @@
 //! The command `go`.
 
-ghost use Rattle.std.specs.Prelude.{◌<◌, ◌≤◌, ◌^◌, List, ℕ, Option, Some, length};
+ghost use Rattle.std.specs.Prelude.{◌≡◌, ◌<◌, ◌≤◌, ◌^◌, List, ℕ, Option, Some, length};
 ghost use Rattle.ep_outside.specs.Known.{Directory, KeepsFiles, HasFile};
 ghost use Rattle.ep_drive.specs.Commands.{Go, WordsOf};
 ghost use Rattle.ep_drive.specs.Calls.{Answers, Counts, moment};
@@ -30,7 +30,7 @@ pub fn go<F: Files, I: Source, O: Sink, R: Sink>(
     ensures counts { Counts
         (moment (O.held output.old) (F.files files.old) (R.held report.old) (F.faults files.old) (O.faults output.old) (R.faults report.old))
         (moment (O.held output.new) (F.files files.new) (R.held report.new) (F.faults files.new) (O.faults output.new) (R.faults report.new)) }
-    ensures input { I.faults input.old ≤ I.faults input.new }
+    ensures input { input.new ≡ input.old }
 {
     let mut text = Vec::new(alloc);
     match files.load(source.as_bytes(), MAX_SOURCE as u32, &mut text) {
@@ -70,7 +70,7 @@ fn go_text<F: Files, I: Source, O: Sink, R: Sink>(
         (moment (O.held output.old) old (R.held report.old) n (O.faults output.old) (R.faults report.old))
         (moment (O.held output.new) (F.files files.new) (R.held report.new) (F.faults files.new) (O.faults output.new) (R.faults report.new)) }
     ensures files { F.faults files.old ≤ F.faults files.new }
-    ensures input { I.faults input.old ≤ I.faults input.new }
+    ensures input { input.new ≡ input.old }
     ensures output { O.faults output.old ≤ O.faults output.new }
     ensures report { R.faults report.old ≤ R.faults report.new }
 {

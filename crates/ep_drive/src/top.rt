@@ -66,6 +66,8 @@ pub fn epc<F: Files, I: Source, O: Sink, R: Sink>(
     // The two faults come only where a count rose in this call.
     ensures write_fault { result ≡ Status.WriteFault → (O.faults output.old < O.faults output.new) ⊎ (R.faults report.old < R.faults report.new) }
     ensures file_fault { result ≡ Status.FileFault → F.faults files.old < F.faults files.new }
+    // A fault of the files comes before anything is done.
+    ensures unbegun { result ≡ Status.FileFault → Same (outside_of (O.held output.old) (F.files files.old)) (outside_of (O.held output.new) (F.files files.new)) }
 
     // With a fault and where memory is wanting nothing is reported, unless the report had a fault in the middle of the line of
     // a refusal, or of a run whose events were done.
@@ -79,9 +81,11 @@ pub fn epc<F: Files, I: Source, O: Sink, R: Sink>(
     // No other answer is given so far; above all, no image is broken.
     ensures built { is_built result ≡ true }
 
+    // Nothing of the input is read, and it is as it was.
+    ensures input { input.new ≡ input.old }
+
     // No count of faults falls.
     ensures files { F.faults files.old ≤ F.faults files.new }
-    ensures input { I.faults input.old ≤ I.faults input.new }
     ensures output { O.faults output.old ≤ O.faults output.new }
     ensures report { R.faults report.old ≤ R.faults report.new }
 {
@@ -103,7 +107,7 @@ fn carry_out<F: Files, I: Source, O: Sink, R: Sink>(
     ensures counts { Counts
         (moment (O.held output.old) (F.files files.old) (R.held report.old) (F.faults files.old) (O.faults output.old) (R.faults report.old))
         (moment (O.held output.new) (F.files files.new) (R.held report.new) (F.faults files.new) (O.faults output.new) (R.faults report.new)) }
-    ensures input { I.faults input.old ≤ I.faults input.new }
+    ensures input { input.new ≡ input.old }
 {
     match command_of(words) {
         Some(Command { budget, source }) => {

@@ -2,7 +2,7 @@ use Rattle.std.proofs.Common.{subst}
 use Rattle.ep_drive.specs.Calls.{Answers, Moment, moment}
 use Rattle.ep_drive.specs.Commands.{bytes_of}
 use Rattle.ep_drive.proofs.Causes.{caused}
-use Rattle.ep_drive.proofs.Clauses.{ran, done, halted, failed, budget_spent, enough, lines, part, refused, untouched, write_fault, file_fault, quiet, silent, built}
+use Rattle.ep_drive.proofs.Clauses.{ran, done, halted, failed, budget_spent, enough, lines, part, refused, untouched, write_fault, file_fault, unbegun, quiet, silent, built}
 use Rattle.ep_drive.proofs.top.epc.Goals as goal
 
 pub returns : goal.returns
@@ -27,6 +27,7 @@ returns g c =
       untouched = untouched answer words old new a;
       write_fault = write_fault answer words old new a;
       file_fault = file_fault answer words old new a;
+      unbegun = unbegun answer words old new a;
       quiet = quiet answer words old new a;
       silent = silent answer words old new a;
       built = built answer words old new a;
