@@ -24,13 +24,14 @@ fn writes<S: Sink>(sink: &mut S, pieces: &[(&[u8], WriteAnswer)]) -> bool {
 
 #[test]
 fn sinks_hold_what_was_written(rt: HostRuntime) -> Result<(), Fail> {
-    let mut sink = MemSink::new(rt.alloc(), calls(rt.alloc(), &[2])?);
+    let mut sink = MemSink::new(rt.alloc(), calls(rt.alloc(), &[4, 2])?);
     let failing = writes(
         &mut sink,
         &[
             (b"ab", WriteAnswer::Done),
             (b"cde", WriteAnswer::Failed),
             (b"f", WriteAnswer::Done),
+            (b"ghijk", WriteAnswer::Failed),
         ],
     );
     let mut sure = SureSink::new(rt.alloc());
@@ -38,7 +39,7 @@ fn sinks_hold_what_was_written(rt: HostRuntime) -> Result<(), Fail> {
         &mut sure,
         &[(b"ab", WriteAnswer::Done), (b"", WriteAnswer::Done)],
     );
-    let held = sink.held() == b"abcf".as_slice() && sure.held() == b"ab".as_slice();
+    let held = sink.held() == b"abcfgh".as_slice() && sure.held() == b"ab".as_slice();
     assert_eq!(rt; (failing, never, held), (true, true, true));
     Ok(())
 }
@@ -106,7 +107,7 @@ fn are_answered<F: Files>(alloc: Global, files: &mut F, calls: &[Call]) -> bool 
 
 #[test]
 fn files_are_a_map(rt: HostRuntime) -> Result<(), Fail> {
-    let mut files = MemFiles::new(rt.alloc(), calls(rt.alloc(), &[2, 6])?);
+    let mut files = MemFiles::new(rt.alloc(), calls(rt.alloc(), &[2, 6, 7])?);
     files.hold(b"a", b"old")?;
     let answered = are_answered(
         rt.alloc(),
@@ -118,6 +119,8 @@ fn files_are_a_map(rt: HostRuntime) -> Result<(), Fail> {
             Call::Append(b"b", b"x", WriteAnswer::Done),
             Call::Create(b"a", WriteAnswer::Done),
             Call::Create(b"b", WriteAnswer::Failed),
+            Call::Load(b"b", 1, LoadAnswer::Failed, b""),
+            Call::Load(b"b", 1, LoadAnswer::Held, b"x"),
         ],
     );
     let held = files.get(b"a") == Some(b"".as_slice())
