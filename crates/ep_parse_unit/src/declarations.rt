@@ -1,7 +1,8 @@
 //! Definitions, declarations and routines.
 
-ghost use Rattle.ep_grammar.specs.Descriptions.{routines};
-ghost use Rattle.ep_grammar.specs.Declarations.{block_body, constant_definition, constant_definitions, constants, discriminant_section, discriminant_sections, discriminants, formal_section, formal_sections, formal_type, formal_type_of, formals, forward_body, function, function_start, part, parts, procedure, result_name, routine, routine_body, routine_heading, routine_part, routine_start, type_definition, type_definitions, types, variable_declaration, variable_declarations, variables};
+ghost use Rattle.ep_grammar.specs.Descriptions.{optional, routines};
+ghost use Rattle.ep_grammar.specs.Expressions.{of_name};
+ghost use Rattle.ep_grammar.specs.Declarations.{block_body, constant_definition, constant_definitions, constants, discriminant_section, discriminant_sections, discriminants, formal_section, formal_sections, formal_type, formal_type_of, formals, forward_body, function, function_start, of_parts, part, parts, procedure, result_name, routine, routine_body, routine_heading, routine_part, routine_start, type_definition, type_definitions, types, variable_declaration, variable_declarations, variables};
 ghost use Rattle.ep_grammar.specs.Reading.{Reads, read, read_inside};
 ghost use Rattle.ep_grammar.specs.Rules.{inside_at};
 
@@ -10,7 +11,7 @@ use ep_grammar::Stop;
 use ep_parse_expr::{component_value, qualified_name};
 use ep_parse_stmt::compound;
 use ep_parse_type::{names, type_denoter};
-use ep_reader::{Reader, level};
+use ep_reader::{Reader, level, many, separated};
 use ep_token::{symbol, word};
 use ep_tree::{
     ConstantDefinition, Constants, DiscriminantSection, FormalSection, FormalType, Part, Routine,
@@ -47,13 +48,18 @@ fn constant_definitions(
 {
     let mut found = List::with_room(alloc, 1)?;
     found.push(constant_definition(alloc, reader, room)?)?;
-    for _turn in 0..reader.left() {
-        if !reader.sees_name() {
-            return Ok(found);
-        }
-        found.push(constant_definition(alloc, reader, room)?)?;
-    }
-    Ok(found)
+    many(
+        reader,
+        found,
+        |reader: &mut Reader<'_>| -> Result<Option<ConstantDefinition>, Stop>
+            ensures { Reads (read (inside_at room) (optional of_name constant_definition) reader.entry.now) result reader.exit.now }
+        {
+            if !reader.sees_name() {
+                return Ok(None);
+            }
+            Ok(Some(constant_definition(alloc, reader, room)?))
+        },
+    )
 }
 
 /// `consts = "const" id "=" cvalue ";" { id "=" cvalue ";" }`
@@ -88,7 +94,6 @@ fn discriminant_section(
 }
 
 /// `dsec { ";" dsec }`
-#[tactic(auto, unfolding(ep_grammar::specs::Declarations::discriminant_sections))]
 fn discriminant_sections(
     alloc: Global,
     reader: &mut Reader<'_>,
@@ -96,16 +101,14 @@ fn discriminant_sections(
 ) -> Result<List<DiscriminantSection>, Stop>
     ensures { Reads (read (inside_at room) discriminant_sections reader.old) result reader.new }
 {
-    let mut found = List::with_room(alloc, 1)?;
-    found.push(discriminant_section(alloc, reader, room)?)?;
-    for _turn in 0..reader.left() {
-        if !reader.sees_symbol(symbol::SEMICOLON) {
-            return Ok(found);
-        }
-        reader.symbol(symbol::SEMICOLON)?;
-        found.push(discriminant_section(alloc, reader, room)?)?;
-    }
-    Ok(found)
+    separated(
+        alloc,
+        reader,
+        symbol::SEMICOLON,
+        |reader: &mut Reader<'_>| -> Result<DiscriminantSection, Stop>
+            ensures { Reads (read (inside_at room) discriminant_section reader.entry.now) result reader.exit.now }
+        { discriminant_section(alloc, reader, room) },
+    )
 }
 
 /// `[ "(" dsec { ";" dsec } ")" ]`
@@ -161,13 +164,18 @@ fn type_definitions(
 {
     let mut found = List::with_room(alloc, 1)?;
     found.push(type_definition(alloc, reader, room)?)?;
-    for _turn in 0..reader.left() {
-        if !reader.sees_name() {
-            return Ok(found);
-        }
-        found.push(type_definition(alloc, reader, room)?)?;
-    }
-    Ok(found)
+    many(
+        reader,
+        found,
+        |reader: &mut Reader<'_>| -> Result<Option<TypeDefinition>, Stop>
+            ensures { Reads (read (inside_at room) (optional of_name type_definition) reader.entry.now) result reader.exit.now }
+        {
+            if !reader.sees_name() {
+                return Ok(None);
+            }
+            Ok(Some(type_definition(alloc, reader, room)?))
+        },
+    )
 }
 
 /// `types = "type" tdef ";" { tdef ";" }`
@@ -211,13 +219,18 @@ fn variable_declarations(
 {
     let mut found = List::with_room(alloc, 1)?;
     found.push(variable_declaration(alloc, reader, room)?)?;
-    for _turn in 0..reader.left() {
-        if !reader.sees_name() {
-            return Ok(found);
-        }
-        found.push(variable_declaration(alloc, reader, room)?)?;
-    }
-    Ok(found)
+    many(
+        reader,
+        found,
+        |reader: &mut Reader<'_>| -> Result<Option<VariableDeclaration>, Stop>
+            ensures { Reads (read (inside_at room) (optional of_name variable_declaration) reader.entry.now) result reader.exit.now }
+        {
+            if !reader.sees_name() {
+                return Ok(None);
+            }
+            Ok(Some(variable_declaration(alloc, reader, room)?))
+        },
+    )
 }
 
 /// `vars = "var" ids ":" type ";" { ids ":" type ";" }`
@@ -281,7 +294,6 @@ fn formal_section(alloc: Global, reader: &mut Reader<'_>, room: u32) -> Result<F
 }
 
 /// `psec { ";" psec }`
-#[tactic(auto, unfolding(ep_grammar::specs::Declarations::formal_sections))]
 fn formal_sections(
     alloc: Global,
     reader: &mut Reader<'_>,
@@ -289,16 +301,14 @@ fn formal_sections(
 ) -> Result<List<FormalSection>, Stop>
     ensures { Reads (read (inside_at room) formal_sections reader.old) result reader.new }
 {
-    let mut found = List::with_room(alloc, 1)?;
-    found.push(formal_section(alloc, reader, room)?)?;
-    for _turn in 0..reader.left() {
-        if !reader.sees_symbol(symbol::SEMICOLON) {
-            return Ok(found);
-        }
-        reader.symbol(symbol::SEMICOLON)?;
-        found.push(formal_section(alloc, reader, room)?)?;
-    }
-    Ok(found)
+    separated(
+        alloc,
+        reader,
+        symbol::SEMICOLON,
+        |reader: &mut Reader<'_>| -> Result<FormalSection, Stop>
+            ensures { Reads (read (inside_at room) formal_section reader.entry.now) result reader.exit.now }
+        { formal_section(alloc, reader, room) },
+    )
 }
 
 /// `[ formals ]`, where `formals = "(" psec { ";" psec } ")"`
@@ -443,18 +453,22 @@ fn part(alloc: Global, reader: &mut Reader<'_>, room: u32) -> Result<Part, Stop>
 
 /// `parts = { consts | types | vars | rdecl }`
 #[cycle(routine)]
-#[tactic(auto, unfolding(ep_grammar::specs::Declarations::parts))]
 pub(crate) fn parts(alloc: Global, reader: &mut Reader<'_>, room: u32) -> Result<List<Part>, Stop>
     ensures { Reads (read (inside_at room) parts reader.old) result reader.new }
 {
-    let mut found = List::new(alloc);
-    for _turn in 0..reader.left() {
-        if !reader.begins_part() {
-            return Ok(found);
-        }
-        found.push(part(alloc, reader, room)?)?;
-    }
-    Ok(found)
+    let none = List::new(alloc);
+    many(
+        reader,
+        none,
+        |reader: &mut Reader<'_>| -> Result<Option<Part>, Stop>
+            ensures { Reads (read (inside_at room) (optional of_parts part) reader.entry.now) result reader.exit.now }
+        {
+            if !reader.begins_part() {
+                return Ok(None);
+            }
+            Ok(Some(part(alloc, reader, room)?))
+        },
+    )
 }
 
 /// `"forward"`

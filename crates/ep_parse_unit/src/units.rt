@@ -1,7 +1,9 @@
 //! Components.
 
 ghost use Rattle.std.specs.Prelude.{◌≡◌, ◌≢◌, ◌++◌, [], ◌∷◌, IfErr, IfOk, OnOk, Err, Ok};
-ghost use Rattle.ep_grammar.specs.Expressions.{name};
+ghost use Rattle.ep_grammar.specs.Declarations.{of_parts};
+ghost use Rattle.ep_grammar.specs.Descriptions.{optional};
+ghost use Rattle.ep_grammar.specs.Expressions.{name, of_name};
 ghost use Rattle.ep_grammar.specs.Units.{action, actions, begin_action, block, component, components, end_action, export_item, export_items, export_part, export_parts, exports, finalization, heading_part, heading_parts, heading_rest, heading_routine, implementation_rest, import_item, import_items, import_list, import_part, import_specification, import_specifications, imports, interface_rest, module_component, module_rest, parameters, plain_item, program, program_component, protected_item, renaming, some_actions, unit};
 ghost use Rattle.ep_grammar.specs.Reading.{Reads, applied, read};
 ghost use Rattle.ep_grammar.specs.Rules.{inside_at};
@@ -12,7 +14,7 @@ use ep_base::{Boxed, Line, List, Name, Names, NoMemory};
 use ep_grammar::Stop;
 use ep_parse_stmt::{boxed_statement, compound};
 use ep_parse_type::names_in_parentheses;
-use ep_reader::{Reader, level};
+use ep_reader::{Reader, level, many, separated};
 use ep_token::{symbol, word};
 use ep_tree::{
     Block, Component, Export, ExportItem, Heading, HeadingPart, Implementation, Import, ImportItem,
@@ -63,20 +65,17 @@ fn import_item(alloc: Global, reader: &mut Reader<'_>, room: u32) -> Result<Impo
 }
 
 /// `iitem { "," iitem }`
-#[tactic(auto, unfolding(ep_grammar::specs::Units::import_items))]
 fn import_items(alloc: Global, reader: &mut Reader<'_>, room: u32) -> Result<List<ImportItem>, Stop>
     ensures { Reads (read (inside_at room) import_items reader.old) result reader.new }
 {
-    let mut found = List::with_room(alloc, 1)?;
-    found.push(import_item(alloc, reader, room)?)?;
-    for _turn in 0..reader.left() {
-        if !reader.sees_symbol(symbol::COMMA) {
-            return Ok(found);
-        }
-        reader.symbol(symbol::COMMA)?;
-        found.push(import_item(alloc, reader, room)?)?;
-    }
-    Ok(found)
+    separated(
+        alloc,
+        reader,
+        symbol::COMMA,
+        |reader: &mut Reader<'_>| -> Result<ImportItem, Stop>
+            ensures { Reads (read (inside_at room) import_item reader.entry.now) result reader.exit.now }
+        { import_item(alloc, reader, room) },
+    )
 }
 
 /// `"(" iitem { "," iitem } ")"`
@@ -141,13 +140,18 @@ fn import_specifications(
 {
     let mut found = List::with_room(alloc, 1)?;
     found.push(import_specification(alloc, reader, room)?)?;
-    for _turn in 0..reader.left() {
-        if !reader.sees_name() {
-            return Ok(found);
-        }
-        found.push(import_specification(alloc, reader, room)?)?;
-    }
-    Ok(found)
+    many(
+        reader,
+        found,
+        |reader: &mut Reader<'_>| -> Result<Option<Import>, Stop>
+            ensures { Reads (read (inside_at room) (optional of_name import_specification) reader.entry.now) result reader.exit.now }
+        {
+            if !reader.sees_name() {
+                return Ok(None);
+            }
+            Ok(Some(import_specification(alloc, reader, room)?))
+        },
+    )
 }
 
 /// `imports = [ "import" import ";" { import ";" } ]`
@@ -202,20 +206,17 @@ fn export_item(alloc: Global, reader: &mut Reader<'_>, room: u32) -> Result<Expo
 }
 
 /// `eitem { "," eitem }`
-#[tactic(auto, unfolding(ep_grammar::specs::Units::export_items))]
 fn export_items(alloc: Global, reader: &mut Reader<'_>, room: u32) -> Result<List<ExportItem>, Stop>
     ensures { Reads (read (inside_at room) export_items reader.old) result reader.new }
 {
-    let mut found = List::with_room(alloc, 1)?;
-    found.push(export_item(alloc, reader, room)?)?;
-    for _turn in 0..reader.left() {
-        if !reader.sees_symbol(symbol::COMMA) {
-            return Ok(found);
-        }
-        reader.symbol(symbol::COMMA)?;
-        found.push(export_item(alloc, reader, room)?)?;
-    }
-    Ok(found)
+    separated(
+        alloc,
+        reader,
+        symbol::COMMA,
+        |reader: &mut Reader<'_>| -> Result<ExportItem, Stop>
+            ensures { Reads (read (inside_at room) export_item reader.entry.now) result reader.exit.now }
+        { export_item(alloc, reader, room) },
+    )
 }
 
 /// `export ";"`, where `export = id "=" "(" eitem { "," eitem } ")"`
@@ -240,13 +241,18 @@ fn export_parts(alloc: Global, reader: &mut Reader<'_>, room: u32) -> Result<Lis
 {
     let mut found = List::with_room(alloc, 1)?;
     found.push(export_part(alloc, reader, room)?)?;
-    for _turn in 0..reader.left() {
-        if !reader.sees_name() {
-            return Ok(found);
-        }
-        found.push(export_part(alloc, reader, room)?)?;
-    }
-    Ok(found)
+    many(
+        reader,
+        found,
+        |reader: &mut Reader<'_>| -> Result<Option<Export>, Stop>
+            ensures { Reads (read (inside_at room) (optional of_name export_part) reader.entry.now) result reader.exit.now }
+        {
+            if !reader.sees_name() {
+                return Ok(None);
+            }
+            Ok(Some(export_part(alloc, reader, room)?))
+        },
+    )
 }
 
 /// `exports = "export" export ";" { export ";" }`
@@ -289,7 +295,6 @@ fn heading_part(alloc: Global, reader: &mut Reader<'_>, room: u32) -> Result<Hea
 }
 
 /// `{ consts | types | vars | rhead ";" }`
-#[tactic(auto, unfolding(ep_grammar::specs::Units::heading_parts))]
 fn heading_parts(
     alloc: Global,
     reader: &mut Reader<'_>,
@@ -297,14 +302,19 @@ fn heading_parts(
 ) -> Result<List<HeadingPart>, Stop>
     ensures { Reads (read (inside_at room) heading_parts reader.old) result reader.new }
 {
-    let mut found = List::new(alloc);
-    for _turn in 0..reader.left() {
-        if !reader.begins_part() {
-            return Ok(found);
-        }
-        found.push(heading_part(alloc, reader, room)?)?;
-    }
-    Ok(found)
+    let none = List::new(alloc);
+    many(
+        reader,
+        none,
+        |reader: &mut Reader<'_>| -> Result<Option<HeadingPart>, Stop>
+            ensures { Reads (read (inside_at room) (optional of_parts heading_part) reader.entry.now) result reader.exit.now }
+        {
+            if !reader.begins_part() {
+                return Ok(None);
+            }
+            Ok(Some(heading_part(alloc, reader, room)?))
+        },
+    )
 }
 
 /// `[ "(" ids ")" ] ";" exports imports { consts | types | vars | rhead ";" } "end"`

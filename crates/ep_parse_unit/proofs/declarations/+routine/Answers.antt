@@ -1,27 +1,16 @@
-use Rattle.std.proofs.Common.{refl, rules, arith}
-use Rattle.std.proofs.lemmas.Grind.{common_steps}
-use Rattle.ep_grammar.specs.Declarations.{block_body, parts, routine_part}
+use Rattle.std.proofs.Common.{of_calls, refl, subst}
+use Rattle.ep_grammar.specs.Declarations.{block_body, of_parts, part, parts, routine_part}
+use Rattle.ep_grammar.specs.Reading.{Reads, read}
+use Rattle.ep_grammar.specs.Rules.{inside_at}
+use Rattle.ep_reader.specs.Rows.{many_by}
 use Rattle.ep_reader.proofs.Levels.{handed, opened, unopened}
-use Rattle.ep_reader.proofs.RowLoops.{turns_over, many_begun, item_more, item_refused, item_none}
 use Rattle.ep_parse_unit.proofs.declarations.+routine.Goals as goal
 
-pub parts-loop-turn-init : goal.parts-loop-turn-init
-unfolding parts
-parts-loop-turn-init t c = many_begun _ c.new-found.ensures c.left-turn-end.ensures
-
-pub parts-returns-then-not-begins_part : goal.parts-returns-then-not-begins_part
-parts-returns-then-not-begins_part t c = item_none c.loop-turn.invariant c.loop-turn-test.true c.if-not-begins_part.ensures
-
-pub parts-returns-in_err-part : goal.parts-returns-in_err-part
-parts-returns-in_err-part t c =
-    let refused = item_refused c.loop-turn.invariant c.loop-turn-test.true c.if-not-begins_part.ensures c.in_err-part.ensures in
-    first_of (search rules, grind (arith, common_steps))
-
-pub parts-loop-turn-preserved : goal.parts-loop-turn-preserved
-parts-loop-turn-preserved t c = item_more c.loop-turn.invariant c.loop-turn-test.true c.if-not-begins_part.ensures c.in_ok-part.ensures c.in_ok-push.ensures.ok
-
 pub parts-returns : goal.parts-returns
-parts-returns t c = turns_over c.loop-turn.invariant c.loop-turn-test.false
+unfolding parts
+parts-returns t c =
+    subst (λ w. Reads (many_by of_parts (read (inside_at c.args.room) part) w c.args.reader.now) c.many.result c.many.new.reader) c.new-none.ensures
+    (c.many.ensures of_parts (read (inside_at c.args.room) part) (λ i j r called. search of_calls))
 
 pub routine_part-returns-in_err-_inner : goal.routine_part-returns-in_err-_inner
 unfolding routine_part

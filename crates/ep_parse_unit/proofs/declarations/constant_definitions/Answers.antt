@@ -1,23 +1,13 @@
-use Rattle.std.proofs.Common.{rules, arith}
-use Rattle.std.proofs.lemmas.Grind.{common_steps}
-use Rattle.ep_grammar.specs.Declarations.{constant_definitions}
-use Rattle.ep_reader.proofs.RowLoops.{turns_over, some_begun, item_more, item_refused, item_none}
+use Rattle.std.proofs.Common.{of_calls}
+use Rattle.ep_grammar.specs.Declarations.{constant_definition, constant_definitions}
+use Rattle.ep_grammar.specs.Expressions.{of_name}
+use Rattle.ep_grammar.specs.Reading.{read}
+use Rattle.ep_grammar.specs.Rules.{inside_at}
+use Rattle.ep_reader.proofs.Begun.{some_behind}
 use Rattle.ep_parse_unit.proofs.declarations.constant_definitions.Goals as goal
 
-pub loop-turn-init : goal.loop-turn-init
-unfolding constant_definitions
-loop-turn-init c = some_begun _ c.in_ok-constant_definition.ensures c.in_ok-found.ensures c.in_ok-push.ensures.ok c.left-turn-end.ensures
-
-pub returns-then-not-sees_name : goal.returns-then-not-sees_name
-returns-then-not-sees_name c = item_none c.loop-turn.invariant c.loop-turn-test.true c.if-not-sees_name.ensures
-
-pub returns-in_err-constant_definition-2 : goal.returns-in_err-constant_definition-2
-returns-in_err-constant_definition-2 c =
-    let refused = item_refused c.loop-turn.invariant c.loop-turn-test.true c.if-not-sees_name.ensures c.in_err-constant_definition-2.ensures in
-    first_of (search rules, grind (arith, common_steps))
-
-pub loop-turn-preserved : goal.loop-turn-preserved
-loop-turn-preserved c = item_more c.loop-turn.invariant c.loop-turn-test.true c.if-not-sees_name.ensures c.in_ok-constant_definition-2.ensures c.in_ok-push-2.ensures.ok
-
 pub returns : goal.returns
-returns c = turns_over c.loop-turn.invariant c.loop-turn-test.false
+unfolding constant_definitions
+returns c =
+    some_behind (inside_at c.args.room) of_name constant_definition c.args.reader.now c.in_ok-constant_definition.ensures c.in_ok-found.ensures c.in_ok-push.ensures.ok c.many.result c.many.new.reader
+    (c.many.ensures of_name (read (inside_at c.args.room) constant_definition) (λ i j r called. search of_calls))

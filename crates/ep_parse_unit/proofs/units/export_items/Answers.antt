@@ -1,34 +1,9 @@
-use Rattle.std.proofs.Common.{rules, arith}
-use Rattle.std.proofs.lemmas.Grind.{common_steps}
-use Rattle.ep_token.specs.declared.symbol.TheConstants as sym
-use Rattle.ep_grammar.specs.Descriptions.{item_after}
-use Rattle.ep_grammar.specs.Reading.{read, turns, steps}
+use Rattle.std.proofs.Common.{of_calls}
+use Rattle.ep_grammar.specs.Units.{export_item, export_items}
+use Rattle.ep_grammar.specs.Reading.{read}
 use Rattle.ep_grammar.specs.Rules.{inside_at}
-use Rattle.ep_reader.proofs.Turning.{one_more, no_more}
-use Rattle.ep_grammar.specs.Expressions.{on}
-use Rattle.ep_grammar.specs.Units.{export_item}
 use Rattle.ep_parse_unit.proofs.units.export_items.Goals as goal
 
-pub returns-then-not-sees_symbol : goal.returns-then-not-sees_symbol
-unfolding steps
-returns-then-not-sees_symbol c =
-    let e = one_more (λ n. turns (on sym.COMMA) (read (inside_at c.args.room) (item_after sym.COMMA export_item)) (tt {0}) n c.loop-turn.found c.loop-turn.reader) _ c.loop-turn._turn c.loop-turn-test.true c.loop-turn.invariant in
-    first_of (search rules, grind (arith, common_steps))
-
-pub returns-in_err-export_item-2 : goal.returns-in_err-export_item-2
-unfolding steps
-returns-in_err-export_item-2 c =
-    let e = one_more (λ n. turns (on sym.COMMA) (read (inside_at c.args.room) (item_after sym.COMMA export_item)) (tt {0}) n c.loop-turn.found c.loop-turn.reader) _ c.loop-turn._turn c.loop-turn-test.true c.loop-turn.invariant in
-    first_of (search rules, grind (arith, common_steps))
-
-pub loop-turn-preserved : goal.loop-turn-preserved
-unfolding steps
-loop-turn-preserved c =
-    let e = one_more (λ n. turns (on sym.COMMA) (read (inside_at c.args.room) (item_after sym.COMMA export_item)) (tt {0}) n c.loop-turn.found c.loop-turn.reader) _ c.loop-turn._turn c.loop-turn-test.true c.loop-turn.invariant in
-    first_of (search rules, grind (arith, common_steps))
-
 pub returns : goal.returns
-unfolding steps
-returns c =
-    let e = no_more (λ n. turns (on sym.COMMA) (read (inside_at c.args.room) (item_after sym.COMMA export_item)) (tt {0}) n c.loop-turn.found c.loop-turn.reader) _ c.loop-turn._turn c.loop-turn-test.false c.loop-turn.invariant in
-    first_of (search rules, grind (arith, common_steps))
+unfolding export_items
+returns c = c.separated.ensures (read (inside_at c.args.room) export_item) (λ i j r called. search of_calls)

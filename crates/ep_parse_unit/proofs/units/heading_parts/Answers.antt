@@ -1,33 +1,13 @@
-use Rattle.std.proofs.Common.{rules, arith}
-use Rattle.std.proofs.lemmas.Grind.{common_steps}
-use Rattle.ep_grammar.specs.Descriptions.{item}
-use Rattle.ep_grammar.specs.Reading.{read, turns, steps}
-use Rattle.ep_grammar.specs.Rules.{inside_at}
-use Rattle.ep_reader.proofs.Turning.{one_more, no_more}
+use Rattle.std.proofs.Common.{of_calls, subst}
 use Rattle.ep_grammar.specs.Declarations.{of_parts}
-use Rattle.ep_grammar.specs.Units.{heading_part}
+use Rattle.ep_grammar.specs.Units.{heading_part, heading_parts}
+use Rattle.ep_grammar.specs.Reading.{Reads, read}
+use Rattle.ep_grammar.specs.Rules.{inside_at}
+use Rattle.ep_reader.specs.Rows.{many_by}
 use Rattle.ep_parse_unit.proofs.units.heading_parts.Goals as goal
 
-pub returns-then-not-begins_part : goal.returns-then-not-begins_part
-unfolding steps
-returns-then-not-begins_part c =
-    let e = one_more (λ n. turns of_parts (read (inside_at c.args.room) (item heading_part)) (tt {0}) n c.loop-turn.found c.loop-turn.reader) _ c.loop-turn._turn c.loop-turn-test.true c.loop-turn.invariant in
-    first_of (search rules, grind (arith, common_steps))
-
-pub returns-in_err-heading_part : goal.returns-in_err-heading_part
-unfolding steps
-returns-in_err-heading_part c =
-    let e = one_more (λ n. turns of_parts (read (inside_at c.args.room) (item heading_part)) (tt {0}) n c.loop-turn.found c.loop-turn.reader) _ c.loop-turn._turn c.loop-turn-test.true c.loop-turn.invariant in
-    first_of (search rules, grind (arith, common_steps))
-
-pub loop-turn-preserved : goal.loop-turn-preserved
-unfolding steps
-loop-turn-preserved c =
-    let e = one_more (λ n. turns of_parts (read (inside_at c.args.room) (item heading_part)) (tt {0}) n c.loop-turn.found c.loop-turn.reader) _ c.loop-turn._turn c.loop-turn-test.true c.loop-turn.invariant in
-    first_of (search rules, grind (arith, common_steps))
-
 pub returns : goal.returns
-unfolding steps
+unfolding heading_parts
 returns c =
-    let e = no_more (λ n. turns of_parts (read (inside_at c.args.room) (item heading_part)) (tt {0}) n c.loop-turn.found c.loop-turn.reader) _ c.loop-turn._turn c.loop-turn-test.false c.loop-turn.invariant in
-    first_of (search rules, grind (arith, common_steps))
+    subst (λ w. Reads (many_by of_parts (read (inside_at c.args.room) heading_part) w c.args.reader.now) c.many.result c.many.new.reader) c.new-none.ensures
+    (c.many.ensures of_parts (read (inside_at c.args.room) heading_part) (λ i j r called. search of_calls))

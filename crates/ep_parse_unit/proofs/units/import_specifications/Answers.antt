@@ -1,33 +1,13 @@
-use Rattle.std.proofs.Common.{rules, arith}
-use Rattle.std.proofs.lemmas.Grind.{common_steps}
-use Rattle.ep_grammar.specs.Descriptions.{item}
-use Rattle.ep_grammar.specs.Reading.{read, turns, steps}
-use Rattle.ep_grammar.specs.Rules.{inside_at}
-use Rattle.ep_reader.proofs.Turning.{one_more, no_more}
+use Rattle.std.proofs.Common.{of_calls}
+use Rattle.ep_grammar.specs.Units.{import_specification, import_specifications}
 use Rattle.ep_grammar.specs.Expressions.{of_name}
-use Rattle.ep_grammar.specs.Units.{import_specification}
+use Rattle.ep_grammar.specs.Reading.{read}
+use Rattle.ep_grammar.specs.Rules.{inside_at}
+use Rattle.ep_reader.proofs.Begun.{some_behind}
 use Rattle.ep_parse_unit.proofs.units.import_specifications.Goals as goal
 
-pub returns-then-not-sees_name : goal.returns-then-not-sees_name
-unfolding steps
-returns-then-not-sees_name c =
-    let e = one_more (λ n. turns of_name (read (inside_at c.args.room) (item import_specification)) (tt {0}) n c.loop-turn.found c.loop-turn.reader) _ c.loop-turn._turn c.loop-turn-test.true c.loop-turn.invariant in
-    first_of (search rules, grind (arith, common_steps))
-
-pub returns-in_err-import_specification-2 : goal.returns-in_err-import_specification-2
-unfolding steps
-returns-in_err-import_specification-2 c =
-    let e = one_more (λ n. turns of_name (read (inside_at c.args.room) (item import_specification)) (tt {0}) n c.loop-turn.found c.loop-turn.reader) _ c.loop-turn._turn c.loop-turn-test.true c.loop-turn.invariant in
-    first_of (search rules, grind (arith, common_steps))
-
-pub loop-turn-preserved : goal.loop-turn-preserved
-unfolding steps
-loop-turn-preserved c =
-    let e = one_more (λ n. turns of_name (read (inside_at c.args.room) (item import_specification)) (tt {0}) n c.loop-turn.found c.loop-turn.reader) _ c.loop-turn._turn c.loop-turn-test.true c.loop-turn.invariant in
-    first_of (search rules, grind (arith, common_steps))
-
 pub returns : goal.returns
-unfolding steps
+unfolding import_specifications
 returns c =
-    let e = no_more (λ n. turns of_name (read (inside_at c.args.room) (item import_specification)) (tt {0}) n c.loop-turn.found c.loop-turn.reader) _ c.loop-turn._turn c.loop-turn-test.false c.loop-turn.invariant in
-    first_of (search rules, grind (arith, common_steps))
+    some_behind (inside_at c.args.room) of_name import_specification c.args.reader.now c.in_ok-import_specification.ensures c.in_ok-found.ensures c.in_ok-push.ensures.ok c.many.result c.many.new.reader
+    (c.many.ensures of_name (read (inside_at c.args.room) import_specification) (λ i j r called. search of_calls))
