@@ -2,9 +2,10 @@
 
 ghost use Rattle.ep_token.specs.declared.word.TheConstants as word;
 ghost use Rattle.ep_grammar.specs.Descriptions.{plains, field_lists, optional};
-ghost use Rattle.ep_grammar.specs.Expressions.{name, of_expression, on_word};
+ghost use Rattle.ep_grammar.specs.Expressions.{of_expression, on_word};
 ghost use Rattle.ep_grammar.specs.Types.{array, core, enumeration, field_section, fields, initial, inner_fields, inner_plains, named_or_range, names, names_in_parentheses, other_fields, plain, pointer, range_end, record_structure, restricted, section_fields, sections, sections_end, set_structure, structure, structured, type_denoter, type_of, variant, variant_fields, variant_part, variant_selector, variants};
-ghost use Rattle.ep_grammar.specs.Reading.{Reads, applied, read, read_inside};
+ghost use Rattle.ep_grammar.specs.Classes.{names as name_tokens};
+ghost use Rattle.ep_grammar.specs.Reading.{Reads, applied, read, read_inside, read_token};
 ghost use Rattle.ep_grammar.specs.Rules.{inside_at};
 
 use ep_base::{Boxed, Line, List, Name, Names};
@@ -27,7 +28,7 @@ pub fn names(alloc: Global, reader: &mut Reader<'_>, room: u32) -> Result<Names,
         reader,
         symbol::COMMA,
         |reader: &mut Reader<'_>| -> Result<Name, Stop>
-            ensures { Reads (read (inside_at room) name reader.entry.now) result reader.exit.now }
+            ensures { Reads (read_token name_tokens reader.entry.now) result reader.exit.now }
         { reader.name(alloc) },
     )
 }
