@@ -1,154 +1,144 @@
--- Where there is cause for a refusal, the answer is its status.
-use Rattle.std.proofs.Common.{◌≡◌, ℕ, ◌≤◌, ◌<◌, length, true, List, ◌⊎◌, inl, inr, Option, None, Some, refl, sym, ap, ◌∙◌, subst, arith}
-use Rattle.std.proofs.lemmas.Option.{same_Some}
-use Rattle.ep_outside.specs.Known.{Directory}
-use Rattle.ep_token.proofs.TokenLaws.{tokens-one, tokens-apart}
+-- A text that is outside the language gives one cause on one line, and has no tree; a text with a tree has one first node that is not built.
+use Rattle.std.proofs.Common.{◌≡◌, ℕ, ◌+◌, ◌-◌, ◌<◌, ◌≤◌, length, take, drop, List, ◌++◌, ◌⊎◌, inl, inr, Option, refl, sym, ap, ◌∙◌, subst, arith, append_assoc}
+use Rattle.std.proofs.Math.Seq.{take-add}
+use Rattle.std.proofs.lemmas.Bool.{cases_lt}
+use Rattle.ep_token.proofs.TokenLaws.{tokens-one, tokens-apart, stuck-one}
 use Rattle.ep_token.specs.Tokens.{Tokens}
 use Rattle.ep_token.specs.declared.refusal.TokenRefusal.{TokenRefusal}
 use Rattle.ep_token.specs.declared.refusal.TokenRefusal.TheVariants as token
 use Rattle.ep_token.specs.declared.token.Token.{Token}
+use Rattle.ep_grammar.proofs.Refusal.{one_tree}
 use Rattle.ep_grammar.specs.Refusals.{RefusedAt}
-use Rattle.ep_grammar.specs.Rules.{Grammar}
+use Rattle.ep_grammar.specs.Rules.{Grammar, Begins}
 use Rattle.ep_grammar.specs.declared.stop.TheConstants.{MAX_NESTING}
-use Rattle.ep_typed.specs.declared.unit.Unit.{Unit as TypedUnit}
-use Rattle.ep_drive.specs.Calls.{Moment, Answers, Runs, IsCaused, IsRefused, is_failure}
-use Rattle.ep_drive.specs.Commands.{Go}
-use Rattle.ep_drive.specs.ProgramTexts.{IsProgramText}
-use Rattle.ep_drive.specs.Refusals.{Refusal, Usage, Missing, TooLong, InText, source_limit, text_status, status_of, IsStuck, IsUnbuilt, IsTextCause, IsCause, IsKnownCause}
+use Rattle.ep_parse.specs.Refusals.{line_at}
+use Rattle.ep_drive.specs.ProgramTexts.{HasUnbuilt, HasTree, components_unbuilt}
+use Rattle.ep_drive.specs.Refusals.{IsStuck, IsOutside, by_tokens}
 use Rattle.ep_drive.specs.declared.source.Cause.{Cause}
 use Rattle.ep_drive.specs.declared.source.Cause.TheVariants as cause
-use Rattle.ep_drive.specs.declared.status.Status.{Status}
-use Rattle.ep_drive.specs.declared.status.Status.TheVariants as status
-use Rattle.ep_drive.proofs.Loaded.{same_command, same_content, long_content}
-use Rattle.ep_drive.proofs.Sources.{apart}
+use Rattle.ep_drive.specs.declared.source.TextRefusal.TheVariants as text_refusal
 
--- ---- the causes of one text have one status
+-- ---- the place of a refusal is the least
 
--- the text is outside the language, and so no form of it is one that is not built
-record IsOutside (text : List ℕ) (why : Cause) : Type 0 where
-  refused : text_status why ≡ status.SourceRefused
-  no_tree : (line : ℕ) → IsUnbuilt text line → ⊥
+-- what begins a text begins one with all of its fronts
+begins-front : (k : ℕ) (ts : List Token) (p q : ℕ) → p ≤ q → Begins k (take q ts) → Begins k (take p ts)
+begins-front k ts p q h b =
+    let sum : q ≡ p + (q - p) = omega arith in
+    let parts : take q ts ≡ take p ts ++ take (q - p) (drop p ts) = ap (λ n. take n ts) sum ∙ take-add p (q - p) ts in
+    let more = take (q - p) (drop p ts) ++ b.0 in
+    (more, b.1, subst (λ x. Grammar k x b.1) (ap (λ (x : List Token). x ++ b.0) parts ∙ append_assoc (take p ts) (take (q - p) (drop p ts)) b.0) b.2)
 
-without_tokens : (text : List ℕ) (refusal : TokenRefusal) (line : ℕ) → IsStuck text refusal → IsUnbuilt text line → ⊥
-without_tokens text refusal line stuck u = tokens-apart text u.tokens stuck.0 refusal u.are_tokens stuck.1
+-- a place where no text goes on, and the tokens before it begin a text
+record IsLeast (k : ℕ) (ts : List Token) (place : ℕ) : Type 0 where
+  refused : RefusedAt k ts place
+  begun : Begins k (take place ts)
 
-without_tree : (text : List ℕ) (ts : List Token) (place line : ℕ) → Tokens text ts → RefusedAt MAX_NESTING ts place → IsUnbuilt text line → ⊥
-without_tree text ts place line t r u = r.not_derived u.components (subst (λ x. Grammar MAX_NESTING x u.components) (tokens-one text u.tokens ts u.are_tokens t) u.derived)
+not_before : (k : ℕ) (ts : List Token) (p q : ℕ) → IsLeast k ts p → IsLeast k ts q → p < q → ⊥
+not_before k ts p q a b h =
+    let r = a.refused in
+    let s = b.refused in
+    let inside : q ≤ length ts = s.inside in
+    r.no_text (omega arith) (begins-front k ts (p + 1) q (omega arith) b.begun)
 
--- the cause is that a form is not built, or the text is outside the language
-sorted : (text : List ℕ) (why : Cause) (line : ℕ) → IsTextCause text why line → (IsUnbuilt text line × (why ≡ cause.NotBuilt)) ⊎ IsOutside text why
-sorted text cause.NoToken line c = inr (record { refused = refl; no_tree = λ n. without_tokens text (token.NoToken line) n c })
-sorted text cause.OpenComment line c = inr (record { refused = refl; no_tree = λ n. without_tokens text (token.OpenComment line) n c })
-sorted text cause.OpenString line c = inr (record { refused = refl; no_tree = λ n. without_tokens text (token.OpenString line) n c })
-sorted text cause.BadNumber line c = inr (record { refused = refl; no_tree = λ n. without_tokens text (token.BadNumber line) n c })
-sorted text cause.LongName line c = inr (record { refused = refl; no_tree = λ n. without_tokens text (token.LongName line) n c })
-sorted text cause.Syntax line c = let r = c.refused in inr (record { refused = refl; no_tree = λ n. without_tree text c.tokens c.place n c.are_tokens (r.refused MAX_NESTING) })
-sorted text cause.Nested line c = let r = c.refused in inr (record { refused = refl; no_tree = λ n. without_tree text c.tokens c.place n c.are_tokens r.refused })
-sorted text cause.NotBuilt line c = inl (c, refl)
+same_place : (k : ℕ) (ts : List Token) (p q : ℕ) → IsLeast k ts p → IsLeast k ts q → p ≡ q
+same_place k ts p q a b = elim (cases_lt p q) [
+  | inl h ↦ absurd (not_before k ts p q a b h)
+  | inr h ↦ elim (cases_lt q p) [ inl m ↦ absurd (not_before k ts q p b a m) | inr m ↦ omega arith ]
+]
 
-alike : (text : List ℕ) (why other : Cause) (line at : ℕ) → IsTextCause text why line → IsTextCause text other at → text_status other ≡ text_status why
-alike text why other line at c d = of_both (sorted text why line c) (sorted text other at d) where
-  of_both : (IsUnbuilt text line × (why ≡ cause.NotBuilt)) ⊎ IsOutside text why → (IsUnbuilt text at × (other ≡ cause.NotBuilt)) ⊎ IsOutside text other → text_status other ≡ text_status why
-  of_both (inl u) (inl v) = ap text_status (v.1 ∙ sym u.1)
-  of_both (inl u) (inr q) = absurd (q.no_tree line u.0)
-  of_both (inr p) (inl v) = absurd (p.no_tree at v.0)
-  of_both (inr p) (inr q) = q.refused ∙ sym p.refused
+-- ---- the causes by where they are found
 
--- ---- so do all causes of one call
+-- the text has no tokens
+record HasStuck (text : List ℕ) (why : Cause) (line : ℕ) : Type 0 where
+  refusal : TokenRefusal
+  stuck : IsStuck text refusal
+  is : by_tokens refusal ≡ text_refusal.Refused why line
 
-module _ (words : List (List ℕ)) (files : Option Directory) where
-  -- a program that was loaded leaves no cause
-  no_run : {P : ℕ → TypedUnit → Type 0} (refusal : Refusal) → IsKnownCause words files refusal → Runs words files P → ⊥
-  no_run Usage k r = k (Go r.budget r.source) r.command
-  no_run (Missing file) k r =
-      let asks = k.0 in
-      let same = same_command words r.budget asks.0 r.source file r.command asks.1 in
-      let found : Some r.text ≡ None = same_content files file r.source None (Some r.text) k.1 same.sources r.loaded in
-      absurd cc
-  no_run (TooLong file bytes) k r =
-      let asks = k.0 in
-      let known = k.1 in
-      let same = same_command words r.budget asks.0 r.source file r.command asks.1 in
-      let found : Some r.text ≡ Some known.0 = same_content files file r.source (Some known.0) (Some r.text) known.1 same.sources r.loaded in
-      let bytes_are : length r.text ≡ bytes = ap length (same_Some r.text known.0 found) ∙ known.2 in
-      let short : length r.text ≤ source_limit = r.short in
-      let long : source_limit < bytes = known.3 in
-      omega arith
-  no_run (InText file why line) k r =
-      let asks = k.0 in
-      let known = k.1 in
-      let same = same_command words r.budget asks.0 r.source file r.command asks.1 in
-      let found : Some r.text ≡ Some known.0 = same_content files file r.source (Some known.0) (Some r.text) known.1 same.sources r.loaded in
-      apart known.0 why line r.unit known.3 (subst (λ t. IsProgramText t r.unit) (same_Some r.text known.0 found) r.program)
+-- the tokens have no tree, whatever the levels, or only with more of them
+abbrev Which : List Token → ℕ → Cause → Type 0
+Which ts place why =
+    ((why ≡ cause.Syntax) × ((m : ℕ) → RefusedAt m ts place))
+    ⊎ ((why ≡ cause.Nested) × (place < length ts) × ((m : ℕ) × Begins m (take (place + 1) ts)))
 
-  one_status : (refusal other : Refusal) → IsKnownCause words files refusal → IsCause words files other → status_of other ≡ status_of refusal
-  one_status Usage Usage k c = refl
-  one_status Usage (Missing file) k c = let asks = c.0 in absurd (k (Go asks.0 file) asks.1)
-  one_status Usage (TooLong file bytes) k c = let asks = c.0 in absurd (k (Go asks.0 file) asks.1)
-  one_status Usage (InText file why line) k c = let asks = c.0 in absurd (k (Go asks.0 file) asks.1)
-  one_status (Missing file) Usage k c = let asks = k.0 in absurd (c (Go asks.0 file) asks.1)
-  one_status (Missing file) (Missing other) k c = refl
-  one_status (Missing file) (TooLong other bytes) k c = refl
-  one_status (Missing file) (InText other why line) k c =
-      let mine = k.0 in
-      let theirs = c.0 in
-      let text = c.1 in
-      let same = same_command words theirs.0 mine.0 other file theirs.1 mine.1 in
-      let found : Some text.0 ≡ None = same_content files file other None (Some text.0) k.1 same.sources text.1 in
-      absurd cc
-  one_status (TooLong file bytes) Usage k c = let asks = k.0 in absurd (c (Go asks.0 file) asks.1)
-  one_status (TooLong file bytes) (Missing other) k c = refl
-  one_status (TooLong file bytes) (TooLong other more) k c = refl
-  one_status (TooLong file bytes) (InText other why line) k c =
-      let mine = k.0 in
-      let theirs = c.0 in
-      let known = k.1 in
-      let text = c.1 in
-      let same = same_command words theirs.0 mine.0 other file theirs.1 mine.1 in
-      let found : Some text.0 ≡ Some known.0 = same_content files file other (Some known.0) (Some text.0) known.1 same.sources text.1 in
-      let bytes_are : length text.0 ≡ bytes = ap length (same_Some text.0 known.0 found) ∙ known.2 in
-      let short : length text.0 ≤ source_limit = text.2 in
-      let long : source_limit < bytes = known.3 in
-      absurd (omega arith)
-  one_status (InText file why line) Usage k c = let asks = k.0 in absurd (c (Go asks.0 file) asks.1)
-  one_status (InText file why line) (Missing other) k c =
-      let mine = k.0 in
-      let theirs = c.0 in
-      let known = k.1 in
-      let same = same_command words theirs.0 mine.0 other file theirs.1 mine.1 in
-      let found : None ≡ Some known.0 = same_content files file other (Some known.0) None known.1 same.sources c.1 in
-      absurd cc
-  one_status (InText file why line) (TooLong other bytes) k c =
-      let mine = k.0 in
-      let theirs = c.0 in
-      let known = k.1 in
-      let same = same_command words theirs.0 mine.0 other file theirs.1 mine.1 in
-      let bytes_are : length known.0 ≡ bytes = long_content files file other known.0 bytes known.1 same.sources c.2 in
-      let short : length known.0 ≤ source_limit = known.2 in
-      let long : source_limit < bytes = c.1 in
-      absurd (omega arith)
-  one_status (InText file why line) (InText other that at) k c =
-      let mine = k.0 in
-      let theirs = c.0 in
-      let known = k.1 in
-      let text = c.1 in
-      let same = same_command words theirs.0 mine.0 other file theirs.1 mine.1 in
-      let found : Some text.0 ≡ Some known.0 = same_content files file other (Some known.0) (Some text.0) known.1 same.sources text.1 in
-      alike known.0 why that line at known.3 (subst (λ t. IsTextCause t that at) (same_Some text.0 known.0 found) text.3)
+record HasRefused (ts : List Token) (why : Cause) (line : ℕ) : Type 0 where
+  place : ℕ
+  least : IsLeast MAX_NESTING ts place
+  line_is : line ≡ line_at ts place
+  which : Which ts place why
 
-  told : {answer : Status} {old_report new_report : Option (List ℕ)} (refusal : Refusal) → IsKnownCause words files refusal → IsRefused words files answer old_report new_report → (answer ≡ status_of refusal) ⊎ (is_failure answer ≡ true)
-  told refusal k r = inl (sym r.answers ∙ one_status refusal r.refusal k r.cause)
+abbrev Sorted : List ℕ → Cause → ℕ → Type 0
+Sorted text why line = HasStuck text why line ⊎ ((ts : List Token) × Tokens text ts × HasRefused ts why line)
 
-pub caused : (answer : Status) (words : List (List ℕ)) (old new : Moment) → Answers answer words old new → IsCaused words old.outside.files answer
-caused status.Done words old new a refusal k = absurd (no_run words old.outside.files refusal k a)
-caused status.Halted words old new a refusal k = absurd (no_run words old.outside.files refusal k a)
-caused status.RunError words old new a refusal k = absurd (no_run words old.outside.files refusal k a)
-caused status.Budget words old new a refusal k = absurd (no_run words old.outside.files refusal k a)
-caused status.SourceRefused words old new a refusal k = told words old.outside.files refusal k a.1
-caused status.Usage words old new a refusal k = told words old.outside.files refusal k a.1
-caused status.FileMissing words old new a refusal k = told words old.outside.files refusal k a.1
-caused status.Unbuilt words old new a refusal k = told words old.outside.files refusal k a.1
-caused status.WriteFault words old new a refusal k = inr refl
-caused status.FileFault words old new a refusal k = inr refl
-caused status.NoMemory words old new a refusal k = inr refl
-caused _ words old new a refusal k = absurd a
+some_level : 0 < MAX_NESTING
+some_level = omega arith
+
+sorted : (text : List ℕ) (why : Cause) (line : ℕ) → IsOutside text why line → Sorted text why line
+sorted text cause.NoToken line c = inl (record { refusal = token.NoToken line; stuck = c; is = refl })
+sorted text cause.OpenComment line c = inl (record { refusal = token.OpenComment line; stuck = c; is = refl })
+sorted text cause.OpenString line c = inl (record { refusal = token.OpenString line; stuck = c; is = refl })
+sorted text cause.BadNumber line c = inl (record { refusal = token.BadNumber line; stuck = c; is = refl })
+sorted text cause.LongName line c = inl (record { refusal = token.LongName line; stuck = c; is = refl })
+sorted text cause.Syntax line c =
+    let r = c.refused in
+    inr (c.tokens, c.are_tokens, record { place = c.place; least = record { refused = r.refused MAX_NESTING; begun = r.begun_before some_level }; line_is = c.line_is; which = inl (refl, r.refused) })
+sorted text cause.Nested line c =
+    let r = c.refused in
+    inr (c.tokens, c.are_tokens, record { place = c.place; least = record { refused = r.refused; begun = r.begun_before some_level }; line_is = c.line_is; which = inr (refl, r.at_token, r.deeper_text) })
+sorted text cause.NotBuilt line c = absurd c
+
+-- ---- one cause
+
+pub record IsSameCause (why other : Cause) (line at : ℕ) : Type 0 where
+  pub causes : why ≡ other
+  pub lines : line ≡ at
+
+one_stuck : (text : List ℕ) (why other : Cause) (line at : ℕ) → HasStuck text why line → HasStuck text other at → IsSameCause why other line at
+one_stuck text why other line at a b =
+    let same = stuck-one text a.stuck.0 b.stuck.0 a.refusal b.refusal a.stuck.1 b.stuck.1 in
+    let both : text_refusal.Refused why line ≡ text_refusal.Refused other at = sym a.is ∙ ap by_tokens same.1 ∙ b.is in
+    record { causes = cc; lines = cc }
+
+-- no deeper text goes on where no text goes on at all
+not_both : (ts : List Token) (p q : ℕ) → p ≡ q → ((m : ℕ) → RefusedAt m ts p) → q < length ts → ((m : ℕ) × Begins m (take (q + 1) ts)) → ⊥
+not_both ts p q e r h b =
+    let s = r b.0 in
+    s.no_text (omega arith) (subst (λ n. Begins b.0 (take (n + 1) ts)) (sym e) b.1)
+
+one_which : (ts : List Token) (p q : ℕ) (why other : Cause) → p ≡ q → Which ts p why → Which ts q other → why ≡ other
+one_which ts p q why other e (inl a) (inl b) = a.0 ∙ sym b.0
+one_which ts p q why other e (inl a) (inr b) = absurd (not_both ts p q e a.1 b.1 b.2)
+one_which ts p q why other e (inr a) (inl b) = absurd (not_both ts q p (sym e) b.1 a.1 a.2)
+one_which ts p q why other e (inr a) (inr b) = a.0 ∙ sym b.0
+
+one_refused : (ts : List Token) (why other : Cause) (line at : ℕ) → HasRefused ts why line → HasRefused ts other at → IsSameCause why other line at
+one_refused ts why other line at a b =
+    let same = same_place MAX_NESTING ts a.place b.place a.least b.least in
+    record { causes = one_which ts a.place b.place why other same a.which b.which; lines = a.line_is ∙ ap (line_at ts) same ∙ sym b.line_is }
+
+-- a text gives one cause on one line
+pub one_cause : (text : List ℕ) (why other : Cause) (line at : ℕ) → IsOutside text why line → IsOutside text other at → IsSameCause why other line at
+one_cause text why other line at c d = of_both (sorted text why line c) (sorted text other at d) where
+  of_both : Sorted text why line → Sorted text other at → IsSameCause why other line at
+  of_both (inl a) (inl b) = one_stuck text why other line at a b
+  of_both (inl a) (inr b) = absurd (tokens-apart text b.0 a.stuck.0 a.refusal b.1 a.stuck.1)
+  of_both (inr a) (inl b) = absurd (tokens-apart text a.0 b.stuck.0 b.refusal a.1 b.stuck.1)
+  of_both (inr a) (inr b) = one_refused a.0 why other line at a.2 (subst (λ ts. HasRefused ts other at) (tokens-one text b.0 a.0 b.1 a.1) b.2)
+
+-- and it has no tree
+pub no_tree : (text : List ℕ) (why : Cause) (line : ℕ) → IsOutside text why line → HasTree text → ⊥
+no_tree text why line c t = of (sorted text why line c) where
+  of : Sorted text why line → ⊥
+  of (inl a) = let u = t.1 in tokens-apart text u.tokens a.stuck.0 a.refusal u.are_tokens a.stuck.1
+  of (inr a) =
+      let u = t.1 in
+      let x = a.2 in
+      let l = x.least in
+      let r = l.refused in
+      r.not_derived u.components (subst (λ ts. Grammar MAX_NESTING ts u.components) (tokens-one text u.tokens a.0 u.are_tokens a.1) u.derived)
+
+-- a text has one first node that is not built, if any
+pub one_unbuilt : (text : List ℕ) (line at : Option ℕ) → HasUnbuilt text line → HasUnbuilt text at → line ≡ at
+one_unbuilt text line at a b =
+    let derived : Grammar MAX_NESTING a.tokens b.components = subst (λ ts. Grammar MAX_NESTING ts b.components) (tokens-one text b.tokens a.tokens b.are_tokens a.are_tokens) b.derived in
+    let same : a.components ≡ b.components = one_tree MAX_NESTING MAX_NESTING a.tokens a.components b.components a.derived derived in
+    sym a.unbuilt ∙ ap components_unbuilt same ∙ b.unbuilt

@@ -1,32 +1,35 @@
--- What the run of a typed program answers.
-use Rattle.std.proofs.Common.{◌≡◌, ◌≢◌, ℕ, true, List, [], ◌∷◌, ◌⊎◌, inl, inr, Option, Some, None, refl, sym, ap, ◌∙◌, subst}
-use Rattle.ep_machine.specs.Answers.{IsEnd, RunsTo, UnlessStopped, OnNoMemoryEnd, OnWriteFaultEnd}
+-- What the run of an image answers that implements units.
+use Rattle.std.proofs.Common.{◌≡◌, ◌≢◌, ℕ, List, [], ◌∷◌, ◌++◌, ◌⊎◌, inl, inr, Some, refl, sym, ap, ◌∙◌, subst}
+use Rattle.ep_machine.specs.Answers.{IsEnd, RunsTo, UnlessStopped, OnWriteFaultEnd, OnNoMemoryEnd}
 use Rattle.ep_machine.specs.Turns.{ended_at}
 use Rattle.ep_machine.specs.declared.end.End.{End}
 use Rattle.ep_machine.specs.declared.end.End.TheVariants as end
 use Rattle.ep_machine.specs.declared.end.Ended.{Ended}
 use Rattle.ep_machine.specs.declared.end.Ended.TheVariants as ended
 use Rattle.ep_object.specs.Implements.{Implements}
+use Rattle.ep_object.specs.Placing.{alone}
 use Rattle.ep_object.specs.Runs.{Timed, timed, begin, run_to, trace_of}
 use Rattle.ep_object.specs.State.{State, Going, Running, Stopped, Normal, Halt, Error, Broken}
-use Rattle.ep_object.specs.Tells.{Tells}
 use Rattle.ep_object.specs.declared.code.Image.{Image}
-use Rattle.ep_typed.proofs.Done.{does_part-none, does_part-front, does_part-all}
-use Rattle.ep_typed.specs.Events.{Trace, Outside, Same, Does, DoesFront, DoesPart}
+use Rattle.ep_object.specs.declared.code.Object.{Object}
+use Rattle.ep_typed.proofs.Done.{does_part-front, does_part-all, does_front-front, does_front-all}
+use Rattle.ep_typed.specs.Events.{Trace, Outside, Does, DoesFront, DoesPart}
 use Rattle.ep_typed.specs.Meaning.{meaning}
-use Rattle.ep_typed.specs.Steps.{state_of}
+use Rattle.ep_typed.specs.Valid.{IsValid}
 use Rattle.ep_typed.specs.declared.unit.Unit.{Unit as TypedUnit}
 use Rattle.ep_gen_unit.proofs.Programs.{program_tells}
 use Rattle.ep_gen_unit.specs.UnitCode.{IsProgramCode}
-use Rattle.ep_object.specs.Placing.{alone}
-use Rattle.ep_object.specs.declared.code.Object.{Object}
-use Rattle.ep_typed.specs.Valid.{IsValid}
-use Rattle.ep_drive.specs.Calls.{Moment, run_within, RanImage, IsTold, IsToldPart, MeansPart, is_run}
-use Rattle.ep_drive.specs.Executions.{answer_status, answer_line, CameTo, IsReportedPart, IsToldAs, whole, fault, nothing, AnswersRun}
-use Rattle.ep_drive.specs.Outcomes.{run_status, run_line, error_line, IsReported}
+use Rattle.ep_drive.specs.Executions.{answer_status, answer_line, CameTo}
+use Rattle.ep_drive.specs.GoRuns.{run_within, Ran, IsRun, IsBeginning, IsUnwritten, IsUntold, GoPart, GoFront}
+use Rattle.ep_drive.specs.Jobs.{AnswersJob}
+use Rattle.ep_drive.specs.Outcomes.{run_status, run_line, error_line, IsReported, IsReportedPart, IsToldAs, whole, fault, nothing}
+use Rattle.ep_drive.specs.ProgramTexts.{Joins}
+use Rattle.ep_drive.specs.Seen.{Seen, Unread, Unreported, outside_of}
+use Rattle.ep_drive.specs.Statuses.{Finished, kind_of}
+use Rattle.ep_drive.specs.Verdicts.{Go}
 use Rattle.ep_drive.specs.declared.status.Status.{Status}
 use Rattle.ep_drive.specs.declared.status.Status.TheVariants as status
-use Rattle.ep_drive.proofs.Runs.{tells_within, front_within, not_broken}
+use Rattle.ep_drive.proofs.Runs.{tells_within, front_within}
 
 -- ---- the machine's run
 
@@ -50,32 +53,34 @@ module _ (G : Image) (budget : ℕ) (from to : Trace → Timed) (old new : Outsi
       let events : trace_of (run_within budget G) ≡ r.events = ap trace_of stands ∙ traces r.events in
       (subst (λ t. Does t old new) (sym events) r.does, subst (IsEnd answer) (sym stands) (is r.events))
 
-  came-part : DoesPart (trace_of (run_to G budget (from [])).going) old new → DoesPart (trace_of (run_within budget G)) old new
-  came-part p = subst (λ g. DoesPart (trace_of g) old new) (sym here) p
-
-  came-front : DoesFront (trace_of (run_to G budget (from [])).going) old new → DoesFront (trace_of (run_within budget G)) old new
-  came-front p = subst (λ g. DoesFront (trace_of g) old new) (sym here) p
+  came-part : (Done : Trace → Outside → Outside → Type 0) → Done (trace_of (run_to G budget (from [])).going) old new → Done (trace_of (run_within budget G)) old new
+  came-part Done p = subst (λ g. Done (trace_of g) old new) (sym here) p
 
   -- how far a run came
-  came : (answer : End) → UnlessStopped answer (RunsTo G budget from to old new) → OnWriteFaultEnd answer (DoesPart (trace_of (run_to G budget (from [])).going) old new) → OnNoMemoryEnd answer (DoesFront (trace_of (run_to G budget (from [])).going) old new) → ((t : Trace) → IsEnd answer (to t).going) → CameTo answer (run_within budget G) old new
+  came : (answer : End) → UnlessStopped answer (RunsTo G budget from to old new) → OnWriteFaultEnd answer (DoesPart (trace_of (run_to G budget (from [])).going) old new)
+      → OnNoMemoryEnd answer (DoesFront (trace_of (run_to G budget (from [])).going) old new) → ((t : Trace) → IsEnd answer (to t).going) → CameTo answer (run_within budget G) old new
   came end.Normal r p w is = came-whole end.Normal r is
   came end.Halt r p w is = came-whole end.Halt r is
   came (end.Error number unit line) r p w is = came-whole (end.Error number unit line) r is
   came end.Budget r p w is = came-whole end.Budget r is
   came (end.Broken pc) r p w is = came-whole (end.Broken pc) r is
   came end.ReadFault r p w is = is []
-  came end.WriteFault r p w is = came-part p
+  came end.WriteFault r p w is = came-part DoesPart p
   came end.FileFault r p w is = is []
-  came end.NoMemory r p w is = came-front w
+  came end.NoMemory r p w is = came-part DoesFront w
 
 -- the same where the image and the limit are known to be these
 pub came_from : (G H : Image) (budget limit : ℕ) (from to : Trace → Timed) (old new : Outside) (answer : End) → H ≡ G → limit ≡ budget → from [] ≡ timed 0 (begin G) → ((t : Trace) → trace_of (to t).going ≡ t)
-    → UnlessStopped answer (RunsTo H limit from to old new) → OnWriteFaultEnd answer (DoesPart (trace_of (run_to H limit (from [])).going) old new) → OnNoMemoryEnd answer (DoesFront (trace_of (run_to H limit (from [])).going) old new) → ((t : Trace) → IsEnd answer (to t).going) → CameTo answer (run_within budget G) old new
+    → UnlessStopped answer (RunsTo H limit from to old new) → OnWriteFaultEnd answer (DoesPart (trace_of (run_to H limit (from [])).going) old new)
+    → OnNoMemoryEnd answer (DoesFront (trace_of (run_to H limit (from [])).going) old new) → ((t : Trace) → IsEnd answer (to t).going) → CameTo answer (run_within budget G) old new
 came_from G H budget limit from to old new answer image ticks begins traces r p w is =
     came G budget from to old new begins traces answer
-    (subst (λ K. UnlessStopped answer (RunsTo K budget from to old new)) image (subst (λ n. UnlessStopped answer (RunsTo H n from to old new)) ticks r))
-    (subst (λ K. OnWriteFaultEnd answer (DoesPart (trace_of (run_to K budget (from [])).going) old new)) image (subst (λ n. OnWriteFaultEnd answer (DoesPart (trace_of (run_to H n (from [])).going) old new)) ticks p))
-    (subst (λ K. OnNoMemoryEnd answer (DoesFront (trace_of (run_to K budget (from [])).going) old new)) image (subst (λ n. OnNoMemoryEnd answer (DoesFront (trace_of (run_to H n (from [])).going) old new)) ticks w)) is
+    (here (λ K n. UnlessStopped answer (RunsTo K n from to old new)) r)
+    (here (λ K n. OnWriteFaultEnd answer (DoesPart (trace_of (run_to K n (from [])).going) old new)) p)
+    (here (λ K n. OnNoMemoryEnd answer (DoesFront (trace_of (run_to K n (from [])).going) old new)) w) is
+  where
+    here : (P : Image → ℕ → Type 0) → P H limit → P G budget
+    here P x = subst (λ K. P K budget) image (subst (λ n. P H n) ticks x)
 
 -- the image of a program's object implements the program
 pub implements : (u : TypedUnit) (o : Object) (G : Image) → IsProgramCode u o → IsValid u → G ≡ alone o → Implements G (u ∷ [])
@@ -144,48 +149,61 @@ came-does end.FileFault going old new a b c = absurd c
 came-does end.WriteFault going old new a b c = absurd (a refl)
 came-does end.NoMemory going old new a b c = absurd (b refl)
 
--- the answer of a run that tells a meaning is never that of a broken image
-run_going : (going : Going) (units : List TypedUnit) (n : ℕ) → Tells (meaning units) n going → is_run (run_status going) ≡ true
-run_going (Running wait s) units n t = refl
-run_going (Stopped Normal trace) units n t = refl
-run_going (Stopped Halt trace) units n t = refl
-run_going (Stopped (Error number unit line) trace) units n t = refl
-run_going (Stopped (Broken place) trace) units n t = absurd (not_broken (meaning units) n place trace t)
+-- the status of a run is one of a job that has ended
+run_kind : (going : Going) → kind_of (run_status going) ≡ Finished
+run_kind (Running wait s) = refl
+run_kind (Stopped Normal trace) = refl
+run_kind (Stopped Halt trace) = refl
+run_kind (Stopped (Error number unit line) trace) = refl
+run_kind (Stopped (Broken place) trace) = refl
 
--- a part of a front of the meaning
-pub means_part : (G : Image) (budget : ℕ) (unit : TypedUnit) (old new : Outside) → Implements G (unit ∷ []) → DoesPart (trace_of (run_within budget G)) old new → MeansPart unit old new
-means_part G budget unit old new h p =
-    let front = front_within (meaning (unit ∷ [])) budget (run_within budget G) (tells_within G (unit ∷ []) h budget) in
-    let begins = front.begins in
-    record { steps = front.steps; does = subst (λ t. DoesPart t old new) (sym begins.is) (does_part-front (trace_of (run_within budget G)) begins.rest old new p) }
+-- ---- the run of an image that implements units
 
--- nothing of it
-pub means_none : (unit : TypedUnit) (old new : Outside) → Same old new → MeansPart unit old new
-means_none unit old new s = record { steps = 0; does = does_part-none (state_of (meaning (unit ∷ []) 0)).trace old new s }
+module _ (G : Image) (budget : ℕ) (texts : List (List ℕ)) (units : List TypedUnit) (joins : Joins texts units) (h : Implements G units) (before after : Seen) (unread : Unread before after) where
+  -- what is done of the run is done of the meaning
+  beginning : (Done : Trace → Outside → Outside → Type 0) → ((a b : Trace) → Done a (outside_of before) (outside_of after) → Done (a ++ b) (outside_of before) (outside_of after))
+      → Done (trace_of (run_within budget G)) (outside_of before) (outside_of after) → IsBeginning Done budget before after units (run_within budget G)
+  beginning Done more p =
+      let front = front_within (meaning units) budget (run_within budget G) (tells_within G units h budget) in
+      let begins = front.begins in
+      record { run = p; steps = front.steps; few = front.few; meant = subst (λ t. Done t (outside_of before) (outside_of after)) (sym begins.is) (more (trace_of (run_within budget G)) begins.rest p); unread = unread }
 
-run_answer : (answer : Status) (budget : ℕ) (unit : TypedUnit) (old new : Moment) → is_run answer ≡ true → RanImage budget unit old.outside new.outside (IsTold answer old.report new.report) → AnswersRun answer budget unit old new
-run_answer status.Done budget unit old new h r = r
-run_answer status.Halted budget unit old new h r = r
-run_answer status.RunError budget unit old new h r = r
-run_answer status.Budget budget unit old new h r = r
-run_answer _ budget unit old new h r = absurd cc
+  ran : (P : List TypedUnit → Going → Type 0) → P units (run_within budget G) → Ran budget texts P
+  ran P stands = record { units = units; joins = joins; image = G; implements = h; stands = stands }
 
-told_part : (line : Option (List ℕ)) (going : Going) (old new : Option (List ℕ)) → line ≡ run_line going → IsReportedPart line old new → IsToldPart old new going
-told_part None going old new e p = absurd p
-told_part (Some line) going old new e p = record { line = line; is = sym e; reports = p }
+  -- a write had a fault, and nothing was reported
+  pub run-part : DoesPart (trace_of (run_within budget G)) (outside_of before) (outside_of after) → IsUnwritten before after → GoPart budget texts status.WriteFault before after
+  run-part p unwritten =
+      ran (λ us g. IsBeginning DoesPart budget before after us g × (IsUnwritten before after ⊎ IsUntold before after g))
+      (beginning DoesPart (λ a b. does_part-front a b (outside_of before) (outside_of after)) p, inl unwritten)
 
--- the end of a run is told
-pub answers-told : (G : Image) (answer : End) (answered : Status) (budget : ℕ) (unit : TypedUnit) (old new : Moment) → Implements G (unit ∷ []) → (answer ≡ end.WriteFault → ⊥) → (answer ≡ end.NoMemory → ⊥)
-    → CameTo answer (run_within budget G) old.outside new.outside → IsToldAs (answer_status answer) (answer_line answer) answered old.report new.report old.report_faults new.report_faults → AnswersRun answered budget unit old new
-answers-told G answer answered budget unit old new h a b c (whole is reported) =
-    let are = end_told answer (run_within budget G) old.outside new.outside a b c in
-    let same : answered ≡ run_status (run_within budget G) = is ∙ are.status_is in
-    run_answer answered budget unit old new (ap is_run same ∙ run_going (run_within budget G) (unit ∷ []) budget (tells_within G (unit ∷ []) h budget))
-    (record { image = G; implements = h; does = came-does answer (run_within budget G) old.outside new.outside a b c; stands = record { answers = same; reports = subst (λ line. IsReported line old.report new.report) are.line_is reported } })
-answers-told G answer answered budget unit old new h a b c (fault is reported more) =
-    let are = end_told answer (run_within budget G) old.outside new.outside a b c in
-    subst (λ s. AnswersRun s budget unit old new) (sym is)
-    (inr (record { image = G; implements = h; does = came-does answer (run_within budget G) old.outside new.outside a b c; stands = told_part (answer_line answer) (run_within budget G) old.report new.report are.line_is reported }, more))
-answers-told G answer answered budget unit old new h a b c (nothing is kept) =
-    subst (λ s. AnswersRun s budget unit old new) (sym is)
-    (means_part G budget unit old.outside new.outside h (does_part-all (trace_of (run_within budget G)) old.outside new.outside (came-does answer (run_within budget G) old.outside new.outside a b c)), kept)
+  -- memory was wanting, and nothing was reported
+  pub run-front : DoesFront (trace_of (run_within budget G)) (outside_of before) (outside_of after) → Unreported before after → GoFront budget texts before after
+  run-front p quiet =
+      ran (λ us g. IsBeginning DoesFront budget before after us g × Unreported before after)
+      (beginning DoesFront (λ a b. does_front-front a b (outside_of before) (outside_of after)) p, quiet)
+
+  -- the end of a run is told
+  pub answers-told : (answer : End) (answered : Status) → (answer ≡ end.WriteFault → ⊥) → (answer ≡ end.NoMemory → ⊥) → CameTo answer (run_within budget G) (outside_of before) (outside_of after)
+      → IsToldAs (answer_status answer) (answer_line answer) answered before.report after.report before.report_faults after.report_faults → AnswersJob (kind_of answered) (Go budget texts) answered before after
+  answers-told answer answered a b c (whole is reported) =
+      let are = end_told answer (run_within budget G) (outside_of before) (outside_of after) a b c in
+      let same : answered ≡ run_status (run_within budget G) = is ∙ are.status_is in
+      let finished : Finished ≡ kind_of answered = sym (ap kind_of same ∙ run_kind (run_within budget G)) in
+      subst (λ k. AnswersJob k (Go budget texts) answered before after) finished
+      (ran (λ us g. IsRun answered before after g) (record {
+        does = came-does answer (run_within budget G) (outside_of before) (outside_of after) a b c;
+        unread = unread;
+        answers = same;
+        reports = subst (λ line. IsReported line before.report after.report) are.line_is reported;
+      }))
+  answers-told answer answered a b c (fault is reported rose) =
+      let are = end_told answer (run_within budget G) (outside_of before) (outside_of after) a b c in
+      let done = came-does answer (run_within budget G) (outside_of before) (outside_of after) a b c in
+      let told : IsUntold before after (run_within budget G) = record { does = done; reports = subst (λ line. IsReportedPart line before.report after.report) are.line_is reported; rose = rose } in
+      subst (λ s. AnswersJob (kind_of s) (Go budget texts) s before after) (sym is)
+      (ran (λ us g. IsBeginning DoesPart budget before after us g × (IsUnwritten before after ⊎ IsUntold before after g))
+      (beginning DoesPart (λ t u. does_part-front t u (outside_of before) (outside_of after)) (does_part-all (trace_of (run_within budget G)) (outside_of before) (outside_of after) done), inr told))
+  answers-told answer answered a b c (nothing is kept) =
+      let done = came-does answer (run_within budget G) (outside_of before) (outside_of after) a b c in
+      subst (λ s. AnswersJob (kind_of s) (Go budget texts) s before after) (sym is) (run-front (does_front-all (trace_of (run_within budget G)) (outside_of before) (outside_of after) done) kept)

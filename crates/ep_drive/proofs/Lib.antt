@@ -3,11 +3,13 @@ pub mod Clauses
 pub mod Elaborated
 pub mod Executing
 pub mod Going
-pub mod Lines
+pub mod Jobs
 pub mod Loaded
+pub mod Meant
 pub mod Numbers
 pub mod Placed
 pub mod Refused
 pub mod Runs
 pub mod Sources
+pub mod Verdicts
 pub mod WordRows

@@ -1,25 +1,31 @@
--- The one source that words name, and what the files are known to hold of it.
-use Rattle.std.proofs.Common.{◌≡◌, ℕ, List, length, Option, None, Some, sym, ap, ◌∙◌, subst}
-use Rattle.std.specs.Prelude.{IsSomeAnd}
-use Rattle.ep_outside.specs.Known.{Directory, HasFile, HasLength}
-use Rattle.ep_drive.specs.Commands.{Go, WordsOf}
-use Rattle.ep_drive.proofs.WordRows.{words-one}
+-- A file of a directory has one text.
+use Rattle.std.proofs.Common.{◌≡◌, ℕ, ◌<◌, ◌≤◌, length, List, None, Some, sym, ap, ◌∙◌, subst, arith}
+use Rattle.std.proofs.lemmas.Option.{same_Some}
+use Rattle.ep_outside.specs.Known.{Directory}
+use Rattle.ep_drive.specs.Refusals.{source_limit}
+use Rattle.ep_drive.specs.Verdicts.{HasText, IsLoaded}
 
--- the words name one source and one budget
-pub record AreSame (budget other_budget : ℕ) (source other_source : List ℕ) : Type 0 where
-  pub budgets : budget ≡ other_budget
-  pub sources : source ≡ other_source
+-- what holds of the text of a file, from what else holds of it
+pub weaker : (d : Directory) (P Q : List ℕ → Type 0) → ((text : List ℕ) → P text → Q text) → (file : List ℕ) → HasText d P file → HasText d Q file
+weaker d P Q f file t = record { text = t.text; is = t.is; short = t.short; holds = f t.text t.holds }
 
-pub same_command : (words : List (List ℕ)) (b c : ℕ) (s t : List ℕ) → WordsOf words (Go b s) → WordsOf words (Go c t) → AreSame b c s t
-same_command words b c s t h i = let same : Go b s ≡ Go c t = words-one words (Go c t) (Go b s) i h in record { budgets = cc; sources = cc }
+pub text-loaded : (d : Directory) (P : List ℕ → Type 0) (file : List ℕ) → HasText d P file → IsLoaded d file
+text-loaded d P file t = record { text = t.text; is = t.is; short = t.short; holds = tt }
 
--- what the files are known to hold of a name
-pub same_content : (files : Option Directory) (source other : List ℕ) (known content : Option (List ℕ)) → IsSomeAnd files (λ d. d source ≡ known) → other ≡ source → HasFile files other content → content ≡ known
-same_content None source other known content h e i = absurd h
-same_content (Some d) source other known content h e i = sym i ∙ ap d e ∙ h
+-- both facts are about one text
+pub same_text : (d : Directory) (P Q : List ℕ → Type 0) (file : List ℕ) (a : HasText d P file) (b : HasText d Q file) → b.text ≡ a.text
+same_text d P Q file a b = same_Some b.text a.text (sym b.is ∙ a.is)
 
-pub long_content : (files : Option Directory) (source other : List ℕ) (text : List ℕ) (bytes : ℕ) → IsSomeAnd files (λ d. d source ≡ Some text) → other ≡ source → HasLength files other bytes → length text ≡ bytes
-long_content None source other text bytes h e i = absurd h
-long_content (Some d) source other text bytes h e i =
-    let there : d other ≡ Some text = ap d e ∙ h in
-    subst (λ o. IsSomeAnd o (λ bs. length bs ≡ bytes)) there i
+pub both_texts : {C : Type 0} (d : Directory) (P Q : List ℕ → Type 0) (file : List ℕ) → ((text : List ℕ) → P text → Q text → C) → HasText d P file → HasText d Q file → C
+both_texts d P Q file f a b = f a.text a.holds (subst Q (same_text d P Q file a b) b.holds)
+
+-- what is missing or too long is not loaded
+pub not_missing : (d : Directory) (file : List ℕ) → d file ≡ None → IsLoaded d file → ⊥
+not_missing d file none t = let no : None ≡ Some t.text = sym none ∙ t.is in cc
+
+pub not_long : (d : Directory) (file text : List ℕ) → d file ≡ Some text → source_limit < length text → IsLoaded d file → ⊥
+not_long d file text is long t =
+    let same : t.text ≡ text = same_Some t.text text (sym t.is ∙ is) in
+    let bytes : length t.text ≡ length text = ap length same in
+    let short : length t.text ≤ source_limit = t.short in
+    omega arith

@@ -1,27 +1,70 @@
--- What a call answers that was refused, or that ended without a run.
-use Rattle.std.proofs.Common.{◌≡◌, ℕ, List, Option, None, Some, MatchOption, Result, Ok, Err, IfOk, subst, inl, inr}
-use Rattle.std.proofs.KnownBytes.{Keeps-refl}
-use Rattle.ep_outside.specs.Known.{Directory, KeepsFiles}
-use Rattle.ep_typed.specs.Events.{Same}
-use Rattle.ep_drive.specs.Calls.{Moment, Answers, Reported, outside_of}
-use Rattle.ep_drive.specs.Refusals.{Refusal, IsCause}
+-- What a call answers that was refused, or whose job was begun.
+use Rattle.std.proofs.Common.{◌≡◌, ℕ, List, inl, inr, Option, None, Some, MatchOption, Result, Ok, Err, IfOk, refl, sym, ap, ◌∙◌, subst}
+use Rattle.ep_drive.specs.Calls.{Answers, AnswersAs, Begins, IsStoppedAs}
+use Rattle.ep_drive.specs.Jobs.{AnswersJob, Finishes, Part, Front}
+use Rattle.ep_drive.specs.Outcomes.{IsToldAs, whole, fault, nothing}
+use Rattle.ep_drive.specs.Refusals.{Refusal, Usage, Missing, TooLong, InText, status_of, text_status, report_of}
+use Rattle.ep_drive.specs.Seen.{Seen, Untouched}
+use Rattle.ep_drive.specs.Statuses.{Kind, Finished, Refused, Faulted, Starved, kind_of}
+use Rattle.ep_drive.specs.Verdicts.{Job, Refuse, Begin, HasVerdict}
+use Rattle.ep_drive.specs.declared.source.Cause.{Cause}
+use Rattle.ep_drive.specs.declared.source.Cause.TheVariants as cause
 use Rattle.ep_drive.specs.declared.status.Status.{Status}
 use Rattle.ep_drive.specs.declared.status.Status.TheVariants as status
+use Rattle.ep_drive.proofs.Jobs.{part_rose}
 
--- there was cause for the refusal, and nothing was done but its report
-pub answers-refused : (answer : Status) (words : List (List ℕ)) (refusal : Refusal) (old new : Moment)
-    → Reported answer refusal old.report new.report old.report_faults new.report_faults → IsCause words old.outside.files refusal → Same old.outside new.outside → Answers answer words old new
-answers-refused status.SourceRefused words r old new p c s = (s, record { refusal = r; cause = c; answers = p.0; reports = p.1 })
-answers-refused status.Usage words r old new p c s = (s, record { refusal = r; cause = c; answers = p.0; reports = p.1 })
-answers-refused status.FileMissing words r old new p c s = (s, record { refusal = r; cause = c; answers = p.0; reports = p.1 })
-answers-refused status.Unbuilt words r old new p c s = (s, record { refusal = r; cause = c; answers = p.0; reports = p.1 })
-answers-refused status.WriteFault words r old new p c s = inr (inl (s, record { refusal = r; cause = c; reports = p.0 }), p.1)
-answers-refused status.NoMemory words r old new p c s = (inr s, p)
-answers-refused _ words r old new p c s = absurd p
+-- a refusal has the status of one
+text_kind : (why : Cause) → kind_of (text_status why) ≡ Refused
+text_kind cause.NotBuilt = refl
+text_kind cause.NoToken = refl
+text_kind cause.OpenComment = refl
+text_kind cause.OpenString = refl
+text_kind cause.BadNumber = refl
+text_kind cause.LongName = refl
+text_kind cause.Syntax = refl
+text_kind cause.Nested = refl
 
--- the output as it was, and the files as they are after a load
-pub same-loaded : (output : Option (List ℕ)) (old new : Option Directory) → KeepsFiles old new → Same (outside_of output old) (outside_of output new)
-same-loaded output old new kept = record { output = Keeps-refl output; files = kept }
+refusal_kind : (refusal : Refusal) → kind_of (status_of refusal) ≡ Refused
+refusal_kind Usage = refl
+refusal_kind (Missing file) = refl
+refusal_kind (TooLong file bytes) = refl
+refusal_kind (InText file why line) = text_kind why
+
+-- a refusal is the verdict, and nothing was done but its report
+pub answers-refused : (answer : Status) (words : List (List ℕ)) (refusal : Refusal) (before after : Seen)
+    → IsToldAs (status_of refusal) (Some (report_of refusal)) answer before.report after.report before.report_faults after.report_faults → HasVerdict words before.files (Refuse refusal) → Untouched before after → Answers answer words before after
+answers-refused answer words refusal before after (whole is reported) v u =
+    subst (λ k. AnswersAs k answer words before after) (sym (ap kind_of is ∙ refusal_kind refusal))
+    (record { refusal = refusal; verdict = v; holds = (u, record { answers = is; reports = reported }) })
+answers-refused answer words refusal before after (fault is reported rose) v u =
+    subst (λ s. Answers s words before after) (sym is)
+    (inr rose, inl (record { refusal = refusal; verdict = v; holds = record { untouched = u; reports = reported; rose = rose } }))
+answers-refused answer words refusal before after (nothing is kept) v u = subst (λ s. Answers s words before after) (sym is) (inl (u, kept))
+
+-- ---- a job was begun
+
+module _ (words : List (List ℕ)) (job : Job) (before after : Seen) (v : HasVerdict words before.files (Begin job)) where
+  begins : (P : Job → Type 0) → P job → Begins words before.files P
+  begins P p = record { job = job; verdict = v; holds = p }
+
+  faulted : (answer : Status) → kind_of answer ≡ Faulted → Part job answer before after → IsStoppedAs answer words before after
+  faulted status.WriteFault e p = inr (begins (λ j. Part j status.WriteFault before after) p)
+  faulted status.FileFault e p = inr (begins (λ j. Part j status.FileFault before after) p)
+  faulted status.ReadFault e p = begins (λ j. Part j status.ReadFault before after) p
+  faulted _ e p = absurd cc
+
+  starved : (answer : Status) → kind_of answer ≡ Starved → Front job before after → IsStoppedAs answer words before after
+  starved status.NoMemory e p = inr (begins (λ j. Front j before after) p)
+  starved _ e p = absurd cc
+
+  -- the job is the verdict
+  pub answers-job : (answer : Status) → AnswersJob (kind_of answer) job answer before after → Answers answer words before after
+  answers-job answer = of (kind_of answer) refl where
+    of : (k : Kind) → kind_of answer ≡ k → AnswersJob k job answer before after → AnswersAs k answer words before after
+    of Finished e p = begins (λ j. Finishes j answer before after) p
+    of Refused e p = absurd p
+    of Faulted e p = (part_rose job answer before after p, faulted answer e p)
+    of Starved e p = starved answer e p
 
 -- a fact that follows from another one
 pub if_ok : {A E : Type 0} (r : Result A E) (P Q : A → Type 0) → IfOk r P → ((x : A) → P x → Q x) → IfOk r Q

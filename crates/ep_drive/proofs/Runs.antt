@@ -1,5 +1,5 @@
 -- What a run of an image within a budget tells of the units that the image implements.
-use Rattle.std.proofs.Common.{◌≡◌, ℕ, zero, suc, ◌-◌, List, [], inl, inr, Option, Some, None, refl, sym, ap, ◌∙◌, subst, arith, append-nil}
+use Rattle.std.proofs.Common.{◌≡◌, ℕ, zero, suc, ◌+◌, ◌-◌, ◌*◌, ◌≤◌, List, [], inl, inr, Option, Some, None, refl, sym, ap, ◌∙◌, subst, arith, append-nil}
 use Rattle.std.specs.Fn.{iterate}
 use Rattle.ep_outside.specs.Known.{IsPrefix}
 use Rattle.ep_object.proofs.Views.{runs_agree}
@@ -16,7 +16,7 @@ use Rattle.ep_typed.specs.Meaning.{meaning}
 use Rattle.ep_typed.specs.Steps.{Outcome, Gives, Ends, Cut, state_of}
 use Rattle.ep_typed.specs.Steps as meant
 use Rattle.ep_typed.specs.declared.unit.Unit.{Unit as TypedUnit}
-use Rattle.ep_drive.specs.Calls.{run_within}
+use Rattle.ep_drive.specs.GoRuns.{run_within}
 
 -- ---- the two views of a run from its beginning
 
@@ -72,14 +72,15 @@ not_broken come n place trace (inl t) = no (t.its_end) t.same_end
     no (meant.Error number unit line) h = cc
 not_broken come n place trace (inr t) = let h : Broken place ≡ Error t.number t.unit t.line = t.is in cc
 
--- the events of the run are a front of those of the meaning
-pub record IsFront {A : Type 0} (come : ℕ → Outcome A) (trace : Trace) : Type 0 where
+-- the events of the run are a front of those of the meaning, within not many more than 64 steps for each tick
+pub record IsFront {A : Type 0} (come : ℕ → Outcome A) (ticks : ℕ) (trace : Trace) : Type 0 where
   pub steps : ℕ
+  pub few : steps ≤ 64 * (ticks + 1)
   pub begins : IsPrefix trace (state_of (come steps)).trace
 
-pub front_within : {A : Type 0} (come : ℕ → Outcome A) (n : ℕ) (g : Going) → Tells come n g → IsFront come (trace_of g)
-front_within come n (Running wait s) t = record { steps = t.steps; begins = t.begins }
+pub front_within : {A : Type 0} (come : ℕ → Outcome A) (n : ℕ) (g : Going) → Tells come n g → IsFront come n (trace_of g)
+front_within come n (Running wait s) t = record { steps = t.steps; few = t.few; begins = t.begins }
 front_within come n (Stopped e trace) (inl t) =
     let same : (state_of (come t.steps)).trace ≡ trace = ap (λ o. (state_of o).trace) t.is ∙ sym t.same_trace in
-    record { steps = t.steps; begins = record { rest = []; is = same ∙ sym (append-nil trace) } }
-front_within come n (Stopped e trace) (inr t) = record { steps = t.steps; begins = t.begins }
+    record { steps = t.steps; few = t.few; begins = record { rest = []; is = same ∙ sym (append-nil trace) } }
+front_within come n (Stopped e trace) (inr t) = record { steps = t.steps; few = t.few; begins = t.begins }

@@ -17,7 +17,7 @@ use Rattle.ep_typed.specs.Trees.{Compound, stmts}
 use Rattle.ep_typed.specs.Viewed.{stmt_of}
 use Rattle.ep_typed.specs.declared.unit.Unit.{Unit as TypedUnit}
 use Rattle.ep_drive.specs.Elaboration.{IsTyped}
-use Rattle.ep_drive.specs.ProgramTexts.{IsProgramText, components_unbuilt}
+use Rattle.ep_drive.specs.ProgramTexts.{IsProgramText, IsBuilt, components_unbuilt}
 use Rattle.ep_drive.specs.Refusals.{IsTextCause, RefusesText}
 use Rattle.ep_drive.specs.declared.source.Cause.{Cause}
 use Rattle.ep_drive.specs.declared.source.Cause.TheVariants as cause
@@ -117,3 +117,7 @@ one_program text u v p q =
     let lists : p.component ∷ [] ≡ q.component ∷ [] = one_tree MAX_NESTING MAX_NESTING q.tokens (p.component ∷ []) (q.component ∷ []) derived q.derived in
     let same : p.component ≡ q.component = cc in
     alike q.component u v (subst (λ c. IsTyped c u) same p.typed) q.typed
+
+-- all nodes of the text of a program are built
+pub program_built : (text : List ℕ) (u : TypedUnit) → IsProgramText text u → IsBuilt text
+program_built text u p = record { tokens = p.tokens; are_tokens = p.are_tokens; components = p.component ∷ []; derived = p.derived; unbuilt = ap (λ o. first_of o None) p.built }

@@ -221,43 +221,45 @@ budget-is None ticks e = subst (λ (ts : List ℕ). IsBudget ts usual_budget) (s
 budget-is (Some n) ticks e = subst (λ (ts : List ℕ). IsBudget ts n) (sym e) refl
 
 -- a row of words that is read
-record IsGoRow (row : List (List ℕ)) (budget : ℕ) (source : List ℕ) : Type 0 where
+record IsGoRow (row : List (List ℕ)) (budget : ℕ) (sources : List (List ℕ)) : Type 0 where
   ticks : List ℕ
-  row_is : IsWordRow row ticks (source ∷ [])
+  row_is : IsWordRow row ticks sources
+  one : length sources ≡ 1
   budget_is : IsBudget ticks budget
 
-asked-is : (e : Expected) (t : Option ℕ) (s : Option (List ℕ)) (c : Command) → asked_with e t s ≡ Some c → (e ≡ Ticks → ⊥) × ((source : List ℕ) × (s ≡ Some source) × (c ≡ Go (unwrap_or t usual_budget) source))
+asked-is : (e : Expected) (t : Option ℕ) (s : Option (List ℕ)) (c : Command) → asked_with e t s ≡ Some c → (e ≡ Ticks → ⊥) × ((source : List ℕ) × (s ≡ Some source) × (c ≡ Go (unwrap_or t usual_budget) (source ∷ [])))
 asked-is Ticks t s c h = absurd cc
 asked-is Any t None c h = absurd cc
-asked-is Any t (Some x) c h = ((λ e. cc), (x, refl, sym (same_Some (Go (unwrap_or t usual_budget) x) c h)))
+asked-is Any t (Some x) c h = ((λ e. cc), (x, refl, sym (same_Some (Go (unwrap_or t usual_budget) (x ∷ [])) c h)))
 asked-is Source t None c h = absurd cc
-asked-is Source t (Some x) c h = ((λ e. cc), (x, refl, sym (same_Some (Go (unwrap_or t usual_budget) x) c h)))
+asked-is Source t (Some x) c h = ((λ e. cc), (x, refl, sym (same_Some (Go (unwrap_or t usual_budget) (x ∷ [])) c h)))
 
-row-asks : (row : List (List ℕ)) (budget : ℕ) (source : List ℕ) → read_row row ≡ Some (Go budget source) → IsGoRow row budget source
-row-asks row budget source h =
-    bound (take_words nothing_taken row) asked (Go budget source) h (λ r r_is e.
-    let a = asked-is r.expected r.ticks r.source (Go budget source) e in
+row-asks : (row : List (List ℕ)) (budget : ℕ) (sources : List (List ℕ)) → read_row row ≡ Some (Go budget sources) → IsGoRow row budget sources
+row-asks row budget sources h =
+    bound (take_words nothing_taken row) asked (Go budget sources) h (λ r r_is e.
+    let a = asked-is r.expected r.ticks r.source (Go budget sources) e in
     let more = row-is r a.0 row Any None None r_is in
-    let same : Go budget source ≡ Go (unwrap_or r.ticks usual_budget) a.1.0 = a.1.2 in
-    let same_source : source ≡ a.1.0 = cc in
+    let same : Go budget sources ≡ Go (unwrap_or r.ticks usual_budget) (a.1.0 ∷ []) = a.1.2 in
+    let same_sources : sources ≡ a.1.0 ∷ [] = cc in
     let same_budget : budget ≡ unwrap_or r.ticks usual_budget = cc in
-    let sources : more.sources ≡ source ∷ [] = more.all_sources ∙ ap list_of a.1.1 ∙ ap (λ (x : List ℕ). x ∷ []) (sym same_source) in
+    let all : more.sources ≡ sources = more.all_sources ∙ ap list_of a.1.1 ∙ sym same_sources in
     record {
       ticks = more.ticks;
-      row_is = subst (λ (ss : List (List ℕ)). IsWordRow row more.ticks ss) sources more.row;
+      row_is = subst (λ (ss : List (List ℕ)). IsWordRow row more.ticks ss) all more.row;
+      one = ap length same_sources;
       budget_is = subst (λ (b : ℕ). IsBudget more.ticks b) (sym same_budget) (budget-is r.ticks more.ticks more.all_ticks);
     })
 
 -- what is read is the command of the words
 pub words-are : (words : List (List ℕ)) (c : Command) → read_words words ≡ Some c → WordsOf words c
-words-are [] (Go budget source) h = absurd cc
-words-are (word ∷ words) (Go budget source) h =
-    elim (chosen (bytes_eq word (codes "go") && nat_lt (length (word ∷ words)) (2 ^ 32)) (read_row words) None (Some (Go budget source)) h) [
+words-are [] (Go budget sources) h = absurd cc
+words-are (word ∷ words) (Go budget sources) h =
+    elim (chosen (bytes_eq word (codes "go") && nat_lt (length (word ∷ words)) (2 ^ 32)) (read_row words) None (Some (Go budget sources)) h) [
       | inl c ↦
           let d = both (bytes_eq word (codes "go")) (nat_lt (length (word ∷ words)) (2 ^ 32)) c.0 in
-          let row = row-asks words budget source c.1 in
+          let row = row-asks words budget sources c.1 in
           let first : word ≡ codes "go" = word_is word (codes "go") d.0 in
-          record { row = words; ticks = row.ticks; words_are = ap (λ (w : List ℕ). w ∷ words) first; row_is = row.row_is; budget_is = row.budget_is; few = ltb-true (length (word ∷ words)) (2 ^ 32) d.1 }
+          record { row = words; ticks = row.ticks; words_are = ap (λ (w : List ℕ). w ∷ words) first; row_is = row.row_is; one = row.one; budget_is = row.budget_is; few = ltb-true (length (word ∷ words)) (2 ^ 32) d.1 }
       | inr c ↦ absurd cc
     ]
 
@@ -363,25 +365,27 @@ row-read (named {word} {words} {sources} {ticks} w row) t t2 s s2 h k =
     let more = row-read row t t2 (Some word) s2 h (subst (λ (o : Option (List ℕ)). list_of o ++ (word ∷ sources) ≡ list_of s2) none k) in
     record { expected = more.expected; whole = more.whole; is = named-read t s word words (taken more.expected t2 s2) w none more.is }
 
-asked-read : (e : Expected) (t : Option ℕ) (source : List ℕ) → (e ≡ Ticks → ⊥) → asked_with e t (Some source) ≡ Some (Go (unwrap_or t usual_budget) source)
+asked-read : (e : Expected) (t : Option ℕ) (source : List ℕ) → (e ≡ Ticks → ⊥) → asked_with e t (Some source) ≡ Some (Go (unwrap_or t usual_budget) (source ∷ []))
 asked-read Any t source h = refl
 asked-read Ticks t source h = absurd (h refl)
 asked-read Source t source h = refl
 
-row-read_all : (row : List (List ℕ)) (ticks : List ℕ) (budget : ℕ) (source : List ℕ) → IsWordRow row ticks (source ∷ []) → IsBudget ticks budget → read_row row ≡ Some (Go budget source)
-row-read_all row [] budget source is h =
+row-read_all : (row : List (List ℕ)) (ticks : List ℕ) (budget : ℕ) (sources : List (List ℕ)) → length sources ≡ 1 → IsWordRow row ticks sources → IsBudget ticks budget → read_row row ≡ Some (Go budget sources)
+row-read_all row ticks budget [] one is h = absurd cc
+row-read_all row ticks budget (source ∷ next ∷ more) one is h = absurd (omega (arith, one))
+row-read_all row [] budget (source ∷ []) one is h =
     let more = row-read is None None None (Some source) refl refl in
-    rw (more.is, asked-read more.expected None source more.whole) (ap (λ (b : ℕ). Some (Go b source)) (sym h))
-row-read_all row (n ∷ []) budget source is h =
+    rw (more.is, asked-read more.expected None source more.whole) (ap (λ (b : ℕ). Some (Go b (source ∷ []))) (sym h))
+row-read_all row (n ∷ []) budget (source ∷ []) one is h =
     let more = row-read is None (Some n) None (Some source) refl refl in
-    rw (more.is, asked-read more.expected (Some n) source more.whole) (ap (λ (b : ℕ). Some (Go b source)) (sym h))
-row-read_all row (n ∷ m ∷ ticks) budget source is h = absurd h
+    rw (more.is, asked-read more.expected (Some n) source more.whole) (ap (λ (b : ℕ). Some (Go b (source ∷ []))) (sym h))
+row-read_all row (n ∷ m ∷ ticks) budget (source ∷ []) one is h = absurd h
 
 -- the command of the words is read
 pub words-read : (words : List (List ℕ)) (c : Command) → WordsOf words c → read_words words ≡ Some c
-words-read words (Go budget source) is =
+words-read words (Go budget sources) is =
     let few : nat_lt (length (codes "go" ∷ is.row)) (2 ^ 32) ≡ true = lt-ltb _ (2 ^ 32) (subst (λ (ws : List (List ℕ)). length ws < 2 ^ 32) is.words_are is.few) in
-    rw (is.words_are, few) (row-read_all is.row is.ticks budget source is.row_is is.budget_is)
+    rw (is.words_are, few) (row-read_all is.row is.ticks budget sources is.one is.row_is is.budget_is)
 
 -- words are at most one command
 pub words-one : (words : List (List ℕ)) (c d : Command) → WordsOf words c → WordsOf words d → d ≡ c

@@ -7,9 +7,9 @@ use Rattle.std.specs.declared.string.String.{String}
 use Rattle.std.specs.declared.alloc.Global.{Global}
 use Rattle.ep_drive.specs.Numbers.{value_of}
 
--- compile, link and run one source text, within a budget of ticks
+-- compile, link and run source texts, within a budget of ticks
 pub data Command : Type 0 where
-  Go : (budget : ℕ) (source : List ℕ) → Command
+  Go : (budget : ℕ) (sources : List (List ℕ)) → Command
 
 -- two or more bytes that begin with a hyphen
 abbrev pub is_option : List ℕ → Bool
@@ -46,18 +46,19 @@ IsBudget [] budget = budget ≡ usual_budget
 IsBudget (n ∷ []) budget = budget ≡ n
 IsBudget (n ∷ m ∷ more) budget = ⊥
 
--- the words are `go` and a row with at most one option and exactly one source
-pub record AreGo (words : List (List ℕ)) (budget : ℕ) (source : List ℕ) : Type 0 where
+-- the words are `go` and a row with at most one option and, so far, exactly one source
+pub record AreGo (words : List (List ℕ)) (budget : ℕ) (sources : List (List ℕ)) : Type 0 where
   pub row : List (List ℕ)
   pub ticks : List ℕ
   pub words_are : words ≡ codes "go" ∷ row
-  pub row_is : IsWordRow row ticks (source ∷ [])
+  pub row_is : IsWordRow row ticks sources
+  pub one : length sources ≡ 1
   pub budget_is : IsBudget ticks budget
   pub few : length words < 2 ^ 32
 
 -- the words are this command (own rules)
 abbrev pub WordsOf : List (List ℕ) → Command → Type 0
-WordsOf words (Go budget source) = AreGo words budget source
+WordsOf words (Go budget sources) = AreGo words budget sources
 
 -- the bytes of each word
 abbrev pub bytes_of : List (String Global) → List (List ℕ)

@@ -1,5 +1,5 @@
--- How a run of an image within a budget is answered and told.
-use Rattle.std.specs.Prelude.{◌≡◌, ℕ, ◌<◌, List, [], ◌∷◌, ◌++◌, Option, Some, None, codes, decimal, ◌⊎◌}
+-- The image of a text, and how the machine's answer to a run of it is answered and told.
+use Rattle.std.specs.Prelude.{ℕ, List, [], ◌∷◌, ◌++◌, Option, Some, None, codes, decimal}
 use Rattle.ep_machine.specs.Answers.{IsEnd}
 use Rattle.ep_machine.specs.declared.end.End.{End}
 use Rattle.ep_machine.specs.declared.end.End.TheVariants as end
@@ -7,12 +7,10 @@ use Rattle.ep_object.specs.Implements.{Implements}
 use Rattle.ep_object.specs.Runs.{trace_of}
 use Rattle.ep_object.specs.State.{Going}
 use Rattle.ep_object.specs.declared.code.Image.{Image}
-use Rattle.ep_outside.specs.Known.{Keeps, AppendsFront}
 use Rattle.ep_typed.specs.Events.{Outside, Does, DoesFront, DoesPart}
 use Rattle.ep_typed.specs.declared.unit.Unit.{Unit as TypedUnit}
-use Rattle.ep_drive.specs.Calls.{Moment, RanImage, IsTold, IsToldPart, MeansPart}
 use Rattle.ep_drive.specs.ProgramTexts.{IsProgramText}
-use Rattle.ep_drive.specs.Outcomes.{error_line, budget_line, IsReported}
+use Rattle.ep_drive.specs.Outcomes.{error_line, budget_line}
 use Rattle.ep_drive.specs.declared.status.Status.{Status}
 use Rattle.ep_drive.specs.declared.status.Status.TheVariants as status
 
@@ -41,33 +39,10 @@ answer_line end.Budget = Some budget_line
 answer_line (end.Broken pc) = Some (codes "broken image at " ++ decimal pc ++ codes "\n")
 answer_line _ = None
 
--- All events of the run were done and the answer is where it stands, or a write had a fault and a part of them was done, or memory is wanting and whole events were done.
+-- All events of the run were done and the answer is where it stands, or a write had a fault and a part of them was done, or memory is wanting and some first ones were.
 abbrev pub CameTo : End → Going → Outside → Outside → Type 0
 CameTo end.ReadFault g old new = ⊥
 CameTo end.FileFault g old new = ⊥
 CameTo end.WriteFault g old new = DoesPart (trace_of g) old new
 CameTo end.NoMemory g old new = DoesFront (trace_of g) old new
 CameTo answer g old new = Does (trace_of g) old new × IsEnd answer g
-
--- where a line was to be reported, a front of it was written
-abbrev pub IsReportedPart : Option (List ℕ) → Option (List ℕ) → Option (List ℕ) → Type 0
-IsReportedPart None old new = ⊥
-IsReportedPart (Some line) old new = AppendsFront old new line
-
--- a status with its whole report, a fault with a front of the report, or no memory with none
-pub data IsToldAs (own : Status) (line : Option (List ℕ)) (answer : Status) (old new : Option (List ℕ)) (m n : ℕ) : Type 0 where
-  whole : answer ≡ own → IsReported line old new → IsToldAs own line answer old new m n
-  fault : answer ≡ status.WriteFault → IsReportedPart line old new → m < n → IsToldAs own line answer old new m n
-  nothing : answer ≡ status.NoMemory → Keeps old new → IsToldAs own line answer old new m n
-
--- what each answer says of the run of a unit
-abbrev pub AnswersRun : Status → ℕ → TypedUnit → Moment → Moment → Type 0
-AnswersRun status.Done budget unit old new = RanImage budget unit old.outside new.outside (IsTold status.Done old.report new.report)
-AnswersRun status.Halted budget unit old new = RanImage budget unit old.outside new.outside (IsTold status.Halted old.report new.report)
-AnswersRun status.RunError budget unit old new = RanImage budget unit old.outside new.outside (IsTold status.RunError old.report new.report)
-AnswersRun status.Budget budget unit old new = RanImage budget unit old.outside new.outside (IsTold status.Budget old.report new.report)
-AnswersRun status.WriteFault budget unit old new =
-    (MeansPart unit old.outside new.outside × Keeps old.report new.report × (old.output_faults < new.output_faults))
-    ⊎ (RanImage budget unit old.outside new.outside (IsToldPart old.report new.report) × (old.report_faults < new.report_faults))
-AnswersRun status.NoMemory budget unit old new = MeansPart unit old.outside new.outside × Keeps old.report new.report
-AnswersRun _ budget unit old new = ⊥

@@ -3,11 +3,15 @@ pub mod Calls
 pub mod Commands
 pub mod Elaboration
 pub mod Executions
+pub mod GoRuns
 pub mod Images
+pub mod Jobs
 pub mod Laws
-pub mod Lines
 pub mod Numbers
 pub mod Outcomes
 pub mod ProgramTexts
 pub mod Refusals
+pub mod Seen
+pub mod Statuses
+pub mod Verdicts
 pub mod WordReading

@@ -1,6 +1,6 @@
--- What the top call answers and reports of a run.
-use Rattle.std.specs.Prelude.{ℕ, List, ◌++◌, Option, Some, None, codes, decimal}
-use Rattle.ep_outside.specs.Known.{Keeps, Appends}
+-- The status and the line of the report of a run, and how a line is reported.
+use Rattle.std.specs.Prelude.{◌≡◌, ℕ, ◌<◌, List, ◌++◌, Option, Some, None, codes, decimal}
+use Rattle.ep_outside.specs.Known.{Keeps, Appends, AppendsFront}
 use Rattle.ep_object.specs.State.{Going, Running, Stopped, Normal, Halt, Error, Broken}
 use Rattle.ep_typed.specs.Steps as meaning
 use Rattle.ep_drive.specs.declared.status.Status.{Status}
@@ -30,13 +30,26 @@ run_line (Stopped Halt trace) = None
 run_line (Stopped (Error number unit line) trace) = Some (error_line number unit line)
 run_line (Stopped (Broken place) trace) = Some (codes "broken image at " ++ decimal place ++ codes "\n")
 
--- the whole line was reported, or there is none and nothing was reported
-abbrev pub IsReported : Option (List ℕ) → Option (List ℕ) → Option (List ℕ) → Type 0
-IsReported None old new = Keeps old new
-IsReported (Some line) old new = Appends old new line
-
 -- the status of an end of the meaning
 abbrev pub end_status : meaning.End → Status
 end_status meaning.Normal = status.Done
 end_status meaning.Halted = status.Halted
 end_status (meaning.Error number unit line) = status.RunError
+
+-- ---- reports
+
+-- the whole line was reported, or there is none and nothing was reported
+abbrev pub IsReported : Option (List ℕ) → Option (List ℕ) → Option (List ℕ) → Type 0
+IsReported None old new = Keeps old new
+IsReported (Some line) old new = Appends old new line
+
+-- where a line was to be reported, a front of it was written
+abbrev pub IsReportedPart : Option (List ℕ) → Option (List ℕ) → Option (List ℕ) → Type 0
+IsReportedPart None old new = ⊥
+IsReportedPart (Some line) old new = AppendsFront old new line
+
+-- a status with its whole line, a fault with a front of the line, or no memory with none of it
+pub data IsToldAs (own : Status) (line : Option (List ℕ)) (answer : Status) (old new : Option (List ℕ)) (m n : ℕ) : Type 0 where
+  whole : answer ≡ own → IsReported line old new → IsToldAs own line answer old new m n
+  fault : answer ≡ status.WriteFault → IsReportedPart line old new → m < n → IsToldAs own line answer old new m n
+  nothing : answer ≡ status.NoMemory → Keeps old new → IsToldAs own line answer old new m n

@@ -1,4 +1,4 @@
--- Which typed program a source text is, and the first node of a text that is not built.
+-- Which texts have trees, which are built, and which typed program a text is.
 use Rattle.std.specs.Prelude.{◌≡◌, ℕ, List, [], ◌∷◌, Option, Some, None}
 use Rattle.ep_token.specs.Tokens.{Tokens}
 use Rattle.ep_token.specs.declared.token.Token.{Token}
@@ -27,3 +27,24 @@ second_line (component ∷ components) = Some (component_line component)
 abbrev pub components_unbuilt : List Component → Option ℕ
 components_unbuilt [] = None
 components_unbuilt (component ∷ components) = first_of (component_unbuilt component) (second_line components)
+
+-- the text has tokens, which derive components, and this is the line of their first node that is not built, if there is one
+pub record HasUnbuilt (text : List ℕ) (line : Option ℕ) : Type 0 where
+  pub tokens : List Token
+  pub are_tokens : Tokens text tokens
+  pub components : List Component
+  pub derived : Grammar MAX_NESTING tokens components
+  pub unbuilt : components_unbuilt components ≡ line
+
+-- the text has tokens, which derive components
+abbrev pub HasTree : List ℕ → Type 0
+HasTree text = (line : Option ℕ) × HasUnbuilt text line
+
+-- all nodes of the text are built
+abbrev pub IsBuilt : List ℕ → Type 0
+IsBuilt text = HasUnbuilt text None
+
+-- the texts join to these units: so far there is one text, which is that of a program
+abbrev pub Joins : List (List ℕ) → List TypedUnit → Type 0
+Joins (text ∷ []) (unit ∷ []) = IsProgramText text unit
+Joins _ _ = ⊥

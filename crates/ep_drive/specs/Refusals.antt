@@ -1,19 +1,15 @@
 -- Why a call is refused, and what it then answers and reports.
-use Rattle.std.specs.Prelude.{◌≡◌, ℕ, ◌<◌, ◌≤◌, List, ◌++◌, length, Option, None, Some, IsSomeAnd, codes, decimal}
-use Rattle.ep_outside.specs.Known.{Directory, HasFile, HasLength}
+use Rattle.std.specs.Prelude.{◌≡◌, ℕ, List, ◌++◌, Some, codes, decimal}
 use Rattle.ep_token.specs.Tokens.{Tokens, Stuck}
 use Rattle.ep_token.specs.declared.refusal.TokenRefusal.{TokenRefusal}
 use Rattle.ep_token.specs.declared.refusal.TokenRefusal.TheVariants as token
 use Rattle.ep_token.specs.declared.token.Token.{Token}
-use Rattle.ep_tree.specs.declared.component.Component.{Component}
 use Rattle.ep_grammar.specs.Refusals.{SyntaxRefusedAt, NestingRefusedAt}
-use Rattle.ep_grammar.specs.Rules.{Grammar}
 use Rattle.ep_grammar.specs.declared.stop.TheConstants.{MAX_NESTING}
 use Rattle.ep_parse.specs.Refusals.{line_at}
 use Rattle.ep_parse.specs.declared.text.ParseRefusal.{ParseRefusal}
 use Rattle.ep_parse.specs.declared.text.ParseRefusal.TheVariants as parse
-use Rattle.ep_drive.specs.Commands.{Command, Go, WordsOf}
-use Rattle.ep_drive.specs.ProgramTexts.{components_unbuilt}
+use Rattle.ep_drive.specs.ProgramTexts.{HasUnbuilt}
 use Rattle.ep_drive.specs.declared.source.Cause.{Cause}
 use Rattle.ep_drive.specs.declared.source.Cause.TheVariants as cause
 use Rattle.ep_drive.specs.declared.source.TextRefusal.{TextRefusal}
@@ -33,6 +29,7 @@ abbrev pub text_status : Cause → Status
 text_status cause.NotBuilt = status.Unbuilt
 text_status _ = status.SourceRefused
 
+-- the status of a refusal
 abbrev pub status_of : Refusal → Status
 status_of Usage = status.Usage
 status_of (Missing file) = status.FileMissing
@@ -42,10 +39,6 @@ status_of (InText file why line) = text_status why
 -- the most bytes of a source
 abbrev pub source_limit : ℕ
 source_limit = 1048576
-
--- the words ask to run this source, within some budget
-abbrev pub AsksFor : List (List ℕ) → List ℕ → Type 0
-AsksFor words file = (budget : ℕ) × WordsOf words (Go budget file)
 
 -- the words of the report of a text that is refused
 abbrev pub words_of : Cause → List ℕ
@@ -79,46 +72,30 @@ pub record HasNoTree (Refused : ℕ → List Token → ℕ → Type 0) (text : L
   pub refused : Refused MAX_NESTING tokens place
   pub line_is : line ≡ line_at tokens place
 
--- the text has tokens, which derive components, whose first node that is not built begins on this line
-pub record IsUnbuilt (text : List ℕ) (line : ℕ) : Type 0 where
-  pub tokens : List Token
-  pub are_tokens : Tokens text tokens
-  pub components : List Component
-  pub derived : Grammar MAX_NESTING tokens components
-  pub unbuilt : components_unbuilt components ≡ Some line
-
--- the text gives this cause on this line
-abbrev pub IsTextCause : List ℕ → Cause → ℕ → Type 0
-IsTextCause text cause.NoToken line = IsStuck text (token.NoToken line)
-IsTextCause text cause.OpenComment line = IsStuck text (token.OpenComment line)
-IsTextCause text cause.OpenString line = IsStuck text (token.OpenString line)
-IsTextCause text cause.BadNumber line = IsStuck text (token.BadNumber line)
-IsTextCause text cause.LongName line = IsStuck text (token.LongName line)
-IsTextCause text cause.Syntax line = HasNoTree SyntaxRefusedAt text line
-IsTextCause text cause.Nested line = HasNoTree NestingRefusedAt text line
-IsTextCause text cause.NotBuilt line = IsUnbuilt text line
-
--- the words and the files give cause for the refusal
-abbrev pub IsCause : List (List ℕ) → Option Directory → Refusal → Type 0
-IsCause words files Usage = (command : Command) → WordsOf words command → ⊥
-IsCause words files (Missing file) = AsksFor words file × HasFile files file None
-IsCause words files (TooLong file bytes) = AsksFor words file × (source_limit < bytes) × HasLength files file bytes
-IsCause words files (InText file why line) = AsksFor words file × ((text : List ℕ) × HasFile files file (Some text) × (length text ≤ source_limit) × IsTextCause text why line)
-
--- the same, where the files tell what the refusal rests on
-abbrev pub IsKnownCause : List (List ℕ) → Option Directory → Refusal → Type 0
-IsKnownCause words files Usage = (command : Command) → WordsOf words command → ⊥
-IsKnownCause words files (Missing file) = AsksFor words file × IsSomeAnd files (λ directory. directory file ≡ None)
-IsKnownCause words files (TooLong file bytes) = AsksFor words file × ((text : List ℕ) × IsSomeAnd files (λ directory. directory file ≡ Some text) × (length text ≡ bytes) × (source_limit < bytes))
-IsKnownCause words files (InText file why line) = AsksFor words file × ((text : List ℕ) × IsSomeAnd files (λ directory. directory file ≡ Some text) × (length text ≤ source_limit) × IsTextCause text why line)
+-- the text is outside the language: it gives this cause on this line
+abbrev pub IsOutside : List ℕ → Cause → ℕ → Type 0
+IsOutside text cause.NoToken line = IsStuck text (token.NoToken line)
+IsOutside text cause.OpenComment line = IsStuck text (token.OpenComment line)
+IsOutside text cause.OpenString line = IsStuck text (token.OpenString line)
+IsOutside text cause.BadNumber line = IsStuck text (token.BadNumber line)
+IsOutside text cause.LongName line = IsStuck text (token.LongName line)
+IsOutside text cause.Syntax line = HasNoTree SyntaxRefusedAt text line
+IsOutside text cause.Nested line = HasNoTree NestingRefusedAt text line
+IsOutside text cause.NotBuilt line = ⊥
 
 -- ---- how the layers below refuse a text
 
--- there is cause for the refusal of a text
+-- the text gives this cause on this line: it is outside the language, or its first node that is not built is there
+abbrev pub IsTextCause : List ℕ → Cause → ℕ → Type 0
+IsTextCause text cause.NotBuilt line = HasUnbuilt text (Some line)
+IsTextCause text why line = IsOutside text why line
+
+-- the text gives the cause of this refusal; want of memory needs none
 abbrev pub RefusesText : List ℕ → TextRefusal → Type 0
 RefusesText text (text_refusal.Refused why line) = IsTextCause text why line
 RefusesText text text_refusal.NoMemory = Unit {0}
 
+-- the refusal of a text that has no tokens
 abbrev pub by_tokens : TokenRefusal → TextRefusal
 by_tokens (token.NoToken line) = text_refusal.Refused cause.NoToken line
 by_tokens (token.OpenComment line) = text_refusal.Refused cause.OpenComment line
@@ -127,6 +104,7 @@ by_tokens (token.BadNumber line) = text_refusal.Refused cause.BadNumber line
 by_tokens (token.LongName line) = text_refusal.Refused cause.LongName line
 by_tokens token.NoMemory = text_refusal.NoMemory
 
+-- the refusal of tokens that have no tree
 abbrev pub by_grammar : ParseRefusal → TextRefusal
 by_grammar (parse.Syntax place line) = text_refusal.Refused cause.Syntax line
 by_grammar (parse.Nested place line) = text_refusal.Refused cause.Nested line

@@ -85,7 +85,7 @@ take_words r (word ∷ words) = take_word r word >>= λ next. take_words next wo
 abbrev pub asked_with : Expected → Option ℕ → Option (List ℕ) → Option Command
 asked_with Ticks ticks source = None
 asked_with _ ticks None = None
-asked_with _ ticks (Some source) = Some (Go (unwrap_or ticks usual_budget) source)
+asked_with _ ticks (Some source) = Some (Go (unwrap_or ticks usual_budget) (source ∷ []))
 
 abbrev pub asked : Taken → Option Command
 asked r = asked_with r.expected r.ticks r.source

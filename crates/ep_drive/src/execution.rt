@@ -1,13 +1,18 @@
 //! The image of a program, and its run on the machine.
 
-ghost use Rattle.std.specs.Prelude.{◌≡◌, ◌<◌, ◌≤◌, ◌^◌, ◌∷◌, [], length, IfOk, MatchResult};
-ghost use Rattle.ep_machine.specs.Answers.{OnWriteFaultEnd};
+ghost use Rattle.std.specs.Prelude.{◌≡◌, ◌<◌, ◌≤◌, ◌^◌, ◌∷◌, [], ℕ, List, length, IfOk, MatchResult};
+ghost use Rattle.ep_machine.specs.Answers.{OnWriteFaultEnd, outside};
 ghost use Rattle.ep_object.specs.Implements.{Implements};
 ghost use Rattle.ep_typed.specs.Valid.{IsValid};
 ghost use Rattle.ep_typed.specs.declared.unit.Unit.{Unit as TypedUnit};
-ghost use Rattle.ep_drive.specs.Calls.{moment, outside_of, run_within};
-ghost use Rattle.ep_drive.specs.Executions.{AnswersRun, CameTo, IsImageOf};
+ghost use Rattle.ep_drive.specs.Executions.{CameTo, IsImageOf};
+ghost use Rattle.ep_drive.specs.GoRuns.{run_within};
+ghost use Rattle.ep_drive.specs.Jobs.{AnswersJob};
+ghost use Rattle.ep_drive.specs.ProgramTexts.{Joins};
 ghost use Rattle.ep_drive.specs.Refusals.{RefusesText};
+ghost use Rattle.ep_drive.specs.Seen.{NoneFell, seen};
+ghost use Rattle.ep_drive.specs.Statuses.{kind_of};
+ghost use Rattle.ep_drive.specs.Verdicts.{Go};
 
 use crate::image::image_alone;
 use crate::outcome::tell;
@@ -33,13 +38,18 @@ pub fn run_and_tell<F: Files, I: Source, O: Sink, R: Sink>(
     report: &mut R,
 ) -> Status
     requires { budget < 2 ^ 61 }
-    ensures answers { (unit : TypedUnit) → Implements image.now (unit ∷ []) → AnswersRun result budget unit
-        (moment (O.held output.old) (F.files files.old) (R.held report.old) (F.faults files.old) (O.faults output.old) (R.faults report.old))
-        (moment (O.held output.new) (F.files files.new) (R.held report.new) (F.faults files.new) (O.faults output.new) (R.faults report.new)) }
+    ensures answers { (texts : List (List ℕ)) (units : List TypedUnit) → Joins texts units → Implements image.now units
+        → AnswersJob (kind_of result) (Go budget texts) result
+        (seen (O.held output.old) (F.files files.old) (I.left input.old) (R.held report.old)
+        (O.faults output.old) (F.faults files.old) (I.faults input.old) (R.faults report.old))
+        (seen (O.held output.new) (F.files files.new) (I.left input.new) (R.held report.new)
+        (O.faults output.new) (F.faults files.new) (I.faults input.new) (R.faults report.new)) }
     ensures files { files.new ≡ files.old }
-    ensures input { input.new ≡ input.old }
-    ensures output { O.faults output.old ≤ O.faults output.new }
-    ensures report { R.faults report.old ≤ R.faults report.new }
+    ensures counts { NoneFell
+        (seen (O.held output.old) (F.files files.old) (I.left input.old) (R.held report.old)
+        (O.faults output.old) (F.faults files.old) (I.faults input.old) (R.faults report.old))
+        (seen (O.held output.new) (F.files files.new) (I.left input.new) (R.held report.new)
+        (O.faults output.new) (F.faults files.new) (I.faults input.new) (R.faults report.new)) }
 {
     match run_image(alloc, image, budget, files, input, output) {
         End::WriteFault => Status::WriteFault,
@@ -77,7 +87,8 @@ fn run_image<F: Files, I: Source, O: Sink>(
     output: &mut O,
 ) -> End
     requires { budget < 2 ^ 61 }
-    ensures came { CameTo result (run_within budget image.now) (outside_of (O.held output.old) (F.files files.old)) (outside_of (O.held output.new) (F.files files.new)) }
+    ensures came { CameTo result (run_within budget image.now)
+        (outside (O.held output.old) (F.files files.old)) (outside (O.held output.new) (F.files files.new)) }
     ensures fault { OnWriteFaultEnd result (O.faults output.old < O.faults output.new) }
     ensures counts { O.faults output.old ≤ O.faults output.new }
     ensures files { files.new ≡ files.old }

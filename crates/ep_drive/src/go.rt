@@ -1,9 +1,10 @@
 //! The command `go`.
 
-ghost use Rattle.std.specs.Prelude.{◌≡◌, ◌<◌, ◌≤◌, ◌^◌, List, ℕ, Option, Some, length};
+ghost use Rattle.std.specs.Prelude.{◌<◌, ◌≤◌, ◌^◌, ◌∷◌, [], List, ℕ, Option, Some, length};
 ghost use Rattle.ep_outside.specs.Known.{Directory, KeepsFiles, HasFile};
+ghost use Rattle.ep_drive.specs.Calls.{Answers};
 ghost use Rattle.ep_drive.specs.Commands.{Go, WordsOf};
-ghost use Rattle.ep_drive.specs.Calls.{Answers, Counts, moment};
+ghost use Rattle.ep_drive.specs.Seen.{NoneFell, seen};
 
 use crate::execution::{run_and_tell, text_image};
 use crate::report::{Refusal, refuse};
@@ -24,13 +25,16 @@ pub fn go<F: Files, I: Source, O: Sink, R: Sink>(
     report: &mut R,
 ) -> Status
     requires { budget < 2 ^ 61 }
-    ensures answers { (words : List (List ℕ)) → WordsOf words (Go budget source.now) → Answers result words
-        (moment (O.held output.old) (F.files files.old) (R.held report.old) (F.faults files.old) (O.faults output.old) (R.faults report.old))
-        (moment (O.held output.new) (F.files files.new) (R.held report.new) (F.faults files.new) (O.faults output.new) (R.faults report.new)) }
-    ensures counts { Counts
-        (moment (O.held output.old) (F.files files.old) (R.held report.old) (F.faults files.old) (O.faults output.old) (R.faults report.old))
-        (moment (O.held output.new) (F.files files.new) (R.held report.new) (F.faults files.new) (O.faults output.new) (R.faults report.new)) }
-    ensures input { input.new ≡ input.old }
+    ensures answers { (words : List (List ℕ)) → WordsOf words (Go budget (source.now ∷ [])) → Answers result words
+        (seen (O.held output.old) (F.files files.old) (I.left input.old) (R.held report.old)
+        (O.faults output.old) (F.faults files.old) (I.faults input.old) (R.faults report.old))
+        (seen (O.held output.new) (F.files files.new) (I.left input.new) (R.held report.new)
+        (O.faults output.new) (F.faults files.new) (I.faults input.new) (R.faults report.new)) }
+    ensures counts { NoneFell
+        (seen (O.held output.old) (F.files files.old) (I.left input.old) (R.held report.old)
+        (O.faults output.old) (F.faults files.old) (I.faults input.old) (R.faults report.old))
+        (seen (O.held output.new) (F.files files.new) (I.left input.new) (R.held report.new)
+        (O.faults output.new) (F.faults files.new) (I.faults input.new) (R.faults report.new)) }
 {
     let mut text = Vec::new(alloc);
     match files.load(source.as_bytes(), MAX_SOURCE as u32, &mut text) {
@@ -66,13 +70,18 @@ fn go_text<F: Files, I: Source, O: Sink, R: Sink>(
 ) -> Status
     requires budget { budget < 2 ^ 61 }
     requires short { length text.now ≤ MAX_SOURCE }
-    ensures answers { (words : List (List ℕ)) (old : Option Directory) (n : ℕ) → WordsOf words (Go budget source.now) → HasFile old source.now (Some text.now) → KeepsFiles old (F.files files.old) → Answers result words
-        (moment (O.held output.old) old (R.held report.old) n (O.faults output.old) (R.faults report.old))
-        (moment (O.held output.new) (F.files files.new) (R.held report.new) (F.faults files.new) (O.faults output.new) (R.faults report.new)) }
-    ensures files { F.faults files.old ≤ F.faults files.new }
-    ensures input { input.new ≡ input.old }
-    ensures output { O.faults output.old ≤ O.faults output.new }
-    ensures report { R.faults report.old ≤ R.faults report.new }
+    ensures answers { (words : List (List ℕ)) (before : Option Directory) (n : ℕ)
+        → WordsOf words (Go budget (source.now ∷ [])) → HasFile before source.now (Some text.now) → KeepsFiles before (F.files files.old)
+        → Answers result words
+        (seen (O.held output.old) before (I.left input.old) (R.held report.old)
+        (O.faults output.old) n (I.faults input.old) (R.faults report.old))
+        (seen (O.held output.new) (F.files files.new) (I.left input.new) (R.held report.new)
+        (O.faults output.new) (F.faults files.new) (I.faults input.new) (R.faults report.new)) }
+    ensures counts { NoneFell
+        (seen (O.held output.old) (F.files files.old) (I.left input.old) (R.held report.old)
+        (O.faults output.old) (F.faults files.old) (I.faults input.old) (R.faults report.old))
+        (seen (O.held output.new) (F.files files.new) (I.left input.new) (R.held report.new)
+        (O.faults output.new) (F.faults files.new) (I.faults input.new) (R.faults report.new)) }
 {
     let image = match text_image(alloc, text) {
         Ok(image) => image,

@@ -1,8 +1,8 @@
 //! How the end of a run is answered and reported.
 
 ghost use Rattle.std.specs.Prelude.{◌≡◌, ◌≤◌, ◌++◌, decimal, IfOk, OnOk, MatchOption, Some, None};
-ghost use Rattle.ep_drive.specs.Executions.{answer_status, answer_line, IsToldAs};
-ghost use Rattle.ep_drive.specs.Outcomes.{error_line};
+ghost use Rattle.ep_drive.specs.Executions.{answer_status, answer_line};
+ghost use Rattle.ep_drive.specs.Outcomes.{IsToldAs, error_line};
 
 use crate::status::Status;
 use ep_base::{Line, Name, NoMemory};
@@ -13,7 +13,8 @@ use std::alloc::Global;
 
 /// Reports how a run ended, by one write where there is something to report, and tells the status.
 pub fn tell<R: Sink>(alloc: Global, end: &End, report: &mut R) -> Status
-    ensures told { IsToldAs (answer_status end.now) (answer_line end.now) result (R.held report.old) (R.held report.new) (R.faults report.old) (R.faults report.new) }
+    ensures told { IsToldAs (answer_status end.now) (answer_line end.now) result
+        (R.held report.old) (R.held report.new) (R.faults report.old) (R.faults report.new) }
     ensures faults { R.faults report.old ≤ R.faults report.new }
 {
     let Ok(line) = line_of(alloc, end) else {

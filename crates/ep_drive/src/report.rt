@@ -1,9 +1,9 @@
 //! Refusals, and the one line that reports each.
 
-ghost use Rattle.std.specs.Prelude.{◌≡◌, ◌≤◌, ◌++◌, decimal, IfOk};
+ghost use Rattle.std.specs.Prelude.{◌≡◌, ◌≤◌, ◌++◌, decimal, IfOk, Some};
 ghost use Rattle.std.specs.String.{string_bytes};
 ghost use Rattle.ep_drive.specs.Refusals.{InText, report_of, status_of, words_of};
-ghost use Rattle.ep_drive.specs.Calls.{Reported};
+ghost use Rattle.ep_drive.specs.Outcomes.{IsToldAs};
 ghost use Rattle.ep_drive.specs.Asked.{refused_by};
 
 use crate::source::Cause;
@@ -96,7 +96,8 @@ fn numbered_line(
 
 /// Reports a refusal by one write, and tells how the call ends.
 pub fn refuse<R: Sink>(alloc: Global, refusal: &Refusal, report: &mut R) -> Status
-    ensures reported { Reported result (refused_by refusal.now) (R.held report.old) (R.held report.new) (R.faults report.old) (R.faults report.new) }
+    ensures told { IsToldAs (status_of (refused_by refusal.now)) (Some (report_of (refused_by refusal.now))) result
+        (R.held report.old) (R.held report.new) (R.faults report.old) (R.faults report.new) }
     ensures faults { R.faults report.old ≤ R.faults report.new }
 {
     let Ok(line) = line_of(alloc, refusal) else {

@@ -1,0 +1,179 @@
+-- What a run of an image within its budget says by the meaning of the units that the image implements.
+use Rattle.std.proofs.Common.{◌≡◌, ℕ, ◌+◌, ◌-◌, ◌*◌, ◌≤◌, zero, suc, false, IsTrue, List, [], ◌∷◌, ◌⊎◌, inl, inr, refl, sym, ap, ◌∙◌, subst, arith}
+use Rattle.ep_object.specs.Follows.{end_of}
+use Rattle.ep_object.specs.State.{Going, Running, Stopped, Normal, Halt, Error, Broken}
+use Rattle.ep_object.specs.Tells.{Tells}
+use Rattle.ep_typed.proofs.Lasting.{meanings_last}
+use Rattle.ep_typed.specs.Events.{Trace, Does}
+use Rattle.ep_typed.specs.Laws.{IsLonger}
+use Rattle.ep_typed.specs.Meaning.{meaning, make_all, exec}
+use Rattle.ep_typed.specs.Viewed.{stmt_of}
+use Rattle.ep_typed.specs.Steps.{Outcome, Gives, Ends, Cut, State, state_of, stop, go_on, bind, spend, first_state}
+use Rattle.ep_typed.specs.Steps as meant
+use Rattle.ep_typed.specs.declared.unit.Unit.{Unit as TypedUnit}
+use Rattle.ep_drive.specs.GoRuns.{run_within, IsRun, GoFinishes, EndsSo, MeansSo, GoMeans, GoSettles}
+use Rattle.ep_drive.specs.Outcomes.{run_status, end_status}
+use Rattle.ep_drive.specs.ProgramTexts.{IsProgramText, Joins}
+use Rattle.ep_drive.specs.Seen.{Seen, outside_of}
+use Rattle.ep_drive.specs.declared.status.Status.{Status}
+use Rattle.ep_drive.proofs.Runs.{tells_within, not_broken}
+use Rattle.ep_drive.proofs.Sources.{one_program}
+
+-- ---- the end of a run is that of the meaning
+
+normal_end : (e : meant.End) → Normal ≡ end_of e → e ≡ meant.Normal
+normal_end meant.Normal h = refl
+normal_end meant.Halted h = absurd cc
+normal_end (meant.Error n u l) h = absurd cc
+
+halt_end : (e : meant.End) → Halt ≡ end_of e → e ≡ meant.Halted
+halt_end meant.Normal h = absurd cc
+halt_end meant.Halted h = refl
+halt_end (meant.Error n u l) h = absurd cc
+
+error_end : (n : ℕ) (u : List ℕ) (l : ℕ) (e : meant.End) → Error n u l ≡ end_of e → e ≡ meant.Error n u l
+error_end n u l meant.Normal h = absurd cc
+error_end n u l meant.Halted h = absurd cc
+error_end n u l (meant.Error m v k) h =
+    let numbers : m ≡ n = cc in
+    let units : v ≡ u = cc in
+    let lines : k ≡ l = cc in
+    λ i. meant.Error (numbers i) (units i) (lines i)
+
+module _ (units : List TypedUnit) (budget : ℕ) (before after : Seen) where
+  ends_so : (m left : ℕ) (e end : meant.End) (state : State) (trace : Trace) → meaning units m ≡ Ends left e state → e ≡ end → trace ≡ state.trace → Does trace (outside_of before) (outside_of after) → EndsSo units end before after
+  ends_so m left e end state trace is same events does = record {
+    steps = m;
+    left = left;
+    state = state;
+    ends = is ∙ ap (λ x. Ends left x state) same;
+    does = subst (λ t. Does t (outside_of before) (outside_of after)) events does;
+  }
+
+  -- where a run stands says this of the meaning
+  going_means : (answer : Status) (g : Going) → Tells (meaning units) budget g → IsRun answer before after g → MeansSo (run_status g) budget units before after
+  going_means answer (Running wait s) t r = record { trace = s.trace; means = t; does = r.does; reports = r.reports }
+  going_means answer (Stopped Normal trace) (inl t) r = (ends_so t.steps t.left t.its_end meant.Normal t.state trace t.is (normal_end t.its_end t.same_end) t.same_trace r.does, r.reports)
+  going_means answer (Stopped Normal trace) (inr t) r = let is : Normal ≡ Error t.number t.unit t.line = t.is in absurd cc
+  going_means answer (Stopped Halt trace) (inl t) r = (ends_so t.steps t.left t.its_end meant.Halted t.state trace t.is (halt_end t.its_end t.same_end) t.same_trace r.does, r.reports)
+  going_means answer (Stopped Halt trace) (inr t) r = let is : Halt ≡ Error t.number t.unit t.line = t.is in absurd cc
+  going_means answer (Stopped (Error n u l) trace) (inl t) r = record {
+    number = n;
+    in_unit = u;
+    line = l;
+    means = inl (ends_so t.steps t.left t.its_end (meant.Error n u l) t.state trace t.is (error_end n u l t.its_end t.same_end) t.same_trace r.does);
+    reports = r.reports;
+  }
+  going_means answer (Stopped (Error n u l) trace) (inr t) r = record { number = n; in_unit = u; line = l; means = inr (record { trace = trace; means = t; does = r.does }); reports = r.reports }
+  going_means answer (Stopped (Broken place) trace) t r = absurd (not_broken (meaning units) budget place trace t)
+
+pub go_means : (budget : ℕ) (texts : List (List ℕ)) (answer : Status) (before after : Seen) → GoFinishes budget texts answer before after → GoMeans budget texts answer before after
+go_means budget texts answer before after x =
+    let r = x.stands in
+    record {
+      units = x.units;
+      joins = x.joins;
+      means = subst (λ s. MeansSo s budget x.units before after) (sym r.answers) (going_means x.units budget before after answer (run_within budget x.image) (tells_within x.image x.units x.implements budget) r);
+    }
+
+-- ---- a meaning ends in one way
+
+-- an end and its events
+record IsSameEnd (e f : meant.End) (s t : State) : Type 0 where
+  ends : e ≡ f
+  states : s ≡ t
+
+parted : {A : Type 0} (l m : ℕ) (e f : meant.End) (s t : State) → ◌≡◌ {A = Outcome A} (Ends l e s) (Ends m f t) → IsSameEnd e f s t
+parted l m e f s t h = record { ends = cc; states = cc }
+
+cases_le : (a b : ℕ) → ((k : ℕ) × (b ≡ a + k)) ⊎ ((k : ℕ) × (a ≡ b + k))
+cases_le a b = elim (le_cases a b) [ inl h ↦ inl (b - a, omega arith) | inr h ↦ inr (a - b, omega arith) ]
+  where
+    le_cases : (a b : ℕ) → (a ≤ b) ⊎ (b ≤ a)
+    le_cases zero b = inl (omega arith)
+    le_cases (suc a) zero = inr (omega arith)
+    le_cases (suc a) (suc b) = elim (le_cases a b) [ inl x ↦ inl (omega arith) | inr x ↦ inr (omega arith) ]
+
+-- with more steps it ends so too
+longer_ends : (units : List TypedUnit) (m k l : ℕ) (e : meant.End) (s : State) → meaning units m ≡ Ends l e s → meaning units (m + k) ≡ Ends (l + k) e s
+longer_ends units m k l e s h = subst (λ o. IsLonger k o (meaning units (m + k))) h (meanings_last units m k)
+
+one_end : (units : List TypedUnit) (m n l j : ℕ) (e f : meant.End) (s t : State) → meaning units m ≡ Ends l e s → meaning units n ≡ Ends j f t → IsSameEnd e f s t
+one_end units m n l j e f s t h i =
+    elim (cases_le m n) [
+      | inl d ↦
+          let more : meaning units n ≡ Ends (l + d.0) e s = ap (meaning units) d.1 ∙ longer_ends units m d.0 l e s h in
+          parted {A = Unit {0}} (l + d.0) j e f s t (sym more ∙ i)
+      | inr d ↦
+          let more : meaning units m ≡ Ends (j + d.0) f t = ap (meaning units) d.1 ∙ longer_ends units n d.0 j f t i in
+          parted {A = Unit {0}} l (j + d.0) e f s t (sym h ∙ more)
+    ]
+
+-- room that was lost within some number of steps is lost at the end
+lost_at_end : (units : List TypedUnit) (m n l : ℕ) (e : meant.End) (s : State) → meaning units m ≡ Ends l e s → IsTrue (state_of (meaning units n)).resources.lost → IsTrue s.resources.lost
+lost_at_end units m n l e s h lost =
+    elim (cases_le m n) [
+      | inl d ↦
+          let more : meaning units n ≡ Ends (l + d.0) e s = ap (meaning units) d.1 ∙ longer_ends units m d.0 l e s h in
+          subst (λ o. IsTrue (state_of o).resources.lost) more lost
+      | inr d ↦
+          let there : meaning units (n + d.0) ≡ Ends l e s = ap (meaning units) (sym d.1) ∙ h in
+          go d.0 (meaning units n) (meaning units (n + d.0)) (meanings_last units n d.0) there lost
+    ]
+  where
+    go : (k : ℕ) (o r : Outcome (Unit {0})) → IsLonger k o r → r ≡ Ends l e s → IsTrue (state_of o).resources.lost → IsTrue s.resources.lost
+    go k (Gives left a t) r is there x = let no : ◌≡◌ {A = Outcome (Unit {0})} (Ends l e s) (Gives (left + k) a t) = sym there ∙ is in absurd cc
+    go k (Ends left f t) r is there x =
+        let same = parted {A = Unit {0}} (left + k) l f e t s (sym is ∙ there) in
+        subst (λ (u : State). IsTrue u.resources.lost) same.states x
+    go k (Cut t) r is there x =
+        let g = is.lost x in
+        subst (λ o. IsTrue (state_of o).resources.lost) there g
+
+not_lost : (s : State) → IsTrue s.resources.lost → s.resources.lost ≡ false → ⊥
+not_lost s h i = cc
+
+status_of_end : (e : meant.End) (trace : Trace) → run_status (Stopped (end_of e) trace) ≡ end_status e
+status_of_end meant.Normal trace = refl
+status_of_end meant.Halted trace = refl
+status_of_end (meant.Error n u l) trace = refl
+
+-- a run with enough ticks has ended as the meaning does
+settled_status : (units : List TypedUnit) (ticks m l : ℕ) (e : meant.End) (s : State) (g : Going) → Tells (meaning units) ticks g → meaning units m ≡ Ends l e s → s.resources.lost ≡ false → 64 * (m + 1) ≤ ticks → run_status g ≡ end_status e
+settled_status units ticks m l e s (Running wait k) t h room few =
+    let goes = t.all m (omega arith) in
+    let no : ◌≡◌ {A = Outcome (Unit {0})} (Ends l e s) (Cut goes.state) = sym h ∙ goes.is in
+    absurd cc
+settled_status units ticks m l e s (Stopped end trace) (inl t) h room few =
+    let same = one_end units t.steps m t.left l t.its_end e t.state s t.is h in
+    ap (λ x. run_status (Stopped x trace)) t.same_end ∙ ap (λ x. run_status (Stopped (end_of x) trace)) same.ends ∙ status_of_end e trace
+settled_status units ticks m l e s (Stopped end trace) (inr t) h room few = absurd (not_lost s (lost_at_end units m t.steps l e s h t.lost) room)
+
+-- ---- texts and units
+
+-- the meaning is that of the name, the variables and the statements
+same_meaning : (u v : TypedUnit) (m : ℕ) → u.name ≡ v.name → u.variables ≡ v.variables → stmt_of u.start ≡ stmt_of v.start → meaning (u ∷ []) m ≡ meaning (v ∷ []) m
+same_meaning u v m a b c = λ i. go_on (spend 1 (bind (make_all m (a i) 0 (b i)) (λ _. exec m (a i) (c i))) m first_state) (λ _. stop meant.Normal)
+
+-- a text has one meaning
+text_means : (text : List ℕ) (u v : TypedUnit) (m : ℕ) → IsProgramText text u → IsProgramText text v → meaning (u ∷ []) m ≡ meaning (v ∷ []) m
+text_means text u v m p q = let same = one_program text u v p q in same_meaning u v m same.names same.variables same.starts
+
+-- so have texts that join
+joins_mean : (texts : List (List ℕ)) (us vs : List TypedUnit) (m : ℕ) → Joins texts us → Joins texts vs → meaning us m ≡ meaning vs m
+joins_mean (text ∷ []) (u ∷ []) (v ∷ []) m p q = text_means text u v m p q
+joins_mean (text ∷ []) (u ∷ []) [] m p q = absurd q
+joins_mean (text ∷ []) (u ∷ []) (v ∷ w ∷ vs) m p q = absurd q
+joins_mean (text ∷ []) [] vs m p q = absurd p
+joins_mean (text ∷ []) (u ∷ v ∷ us) vs m p q = absurd p
+joins_mean (text ∷ next ∷ texts) us vs m p q = absurd p
+joins_mean [] us vs m p q = absurd p
+
+-- with budget enough a run ends as the meaning does
+pub go_settled : (budget : ℕ) (texts : List (List ℕ)) (answer settled : Status) (before after : Seen) → GoFinishes budget texts answer before after → GoSettles budget texts settled → answer ≡ settled
+go_settled budget texts answer settled before after x has =
+    let r = x.stands in
+    let ends : meaning x.units has.steps ≡ Ends has.left has.end has.state = joins_mean texts x.units has.units has.steps x.joins has.joins ∙ has.ends in
+    r.answers
+    ∙ settled_status x.units budget has.steps has.left has.end has.state (run_within budget x.image) (tells_within x.image x.units x.implements budget) ends has.room has.few
+    ∙ sym has.answers
