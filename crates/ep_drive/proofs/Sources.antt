@@ -33,7 +33,7 @@ in_order-length from [] to o = omega (arith, o)
 in_order-length from (t ∷ ts) to o = omega (arith, o.0, o.1, in_order-length t.end ts to o.2)
 
 -- a text has a component
-not_empty : (k : ℕ) (ts : List Token) → Grammar k ts [] → ⊥
+pub not_empty : (k : ℕ) (ts : List Token) → Grammar k ts [] → ⊥
 unfolding components
 not_empty k ts d =
     let row = d.4 in
@@ -51,10 +51,10 @@ pub record IsOnly (cs : List Component) : Type 0 where
   pub is : cs ≡ component ∷ []
   pub built : component_unbuilt component ≡ None
 
-pub one_component : (k : ℕ) (ts : List Token) (cs : List Component) → Grammar k ts cs → components_unbuilt cs ≡ None → IsOnly cs
-one_component k ts [] d e = absurd (not_empty k ts d)
-one_component k ts (c ∷ []) d e = record { component = c; is = refl; built = first_none (component_unbuilt c) None e }
-one_component k ts (c ∷ b ∷ more) d e =
+pub one_component : (cs : List Component) → (cs ≡ [] → ⊥) → components_unbuilt cs ≡ None → IsOnly cs
+one_component [] some e = absurd (some refl)
+one_component (c ∷ []) some e = record { component = c; is = refl; built = first_none (component_unbuilt c) None e }
+one_component (c ∷ b ∷ more) some e =
     let no : Some (component_line b) ≡ None = rest_unbuilt (component_unbuilt c) (Some (component_line b)) e in
     absurd cc
 

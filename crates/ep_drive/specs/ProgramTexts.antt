@@ -18,6 +18,12 @@ pub record IsProgramText (text : List ℕ) (unit : TypedUnit) : Type 0 where
   pub built : component_unbuilt component ≡ None
   pub typed : IsTyped component unit
 
+-- the text has tokens, which derive these components
+pub record HasComponents (text : List ℕ) (components : List Component) : Type 0 where
+  pub tokens : List Token
+  pub are_tokens : Tokens text tokens
+  pub derived : Grammar MAX_NESTING tokens components
+
 -- a second component is a node that is not built, whatever it is
 abbrev pub second_line : List Component → Option ℕ
 second_line [] = None

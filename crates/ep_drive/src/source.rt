@@ -1,18 +1,17 @@
 //! The program of a source text, by its tokens and its syntax tree.
 
-ghost use Rattle.std.specs.Prelude.{◌≡◌, ◌≤◌, ◌<◌, ◌^◌, List, ℕ, None, length, IfOk, IfErr, IsOkUnless, MatchResult};
-ghost use Rattle.ep_token.specs.Tokens.{Tokens};
+ghost use Rattle.std.specs.Prelude.{◌≡◌, ◌≢◌, ◌≤◌, List, [], ℕ, None, length, IfOk, IfErr, IsOkUnless, MatchResult};
 ghost use Rattle.ep_tree.specs.Built.{component_unbuilt};
 ghost use Rattle.ep_typed.specs.Valid.{IsValid};
 ghost use Rattle.ep_typed.specs.declared.unit.Unit.{Unit as TypedUnit};
-ghost use Rattle.ep_drive.specs.ProgramTexts.{IsProgramText, components_unbuilt, second_line};
+ghost use Rattle.ep_drive.specs.ProgramTexts.{HasComponents, IsProgramText, components_unbuilt, second_line};
 ghost use Rattle.ep_drive.specs.Refusals.{RefusesText, by_tokens, by_grammar};
 ghost use Rattle.ep_drive.specs.declared.source.TextRefusal.TheVariants.{NoMemory};
 
 use crate::elaboration::elaborate;
 use ep_base::Line;
 use ep_parse::{ParseRefusal, components};
-use ep_token::{MAX_SOURCE, Token, TokenRefusal, tokens};
+use ep_token::{MAX_SOURCE, TokenRefusal, tokens};
 use ep_tree::{Component, unbuilt};
 use ep_typed::Unit;
 use std::alloc::{AllocError, Global};
@@ -100,22 +99,29 @@ fn read(alloc: Global, text: &[u8]) -> Result<Unit, TextRefusal>
     requires { length text.now ≤ MAX_SOURCE }
     ensures { MatchResult result (λ unit. IsProgramText text.now unit × IsValid unit) (RefusesText text.now) }
 {
-    let found = tokens(alloc, text)?;
+    let found = components_of(alloc, text)?;
     program_of(alloc, found.as_slice())
 }
 
-/// The typed program of tokens.
-fn program_of(alloc: Global, tokens: &[Token]) -> Result<Unit, TextRefusal>
-    requires { length tokens.now < 2 ^ 32 }
-    ensures { (text : List ℕ) → Tokens text tokens.now → MatchResult result (λ unit. IsProgramText text unit × IsValid unit) (RefusesText text) }
+/// The components of a text. Its tokens are let go before they are looked at.
+fn components_of(alloc: Global, text: &[u8]) -> Result<Vec<Component>, TextRefusal>
+    requires { length text.now ≤ MAX_SOURCE }
+    ensures { MatchResult result (λ all. HasComponents text.now all.items) (RefusesText text.now) }
 {
-    let found = components(alloc, tokens)?;
-    if let Some(line) = first_unbuilt(found.as_slice()) {
+    let found = tokens(alloc, text)?;
+    let all = components(alloc, found.as_slice())?;
+    Ok(all)
+}
+
+/// The typed program of the components of a text, of which there is one at least.
+fn program_of(alloc: Global, all: &[Component]) -> Result<Unit, TextRefusal>
+    requires { all.now ≢ [] }
+    ensures { (text : List ℕ) → HasComponents text all.now → MatchResult result (λ unit. IsProgramText text unit × IsValid unit) (RefusesText text) }
+{
+    if let Some(line) = first_unbuilt(all) {
         return Err(TextRefusal::Refused(Cause::NotBuilt, line));
     }
-    let [only] = found.as_slice() else {
-        unreachable!()
-    };
+    let [only] = all else { unreachable!() };
     let unit = elaborate(alloc, only)?;
     Ok(unit)
 }
