@@ -1,5 +1,5 @@
 //! What is tried across the crates and no words and answers say: the tokens of texts, which of two trees a text has and
-//! how deep it nests, the code of typed trees, single instructions of the machine, and the objects in memory. What words
+//! how deep it nests, the code of typed trees and what it does, single instructions of the machine, and the objects in memory. What words
 //! and answers say is tried by ep_cases.
 #![tactic(auto)]
 
@@ -17,3 +17,5 @@ mod texts;
 mod tokens;
 #[cfg(test)]
 mod typed_programs;
+#[cfg(test)]
+mod typed_runs;

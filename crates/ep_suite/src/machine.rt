@@ -112,7 +112,12 @@ fn told(alloc: Global, end: &End, ticks: u64) -> Result<String, AllocError> {
 }
 
 /// How a run with this budget ends.
-fn end_of(alloc: Global, machine: &mut Machine, budget: u32, output: &mut SureSink) -> End {
+pub(crate) fn end_of(
+    alloc: Global,
+    machine: &mut Machine,
+    budget: u32,
+    output: &mut SureSink,
+) -> End {
     if machine.ticks() > 1_000_000_000 {
         return End::NoMemory;
     }

@@ -1,6 +1,6 @@
 //! The code of typed trees and of a typed program, with instructions by hand.
 
-mod builder;
+pub(crate) mod builder;
 
 use builder::{Builder, Step, Unbuilt};
 use ep_base::{Line, List, Name};
@@ -307,7 +307,7 @@ fn are(instructions: &[Instr], want: &[Row]) -> bool {
 }
 
 /// A unit `main` at line 3 with these variables, which does these statements.
-fn unit_of(
+pub(crate) fn unit_of(
     alloc: Global,
     variables: UnitVariables,
     statements: List<TypedStmt>,
