@@ -9,7 +9,7 @@ pub struct FaultCount {
 }
 
 impl FaultCount {
-    ghost use Rattle.epc.specs.FaultCounts.{faults_of};
+    ghost use Rattle.ep_system.specs.FaultCounts.{faults_of};
 
     /// No fault so far.
     pub fn new() -> FaultCount

@@ -16,7 +16,7 @@ pub struct RealSink<W> {
 }
 
 impl<W: Write> RealSink<W> {
-    ghost use Rattle.epc.specs.FaultCounts.{faults_of};
+    ghost use Rattle.ep_system.specs.FaultCounts.{faults_of};
 
     /// A sink over this writer.
     pub fn new(writer: W) -> RealSink<W> {
@@ -40,7 +40,7 @@ impl<W: Write> RealSink<W> {
 
 impl<W: Write> Sink for RealSink<W> {
     ghost use Rattle.std.specs.Prelude.{None};
-    ghost use Rattle.epc.specs.FaultCounts.{faults_of};
+    ghost use Rattle.ep_system.specs.FaultCounts.{faults_of};
 
     ghost held = { λ _. None };
 

@@ -24,7 +24,7 @@ impl<R: Read> RealSource<R> {
 
 impl<R: Read> Source for RealSource<R> {
     ghost use Rattle.std.specs.Prelude.{None};
-    ghost use Rattle.epc.specs.FaultCounts.{faults_of};
+    ghost use Rattle.ep_system.specs.FaultCounts.{faults_of};
 
     ghost left = { λ _. None };
 

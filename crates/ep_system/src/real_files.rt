@@ -55,7 +55,7 @@ fn read_within<R: Read>(alloc: Global, file: &mut R, limit: usize) -> Result<Vec
 }
 
 impl<'a, S: rt::Files> RealFiles<'a, S> {
-    ghost use Rattle.epc.specs.FaultCounts.{faults_of};
+    ghost use Rattle.ep_system.specs.FaultCounts.{faults_of};
 
     /// The files that this system has.
     pub fn new(alloc: Global, system: &'a S) -> RealFiles<'a, S> {
@@ -116,7 +116,7 @@ impl<'a, S: rt::Files> RealFiles<'a, S> {
 
 impl<'a, S: rt::Files> ep_outside::Files for RealFiles<'a, S> {
     ghost use Rattle.std.specs.Prelude.{None};
-    ghost use Rattle.epc.specs.FaultCounts.{faults_of};
+    ghost use Rattle.ep_system.specs.FaultCounts.{faults_of};
 
     ghost files = { λ _. None };
 

@@ -1,0 +1,5 @@
+program refused(output);
+begin
+  writeln('one')
+  writeln('two')
+end.
