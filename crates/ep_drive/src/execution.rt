@@ -45,6 +45,7 @@ pub fn run_and_tell<F: Files, I: Source, O: Sink, R: Sink>(
         (seen (O.held output.new) (F.files files.new) (I.left input.new) (R.held report.new)
         (O.faults output.new) (F.faults files.new) (I.faults input.new) (R.faults report.new)) }
     ensures files { files.new ≡ files.old }
+    ensures input { input.new ≡ input.old }
     ensures counts { NoneFell
         (seen (O.held output.old) (F.files files.old) (I.left input.old) (R.held report.old)
         (O.faults output.old) (F.faults files.old) (I.faults input.old) (R.faults report.old))
