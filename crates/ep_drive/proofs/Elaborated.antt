@@ -1,6 +1,6 @@
 -- Statements that are built and typed one after the other, and the typed statements that are valid.
 use Rattle.std.proofs.Common.{◌≡◌, ℕ, ◌+◌, ◌<◌, suc, true, List, [], ◌∷◌, ◌++◌, map, drop, length, get_or, Option, Some, None, refl, sym, ap, ◌∙◌, subst, add-one, drop-cons}
-use Rattle.ep_tree.specs.Built.{first_of, first_in, statement_unbuilt}
+use Rattle.ep_built.specs.Built.{first_of, first_in, statement_unbuilt}
 use Rattle.ep_tree.specs.declared.statement.Statement.{Statement}
 use Rattle.ep_typed.specs.Trees.{Stmt, Compound, Write, stmts}
 use Rattle.ep_typed.specs.Valid.{AreStmts, Declarations, IsItem, IsStmt}

@@ -5,7 +5,7 @@ use Rattle.ep_token.proofs.TokenLaws.{tokens-one, tokens-apart}
 use Rattle.ep_token.specs.Tokens.{AreInOrder, Tokens}
 use Rattle.ep_token.specs.declared.refusal.TokenRefusal.TheVariants as token
 use Rattle.ep_token.specs.declared.token.Token.{Token}
-use Rattle.ep_tree.specs.Built.{component_line, component_unbuilt, first_of}
+use Rattle.ep_built.specs.Built.{component_line, component_unbuilt, first_of}
 use Rattle.ep_tree.specs.declared.component.Component.{Component}
 use Rattle.ep_tree.specs.declared.component.Component.TheVariants as component_is
 use Rattle.ep_grammar.proofs.Refusal.{one_tree}

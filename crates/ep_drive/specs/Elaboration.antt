@@ -11,7 +11,7 @@ use Rattle.ep_tree.specs.declared.statement.Compound.{out-Compound}
 use Rattle.ep_tree.specs.declared.component.Component.{Component}
 use Rattle.ep_tree.specs.declared.component.Component.TheVariants as component_is
 use Rattle.ep_tree.specs.declared.component.Program.{Program}
-use Rattle.ep_tree.specs.Built.{is_writeln}
+use Rattle.ep_built.specs.Built.{is_writeln}
 use Rattle.ep_tree.specs.Shapes.{bare, plain_argument, when_some}
 use Rattle.ep_typed.specs.Trees as tree
 use Rattle.ep_typed.specs.Viewed.{stmt_of}

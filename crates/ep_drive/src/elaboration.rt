@@ -1,8 +1,8 @@
 //! The typed program of a syntax tree all of whose nodes are built, as specs/Elaboration.antt says. What
-//! `unbuilt` of ep_tree rules out does not come here.
+//! `unbuilt` of ep_built rules out does not come here.
 
 ghost use Rattle.std.specs.Prelude.{◌≡◌, true, Some, None, map, IfOk};
-ghost use Rattle.ep_tree.specs.Built.{argument_unbuilt, built_factor, component_unbuilt, expression_unbuilt, first_in, statement_unbuilt};
+ghost use Rattle.ep_built.specs.Built.{argument_unbuilt, built_factor, component_unbuilt, expression_unbuilt, first_in, statement_unbuilt};
 ghost use Rattle.ep_tree.specs.Shapes.{bare};
 ghost use Rattle.ep_tree.specs.declared.expression.Factor.{out-Factor};
 ghost use Rattle.ep_tree.specs.declared.statement.Statement.{out-Statement};

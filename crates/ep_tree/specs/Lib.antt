@@ -1,4 +1,3 @@
-pub mod Built
 pub mod Nesting
 pub mod Nodes
 pub mod Shapes

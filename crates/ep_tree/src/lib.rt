@@ -7,7 +7,6 @@
 //! values, types, statements, and routines with the parts of a block.
 #![tactic(auto)]
 
-mod built;
 mod component;
 mod declaration;
 mod expression;
@@ -18,7 +17,6 @@ mod shape;
 mod statement;
 mod types;
 
-pub use built::unbuilt;
 pub use component::{
     Block, Component, Export, ExportItem, Heading, HeadingPart, Implementation, Import, ImportItem,
     Module, Program,

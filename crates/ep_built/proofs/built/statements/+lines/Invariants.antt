@@ -1,6 +1,6 @@
 use Rattle.std.proofs.Common.{◌≡◌, drop, map}
-use Rattle.ep_tree.specs.Built.{arm_unbuilt, first_in, statement_unbuilt}
-use Rattle.ep_tree.proofs.built.statements.+lines.Given as goal
+use Rattle.ep_built.specs.Built.{arm_unbuilt, first_in, statement_unbuilt}
+use Rattle.ep_built.proofs.built.statements.+lines.Given as goal
 
 abbrev pub invariant-arms-loop-a : goal.invariant-arms-loop-a
 invariant-arms-loop-a l = first_in (map arm_unbuilt (drop l.a-index l.all)) ≡ first_in (map arm_unbuilt l.all)

@@ -1,6 +1,6 @@
 use Rattle.std.proofs.Common.{◌≡◌, drop, map}
-use Rattle.ep_tree.specs.Built.{first_in, import_unbuilt}
-use Rattle.ep_tree.proofs.built.imports.Given as goal
+use Rattle.ep_built.specs.Built.{first_in, import_unbuilt}
+use Rattle.ep_built.proofs.built.imports.Given as goal
 
 abbrev pub invariant-loop-i : goal.invariant-loop-i
 invariant-loop-i l = first_in (map import_unbuilt (drop l.i-index l.all)) ≡ first_in (map import_unbuilt l.all)

@@ -1,6 +1,6 @@
 use Rattle.std.proofs.Common.{◌≡◌, drop, map}
-use Rattle.ep_tree.specs.Built.{addend_operand, argument_unbuilt, element_unbuilt, expression_unbuilt, first_in, label_unbuilt, multiplier_operand, operand_lines, selector_unbuilt}
-use Rattle.ep_tree.proofs.built.expressions.+lines.Given as goal
+use Rattle.ep_built.specs.Built.{addend_operand, argument_unbuilt, element_unbuilt, expression_unbuilt, first_in, label_unbuilt, multiplier_operand, operand_lines, selector_unbuilt}
+use Rattle.ep_built.proofs.built.expressions.+lines.Given as goal
 
 abbrev pub invariant-addends-loop-addend : goal.invariant-addends-loop-addend
 invariant-addends-loop-addend l = operand_lines (map addend_operand (drop l.addend-index l.all)) ≡ operand_lines (map addend_operand l.all)

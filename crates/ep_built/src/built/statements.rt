@@ -1,13 +1,12 @@
 //! The first node of a statement that is not built.
 
 ghost use Rattle.std.specs.Prelude.{◌≡◌, map};
-ghost use Rattle.ep_tree.specs.Built.{first_in, access_unbuilt, statement_unbuilt, arm_unbuilt, compound_unbuilt};
+ghost use Rattle.ep_built.specs.Built.{first_in, access_unbuilt, statement_unbuilt, arm_unbuilt, compound_unbuilt};
 
 use crate::built::expressions::{access, component_value, expression, labels};
 use crate::built::{at_node, first_of, forms};
-use crate::expression::Access;
-use crate::statement::{Arm, Compound, Statement};
 use ep_base::Line;
+use ep_tree::{Access, Arm, Compound, Statement};
 
 /// The first line in a compound statement, whose own form the node around it tells.
 #[cycle(lines)]

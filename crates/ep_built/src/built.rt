@@ -2,15 +2,14 @@
 //! table in built/forms.rt alone; the other functions go through the nodes in the order of the text.
 
 ghost use Rattle.std.specs.Prelude.{◌≡◌, map};
-ghost use Rattle.ep_tree.specs.Built.{first_of, first_in, at_node, part_unbuilt, import_unbuilt, program_unbuilt, component_unbuilt};
+ghost use Rattle.ep_built.specs.Built.{first_of, first_in, at_node, part_unbuilt, import_unbuilt, program_unbuilt, component_unbuilt};
 
 mod expressions;
 mod forms;
 mod statements;
 
-use crate::component::{Component, Import, Program};
-use crate::routine::Part;
 use ep_base::Line;
+use ep_tree::{Component, Import, Part, Program};
 
 /// The line of the first node in text order that is not built, the outer one first, or `None` exactly where
 /// every node is built. It takes no memory.

@@ -2,18 +2,17 @@
 //! of both.
 
 ghost use Rattle.std.specs.Prelude.{◌≡◌, map};
-ghost use Rattle.ep_tree.specs.Built.{built_component, built_program, built_parameters, one_writes, writes, is_writeln, built_import, built_part, calls_with_one, writes_a_line, built_statement, built_relation, built_adding, built_multiplying, sign_is_built, built_factor, built_selector, built_argument, brackets_are_built};
+ghost use Rattle.ep_built.specs.Built.{built_component, built_program, built_parameters, one_writes, writes, is_writeln, built_import, built_part, calls_with_one, writes_a_line, built_statement, built_relation, built_adding, built_multiplying, sign_is_built, built_factor, built_selector, built_argument, brackets_are_built};
 ghost use Rattle.ep_tree.specs.declared.expression.Factor.{out-Factor};
 ghost use Rattle.ep_tree.specs.declared.expression.Selector.{out-Selector};
 ghost use Rattle.ep_tree.specs.declared.expression.Argument.{out-Argument};
 ghost use Rattle.ep_tree.specs.declared.statement.Statement.{out-Statement};
 
-use crate::component::{Component, Import, Program};
-use crate::expression::{Access, Argument, Factor, Selector};
-use crate::operator::{AddingOperator, MultiplyingOperator, RelationalOperator, Sign};
-use crate::routine::Part;
-use crate::statement::Statement;
 use ep_base::Name;
+use ep_tree::{
+    Access, AddingOperator, Argument, Component, Factor, Import, MultiplyingOperator, Part,
+    Program, RelationalOperator, Selector, Sign, Statement,
+};
 
 pub(super) fn component_is_built(c: &Component) -> bool
     ensures { result ≡ built_component c.now }

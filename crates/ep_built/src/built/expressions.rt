@@ -1,14 +1,14 @@
 //! The first node of an expression or a component value that is not built.
 
 ghost use Rattle.std.specs.Prelude.{◌≡◌, map};
-ghost use Rattle.ep_tree.specs.Built.{operators_are_built, operand_lines, addend_operand, multiplier_operand, first_in, component_value_unbuilt, element_unbuilt, factor_unbuilt, selector_unbuilt, argument_unbuilt, access_unbuilt, expression_unbuilt, label_unbuilt, simple_unbuilt, term_unbuilt, values_unbuilt};
+ghost use Rattle.ep_built.specs.Built.{operators_are_built, operand_lines, addend_operand, multiplier_operand, first_in, component_value_unbuilt, element_unbuilt, factor_unbuilt, selector_unbuilt, argument_unbuilt, access_unbuilt, expression_unbuilt, label_unbuilt, simple_unbuilt, term_unbuilt, values_unbuilt};
 
 use crate::built::{at_node, first_of, forms};
-use crate::expression::{
+use ep_base::Line;
+use ep_tree::{
     Access, Addend, Argument, ComponentValue, Element, Expression, Factor, Label, Multiplier,
     Selector, Simple, Term, Values,
 };
-use ep_base::Line;
 
 #[cycle(lines)]
 pub(super) fn expression(e: &Expression) -> Option<Line>
