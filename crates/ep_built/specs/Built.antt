@@ -1,28 +1,42 @@
 -- The built forms of the nodes of a tree, and the line of the first node of a component that is not built.
 --
--- A node is built where the table below gives its form. A node of a kind without a row has one form, and it is built where the node around it is. An operator is no node: it belongs to the node that holds both its sides or, for a sign, what follows it. The first node that is not built is the first one in the order of the text, and the outer one of two that begin with the same token. Its line is that of its first token. So it is
+-- A node is built where the table below gives its form. A node of a kind without a row has one form, and it is built where the node around it is. An operator and a selector are no nodes: an operator belongs to the node that holds both its sides or, for a sign, what follows it, and a selector to its access. The first node that is not built is the first one in the order of the text, and the outer one of two that begin with the same token. Its line is that of its first token. So it is
 --
 -- - the component, for a module
--- - the program, for other parameters than `output` alone, and for a `writeln` among its statements without that parameter
--- - the import or the part, before the statements of a program
--- - the statement, for a call of something else than `writeln` with one argument
--- - the argument, for a width
+-- - the program, for a parameter that is neither `input` nor `output`
+-- - the import
+-- - the part, for a routine
+-- - the type definition, for discriminants
+-- - the type denoter, for an initial state
+-- - the type denoter without its initial state, for `bindable`
+-- - the type itself, for what is no name, no subrange and no enumeration, for a name with a tuple, and for a name that is not built
+-- - the statement, for an assignment to something else than a name that is built, for a call of something else than `write`, `writeln` and `halt` or with other selectors than one pair of parentheses, and for what is no assignment, call, compound, empty, `if` or `while` statement
+-- - the structured value, with the name of its type or without
 -- - the expression, the simple expression or the term, for an operator that is not built
--- - the factor, for what is no character string and no unsigned number.
-use Rattle.std.specs.Prelude.{ℕ, pos, int_le, Bool, true, false, ◌&&◌, ◌||◌, not, List, [], ◌∷◌, map, codes, Option, Some, None}
+-- - the factor, for `nil`, for a set, and for a character string of another length than one that is not the whole value of an argument of a `write` or `writeln` statement
+-- - the access, for something else than a name that is built and a call of `abs`, `sqr`, `odd`, `ord`, `chr`, `succ` or `pred`.
+--
+-- An identifier that is spelled as a required one counts as the required one, also where the text declares it anew. Only uses of names count, and not their declarations.
+use Rattle.std.specs.Prelude.{ℕ, pos, int_le, Bool, true, false, if◌then◌else◌, ◌&&◌, ◌||◌, not, is_none, is_some, length, ◌==◌, List, [], ◌∷◌, map, codes, Option, Some, None}
+use Rattle.std.specs.List.{list_any, list_all}
+use Rattle.std.specs.Option.{option_map}
 use Rattle.std.specs.Str.{bytes_eq}
+use Rattle.ep_tree.specs.Shapes.{bare}
+use Rattle.ep_tree.specs.declared.operator.QualifiedName.{QualifiedName}
 use Rattle.ep_tree.specs.declared.operator.RelationalOperator.{RelationalOperator}
-use Rattle.ep_tree.specs.declared.operator.Sign.{Sign}
+use Rattle.ep_tree.specs.declared.operator.RelationalOperator.TheVariants as relation_is
 use Rattle.ep_tree.specs.declared.operator.AddingOperator.{AddingOperator}
+use Rattle.ep_tree.specs.declared.operator.AddingOperator.TheVariants as adding_is
 use Rattle.ep_tree.specs.declared.operator.MultiplyingOperator.{MultiplyingOperator}
+use Rattle.ep_tree.specs.declared.operator.MultiplyingOperator.TheVariants as multiplying_is
 use Rattle.ep_tree.specs.declared.expression.ComponentValue.TheOpen.{ComponentValue-F, Element-F, Factor-F, Selector-F, Access-F, Addend-F, Argument-F, Comparison-F, Expression-F, Label-F, Multiplier-F, Simple-F, Term-F, Values-F}
 use Rattle.ep_tree.specs.declared.expression.ComponentValue.{ComponentValue, fold-ComponentValue}
 use Rattle.ep_tree.specs.declared.expression.Element.{Element, fold-Element}
-use Rattle.ep_tree.specs.declared.expression.Factor.{Factor, fold-Factor}
+use Rattle.ep_tree.specs.declared.expression.Factor.{Factor, fold-Factor, out-Factor}
 use Rattle.ep_tree.specs.declared.expression.Selector.{Selector, fold-Selector, out-Selector}
 use Rattle.ep_tree.specs.declared.expression.Access.{Access, fold-Access, out-Access}
 use Rattle.ep_tree.specs.declared.expression.Addend.{Addend, fold-Addend}
-use Rattle.ep_tree.specs.declared.expression.Argument.{Argument, fold-Argument}
+use Rattle.ep_tree.specs.declared.expression.Argument.{Argument, fold-Argument, out-Argument}
 use Rattle.ep_tree.specs.declared.expression.Comparison.{Comparison, fold-Comparison}
 use Rattle.ep_tree.specs.declared.expression.Expression.{Expression, fold-Expression}
 use Rattle.ep_tree.specs.declared.expression.Label.{Label, fold-Label}
@@ -30,10 +44,17 @@ use Rattle.ep_tree.specs.declared.expression.Multiplier.{Multiplier, fold-Multip
 use Rattle.ep_tree.specs.declared.expression.Simple.{Simple, fold-Simple}
 use Rattle.ep_tree.specs.declared.expression.Term.{Term, fold-Term}
 use Rattle.ep_tree.specs.declared.expression.Values.{Values, fold-Values}
+use Rattle.ep_tree.specs.declared.types.Core.TheOpen.{Core-F, Plain-F, TypeDenoter-F}
+use Rattle.ep_tree.specs.declared.types.Core.{Core, out-Core}
+use Rattle.ep_tree.specs.declared.types.Plain.{Plain, out-Plain}
+use Rattle.ep_tree.specs.declared.types.TypeDenoter.{TypeDenoter, out-TypeDenoter}
+use Rattle.ep_tree.specs.declared.declaration.ConstantDefinition.{ConstantDefinition}
+use Rattle.ep_tree.specs.declared.declaration.TypeDefinition.{TypeDefinition}
+use Rattle.ep_tree.specs.declared.declaration.VariableDeclaration.{VariableDeclaration}
 use Rattle.ep_tree.specs.declared.statement.Statement.TheOpen.{Statement-F, Arm-F, Compound-F, Otherwise-F}
-use Rattle.ep_tree.specs.declared.statement.Statement.{Statement, fold-Statement, out-Statement}
+use Rattle.ep_tree.specs.declared.statement.Statement.{Statement, fold-Statement}
 use Rattle.ep_tree.specs.declared.statement.Arm.{Arm, fold-Arm}
-use Rattle.ep_tree.specs.declared.statement.Compound.{Compound, fold-Compound, out-Compound}
+use Rattle.ep_tree.specs.declared.statement.Compound.{Compound, fold-Compound}
 use Rattle.ep_tree.specs.declared.routine.Part.TheOpen.{Part-F}
 use Rattle.ep_tree.specs.declared.routine.Part.{Part, out-Part}
 use Rattle.ep_tree.specs.declared.routine.Routine.{Routine, out-Routine}
@@ -42,85 +63,155 @@ use Rattle.ep_tree.specs.declared.component.Import.{Import}
 use Rattle.ep_tree.specs.declared.component.Program.{Program}
 use Rattle.ep_tree.specs.declared.component.Component.TheVariants as component_is
 
--- ---- the table of the built forms
+-- ---- the table of the built forms: names
 
+-- whether a name is one of these
+abbrev pub is_among : List (List ℕ) → List ℕ → Bool
+is_among names name = list_any (bytes_eq name) names
+
+-- the required functions (ISO 10206, 6.7.6) that are not built
+unfoldable pub later_functions : List (List ℕ)
+later_functions = codes "card" ∷ codes "length" ∷ codes "index" ∷ codes "substr" ∷ codes "trim" ∷ codes "eq" ∷ codes "ne" ∷ codes "lt" ∷ codes "gt" ∷ codes "le" ∷ codes "ge" ∷ codes "eof" ∷ codes "eoln" ∷ codes "binding" ∷ []
+
+-- the required procedures (ISO 10206, 6.7.5) that are not built
+unfoldable pub later_procedures : List (List ℕ)
+later_procedures = codes "read" ∷ codes "readln" ∷ codes "readstr" ∷ codes "writestr" ∷ codes "new" ∷ codes "dispose" ∷ codes "reset" ∷ codes "rewrite" ∷ codes "extend" ∷ codes "bind" ∷ codes "unbind" ∷ []
+
+-- the required types (ISO 10206, 6.4) that are not built
+unfoldable pub later_types : List (List ℕ)
+later_types = codes "text" ∷ codes "string" ∷ codes "bindingtype" ∷ []
+
+-- whether a name is not built
+abbrev pub is_later : List ℕ → Bool
+is_later name = is_among later_functions name || is_among later_procedures name || is_among later_types name
+
+-- the required functions whose calls are built
+unfoldable pub called_functions : List (List ℕ)
+called_functions = codes "abs" ∷ codes "sqr" ∷ codes "odd" ∷ codes "ord" ∷ codes "chr" ∷ codes "succ" ∷ codes "pred" ∷ []
+
+-- the required procedures that write their arguments
+unfoldable pub writing_procedures : List (List ℕ)
+writing_procedures = codes "write" ∷ codes "writeln" ∷ []
+
+-- whether a call of a name writes its arguments
+abbrev pub writes : List ℕ → Bool
+writes name = is_among writing_procedures name
+
+-- whether the calls of a procedure are built
+abbrev pub built_procedure : List ℕ → Bool
+built_procedure name = writes name || bytes_eq name (codes "halt")
+
+-- the parameters that a program may have
+unfoldable pub program_parameters : List (List ℕ)
+program_parameters = codes "input" ∷ codes "output" ∷ []
+
+-- ---- the table of the built forms: nodes
+
+-- a component is a program
 abbrev pub built_component : Component → Bool
 built_component (component_is.Program p) = true
 built_component _ = false
 
-abbrev pub built_parameters : List (List ℕ) → Bool
-built_parameters [] = true
-built_parameters (name ∷ []) = bytes_eq name (codes "output")
-built_parameters (name ∷ next ∷ names) = false
-
-abbrev pub has_parameters : List (List ℕ) → Bool
-has_parameters [] = false
-has_parameters (name ∷ names) = true
-
-abbrev pub is_writeln : Access → Bool
-is_writeln a = bytes_eq (out-Access a).name (codes "writeln")
-
--- whether a statement is a call of `writeln`, with any arguments
-abbrev pub writes : {A B C D : Type 0} → Statement-F A B C D → Bool
-writes (Statement-F.Call line access) = is_writeln access
-writes _ = false
-
-abbrev pub one_writes : List Statement → Bool
-one_writes [] = false
-one_writes (s ∷ ss) = writes (out-Statement s) || one_writes ss
-
--- a program has no parameter but `output`, and has that one where one of its statements writes
+-- a program has no other parameters than these, each any number of times
 abbrev pub built_program : Program → Bool
-built_program p = built_parameters p.parameters && (has_parameters p.parameters || not (one_writes (out-Compound p.body).statements))
+built_program p = list_all (is_among program_parameters) p.parameters
 
+-- no import is built
 abbrev pub built_import : Import → Bool
 built_import i = false
 
-abbrev pub built_part : Part → Bool
-built_part p = false
+-- a part is no routine
+abbrev pub built_part : {A B C : Type 0} → Part-F A B C → Bool
+built_part (Part-F.Routine r) = false
+built_part _ = true
 
--- whether an access is a name with one pair of parentheses, in which one argument stands
-abbrev pub calls_with_one : {A B C D E F G H I J K L M N : Type 0} → List (Selector-F A B C D E F G H I J K L M N) → Bool
-calls_with_one (Selector-F.Arguments line (argument ∷ []) ∷ []) = true
-calls_with_one _ = false
+-- a type definition has no discriminants
+abbrev pub built_type_definition : TypeDefinition → Bool
+built_type_definition d = length d.discriminants == 0
 
-abbrev pub writes_a_line : Access → Bool
-writes_a_line a = is_writeln a && calls_with_one (map out-Selector (out-Access a).selectors)
+-- a type denoter has no initial state
+abbrev pub built_type_denoter : {A B C D E F G H : Type 0} → TypeDenoter-F A B C D E F G H → Bool
+built_type_denoter t = is_none t.initial
 
-abbrev pub built_statement : {A B C D : Type 0} → Statement-F A B C D → Bool
-built_statement (Statement-F.Empty line) = true
-built_statement (Statement-F.Call line access) = writes_a_line access
-built_statement _ = false
+-- nor is it `bindable`
+abbrev pub built_plain : {A B C D E F G H : Type 0} → Plain-F A B C D E F G H → Bool
+built_plain p = not p.bindable
 
-abbrev pub built_relation : RelationalOperator → Bool
-built_relation operator = false
+-- the name of a type comes from an interface, or is built
+abbrev pub built_type_name : QualifiedName → Bool
+built_type_name name = is_some name.second || not (is_later name.first)
 
-abbrev pub built_sign : Sign → Bool
-built_sign sign = false
+-- a type is a name without a tuple, a subrange or an enumeration
+abbrev pub built_core : {A B C D E F G H : Type 0} → Core-F A B C D E F G H → Bool
+built_core (Core-F.Named line name tuple) = (length tuple == 0) && built_type_name name
+built_core (Core-F.Range line low high) = true
+built_core (Core-F.Enumeration line names) = true
+built_core _ = false
 
-abbrev pub built_adding : AddingOperator → Bool
-built_adding operator = false
-
-abbrev pub built_multiplying : MultiplyingOperator → Bool
-built_multiplying operator = false
-
--- a number of a text has no sign
-abbrev pub built_factor : {A B C D E F G H I J K L M N : Type 0} → Factor-F A B C D E F G H I J K L M N → Bool
-built_factor (Factor-F.Number line number) = int_le (pos 0) number
-built_factor (Factor-F.Text line text) = true
-built_factor _ = false
-
+-- a selector is a pair of parentheses
 abbrev pub built_selector : {A B C D E F G H I J K L M N : Type 0} → Selector-F A B C D E F G H I J K L M N → Bool
 built_selector (Selector-F.Arguments line arguments) = true
 built_selector _ = false
 
-abbrev pub absent : {A : Type 0} → Option A → Bool
-absent None = true
-absent (Some x) = false
+-- what is assigned to is a name that is built
+abbrev pub built_target : Access → Bool
+built_target a = (length (out-Access a).selectors == 0) && not (is_later (out-Access a).name)
 
--- without a width
-abbrev pub built_argument : {A B C D E F G H I J K L M N : Type 0} → Argument-F A B C D E F G H I J K L M N → Bool
-built_argument a = absent a.width
+-- a call has at most one selector, and it is built
+abbrev pub built_call_selectors : List Selector → Bool
+built_call_selectors [] = true
+built_call_selectors (selector ∷ []) = built_selector (out-Selector selector)
+built_call_selectors _ = false
+
+-- a call is one of such a procedure, with such selectors
+abbrev pub built_call : Access → Bool
+built_call a = built_procedure (out-Access a).name && built_call_selectors (out-Access a).selectors
+
+-- a statement is empty, an assignment, a call, compound, an `if` or a `while`
+abbrev pub built_statement : {A B C D : Type 0} → Statement-F A B C D → Bool
+built_statement (Statement-F.Empty line) = true
+built_statement (Statement-F.Assignment line access value) = built_target access
+built_statement (Statement-F.Call line access) = built_call access
+built_statement (Statement-F.Compound compound) = true
+built_statement (Statement-F.If line condition body other) = true
+built_statement (Statement-F.While line condition body) = true
+built_statement _ = false
+
+-- all relational operators but `in`
+abbrev pub built_relation : RelationalOperator → Bool
+built_relation relation_is.In = false
+built_relation _ = true
+
+-- all adding operators but `><` and `or_else`
+abbrev pub built_adding : AddingOperator → Bool
+built_adding adding_is.SymmetricDifference = false
+built_adding adding_is.OrElse = false
+built_adding _ = true
+
+-- all multiplying operators but `and_then`
+abbrev pub built_multiplying : MultiplyingOperator → Bool
+built_multiplying multiplying_is.AndThen = false
+built_multiplying _ = true
+
+-- a character string of length one
+abbrev pub is_character : List ℕ → Bool
+is_character (byte ∷ []) = true
+is_character _ = false
+
+-- a number of a text has no sign
+abbrev pub built_factor : {A B C D E F G H I J K L M N : Type 0} → Factor-F A B C D E F G H I J K L M N → Bool
+built_factor (Factor-F.Access access) = true
+built_factor (Factor-F.Number line number) = int_le (pos 0) number
+built_factor (Factor-F.Text line text) = is_character text
+built_factor (Factor-F.Parenthesized line inner) = true
+built_factor (Factor-F.Not line inner) = true
+built_factor _ = false
+
+-- an access is a name that is built, or a call of a function; of each selector it is given whether it is built
+abbrev pub built_access : List ℕ → List Bool → Bool
+built_access name [] = not (is_later name)
+built_access name (selector ∷ []) = selector && is_among called_functions name
+built_access name _ = false
 
 -- `"[" values "]"` without the name of a type
 abbrev pub brackets_are_built : Bool
@@ -128,65 +219,76 @@ brackets_are_built = false
 
 -- ---- the first node that is not built
 
+-- the line of the first node that is not built, if there is one
+abbrev pub Found : Type 0
+Found = Option ℕ
+
 -- the first line, of two parts of a node
-abbrev pub first_of : Option ℕ → Option ℕ → Option ℕ
+abbrev pub first_of : Found → Found → Found
 first_of None line = line
 first_of (Some line) other = Some line
 
 -- the first line, of a list of parts
-abbrev pub first_in : List (Option ℕ) → Option ℕ
+abbrev pub first_in : List Found → Found
 first_in [] = None
 first_in (line ∷ lines) = first_of line (first_in lines)
 
 -- the line, of a part that may be there
-abbrev pub first_if : Option (Option ℕ) → Option ℕ
+abbrev pub first_if : Option Found → Found
 first_if None = None
 first_if (Some line) = line
 
 -- the line of a node that is not built, or else the first line in its parts
-abbrev pub at_node : Bool → ℕ → Option ℕ → Option ℕ
+abbrev pub at_node : Bool → ℕ → Found → Found
 at_node true line inner = inner
 at_node false line inner = Some line
 
--- an operator with what follows it: whether the operator is built, and the first line after it
-abbrev pub Operand : Type 0
-Operand = Bool × Option ℕ
+-- what belongs to the node around it, an operator with what follows it or a selector: whether it is built, and the first line in it
+abbrev pub Belonging : Type 0
+Belonging = Bool × Found
 
-abbrev pub operator_is_built : Option Operand → Bool
-operator_is_built None = true
-operator_is_built (Some operand) = operand.0
+-- whether it is built
+abbrev pub is_built : Belonging → Bool
+is_built part = part.0
 
-abbrev pub operand_line : Option Operand → Option ℕ
-operand_line None = None
-operand_line (Some operand) = operand.1
+-- whether it is built, of one that may be there
+abbrev pub is_built_if : Option Belonging → Bool
+is_built_if None = true
+is_built_if (Some part) = is_built part
 
-abbrev pub operators_are_built : List Operand → Bool
-operators_are_built [] = true
-operators_are_built (operand ∷ operands) = operand.0 && operators_are_built operands
+-- the first line in it, of one that may be there
+abbrev pub line_if : Option Belonging → Found
+line_if None = None
+line_if (Some part) = part.1
 
-abbrev pub operand_lines : List Operand → Option ℕ
-operand_lines [] = None
-operand_lines (operand ∷ operands) = first_of operand.1 (operand_lines operands)
+-- whether each of them is built
+abbrev pub all_are_built : List Belonging → Bool
+all_are_built [] = true
+all_are_built (part ∷ parts) = is_built part && all_are_built parts
 
-abbrev pub sign_is_built : Option Sign → Bool
-sign_is_built None = true
-sign_is_built (Some sign) = built_sign sign
+-- the first line in them
+abbrev pub lines_in : List Belonging → Found
+lines_in [] = None
+lines_in (part ∷ parts) = first_of part.1 (lines_in parts)
 
 -- a node whose line the node around it needs: its line, and the first line in it
 abbrev pub Placed : Type 0
-Placed = ℕ × Option ℕ
+Placed = ℕ × Found
 
--- ---- expressions and component values
+-- ---- expressions and component values: each step says which lines of its parts come first
 
-abbrev pub at_component_value : ComponentValue-F (Option ℕ) (Option ℕ) (Option ℕ) (Option ℕ) Placed Operand (Option ℕ) Operand (Option ℕ) (Option ℕ) Operand (Option ℕ) (Option ℕ) (Option ℕ) → Option ℕ
+-- an expression, or the brackets before their values
+abbrev pub at_component_value : ComponentValue-F Found Found Found Belonging Placed Belonging Found Belonging Found Found Belonging Found Found Found → Found
 at_component_value (ComponentValue-F.Expression e) = e
 at_component_value (ComponentValue-F.Bracketed line values) = at_node brackets_are_built line values
 
-abbrev pub at_element : Element-F (Option ℕ) (Option ℕ) (Option ℕ) (Option ℕ) Placed Operand (Option ℕ) Operand (Option ℕ) (Option ℕ) Operand (Option ℕ) (Option ℕ) (Option ℕ) → Option ℕ
+-- the labels before their value, and a tag's value before those of its variant
+abbrev pub at_element : Element-F Found Found Found Belonging Placed Belonging Found Belonging Found Found Belonging Found Found Found → Found
 at_element (Element-F.Labelled line labels value) = first_of (first_in labels) value
 at_element (Element-F.Variant line tag selector values) = first_of selector (first_if values)
 
-abbrev pub in_factor : Factor-F (Option ℕ) (Option ℕ) (Option ℕ) (Option ℕ) Placed Operand (Option ℕ) Operand (Option ℕ) (Option ℕ) Operand (Option ℕ) (Option ℕ) (Option ℕ) → Option ℕ
+-- the first line inside a factor
+abbrev pub in_factor : Factor-F Found Found Found Belonging Placed Belonging Found Belonging Found Found Belonging Found Found Found → Found
 in_factor (Factor-F.Access access) = access.1
 in_factor (Factor-F.Number line number) = None
 in_factor (Factor-F.Text line text) = None
@@ -196,7 +298,8 @@ in_factor (Factor-F.Not line inner) = inner
 in_factor (Factor-F.Set line labels) = first_in labels
 in_factor (Factor-F.Structured line name values) = values
 
-abbrev pub factor_line : Factor-F (Option ℕ) (Option ℕ) (Option ℕ) (Option ℕ) Placed Operand (Option ℕ) Operand (Option ℕ) (Option ℕ) Operand (Option ℕ) (Option ℕ) (Option ℕ) → ℕ
+-- the line of a factor
+abbrev pub factor_line : Factor-F Found Found Found Belonging Placed Belonging Found Belonging Found Found Belonging Found Found Found → ℕ
 factor_line (Factor-F.Access access) = access.0
 factor_line (Factor-F.Number line number) = line
 factor_line (Factor-F.Text line text) = line
@@ -206,108 +309,196 @@ factor_line (Factor-F.Not line inner) = line
 factor_line (Factor-F.Set line labels) = line
 factor_line (Factor-F.Structured line name values) = line
 
-abbrev pub at_factor : Factor-F (Option ℕ) (Option ℕ) (Option ℕ) (Option ℕ) Placed Operand (Option ℕ) Operand (Option ℕ) (Option ℕ) Operand (Option ℕ) (Option ℕ) (Option ℕ) → Option ℕ
+-- a factor before what stands in it
+abbrev pub at_factor : Factor-F Found Found Found Belonging Placed Belonging Found Belonging Found Found Belonging Found Found Found → Found
 at_factor f = at_node (built_factor f) (factor_line f) (in_factor f)
 
-abbrev pub in_selector : Selector-F (Option ℕ) (Option ℕ) (Option ℕ) (Option ℕ) Placed Operand (Option ℕ) Operand (Option ℕ) (Option ℕ) Operand (Option ℕ) (Option ℕ) (Option ℕ) → Option ℕ
+-- the first line inside a selector
+abbrev pub in_selector : Selector-F Found Found Found Belonging Placed Belonging Found Belonging Found Found Belonging Found Found Found → Found
 in_selector (Selector-F.Field line name) = None
 in_selector (Selector-F.Index line indexes) = first_in indexes
 in_selector (Selector-F.Dereference line) = None
 in_selector (Selector-F.Arguments line arguments) = first_in arguments
 
-abbrev pub selector_line : Selector-F (Option ℕ) (Option ℕ) (Option ℕ) (Option ℕ) Placed Operand (Option ℕ) Operand (Option ℕ) (Option ℕ) Operand (Option ℕ) (Option ℕ) (Option ℕ) → ℕ
-selector_line (Selector-F.Field line name) = line
-selector_line (Selector-F.Index line indexes) = line
-selector_line (Selector-F.Dereference line) = line
-selector_line (Selector-F.Arguments line arguments) = line
+-- a selector, for its access
+abbrev pub at_selector : Selector-F Found Found Found Belonging Placed Belonging Found Belonging Found Found Belonging Found Found Found → Belonging
+at_selector s = (built_selector s, in_selector s)
 
-abbrev pub at_selector : Selector-F (Option ℕ) (Option ℕ) (Option ℕ) (Option ℕ) Placed Operand (Option ℕ) Operand (Option ℕ) (Option ℕ) Operand (Option ℕ) (Option ℕ) (Option ℕ) → Option ℕ
-at_selector s = at_node (built_selector s) (selector_line s) (in_selector s)
+-- an access before its selectors
+abbrev pub at_access : Access-F Found Found Found Belonging Placed Belonging Found Belonging Found Found Belonging Found Found Found → Placed
+at_access a = (a.line, at_node (built_access a.name (map is_built a.selectors)) a.line (lines_in a.selectors))
 
-abbrev pub at_access : Access-F (Option ℕ) (Option ℕ) (Option ℕ) (Option ℕ) Placed Operand (Option ℕ) Operand (Option ℕ) (Option ℕ) Operand (Option ℕ) (Option ℕ) (Option ℕ) → Placed
-at_access a = (a.line, first_in a.selectors)
-
-abbrev pub at_addend : Addend-F (Option ℕ) (Option ℕ) (Option ℕ) (Option ℕ) Placed Operand (Option ℕ) Operand (Option ℕ) (Option ℕ) Operand (Option ℕ) (Option ℕ) (Option ℕ) → Operand
+-- an adding operator with its term, for the simple expression
+abbrev pub at_addend : Addend-F Found Found Found Belonging Placed Belonging Found Belonging Found Found Belonging Found Found Found → Belonging
 at_addend a = (built_adding a.operator, a.term)
 
-abbrev pub at_argument : Argument-F (Option ℕ) (Option ℕ) (Option ℕ) (Option ℕ) Placed Operand (Option ℕ) Operand (Option ℕ) (Option ℕ) Operand (Option ℕ) (Option ℕ) (Option ℕ) → Option ℕ
-at_argument a = at_node (built_argument a) a.line (first_of a.value (first_if a.width))
+-- the value of an argument before its width
+abbrev pub at_argument : Argument-F Found Found Found Belonging Placed Belonging Found Belonging Found Found Belonging Found Found Found → Found
+at_argument a = first_of a.value (first_if a.width)
 
-abbrev pub at_comparison : Comparison-F (Option ℕ) (Option ℕ) (Option ℕ) (Option ℕ) Placed Operand (Option ℕ) Operand (Option ℕ) (Option ℕ) Operand (Option ℕ) (Option ℕ) (Option ℕ) → Operand
+-- a relational operator with what follows it, for the expression
+abbrev pub at_comparison : Comparison-F Found Found Found Belonging Placed Belonging Found Belonging Found Found Belonging Found Found Found → Belonging
 at_comparison c = (built_relation c.operator, c.right)
 
-abbrev pub at_expression : Expression-F (Option ℕ) (Option ℕ) (Option ℕ) (Option ℕ) Placed Operand (Option ℕ) Operand (Option ℕ) (Option ℕ) Operand (Option ℕ) (Option ℕ) (Option ℕ) → Option ℕ
-at_expression e = at_node (operator_is_built e.right) e.line (first_of e.left (operand_line e.right))
+-- an expression before its two sides
+abbrev pub at_expression : Expression-F Found Found Found Belonging Placed Belonging Found Belonging Found Found Belonging Found Found Found → Found
+at_expression e = at_node (is_built_if e.right) e.line (first_of e.left (line_if e.right))
 
-abbrev pub at_label : Label-F (Option ℕ) (Option ℕ) (Option ℕ) (Option ℕ) Placed Operand (Option ℕ) Operand (Option ℕ) (Option ℕ) Operand (Option ℕ) (Option ℕ) (Option ℕ) → Option ℕ
+-- the one expression of a label before the other
+abbrev pub at_label : Label-F Found Found Found Belonging Placed Belonging Found Belonging Found Found Belonging Found Found Found → Found
 at_label l = first_of l.low (first_if l.high)
 
-abbrev pub at_multiplier : Multiplier-F (Option ℕ) (Option ℕ) (Option ℕ) (Option ℕ) Placed Operand (Option ℕ) Operand (Option ℕ) (Option ℕ) Operand (Option ℕ) (Option ℕ) (Option ℕ) → Operand
+-- a multiplying operator with its factor, for the term
+abbrev pub at_multiplier : Multiplier-F Found Found Found Belonging Placed Belonging Found Belonging Found Found Belonging Found Found Found → Belonging
 at_multiplier m = (built_multiplying m.operator, m.factor)
 
-abbrev pub at_simple : Simple-F (Option ℕ) (Option ℕ) (Option ℕ) (Option ℕ) Placed Operand (Option ℕ) Operand (Option ℕ) (Option ℕ) Operand (Option ℕ) (Option ℕ) (Option ℕ) → Option ℕ
-at_simple s = at_node (sign_is_built s.sign && operators_are_built s.more) s.line (first_of s.first (operand_lines s.more))
+-- a simple expression before its terms
+abbrev pub at_simple : Simple-F Found Found Found Belonging Placed Belonging Found Belonging Found Found Belonging Found Found Found → Found
+at_simple s = at_node (all_are_built s.more) s.line (first_of s.first (lines_in s.more))
 
-abbrev pub at_term : Term-F (Option ℕ) (Option ℕ) (Option ℕ) (Option ℕ) Placed Operand (Option ℕ) Operand (Option ℕ) (Option ℕ) Operand (Option ℕ) (Option ℕ) (Option ℕ) → Option ℕ
-at_term t = at_node (operators_are_built t.more) t.line (first_of t.first (operand_lines t.more))
+-- a term before its factors
+abbrev pub at_term : Term-F Found Found Found Belonging Placed Belonging Found Belonging Found Found Belonging Found Found Found → Found
+at_term t = at_node (all_are_built t.more) t.line (first_of t.first (lines_in t.more))
 
-abbrev pub at_values : Values-F (Option ℕ) (Option ℕ) (Option ℕ) (Option ℕ) Placed Operand (Option ℕ) Operand (Option ℕ) (Option ℕ) Operand (Option ℕ) (Option ℕ) (Option ℕ) → Option ℕ
+-- the elements before the value of `otherwise`
+abbrev pub at_values : Values-F Found Found Found Belonging Placed Belonging Found Belonging Found Found Belonging Found Found Found → Found
 at_values v = first_of (first_in v.elements) (first_if v.otherwise)
 
-abbrev pub component_value_unbuilt : ComponentValue → Option ℕ
-component_value_unbuilt = fold-ComponentValue (Option ℕ) (Option ℕ) (Option ℕ) (Option ℕ) Placed Operand (Option ℕ) Operand (Option ℕ) (Option ℕ) Operand (Option ℕ) (Option ℕ) (Option ℕ) at_component_value at_element at_factor at_selector at_access at_addend at_argument at_comparison at_expression at_label at_multiplier at_simple at_term at_values
+-- the first line in a component value
+abbrev pub component_value_unbuilt : ComponentValue → Found
+component_value_unbuilt = fold-ComponentValue Found Found Found Belonging Placed Belonging Found Belonging Found Found Belonging Found Found Found at_component_value at_element at_factor at_selector at_access at_addend at_argument at_comparison at_expression at_label at_multiplier at_simple at_term at_values
 
-abbrev pub element_unbuilt : Element → Option ℕ
-element_unbuilt = fold-Element (Option ℕ) (Option ℕ) (Option ℕ) (Option ℕ) Placed Operand (Option ℕ) Operand (Option ℕ) (Option ℕ) Operand (Option ℕ) (Option ℕ) (Option ℕ) at_component_value at_element at_factor at_selector at_access at_addend at_argument at_comparison at_expression at_label at_multiplier at_simple at_term at_values
+-- the first line in an element
+abbrev pub element_unbuilt : Element → Found
+element_unbuilt = fold-Element Found Found Found Belonging Placed Belonging Found Belonging Found Found Belonging Found Found Found at_component_value at_element at_factor at_selector at_access at_addend at_argument at_comparison at_expression at_label at_multiplier at_simple at_term at_values
 
-abbrev pub factor_unbuilt : Factor → Option ℕ
-factor_unbuilt = fold-Factor (Option ℕ) (Option ℕ) (Option ℕ) (Option ℕ) Placed Operand (Option ℕ) Operand (Option ℕ) (Option ℕ) Operand (Option ℕ) (Option ℕ) (Option ℕ) at_component_value at_element at_factor at_selector at_access at_addend at_argument at_comparison at_expression at_label at_multiplier at_simple at_term at_values
+-- the first line in a factor
+abbrev pub factor_unbuilt : Factor → Found
+factor_unbuilt = fold-Factor Found Found Found Belonging Placed Belonging Found Belonging Found Found Belonging Found Found Found at_component_value at_element at_factor at_selector at_access at_addend at_argument at_comparison at_expression at_label at_multiplier at_simple at_term at_values
 
-abbrev pub selector_unbuilt : Selector → Option ℕ
-selector_unbuilt = fold-Selector (Option ℕ) (Option ℕ) (Option ℕ) (Option ℕ) Placed Operand (Option ℕ) Operand (Option ℕ) (Option ℕ) Operand (Option ℕ) (Option ℕ) (Option ℕ) at_component_value at_element at_factor at_selector at_access at_addend at_argument at_comparison at_expression at_label at_multiplier at_simple at_term at_values
+-- what a selector tells its access
+abbrev pub selector_belonging : Selector → Belonging
+selector_belonging = fold-Selector Found Found Found Belonging Placed Belonging Found Belonging Found Found Belonging Found Found Found at_component_value at_element at_factor at_selector at_access at_addend at_argument at_comparison at_expression at_label at_multiplier at_simple at_term at_values
 
+-- the line of an access, and the first line in it
 abbrev pub placed_access : Access → Placed
-placed_access = fold-Access (Option ℕ) (Option ℕ) (Option ℕ) (Option ℕ) Placed Operand (Option ℕ) Operand (Option ℕ) (Option ℕ) Operand (Option ℕ) (Option ℕ) (Option ℕ) at_component_value at_element at_factor at_selector at_access at_addend at_argument at_comparison at_expression at_label at_multiplier at_simple at_term at_values
+placed_access = fold-Access Found Found Found Belonging Placed Belonging Found Belonging Found Found Belonging Found Found Found at_component_value at_element at_factor at_selector at_access at_addend at_argument at_comparison at_expression at_label at_multiplier at_simple at_term at_values
 
-abbrev pub addend_operand : Addend → Operand
-addend_operand = fold-Addend (Option ℕ) (Option ℕ) (Option ℕ) (Option ℕ) Placed Operand (Option ℕ) Operand (Option ℕ) (Option ℕ) Operand (Option ℕ) (Option ℕ) (Option ℕ) at_component_value at_element at_factor at_selector at_access at_addend at_argument at_comparison at_expression at_label at_multiplier at_simple at_term at_values
+-- what an adding operator with its term tells the simple expression
+abbrev pub addend_belonging : Addend → Belonging
+addend_belonging = fold-Addend Found Found Found Belonging Placed Belonging Found Belonging Found Found Belonging Found Found Found at_component_value at_element at_factor at_selector at_access at_addend at_argument at_comparison at_expression at_label at_multiplier at_simple at_term at_values
 
-abbrev pub argument_unbuilt : Argument → Option ℕ
-argument_unbuilt = fold-Argument (Option ℕ) (Option ℕ) (Option ℕ) (Option ℕ) Placed Operand (Option ℕ) Operand (Option ℕ) (Option ℕ) Operand (Option ℕ) (Option ℕ) (Option ℕ) at_component_value at_element at_factor at_selector at_access at_addend at_argument at_comparison at_expression at_label at_multiplier at_simple at_term at_values
+-- the first line in an argument
+abbrev pub argument_unbuilt : Argument → Found
+argument_unbuilt = fold-Argument Found Found Found Belonging Placed Belonging Found Belonging Found Found Belonging Found Found Found at_component_value at_element at_factor at_selector at_access at_addend at_argument at_comparison at_expression at_label at_multiplier at_simple at_term at_values
 
-abbrev pub comparison_operand : Comparison → Operand
-comparison_operand = fold-Comparison (Option ℕ) (Option ℕ) (Option ℕ) (Option ℕ) Placed Operand (Option ℕ) Operand (Option ℕ) (Option ℕ) Operand (Option ℕ) (Option ℕ) (Option ℕ) at_component_value at_element at_factor at_selector at_access at_addend at_argument at_comparison at_expression at_label at_multiplier at_simple at_term at_values
+-- what a relational operator with its second side tells the expression
+abbrev pub comparison_belonging : Comparison → Belonging
+comparison_belonging = fold-Comparison Found Found Found Belonging Placed Belonging Found Belonging Found Found Belonging Found Found Found at_component_value at_element at_factor at_selector at_access at_addend at_argument at_comparison at_expression at_label at_multiplier at_simple at_term at_values
 
-abbrev pub expression_unbuilt : Expression → Option ℕ
-expression_unbuilt = fold-Expression (Option ℕ) (Option ℕ) (Option ℕ) (Option ℕ) Placed Operand (Option ℕ) Operand (Option ℕ) (Option ℕ) Operand (Option ℕ) (Option ℕ) (Option ℕ) at_component_value at_element at_factor at_selector at_access at_addend at_argument at_comparison at_expression at_label at_multiplier at_simple at_term at_values
+-- the first line in an expression
+abbrev pub expression_unbuilt : Expression → Found
+expression_unbuilt = fold-Expression Found Found Found Belonging Placed Belonging Found Belonging Found Found Belonging Found Found Found at_component_value at_element at_factor at_selector at_access at_addend at_argument at_comparison at_expression at_label at_multiplier at_simple at_term at_values
 
-abbrev pub label_unbuilt : Label → Option ℕ
-label_unbuilt = fold-Label (Option ℕ) (Option ℕ) (Option ℕ) (Option ℕ) Placed Operand (Option ℕ) Operand (Option ℕ) (Option ℕ) Operand (Option ℕ) (Option ℕ) (Option ℕ) at_component_value at_element at_factor at_selector at_access at_addend at_argument at_comparison at_expression at_label at_multiplier at_simple at_term at_values
+-- the first line in a label
+abbrev pub label_unbuilt : Label → Found
+label_unbuilt = fold-Label Found Found Found Belonging Placed Belonging Found Belonging Found Found Belonging Found Found Found at_component_value at_element at_factor at_selector at_access at_addend at_argument at_comparison at_expression at_label at_multiplier at_simple at_term at_values
 
-abbrev pub multiplier_operand : Multiplier → Operand
-multiplier_operand = fold-Multiplier (Option ℕ) (Option ℕ) (Option ℕ) (Option ℕ) Placed Operand (Option ℕ) Operand (Option ℕ) (Option ℕ) Operand (Option ℕ) (Option ℕ) (Option ℕ) at_component_value at_element at_factor at_selector at_access at_addend at_argument at_comparison at_expression at_label at_multiplier at_simple at_term at_values
+-- what a multiplying operator with its factor tells the term
+abbrev pub multiplier_belonging : Multiplier → Belonging
+multiplier_belonging = fold-Multiplier Found Found Found Belonging Placed Belonging Found Belonging Found Found Belonging Found Found Found at_component_value at_element at_factor at_selector at_access at_addend at_argument at_comparison at_expression at_label at_multiplier at_simple at_term at_values
 
-abbrev pub simple_unbuilt : Simple → Option ℕ
-simple_unbuilt = fold-Simple (Option ℕ) (Option ℕ) (Option ℕ) (Option ℕ) Placed Operand (Option ℕ) Operand (Option ℕ) (Option ℕ) Operand (Option ℕ) (Option ℕ) (Option ℕ) at_component_value at_element at_factor at_selector at_access at_addend at_argument at_comparison at_expression at_label at_multiplier at_simple at_term at_values
+-- the first line in a simple expression
+abbrev pub simple_unbuilt : Simple → Found
+simple_unbuilt = fold-Simple Found Found Found Belonging Placed Belonging Found Belonging Found Found Belonging Found Found Found at_component_value at_element at_factor at_selector at_access at_addend at_argument at_comparison at_expression at_label at_multiplier at_simple at_term at_values
 
-abbrev pub term_unbuilt : Term → Option ℕ
-term_unbuilt = fold-Term (Option ℕ) (Option ℕ) (Option ℕ) (Option ℕ) Placed Operand (Option ℕ) Operand (Option ℕ) (Option ℕ) Operand (Option ℕ) (Option ℕ) (Option ℕ) at_component_value at_element at_factor at_selector at_access at_addend at_argument at_comparison at_expression at_label at_multiplier at_simple at_term at_values
+-- the first line in a term
+abbrev pub term_unbuilt : Term → Found
+term_unbuilt = fold-Term Found Found Found Belonging Placed Belonging Found Belonging Found Found Belonging Found Found Found at_component_value at_element at_factor at_selector at_access at_addend at_argument at_comparison at_expression at_label at_multiplier at_simple at_term at_values
 
-abbrev pub values_unbuilt : Values → Option ℕ
-values_unbuilt = fold-Values (Option ℕ) (Option ℕ) (Option ℕ) (Option ℕ) Placed Operand (Option ℕ) Operand (Option ℕ) (Option ℕ) Operand (Option ℕ) (Option ℕ) (Option ℕ) at_component_value at_element at_factor at_selector at_access at_addend at_argument at_comparison at_expression at_label at_multiplier at_simple at_term at_values
+-- the first line in the values of a structured value
+abbrev pub values_unbuilt : Values → Found
+values_unbuilt = fold-Values Found Found Found Belonging Placed Belonging Found Belonging Found Found Belonging Found Found Found at_component_value at_element at_factor at_selector at_access at_addend at_argument at_comparison at_expression at_label at_multiplier at_simple at_term at_values
 
 -- the first line in an access
-abbrev pub access_unbuilt : Access → Option ℕ
+abbrev pub access_unbuilt : Access → Found
 access_unbuilt a = (placed_access a).1
+
+-- ---- types. Nothing inside a tuple or a structured type is reached while none of their forms is built.
+
+-- the first line inside a type
+abbrev pub in_core : {A B C D E F G H : Type 0} → Core-F A B C D E F G H → Found
+in_core (Core-F.Range line low high) = first_of (expression_unbuilt low) (expression_unbuilt high)
+in_core _ = None
+
+-- the line of a type
+abbrev pub core_line : {A B C D E F G H : Type 0} → Core-F A B C D E F G H → ℕ
+core_line (Core-F.Named line name tuple) = line
+core_line (Core-F.Range line low high) = line
+core_line (Core-F.Enumeration line names) = line
+core_line (Core-F.Pointer line name) = line
+core_line (Core-F.Structured line packed structure) = line
+core_line (Core-F.Restricted line name) = line
+core_line (Core-F.TypeOf line name) = line
+
+-- the first line in a type
+abbrev pub core_unbuilt : Core → Found
+core_unbuilt c = at_node (built_core (out-Core c)) (core_line (out-Core c)) (in_core (out-Core c))
+
+-- the first line in a type denoter without its initial state
+abbrev pub plain_unbuilt : Plain → Found
+plain_unbuilt p = at_node (built_plain (out-Plain p)) (out-Plain p).line (core_unbuilt (out-Plain p).core)
+
+-- the first line in a type denoter
+abbrev pub type_denoter_unbuilt : TypeDenoter → Found
+type_denoter_unbuilt t = at_node (built_type_denoter (out-TypeDenoter t)) (out-TypeDenoter t).line (plain_unbuilt (out-TypeDenoter t).plain)
 
 -- ---- statements
 
-abbrev pub in_statement : Statement-F (Option ℕ) (Option ℕ) Placed (Option ℕ) → Option ℕ
+-- whether a factor is a character string, of any length
+abbrev pub is_text : {A B C D E F G H I J K L M N : Type 0} → Factor-F A B C D E F G H I J K L M N → Bool
+is_text (Factor-F.Text line text) = true
+is_text _ = false
+
+-- whether an expression is a character string and nothing more
+abbrev pub is_bare_text : Option Factor → Bool
+is_bare_text None = false
+is_bare_text (Some f) = is_text (out-Factor f)
+
+-- the first line in the value of an argument that is written, which may be a character string of any length
+abbrev pub written_value_unbuilt : Expression → Found
+written_value_unbuilt e = if is_bare_text (bare e) then None else expression_unbuilt e
+
+-- the first line in an argument that is written
+abbrev pub written_unbuilt : Argument → Found
+written_unbuilt a = first_of (written_value_unbuilt (out-Argument a).value) (first_if (option_map expression_unbuilt (out-Argument a).width))
+
+-- the first line in the arguments of a call, which are written or not
+abbrev pub in_arguments : Bool → List Argument → Found
+in_arguments true arguments = first_in (map written_unbuilt arguments)
+in_arguments false arguments = first_in (map argument_unbuilt arguments)
+
+-- the arguments in a pair of parentheses
+abbrev pub selector_arguments : {A B C D E F G H I J K L M N : Type 0} → Selector-F A B C D E F G H I J K L M N → List G
+selector_arguments (Selector-F.Arguments line arguments) = arguments
+selector_arguments _ = []
+
+-- the arguments of a call with these selectors, where it is built
+abbrev pub call_arguments : List Selector → List Argument
+call_arguments [] = []
+call_arguments (selector ∷ selectors) = selector_arguments (out-Selector selector)
+
+-- the first line in the arguments of a call statement
+abbrev pub call_unbuilt : Access → Found
+call_unbuilt a = in_arguments (writes (out-Access a).name) (call_arguments (out-Access a).selectors)
+
+-- the first line inside a statement
+abbrev pub in_statement : Statement-F Found Found Placed Found → Found
 in_statement (Statement-F.Empty line) = None
 in_statement (Statement-F.Assignment line access value) = first_of (access_unbuilt access) (component_value_unbuilt value)
-in_statement (Statement-F.Call line access) = access_unbuilt access
+in_statement (Statement-F.Call line access) = call_unbuilt access
 in_statement (Statement-F.Compound compound) = compound.1
-in_statement (Statement-F.If line condition then other) = first_of (expression_unbuilt condition) (first_of then (first_if other))
+in_statement (Statement-F.If line condition body other) = first_of (expression_unbuilt condition) (first_of body (first_if other))
 in_statement (Statement-F.Case line selector arms other) = first_of (expression_unbuilt selector) (first_of (first_in arms) (first_if other))
 in_statement (Statement-F.While line condition body) = first_of (expression_unbuilt condition) body
 in_statement (Statement-F.Repeat line statements condition) = first_of (first_in statements) (expression_unbuilt condition)
@@ -315,12 +506,13 @@ in_statement (Statement-F.For line variable start direction end body) = first_of
 in_statement (Statement-F.ForIn line variable members body) = first_of (expression_unbuilt members) body
 in_statement (Statement-F.With line accesses body) = first_of (first_in (map access_unbuilt accesses)) body
 
-abbrev pub statement_line : Statement-F (Option ℕ) (Option ℕ) Placed (Option ℕ) → ℕ
+-- the line of a statement
+abbrev pub statement_line : Statement-F Found Found Placed Found → ℕ
 statement_line (Statement-F.Empty line) = line
 statement_line (Statement-F.Assignment line access value) = line
 statement_line (Statement-F.Call line access) = line
 statement_line (Statement-F.Compound compound) = compound.0
-statement_line (Statement-F.If line condition then other) = line
+statement_line (Statement-F.If line condition body other) = line
 statement_line (Statement-F.Case line selector arms other) = line
 statement_line (Statement-F.While line condition body) = line
 statement_line (Statement-F.Repeat line statements condition) = line
@@ -328,58 +520,90 @@ statement_line (Statement-F.For line variable start direction end body) = line
 statement_line (Statement-F.ForIn line variable members body) = line
 statement_line (Statement-F.With line accesses body) = line
 
-abbrev pub at_statement : Statement-F (Option ℕ) (Option ℕ) Placed (Option ℕ) → Option ℕ
+-- a statement before what stands in it
+abbrev pub at_statement : Statement-F Found Found Placed Found → Found
 at_statement s = at_node (built_statement s) (statement_line s) (in_statement s)
 
-abbrev pub at_arm : Arm-F (Option ℕ) (Option ℕ) Placed (Option ℕ) → Option ℕ
+-- the labels of an arm before its statement
+abbrev pub at_arm : Arm-F Found Found Placed Found → Found
 at_arm a = first_of (first_in (map label_unbuilt a.labels)) a.body
 
-abbrev pub at_compound : Compound-F (Option ℕ) (Option ℕ) Placed (Option ℕ) → Placed
+-- the statements of a compound, for the node around it
+abbrev pub at_compound : Compound-F Found Found Placed Found → Placed
 at_compound c = (c.line, first_in c.statements)
 
-abbrev pub at_otherwise : Otherwise-F (Option ℕ) (Option ℕ) Placed (Option ℕ) → Option ℕ
+-- the statements behind `otherwise`
+abbrev pub at_otherwise : Otherwise-F Found Found Placed Found → Found
 at_otherwise o = first_in o.statements
 
-abbrev pub statement_unbuilt : Statement → Option ℕ
-statement_unbuilt = fold-Statement (Option ℕ) (Option ℕ) Placed (Option ℕ) at_statement at_arm at_compound at_otherwise
+-- the first line in a statement
+abbrev pub statement_unbuilt : Statement → Found
+statement_unbuilt = fold-Statement Found Found Placed Found at_statement at_arm at_compound at_otherwise
 
-abbrev pub arm_unbuilt : Arm → Option ℕ
-arm_unbuilt = fold-Arm (Option ℕ) (Option ℕ) Placed (Option ℕ) at_statement at_arm at_compound at_otherwise
+-- the first line in an arm
+abbrev pub arm_unbuilt : Arm → Found
+arm_unbuilt = fold-Arm Found Found Placed Found at_statement at_arm at_compound at_otherwise
 
 -- the first line in a compound statement
-abbrev pub compound_unbuilt : Compound → Option ℕ
-compound_unbuilt c = (fold-Compound (Option ℕ) (Option ℕ) Placed (Option ℕ) at_statement at_arm at_compound at_otherwise c).1
+abbrev pub compound_unbuilt : Compound → Found
+compound_unbuilt c = (fold-Compound Found Found Placed Found at_statement at_arm at_compound at_otherwise c).1
 
--- ---- programs. Nothing inside a part, an import or a module is reached while none of their forms is built.
+-- ---- programs. Nothing inside a routine, an import or a module is reached while none of their forms is built.
 
+-- the first line in a constant definition
+abbrev pub constant_unbuilt : ConstantDefinition → Found
+constant_unbuilt d = component_value_unbuilt d.value
+
+-- the first line in a type definition
+abbrev pub type_unbuilt : TypeDefinition → Found
+type_unbuilt d = at_node (built_type_definition d) d.line (type_denoter_unbuilt d.of)
+
+-- the first line in a variable declaration
+abbrev pub variable_unbuilt : VariableDeclaration → Found
+variable_unbuilt d = type_denoter_unbuilt d.of
+
+-- the first line inside a part, by its definitions or declarations
+abbrev pub in_part : {A B C : Type 0} → Part-F A B C → Found
+in_part (Part-F.Constants c) = first_in (map constant_unbuilt c.definitions)
+in_part (Part-F.Types t) = first_in (map type_unbuilt t.definitions)
+in_part (Part-F.Variables v) = first_in (map variable_unbuilt v.declarations)
+in_part (Part-F.Routine r) = None
+
+-- the line of a part
 abbrev pub part_line : {A B : Type 0} → Part-F A B Routine → ℕ
 part_line (Part-F.Constants c) = c.line
 part_line (Part-F.Types t) = t.line
 part_line (Part-F.Variables v) = v.line
 part_line (Part-F.Routine r) = (out-Routine r).line
 
-abbrev pub part_unbuilt : Part → Option ℕ
-part_unbuilt p = at_node (built_part p) (part_line (out-Part p)) None
+-- the first line in a part
+abbrev pub part_unbuilt : Part → Found
+part_unbuilt p = at_node (built_part (out-Part p)) (part_line (out-Part p)) (in_part (out-Part p))
 
-abbrev pub import_unbuilt : Import → Option ℕ
+-- the first line in an import
+abbrev pub import_unbuilt : Import → Found
 import_unbuilt i = at_node (built_import i) i.line None
 
-abbrev pub in_program : Program → Option ℕ
+-- the imports, then the parts, then the statements
+abbrev pub in_program : Program → Found
 in_program p = first_of (first_of (first_in (map import_unbuilt p.imports)) (first_in (map part_unbuilt p.parts))) (compound_unbuilt p.body)
 
-abbrev pub program_unbuilt : Program → Option ℕ
+-- the first line in a program
+abbrev pub program_unbuilt : Program → Found
 program_unbuilt p = at_node (built_program p) p.line (in_program p)
 
+-- the line of a component
 abbrev pub component_line : Component → ℕ
 component_line (component_is.Program p) = p.line
 component_line (component_is.Heading h) = h.line
 component_line (component_is.Block b) = b.line
 component_line (component_is.Module m) = m.line
 
-abbrev pub in_component : Component → Option ℕ
+-- the first line inside a component
+abbrev pub in_component : Component → Found
 in_component (component_is.Program p) = program_unbuilt p
 in_component _ = None
 
 -- the line of the first node of a component that is not built, if there is one
-abbrev pub component_unbuilt : Component → Option ℕ
+abbrev pub component_unbuilt : Component → Found
 component_unbuilt c = at_node (built_component c) (component_line c) (in_component c)

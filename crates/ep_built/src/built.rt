@@ -2,14 +2,17 @@
 //! table in built/forms.rt alone; the other functions go through the nodes in the order of the text.
 
 ghost use Rattle.std.specs.Prelude.{◌≡◌, map};
-ghost use Rattle.ep_built.specs.Built.{first_of, first_in, at_node, part_unbuilt, import_unbuilt, program_unbuilt, component_unbuilt};
+ghost use Rattle.ep_built.specs.Built.{first_of, first_in, at_node, import_unbuilt, program_unbuilt, component_unbuilt};
 
 mod expressions;
 mod forms;
+mod names;
+mod parts;
 mod statements;
+mod types;
 
 use ep_base::Line;
-use ep_tree::{Component, Import, Part, Program};
+use ep_tree::{Component, Import, Program};
 
 /// The line of the first node in text order that is not built, the outer one first, or `None` exactly where
 /// every node is built. It takes no memory.
@@ -42,7 +45,7 @@ fn at_node(built: bool, line: Line, inner: Option<Line>) -> Option<Line>
 fn program(p: &Program) -> Option<Line>
     ensures { result ≡ program_unbuilt p.now }
 {
-    let declared = first_of(imports(p.imports.items()), parts(p.parts.items()));
+    let declared = first_of(imports(p.imports.items()), parts::parts(p.parts.items()));
     let inner = first_of(declared, statements::compound(&p.body));
     at_node(forms::program_is_built(p), p.line, inner)
 }
@@ -57,28 +60,4 @@ fn imports(all: &[Import]) -> Option<Line>
         }
     }
     None
-}
-
-fn parts(all: &[Part]) -> Option<Line>
-    ensures { result ≡ first_in (map part_unbuilt all.now) }
-{
-    for p in all {
-        let line = part(p);
-        if line.is_some() {
-            return line;
-        }
-    }
-    None
-}
-
-fn part(p: &Part) -> Option<Line>
-    ensures { result ≡ part_unbuilt p.now }
-{
-    let built = forms::part_is_built(p);
-    match p {
-        Part::Constants(c) => at_node(built, c.line, None),
-        Part::Types(t) => at_node(built, t.line, None),
-        Part::Variables(v) => at_node(built, v.line, None),
-        Part::Routine(r) => at_node(built, r.line, None),
-    }
 }

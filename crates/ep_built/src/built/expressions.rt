@@ -1,7 +1,7 @@
 //! The first node of an expression or a component value that is not built.
 
 ghost use Rattle.std.specs.Prelude.{◌≡◌, map};
-ghost use Rattle.ep_built.specs.Built.{operators_are_built, operand_lines, addend_operand, multiplier_operand, first_in, component_value_unbuilt, element_unbuilt, factor_unbuilt, selector_unbuilt, argument_unbuilt, access_unbuilt, expression_unbuilt, label_unbuilt, simple_unbuilt, term_unbuilt, values_unbuilt};
+ghost use Rattle.ep_built.specs.Built.{all_are_built, lines_in, addend_belonging, multiplier_belonging, selector_belonging, first_in, component_value_unbuilt, element_unbuilt, factor_unbuilt, argument_unbuilt, access_unbuilt, expression_unbuilt, label_unbuilt, simple_unbuilt, term_unbuilt, values_unbuilt};
 
 use crate::built::{at_node, first_of, forms};
 use ep_base::Line;
@@ -30,12 +30,15 @@ fn simple(s: &Simple) -> Option<Line>
     ensures { result ≡ simple_unbuilt s.now }
 {
     let more = s.more.items();
-    let built = forms::sign_is_built(s.sign) && addends_are_built(more);
-    at_node(built, s.line, first_of(term(&s.first), addends(more)))
+    at_node(
+        addends_are_built(more),
+        s.line,
+        first_of(term(&s.first), addends(more)),
+    )
 }
 
 fn addends_are_built(all: &[Addend]) -> bool
-    ensures { result ≡ operators_are_built (map addend_operand all.now) }
+    ensures { result ≡ all_are_built (map addend_belonging all.now) }
 {
     for addend in all {
         if !forms::adding_is_built(addend.operator) {
@@ -47,7 +50,7 @@ fn addends_are_built(all: &[Addend]) -> bool
 
 #[cycle(lines)]
 fn addends(all: &[Addend]) -> Option<Line>
-    ensures { result ≡ operand_lines (map addend_operand all.now) }
+    ensures { result ≡ lines_in (map addend_belonging all.now) }
 {
     for addend in all {
         let line = term(&addend.term);
@@ -71,7 +74,7 @@ fn term(t: &Term) -> Option<Line>
 }
 
 fn multipliers_are_built(all: &[Multiplier]) -> bool
-    ensures { result ≡ operators_are_built (map multiplier_operand all.now) }
+    ensures { result ≡ all_are_built (map multiplier_belonging all.now) }
 {
     for multiplier in all {
         if !forms::multiplying_is_built(multiplier.operator) {
@@ -83,7 +86,7 @@ fn multipliers_are_built(all: &[Multiplier]) -> bool
 
 #[cycle(lines)]
 fn multipliers(all: &[Multiplier]) -> Option<Line>
-    ensures { result ≡ operand_lines (map multiplier_operand all.now) }
+    ensures { result ≡ lines_in (map multiplier_belonging all.now) }
 {
     for multiplier in all {
         let line = factor(multiplier.factor.get());
@@ -111,17 +114,17 @@ fn factor(f: &Factor) -> Option<Line>
     }
 }
 
-/// The first line in an access, whose own form the node around it tells.
 #[cycle(lines)]
 pub(super) fn access(a: &Access) -> Option<Line>
     ensures { result ≡ access_unbuilt a.now }
 {
-    selectors(a.selectors.items())
+    let all = a.selectors.items();
+    at_node(forms::access_is_built(&a.name, all), a.line, selectors(all))
 }
 
 #[cycle(lines)]
 fn selectors(all: &[Selector]) -> Option<Line>
-    ensures { result ≡ first_in (map selector_unbuilt all.now) }
+    ensures { result ≡ lines_in (map selector_belonging all.now) }
 {
     for s in all {
         let line = selector(s);
@@ -134,14 +137,13 @@ fn selectors(all: &[Selector]) -> Option<Line>
 
 #[cycle(lines)]
 fn selector(s: &Selector) -> Option<Line>
-    ensures { result ≡ selector_unbuilt s.now }
+    ensures { result ≡ (selector_belonging s.now).1 }
 {
-    let built = forms::selector_is_built(s);
     match s {
-        Selector::Field(line, _) => at_node(built, *line, None),
-        Selector::Index(line, all) => at_node(built, *line, expressions(all.items())),
-        Selector::Dereference(line) => at_node(built, *line, None),
-        Selector::Arguments(line, all) => at_node(built, *line, arguments(all.items())),
+        Selector::Field(_, _) => None,
+        Selector::Index(_, all) => expressions(all.items()),
+        Selector::Dereference(_) => None,
+        Selector::Arguments(_, all) => arguments(all.items()),
     }
 }
 
@@ -159,7 +161,7 @@ fn expressions(all: &[Expression]) -> Option<Line>
 }
 
 #[cycle(lines)]
-fn arguments(all: &[Argument]) -> Option<Line>
+pub(super) fn arguments(all: &[Argument]) -> Option<Line>
     ensures { result ≡ first_in (map argument_unbuilt all.now) }
 {
     for a in all {
@@ -175,11 +177,10 @@ fn arguments(all: &[Argument]) -> Option<Line>
 fn argument(a: &Argument) -> Option<Line>
     ensures { result ≡ argument_unbuilt a.now }
 {
-    let built = forms::argument_is_built(a);
     let value = expression(a.value.get());
     match &a.width {
-        None => at_node(built, a.line, value),
-        Some(width) => at_node(built, a.line, first_of(value, expression(width.get()))),
+        None => value,
+        Some(width) => first_of(value, expression(width.get())),
     }
 }
 

@@ -2,18 +2,25 @@
 //! of both.
 
 ghost use Rattle.std.specs.Prelude.{◌≡◌, map};
-ghost use Rattle.ep_built.specs.Built.{built_component, built_program, built_parameters, one_writes, writes, is_writeln, built_import, built_part, calls_with_one, writes_a_line, built_statement, built_relation, built_adding, built_multiplying, sign_is_built, built_factor, built_selector, built_argument, brackets_are_built};
+ghost use Rattle.ep_tree.specs.Shapes.{bare};
+ghost use Rattle.ep_built.specs.Built.{built_component, built_program, built_import, built_part, built_type_definition, built_type_denoter, built_plain, built_type_name, built_core, built_selector, built_target, built_call_selectors, built_call, built_statement, built_relation, built_adding, built_multiplying, is_character, built_factor, built_access, is_built, selector_belonging, brackets_are_built, is_bare_text};
 ghost use Rattle.ep_tree.specs.declared.expression.Factor.{out-Factor};
 ghost use Rattle.ep_tree.specs.declared.expression.Selector.{out-Selector};
-ghost use Rattle.ep_tree.specs.declared.expression.Argument.{out-Argument};
+ghost use Rattle.ep_tree.specs.declared.types.Core.{out-Core};
+ghost use Rattle.ep_tree.specs.declared.types.Plain.{out-Plain};
+ghost use Rattle.ep_tree.specs.declared.types.TypeDenoter.{out-TypeDenoter};
 ghost use Rattle.ep_tree.specs.declared.statement.Statement.{out-Statement};
+ghost use Rattle.ep_tree.specs.declared.routine.Part.{out-Part};
 
+use crate::built::names;
 use ep_base::Name;
 use ep_tree::{
-    Access, AddingOperator, Argument, Component, Factor, Import, MultiplyingOperator, Part,
-    Program, RelationalOperator, Selector, Sign, Statement,
+    Access, AddingOperator, Component, Core, Expression, Factor, Import, MultiplyingOperator, Part,
+    Plain, Program, QualifiedName, RelationalOperator, Selector, Statement, TypeDefinition,
+    TypeDenoter,
 };
 
+/// A component is a program.
 pub(super) fn component_is_built(c: &Component) -> bool
     ensures { result ≡ built_component c.now }
 {
@@ -23,50 +30,16 @@ pub(super) fn component_is_built(c: &Component) -> bool
     }
 }
 
-/// Whether there is no parameter but `output`, and that one where a statement writes.
+/// A program has the parameters `input` and `output` alone.
 pub(super) fn program_is_built(p: &Program) -> bool
     ensures { result ≡ built_program p.now }
 {
-    let parameters = p.parameters.items();
-    parameters_are_built(parameters)
-        && (!parameters.is_empty() || !one_writes(p.body.statements.items()))
-}
-
-fn parameters_are_built(names: &[Name]) -> bool
-    ensures { result ≡ built_parameters names.now }
-{
-    match names {
-        [] => true,
-        [name] => name.bytes() == b"output".as_slice(),
-        _ => false,
-    }
-}
-
-/// Whether one of these statements is a `writeln`, with any arguments.
-fn one_writes(all: &[Statement]) -> bool
-    ensures { result ≡ one_writes all.now }
-{
-    for s in all {
-        if writes(s) {
-            return true;
+    for name in p.parameters.items() {
+        if !names::is_program_parameter(name) {
+            return false;
         }
     }
-    false
-}
-
-fn writes(s: &Statement) -> bool
-    ensures { result ≡ writes (out-Statement s.now) }
-{
-    match s {
-        Statement::Call(_, a) => is_writeln(a),
-        _ => false,
-    }
-}
-
-fn is_writeln(a: &Access) -> bool
-    ensures { result ≡ is_writeln a.now }
-{
-    a.name.bytes() == b"writeln".as_slice()
+    true
 }
 
 pub(super) fn import_is_built(_import: &Import) -> bool
@@ -75,77 +48,58 @@ pub(super) fn import_is_built(_import: &Import) -> bool
     false
 }
 
-pub(super) fn part_is_built(_part: &Part) -> bool
-    ensures { result ≡ built_part _part.now }
+/// A part is no routine.
+pub(super) fn part_is_built(p: &Part) -> bool
+    ensures { result ≡ built_part (out-Part p.now) }
 {
-    false
+    match p {
+        Part::Routine(_) => false,
+        _ => true,
+    }
 }
 
-/// Whether there is one selector, in whose parentheses one argument stands.
-fn calls_with_one(selectors: &[Selector]) -> bool
-    ensures { result ≡ calls_with_one (map out-Selector selectors.now) }
+/// A type definition has no discriminants.
+pub(super) fn type_definition_is_built(d: &TypeDefinition) -> bool
+    ensures { result ≡ built_type_definition d.now }
 {
-    match selectors {
-        [Selector::Arguments(_, all)] => all.items().len() == 1,
+    d.discriminants.items().is_empty()
+}
+
+/// A type denoter has no initial state.
+pub(super) fn type_denoter_is_built(t: &TypeDenoter) -> bool
+    ensures { result ≡ built_type_denoter (out-TypeDenoter t.now) }
+{
+    t.initial.is_none()
+}
+
+/// A type denoter is not `bindable`.
+pub(super) fn plain_is_built(p: &Plain) -> bool
+    ensures { result ≡ built_plain (out-Plain p.now) }
+{
+    !p.bindable
+}
+
+/// A name of a type is that of an interface, or one that is built.
+fn type_name_is_built(name: &QualifiedName) -> bool
+    ensures { result ≡ built_type_name name.now }
+{
+    name.second.is_some() || !names::is_later(&name.first)
+}
+
+/// A type is a name without a tuple, a subrange or an enumeration.
+pub(super) fn core_is_built(c: &Core) -> bool
+    ensures { result ≡ built_core (out-Core c.now) }
+{
+    match c {
+        Core::Named(_, name, tuple) => tuple.items().is_empty() && type_name_is_built(name),
+        Core::Range(_, _, _) => true,
+        Core::Enumeration(_, _) => true,
         _ => false,
     }
 }
 
-/// Whether an access is `writeln` with one argument.
-fn writes_a_line(a: &Access) -> bool
-    ensures { result ≡ writes_a_line a.now }
-{
-    is_writeln(a) && calls_with_one(a.selectors.items())
-}
-
-pub(super) fn statement_is_built(s: &Statement) -> bool
-    ensures { result ≡ built_statement (out-Statement s.now) }
-{
-    match s {
-        Statement::Empty(_) => true,
-        Statement::Call(_, a) => writes_a_line(a),
-        _ => false,
-    }
-}
-
-pub(super) fn relation_is_built(_operator: RelationalOperator) -> bool
-    ensures { result ≡ built_relation _operator }
-{
-    false
-}
-
-pub(super) fn sign_is_built(sign: Option<Sign>) -> bool
-    ensures { result ≡ sign_is_built sign }
-{
-    match sign {
-        None => true,
-        Some(_) => false,
-    }
-}
-
-pub(super) fn adding_is_built(_operator: AddingOperator) -> bool
-    ensures { result ≡ built_adding _operator }
-{
-    false
-}
-
-pub(super) fn multiplying_is_built(_operator: MultiplyingOperator) -> bool
-    ensures { result ≡ built_multiplying _operator }
-{
-    false
-}
-
-pub(super) fn factor_is_built(f: &Factor) -> bool
-    ensures { result ≡ built_factor (out-Factor f.now) }
-{
-    match f {
-        Factor::Number(_, number) => *number >= 0,
-        Factor::Text(_, _) => true,
-        _ => false,
-    }
-}
-
-pub(super) fn selector_is_built(s: &Selector) -> bool
+/// A selector is a pair of parentheses.
+fn selector_is_built(s: &Selector) -> bool
     ensures { result ≡ built_selector (out-Selector s.now) }
 {
     match s {
@@ -154,10 +108,98 @@ pub(super) fn selector_is_built(s: &Selector) -> bool
     }
 }
 
-pub(super) fn argument_is_built(a: &Argument) -> bool
-    ensures { result ≡ built_argument (out-Argument a.now) }
+/// What is assigned to is a name that is built.
+fn target_is_built(a: &Access) -> bool
+    ensures { result ≡ built_target a.now }
 {
-    a.width.is_none()
+    a.selectors.items().is_empty() && !names::is_later(&a.name)
+}
+
+/// A call has at most one selector, and it is built.
+fn call_selectors_are_built(selectors: &[Selector]) -> bool
+    ensures { result ≡ built_call_selectors selectors.now }
+{
+    match selectors {
+        [] => true,
+        [selector] => selector_is_built(selector),
+        _ => false,
+    }
+}
+
+fn call_is_built(a: &Access) -> bool
+    ensures { result ≡ built_call a.now }
+{
+    names::procedure_is_built(&a.name) && call_selectors_are_built(a.selectors.items())
+}
+
+pub(super) fn statement_is_built(s: &Statement) -> bool
+    ensures { result ≡ built_statement (out-Statement s.now) }
+{
+    match s {
+        Statement::Empty(_) => true,
+        Statement::Assignment(_, a, _) => target_is_built(a),
+        Statement::Call(_, a) => call_is_built(a),
+        Statement::Compound(_) => true,
+        Statement::If(_, _, _, _) => true,
+        Statement::While(_, _, _) => true,
+        _ => false,
+    }
+}
+
+/// All relational operators but `in`.
+pub(super) fn relation_is_built(operator: RelationalOperator) -> bool
+    ensures { result ≡ built_relation operator }
+{
+    match operator {
+        RelationalOperator::In => false,
+        _ => true,
+    }
+}
+
+/// All adding operators but `><` and `or_else`.
+pub(super) fn adding_is_built(operator: AddingOperator) -> bool
+    ensures { result ≡ built_adding operator }
+{
+    match operator {
+        AddingOperator::SymmetricDifference => false,
+        AddingOperator::OrElse => false,
+        _ => true,
+    }
+}
+
+/// All multiplying operators but `and_then`.
+pub(super) fn multiplying_is_built(operator: MultiplyingOperator) -> bool
+    ensures { result ≡ built_multiplying operator }
+{
+    match operator {
+        MultiplyingOperator::AndThen => false,
+        _ => true,
+    }
+}
+
+/// A number of a text has no sign, and a character string is of length one.
+pub(super) fn factor_is_built(f: &Factor) -> bool
+    ensures { result ≡ built_factor (out-Factor f.now) }
+{
+    match f {
+        Factor::Access(_) => true,
+        Factor::Number(_, number) => *number >= 0,
+        Factor::Text(_, text) => text.items().len() == 1,
+        Factor::Parenthesized(_, _) => true,
+        Factor::Not(_, _) => true,
+        _ => false,
+    }
+}
+
+/// An access is a name that is built, or a call of a function.
+pub(super) fn access_is_built(name: &Name, selectors: &[Selector]) -> bool
+    ensures { result ≡ built_access name.now (map is_built (map selector_belonging selectors.now)) }
+{
+    match selectors {
+        [] => !names::is_later(name),
+        [selector] => selector_is_built(selector) && names::is_called_function(name),
+        _ => false,
+    }
 }
 
 /// Of a structured value without the name of its type.
@@ -165,4 +207,22 @@ pub(super) fn brackets_are_built() -> bool
     ensures { result ≡ brackets_are_built }
 {
     false
+}
+
+/// Whether an expression is a character string and nothing more, which may be of any length where it is written.
+pub(super) fn is_bare_text(e: &Expression) -> bool
+    ensures { result ≡ is_bare_text (bare e.now) }
+{
+    let simple = &e.left;
+    let term = &simple.first;
+    if e.right.is_some() || simple.sign.is_some() {
+        return false;
+    }
+    if !simple.more.items().is_empty() || !term.more.items().is_empty() {
+        return false;
+    }
+    match term.first.get() {
+        Factor::Text(_, _) => true,
+        _ => false,
+    }
 }

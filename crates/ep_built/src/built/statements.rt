@@ -1,12 +1,12 @@
 //! The first node of a statement that is not built.
 
 ghost use Rattle.std.specs.Prelude.{◌≡◌, map};
-ghost use Rattle.ep_built.specs.Built.{first_in, access_unbuilt, statement_unbuilt, arm_unbuilt, compound_unbuilt};
+ghost use Rattle.ep_built.specs.Built.{first_in, access_unbuilt, written_value_unbuilt, written_unbuilt, call_unbuilt, statement_unbuilt, arm_unbuilt, compound_unbuilt};
 
-use crate::built::expressions::{access, component_value, expression, labels};
-use crate::built::{at_node, first_of, forms};
+use crate::built::expressions::{access, arguments, component_value, expression, labels};
+use crate::built::{at_node, first_of, forms, names};
 use ep_base::Line;
-use ep_tree::{Access, Arm, Compound, Statement};
+use ep_tree::{Access, Argument, Arm, Compound, Expression, Selector, Statement};
 
 /// The first line in a compound statement, whose own form the node around it tells.
 #[cycle(lines)]
@@ -39,7 +39,7 @@ fn statement(s: &Statement) -> Option<Line>
         Statement::Assignment(line, a, value) => {
             at_node(built, *line, first_of(access(a), component_value(value)))
         }
-        Statement::Call(line, a) => at_node(built, *line, access(a)),
+        Statement::Call(line, a) => at_node(built, *line, call(a)),
         Statement::Compound(c) => at_node(built, c.line, compound(c)),
         Statement::If(line, condition, then, None) => {
             let inner = first_of(expression(condition.get()), statement(then.get()));
@@ -111,4 +111,52 @@ fn accesses(all: &[Access]) -> Option<Line>
         }
     }
     None
+}
+
+/// The first line in the arguments of a call statement.
+fn call(a: &Access) -> Option<Line>
+    ensures { result ≡ call_unbuilt a.now }
+{
+    match a.selectors.items() {
+        [Selector::Arguments(_, all), ..] => {
+            if names::writes(&a.name) {
+                written(all.items())
+            } else {
+                arguments(all.items())
+            }
+        }
+        _ => None,
+    }
+}
+
+fn written(all: &[Argument]) -> Option<Line>
+    ensures { result ≡ first_in (map written_unbuilt all.now) }
+{
+    for a in all {
+        let line = written_argument(a);
+        if line.is_some() {
+            return line;
+        }
+    }
+    None
+}
+
+fn written_argument(a: &Argument) -> Option<Line>
+    ensures { result ≡ written_unbuilt a.now }
+{
+    let value = written_value(a.value.get());
+    match &a.width {
+        None => value,
+        Some(width) => first_of(value, expression(width.get())),
+    }
+}
+
+fn written_value(e: &Expression) -> Option<Line>
+    ensures { result ≡ written_value_unbuilt e.now }
+{
+    if forms::is_bare_text(e) {
+        None
+    } else {
+        expression(e)
+    }
 }

@@ -1,9 +1,9 @@
 use Rattle.std.proofs.Common.{◌≡◌, drop, map}
-use Rattle.ep_built.specs.Built.{addend_operand, argument_unbuilt, element_unbuilt, expression_unbuilt, first_in, label_unbuilt, multiplier_operand, operand_lines, selector_unbuilt}
+use Rattle.ep_built.specs.Built.{addend_belonging, argument_unbuilt, element_unbuilt, expression_unbuilt, first_in, label_unbuilt, multiplier_belonging, lines_in, selector_belonging}
 use Rattle.ep_built.proofs.built.expressions.+lines.Given as goal
 
 abbrev pub invariant-addends-loop-addend : goal.invariant-addends-loop-addend
-invariant-addends-loop-addend l = operand_lines (map addend_operand (drop l.addend-index l.all)) ≡ operand_lines (map addend_operand l.all)
+invariant-addends-loop-addend l = lines_in (map addend_belonging (drop l.addend-index l.all)) ≡ lines_in (map addend_belonging l.all)
 
 abbrev pub invariant-arguments-loop-a : goal.invariant-arguments-loop-a
 invariant-arguments-loop-a l = first_in (map argument_unbuilt (drop l.a-index l.all)) ≡ first_in (map argument_unbuilt l.all)
@@ -18,7 +18,7 @@ abbrev pub invariant-labels-loop-l : goal.invariant-labels-loop-l
 invariant-labels-loop-l l = first_in (map label_unbuilt (drop l.l-index l.all)) ≡ first_in (map label_unbuilt l.all)
 
 abbrev pub invariant-multipliers-loop-multiplier : goal.invariant-multipliers-loop-multiplier
-invariant-multipliers-loop-multiplier l = operand_lines (map multiplier_operand (drop l.multiplier-index l.all)) ≡ operand_lines (map multiplier_operand l.all)
+invariant-multipliers-loop-multiplier l = lines_in (map multiplier_belonging (drop l.multiplier-index l.all)) ≡ lines_in (map multiplier_belonging l.all)
 
 abbrev pub invariant-selectors-loop-s : goal.invariant-selectors-loop-s
-invariant-selectors-loop-s l = first_in (map selector_unbuilt (drop l.s-index l.all)) ≡ first_in (map selector_unbuilt l.all)
+invariant-selectors-loop-s l = lines_in (map selector_belonging (drop l.s-index l.all)) ≡ lines_in (map selector_belonging l.all)

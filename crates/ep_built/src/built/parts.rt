@@ -1,0 +1,71 @@
+//! The first node of the parts of a block before its statements that is not built.
+
+ghost use Rattle.std.specs.Prelude.{◌≡◌, map};
+ghost use Rattle.ep_built.specs.Built.{first_in, constant_unbuilt, type_unbuilt, variable_unbuilt, part_unbuilt};
+
+use crate::built::expressions::component_value;
+use crate::built::types::type_denoter;
+use crate::built::{at_node, forms};
+use ep_base::Line;
+use ep_tree::{ConstantDefinition, Part, TypeDefinition, VariableDeclaration};
+
+pub(super) fn parts(all: &[Part]) -> Option<Line>
+    ensures { result ≡ first_in (map part_unbuilt all.now) }
+{
+    for p in all {
+        let line = part(p);
+        if line.is_some() {
+            return line;
+        }
+    }
+    None
+}
+
+fn part(p: &Part) -> Option<Line>
+    ensures { result ≡ part_unbuilt p.now }
+{
+    let built = forms::part_is_built(p);
+    match p {
+        Part::Constants(c) => at_node(built, c.line, constants(c.definitions.items())),
+        Part::Types(t) => at_node(built, t.line, types(t.definitions.items())),
+        Part::Variables(v) => at_node(built, v.line, variables(v.declarations.items())),
+        Part::Routine(r) => at_node(built, r.line, None),
+    }
+}
+
+fn constants(all: &[ConstantDefinition]) -> Option<Line>
+    ensures { result ≡ first_in (map constant_unbuilt all.now) }
+{
+    for definition in all {
+        let line = component_value(&definition.value);
+        if line.is_some() {
+            return line;
+        }
+    }
+    None
+}
+
+fn types(all: &[TypeDefinition]) -> Option<Line>
+    ensures { result ≡ first_in (map type_unbuilt all.now) }
+{
+    for definition in all {
+        let built = forms::type_definition_is_built(definition);
+        let line = at_node(built, definition.line, type_denoter(&definition.of));
+        if line.is_some() {
+            return line;
+        }
+    }
+    None
+}
+
+fn variables(all: &[VariableDeclaration]) -> Option<Line>
+    ensures { result ≡ first_in (map variable_unbuilt all.now) }
+{
+    for declaration in all {
+        let line = type_denoter(&declaration.of);
+        if line.is_some() {
+            return line;
+        }
+    }
+    None
+}
