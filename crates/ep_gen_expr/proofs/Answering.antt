@@ -14,8 +14,8 @@ use Rattle.ep_typed.specs.Operations.{Answer, Number}
 use Rattle.ep_typed.specs.Printing.{Result}
 use Rattle.ep_typed.specs.Printing as result
 use Rattle.ep_typed.specs.Steps.{Computation, give, bind, spend}
-use Rattle.ep_typed.specs.Valid.{Declarations, Kind, Ordinal, is_of_host}
-use Rattle.ep_typed.specs.declared.types.Host.{Host}
+use Rattle.ep_typed.specs.Valid.{Declarations, Kind, Ordinal}
+use Rattle.ep_typed.specs.Hosts.{Host, is_of_host}
 
 -- The machine follows a computation of a result from one place of the code to another, where the result is on top of
 -- the operands; the credit is so many before, and after it so many and the weight of the result.

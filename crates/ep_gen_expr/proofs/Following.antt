@@ -1,11 +1,11 @@
 -- The machine follows the meaning of an expression through the code of the expression.
-use Rattle.std.proofs.Common.{◌≡◌, ℕ, ℤ, pos, suc, ◌+◌, ◌≤◌, Bool, IsTrue, List, [], ◌∷◌, ◌++◌, length, Option, Some, None, slice_get, refl, sym, ap, ◌∙◌, subst, arith, length-append}
+use Rattle.std.proofs.Common.{◌≡◌, ℕ, ℤ, pos, suc, ◌+◌, ◌≤◌, Bool, IsTrue, List, [], ◌∷◌, ◌++◌, length, Some, slice_get, refl, sym, ap, ◌∙◌, subst, arith, length-append}
 use Rattle.ep_object.specs.Follows.{Fragment, OnTop, PlaceOnTop, Inside}
-use Rattle.ep_object.specs.Matching.{Memory, at, Injection, IsPlaceOf, Describes, Matches}
+use Rattle.ep_object.specs.Matching.{Memory, at, Injection, IsPlaceOf, Describes, HasType, Matches}
 use Rattle.ep_object.specs.Operands.{Operand}
 use Rattle.ep_object.specs.Operands as operand
 use Rattle.ep_object.specs.Placing.{Placement, CodeStands}
-use Rattle.ep_object.specs.Scene.{Scene, TextStands, VariableStands}
+use Rattle.ep_object.specs.Scene.{Scene, TextStands, VariableStands, HaveValidTypes}
 use Rattle.ep_object.specs.Runs.{unit_in}
 use Rattle.ep_object.specs.declared.code.Image.{Image}
 use Rattle.ep_object.specs.declared.code.Instr.{Instr}
@@ -17,19 +17,22 @@ use Rattle.ep_object.proofs.Growing.{unit_in-same, inside_here}
 use Rattle.ep_object.proofs.PlaceRows.{unit_reads, load_reads}
 use Rattle.ep_object.proofs.Rows.{push_pushes}
 use Rattle.ep_object.proofs.TextRows.{text_pushes}
+use Rattle.std.proofs.lemmas.Option.{same_Some}
+use Rattle.ep_typed.proofs.Denoters.{types_are_instances}
 use Rattle.ep_typed.proofs.Steady.{steady_bind, steady_fetch, steady_spend, steady_give, steady_answered, steady_eval}
 use Rattle.ep_typed.specs.Meaning.{eval, place, weight_of}
 use Rattle.ep_typed.specs.Printing as result
 use Rattle.ep_typed.specs.Steps.{word_at}
 use Rattle.ep_typed.specs.Steps as meaning
-use Rattle.ep_typed.specs.Trees.{Variable, Expr, Constant, Text, Read, One, Two, Step}
-use Rattle.ep_typed.specs.Valid.{Declarations, Kind, Ordinal, Bytes, host_of, least, greatest, IsUnary, IsBinary, IsTypeOf, IsExpr, is_of_host}
+use Rattle.ep_typed.specs.Trees.{Variable, Standard, Expr, Constant, Text, Read, One, Two, Step}
+use Rattle.ep_typed.specs.Valid.{Declarations, Kind, Ordinal, Bytes, IsUnary, IsBinary, IsTypeOf, IsPlace, IsExpr}
+use Rattle.ep_typed.specs.Viewed.{denoter_of}
 use Rattle.ep_typed.specs.declared.operations.Binary.{Binary}
 use Rattle.ep_typed.specs.declared.operations.Unary.{Unary}
-use Rattle.ep_typed.specs.declared.types.Host.{Host}
-use Rattle.ep_typed.specs.declared.types.Host.TheVariants as host
-use Rattle.ep_typed.specs.declared.types.TypeValue.{TypeValue}
-use Rattle.ep_typed.specs.declared.types.TypeValue.TheVariants as type
+use Rattle.ep_typed.specs.Hosts.{Host, least, greatest, is_of_host}
+use Rattle.ep_typed.specs.Hosts as host
+use Rattle.ep_typed.specs.declared.value.TypeValue.{TypeValue}
+use Rattle.ep_typed.specs.declared.value.TypeValue.TheVariants as type
 use Rattle.ep_typed.specs.declared.unit.UnitVariable.{UnitVariable}
 use Rattle.ep_gen_expr.specs.ExprCode.{IsPlaceCode, IsExprCode, instr, push, bare, one_code, two_code, step_code}
 use Rattle.ep_gen_expr.proofs.Answering.{Evaluates}
@@ -39,10 +42,25 @@ use Rattle.ep_gen_expr.proofs.Stepping.{step_follows}
 use Rattle.ep_gen_expr.proofs.TwoOperands.{BinaryFollows, binary_follows}
 use Rattle.ep_object.specs.declared.op.TheConstants as op
 
--- a variable that is declared with a host
-pub declared_variable : (h : Host) (o : Option UnitVariable) → host_of o ≡ Some h → (v : UnitVariable) × (o ≡ Some v) × (h ≡ v.host)
-declared_variable h None e = cc
-declared_variable h (Some v) e = (v, refl, cc)
+-- a variable that is declared, with its type value, which is of the host
+pub record IsTyped (declared : Declarations) (unit : List ℕ) (k : ℕ) (h : Host) : Type 0 where
+  pub variable : UnitVariable
+  pub is_declared : declared.variables unit k ≡ Some variable
+  pub type_value : TypeValue
+  pub has_type : HasType declared unit variable type_value
+  pub of_host : IsTypeOf h type_value
+
+-- a place of a host is a variable of a type of it
+pub typed_variable : (declared : Declarations) → HaveValidTypes declared → (h : Host) (unit : List ℕ) (k : ℕ) → IsPlace declared h (Variable unit k) → IsTyped declared unit k h
+typed_variable declared types_valid h unit k (v, is_declared, is_host) =
+    let valid = types_valid unit k v is_declared in
+    record {
+      variable = v;
+      is_declared = is_declared;
+      type_value = valid.type_value;
+      has_type = types_are_instances (declared.types unit) (denoter_of v.denoter) valid.type_value valid.has_type;
+      of_host = subst (λ h. IsTypeOf h valid.type_value) (same_Some valid.host h (sym valid.has_host ∙ is_host)) valid.is_type;
+    }
 
 -- From each memory of a routine of the unit, the machine follows the expression through this code, which begins at this
 -- place of the object, with a credit that rises by 8.
@@ -65,17 +83,17 @@ module _ {declared : Declarations} {G : Image} (ps : List Placement) (p : Placem
       (fragment_give (omega arith) (inside_here (record { bytes = bytes; is_text = refl; is = refl })))))
 
   -- what `Unit` finds of a variable that is declared, where the routine is one of the unit
-  unit_finds : (place line number : ℕ) (of_unit : List ℕ) (v : UnitVariable) → declared of_unit number ≡ Some v → (variable : VariableStands G ps of_unit number) → slice_get G.instructions place ≡ Some (instr op.UNIT (pos variable.number) number line) → (injection : Injection) (memory : Memory) (below : List Operand) → unit_in G memory.frames ≡ unit → (s : meaning.State) → Matches declared G injection s memory → Reads declared G (at place below memory s.trace) 1 unit line (place + 1) (λ n. Inside injection memory (PlaceOnTop v.type_value below n)) s (s.variables of_unit number)
-  unit_finds place line number of_unit v is_declared variable has injection memory below unit_is s matches =
-      subst (λ u. Reads declared G (at place below memory s.trace) 1 u line (place + 1) (λ n. Inside injection memory (PlaceOnTop v.type_value below n)) s (s.variables of_unit number)) unit_is
-      (subst (λ u. Reads declared G (at place below memory s.trace) 1 (unit_in G memory.frames) line (place + 1) (λ n. Inside injection memory (PlaceOnTop v.type_value below n)) s (s.variables u number)) variable.named
-      (unit_reads declared G place line below variable.number number variable.image_unit v has variable.there variable.within (ap (λ u. declared u number) variable.named ∙ is_declared) injection memory s matches))
+  unit_finds : (place line number : ℕ) (of_unit : List ℕ) (v : UnitVariable) (t : TypeValue) → declared.variables of_unit number ≡ Some v → HasType declared of_unit v t → (variable : VariableStands G ps of_unit number) → slice_get G.instructions place ≡ Some (instr op.UNIT (pos variable.number) number line) → (injection : Injection) (memory : Memory) (below : List Operand) → unit_in G memory.frames ≡ unit → (s : meaning.State) → Matches declared G injection s memory → Reads declared G (at place below memory s.trace) 1 unit line (place + 1) (λ n. Inside injection memory (PlaceOnTop t below n)) s (s.variables of_unit number)
+  unit_finds place line number of_unit v t is_declared has_type variable has injection memory below unit_is s matches =
+      subst (λ u. Reads declared G (at place below memory s.trace) 1 u line (place + 1) (λ n. Inside injection memory (PlaceOnTop t below n)) s (s.variables of_unit number)) unit_is
+      (subst (λ u. Reads declared G (at place below memory s.trace) 1 (unit_in G memory.frames) line (place + 1) (λ n. Inside injection memory (PlaceOnTop t below n)) s (s.variables u number)) variable.named
+      (unit_reads declared G place line below variable.number number variable.image_unit v t has variable.there variable.within (ap (λ u. declared.variables u number) variable.named ∙ is_declared) (subst (λ u. HasType declared u v t) (sym variable.named) has_type) injection memory s matches))
 
-  pub place_follows : (n : ℕ) (of_unit : List ℕ) (k : ℕ) (v : UnitVariable) → declared of_unit k ≡ Some v → (line at : ℕ) (code : List Instr) → IsPlaceCode references line (Variable of_unit k) code → CodeStands G ps p references at code → (injection : Injection) (memory : Memory) (below : List Operand) (d : ℕ) → 1 ≤ d → unit_in G memory.frames ≡ unit → Fragment declared G n injection memory (p.instructions.before + at) below (place g unit line (Variable of_unit k)) (p.instructions.before + (at + length code)) (λ a. Inside injection memory (PlaceOnTop v.type_value below a)) d (λ a. d + 8)
-  place_follows n of_unit k v is_declared line at code (r, there, is) stands injection memory below d le unit_is =
+  pub place_follows : (n : ℕ) (of_unit : List ℕ) (k : ℕ) (v : UnitVariable) (t : TypeValue) → declared.variables of_unit k ≡ Some v → HasType declared of_unit v t → (line at : ℕ) (code : List Instr) → IsPlaceCode references line (Variable of_unit k) code → CodeStands G ps p references at code → (injection : Injection) (memory : Memory) (below : List Operand) (d : ℕ) → 1 ≤ d → unit_in G memory.frames ≡ unit → Fragment declared G n injection memory (p.instructions.before + at) below (place g unit line (Variable of_unit k)) (p.instructions.before + (at + length code)) (λ a. Inside injection memory (PlaceOnTop t below a)) d (λ a. d + 8)
+  place_follows n of_unit k v t is_declared has_type line at code (r, there, is) stands injection memory below d le unit_is =
       let variable : VariableStands G ps of_unit k = scene.variables_stand of_unit k v is_declared in
       let has : CodeStands G ps p references at (instr op.UNIT (pos r) 0 line ∷ []) = subst (λ c. CodeStands G ps p references at c) is stands in
-      fragment_less {n = suc n} (omega arith) (fragment_to (omega (arith, ap length is)) (fragment_fetch {n = n} (λ s. s.variables of_unit k) (λ m. m) (λ s matches. unit_finds (p.instructions.before + at) line k of_unit v is_declared variable (variable_at G ps p references line r (p.instructions.before + at) k of_unit variable there has.0) injection memory below unit_is s matches) le (λ m. omega arith)))
+      fragment_less {n = suc n} (omega arith) (fragment_to (omega (arith, ap length is)) (fragment_fetch {n = n} (λ s. s.variables of_unit k) (λ m. m) (λ s matches. unit_finds (p.instructions.before + at) line k of_unit v t is_declared has_type variable (variable_at G ps p references line r (p.instructions.before + at) k of_unit variable there has.0) injection memory below unit_is s matches) le (λ m. omega arith)))
 
   -- what `Load` finds of a variable of a type of the host
   load_finds : (place line : ℕ) (h : Host) (t : TypeValue) → IsTypeOf h t → slice_get G.instructions place ≡ Some (instr op.LOAD (pos 0) 0 line) → (injection : Injection) (memory : Memory) (below : List Operand) (a : ℕ) (q : PlaceOf) → IsPlaceOf injection memory.segments a q → Describes memory.types q.type_number t → unit_in G memory.frames ≡ unit → (s : meaning.State) → Matches declared G injection s memory → Reads declared G (at place (operand.Place q ∷ below) memory s.trace) 1 unit line (place + 1) (λ w. Inside injection memory (OnTop (Ordinal h) below (result.Number w))) s (word_at a s)
@@ -84,12 +102,12 @@ module _ {declared : Declarations} {G : Image} (ps : List Placement) (p : Placem
   load_finds place line h type.Text of_host has injection memory below a q place_of described unit_is s matches = absurd of_host
 
   -- the value of a variable that is declared, by its place and `Load`
-  read_follows : (n : ℕ) (of_unit : List ℕ) (k : ℕ) (v : UnitVariable) → declared of_unit k ≡ Some v → (line at : ℕ) (xs : List Instr) → IsPlaceCode references line (Variable of_unit k) xs → CodeStands G ps p references at (xs ++ bare line op.LOAD ∷ []) → (injection : Injection) (memory : Memory) (below : List Operand) (d : ℕ) → 1 ≤ d → unit_in G memory.frames ≡ unit → Evaluates declared G n injection memory (p.instructions.before + at) below (eval g unit line (Read (Variable of_unit k))) (p.instructions.before + (at + length (xs ++ bare line op.LOAD ∷ []))) (Ordinal v.host) below d (d + 8)
-  read_follows n of_unit k v is_declared line at xs is_code stands injection memory below d le unit_is =
+  read_follows : (n : ℕ) (h : Host) (of_unit : List ℕ) (k : ℕ) → IsTyped declared of_unit k h → (line at : ℕ) (xs : List Instr) → IsPlaceCode references line (Variable of_unit k) xs → CodeStands G ps p references at (xs ++ bare line op.LOAD ∷ []) → (injection : Injection) (memory : Memory) (below : List Operand) (d : ℕ) → 1 ≤ d → unit_in G memory.frames ≡ unit → Evaluates declared G n injection memory (p.instructions.before + at) below (eval g unit line (Read (Variable of_unit k))) (p.instructions.before + (at + length (xs ++ bare line op.LOAD ∷ []))) (Ordinal h) below d (d + 8)
+  read_follows n h of_unit k v line at xs is_code stands injection memory below d le unit_is =
       let middle : ℕ = p.instructions.before + (at + length xs) in
       let has : CodeStands G ps p references (at + length xs) (bare line op.LOAD ∷ []) = code_back G ps p references at xs (bare line op.LOAD ∷ []) stands in
-      fragment_bind_place (λ a. steady_bind (steady_fetch _ _) (λ w. steady_spend 1 (steady_give (result.Number w)))) (place_follows n of_unit k v is_declared line at xs is_code (code_front G ps p references at xs (bare line op.LOAD ∷ []) stands) injection memory below d le unit_is) (λ a q longer after grown routine place_of described.
-      fragment_less {n = suc n} (omega arith) (fragment_to (omega (arith, length-append xs (bare line op.LOAD ∷ []))) (fragment_fetch {n = n} (word_at a) (λ w. result.Number w) (λ s matches. load_finds middle line v.host v.type_value (scene.types_valid of_unit k v is_declared) has.0 longer after below a q place_of described (unit_in-same G routine ∙ unit_is) s matches) (omega arith) (λ w. omega arith))))
+      fragment_bind_place (λ a. steady_bind (steady_fetch _ _) (λ w. steady_spend 1 (steady_give (result.Number w)))) (place_follows n of_unit k v.variable v.type_value v.is_declared v.has_type line at xs is_code (code_front G ps p references at xs (bare line op.LOAD ∷ []) stands) injection memory below d le unit_is) (λ a q longer after grown routine place_of described.
+      fragment_less {n = suc n} (omega arith) (fragment_to (omega (arith, length-append xs (bare line op.LOAD ∷ []))) (fragment_fetch {n = n} (word_at a) (λ w. result.Number w) (λ s matches. load_finds middle line h v.type_value v.of_host has.0 longer after below a q place_of described (unit_in-same G routine ∙ unit_is) s matches) (omega arith) (λ w. omega arith))))
 
   -- an operation with one operand
   one_follows : (n : ℕ) (operation : Unary) (x : Expr) (k kind : Kind) → IsUnary operation k kind → (line at : ℕ) (xs : List Instr) → IsFollowed declared G p g unit n k x line at xs → CodeStands G ps p references at (xs ++ one_code line operation) → IsFollowed declared G p g unit n kind (One operation x) line at (xs ++ one_code line operation)
@@ -135,8 +153,9 @@ module _ {declared : Declarations} {G : Image} (ps : List Placement) (p : Placem
   expression_follows n kind (Text bytes) is_kind line at code (k, there, is) stands =
       followed_as n kind Bytes (Text bytes) line at code (instr op.TEXT (pos k) 0 line ∷ []) is_kind is (λ injection memory below d le unit_is. text_follows n k bytes there line at (subst (λ c. CodeStands G ps p references at c) is stands) injection memory below d)
   expression_follows n kind (Read (Variable of_unit k)) (h, is_kind, is_place) line at code (xs, is_code, is) stands =
-      let v = declared_variable h (declared of_unit k) is_place in
-      followed_as n kind (Ordinal v.0.host) (Read (Variable of_unit k)) line at code (xs ++ bare line op.LOAD ∷ []) (is_kind ∙ ap Ordinal v.2) is (read_follows n of_unit k v.0 v.1 line at xs is_code (subst (λ c. CodeStands G ps p references at c) is stands))
+      let v = typed_variable declared scene.types_valid h of_unit k is_place in
+      followed_as n kind (Ordinal h) (Read (Variable of_unit k)) line at code (xs ++ bare line op.LOAD ∷ []) is_kind is (read_follows n h of_unit k v line at xs is_code (subst (λ c. CodeStands G ps p references at c) is stands))
+  expression_follows n kind (Read (Standard file)) (h, is_kind, is_place) line at code is_code stands = absurd is_place
   expression_follows n kind (One operation x) (k, kinds, is_x) line at code (xs, x_code, is) stands =
       let all : CodeStands G ps p references at (xs ++ one_code line operation) = subst (λ c. CodeStands G ps p references at c) is stands in
       followed_as n kind kind (One operation x) line at code (xs ++ one_code line operation) refl is

@@ -3,11 +3,12 @@ use Rattle.std.proofs.Common.{◌≡◌, ℕ, ℤ, pos, ◌<◌, ◌-◌, ◌^�
 use Rattle.ep_object.specs.declared.code.Instr.{Instr}
 use Rattle.ep_object.specs.declared.code.Reference.{Reference}
 use Rattle.ep_typed.specs.Operations.{last_char}
-use Rattle.ep_typed.specs.Trees.{Place, Variable, Expr, Constant, Text, Read, One, Two, Step}
+use Rattle.ep_typed.specs.Trees.{Place, Variable, Standard, Expr, Constant, Text, Read, One, Two, Step}
 use Rattle.ep_typed.specs.declared.operations.Unary.{Unary}
 use Rattle.ep_typed.specs.declared.operations.Unary.TheVariants as unary
 use Rattle.ep_typed.specs.declared.operations.Binary.{Binary}
-use Rattle.ep_gen_expr.specs.ExprCode.{IsPlaceCode, IsExprCode, instr, reference, push, bare, one_code, two_code, count_code, step_code}
+use Rattle.ep_typed.specs.declared.tree.StandardFile.{StandardFile}
+use Rattle.ep_gen_expr.specs.ExprCode.{IsPlaceCode, IsExprCode, instr, reference, standard_code, push, bare, one_code, two_code, count_code, step_code}
 use Rattle.ep_gen_expr.specs.Growth.{IsNowhere, Grows, NumbersText, NumbersReference, AppendsPlace, AppendsExpr}
 use Rattle.ep_gen_expr.specs.declared.code.Code.{Code}
 use Rattle.ep_gen_expr.proofs.Pushed.{table_same, table_then, table_pushed, get_later, get_last}
@@ -62,7 +63,7 @@ second_part : {a b c d : Code} {is js : List Instr} (x : Expr) → Grows a b is 
 second_part {d = d} x g p q = subst (λ line. IsExprCode d.texts d.references line x p.code) g.line (first_part x p q)
 
 whole_expr : {a b : Code} (x : Expr) (code : List Instr) → IsExprCode b.texts b.references a.line x code → Grows a b code → AppendsExpr a b x
-whole_expr {a = a} {b = b} x code h g = record { code = code; is_code = h; grows = g; short = expr_code_short b.texts b.references a.line x code h }
+whole_expr {a = a} {b = b} x code h g = record { code = code; is_code = h; grows = g; short = omega (arith, expr_code_short b.texts b.references a.line x code h) }
 
 whole_place : {a b : Code} (x : Place) (code : List Instr) → IsPlaceCode b.references a.line x code → Grows a b code → AppendsPlace a b x
 whole_place {a = a} {b = b} x code h g = record { code = code; is_code = h; grows = g; short = place_code_short b.references a.line x code h }
@@ -70,6 +71,9 @@ whole_place {a = a} {b = b} x code h g = record { code = code; is_code = h; grow
 pub appends_variable : {a b c : Code} (unit : List ℕ) (number k : ℕ) → NumbersReference a b (reference unit number) k → Grows b c (instr op.UNIT (pos k) 0 b.line ∷ []) → AppendsPlace a c (Variable unit number)
 appends_variable {a = a} unit number k p q =
     whole_place (Variable unit number) (instr op.UNIT (pos k) 0 a.line ∷ []) (k, get_later k (reference unit number) q.references.begins p.there, refl) (grows_at (λ line. instr op.UNIT (pos k) 0 line ∷ []) p.grows q)
+
+pub appends_standard : {a b : Code} (file : StandardFile) → Grows a b (standard_code a.line file ∷ []) → AppendsPlace a b (Standard file)
+appends_standard {a = a} file g = whole_place (Standard file) (standard_code a.line file ∷ []) refl g
 
 pub appends_constant : {a b : Code} (z : ℤ) → Grows a b (push a.line z ∷ []) → AppendsExpr a b (Constant z)
 appends_constant {a = a} z g = whole_expr (Constant z) (push a.line z ∷ []) refl g
@@ -134,4 +138,4 @@ on_ok (Err e) f h = tt
 
 pub ruleset numbers = (numbers_old_text, numbers_old_reference)
 
-pub ruleset forms = (appends_variable, appends_constant, appends_text, appends_read, appends_one, appends_two, appends_step)
+pub ruleset forms = (appends_variable, appends_standard, appends_constant, appends_text, appends_read, appends_one, appends_two, appends_step)

@@ -4,9 +4,8 @@ use Rattle.std.proofs.lemmas.Bool.Decides.{nat_tests}
 use Rattle.std.specs.Int.{int_rem_euclid}
 use Rattle.std.specs.Prelude.{if◌then◌else◌, ◌-ℤ◌, neg_ℤ, int_le, int_lt, int_div}
 use Rattle.ep_typed.specs.Operations.{Answer, Number, Fault, integer, is_integer, within, divided, modulo, is_same, ordinal_of}
-use Rattle.ep_typed.specs.Valid.{least, greatest, is_of_host}
-use Rattle.ep_typed.specs.declared.types.Host.{Host}
-use Rattle.ep_typed.specs.declared.types.Host.TheVariants as host
+use Rattle.ep_typed.specs.Hosts.{Host, least, greatest, is_of_host}
+use Rattle.ep_typed.specs.Hosts as host
 use Rattle.ep_typed.specs.declared.run_error.TheConstants as run_error
 
 -- a number that is the answer

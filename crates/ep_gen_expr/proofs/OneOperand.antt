@@ -12,11 +12,11 @@ use Rattle.ep_object.proofs.Growing.{inside_here}
 use Rattle.ep_object.proofs.Rows.{RowAnswers, push_pushes, neg_answers, abs_answers, sqr_answers, odd_answers, not_answers, check_answers}
 use Rattle.ep_object.proofs.TextRows.{drop_drops, dup_pushes}
 use Rattle.ep_typed.specs.Operations.{Number, last_char, unary_answer}
-use Rattle.ep_typed.specs.Valid.{Declarations, Kind, Ordinal, IsUnary, is_of_host}
+use Rattle.ep_typed.specs.Valid.{Declarations, Kind, Ordinal, IsUnary}
 use Rattle.ep_typed.specs.declared.operations.Unary.{Unary}
 use Rattle.ep_typed.specs.declared.operations.Unary.TheVariants as unary
-use Rattle.ep_typed.specs.declared.types.Host.{Host}
-use Rattle.ep_typed.specs.declared.types.Host.TheVariants as host
+use Rattle.ep_typed.specs.Hosts.{Host, is_of_host}
+use Rattle.ep_typed.specs.Hosts as host
 use Rattle.ep_gen_expr.specs.ExprCode.{one_code}
 use Rattle.ep_gen_expr.proofs.Answering.{Evaluates, answering, answer_follows, row_waits}
 use Rattle.ep_gen_expr.proofs.Hosts.{given, integer_answer, within_answer, odd_boolean, not_boolean, host_integer}

@@ -1,17 +1,19 @@
 -- Code stays code when the tables grow, and is short.
-use Rattle.std.proofs.Common.{ℕ, ℤ, ◌*◌, ◌≤◌, Bool, true, false, List, [], ◌∷◌, ◌++◌, length, ap, arith, length-append}
+use Rattle.std.proofs.Common.{ℕ, ℤ, ◌+◌, ◌*◌, ◌≤◌, Bool, true, false, List, [], ◌∷◌, ◌++◌, length, ap, arith, length-append}
 use Rattle.ep_outside.specs.Known.{IsPrefix}
 use Rattle.ep_object.specs.declared.code.Instr.{Instr}
 use Rattle.ep_object.specs.declared.code.Reference.{Reference}
-use Rattle.ep_typed.specs.Trees.{Place, Variable, Expr, Constant, Text, Read, One, Two, Step}
+use Rattle.ep_typed.specs.Trees.{Place, Variable, Standard, Expr, Constant, Text, Read, One, Two, Step}
 use Rattle.ep_typed.specs.declared.operations.Unary.{Unary}
 use Rattle.ep_typed.specs.declared.operations.Unary.TheVariants as unary
-use Rattle.ep_gen_expr.specs.ExprCode.{IsPlaceCode, IsExprCode, reference, place_nodes, expr_nodes, one_code, two_code, step_code, bare}
+use Rattle.ep_typed.specs.Nodes.{place_nodes, expr_nodes}
+use Rattle.ep_gen_expr.specs.ExprCode.{IsPlaceCode, IsExprCode, reference, one_code, two_code, step_code, bare}
 use Rattle.ep_gen_expr.proofs.Pushed.{get_later}
 use Rattle.ep_object.specs.declared.op.TheConstants as op
 
 pub place_code_stays : (rs ss : List Reference) (line : ℕ) (p : Place) (is : List Instr) → IsPrefix rs ss → IsPlaceCode rs line p is → IsPlaceCode ss line p is
 place_code_stays rs ss line (Variable unit number) is b h = (h.0, get_later h.0 (reference unit number) b h.1, h.2)
+place_code_stays rs ss line (Standard file) is b h = h
 
 module _ (ts us : List (List ℕ)) (rs ss : List Reference) (line : ℕ) (a : IsPrefix ts us) (b : IsPrefix rs ss) where
   pub expr_code_stays : (x : Expr) (is : List Instr) → IsExprCode ts rs line x is → IsExprCode us ss line x is
@@ -37,9 +39,10 @@ step_short line true low high = omega arith
 
 pub place_code_short : (rs : List Reference) (line : ℕ) (p : Place) (is : List Instr) → IsPlaceCode rs line p is → length is ≤ 32 * place_nodes p
 place_code_short rs line (Variable unit number) is h = omega (arith, ap length h.2)
+place_code_short rs line (Standard file) is h = omega (arith, ap length h)
 
 module _ (ts : List (List ℕ)) (rs : List Reference) (line : ℕ) where
-  pub expr_code_short : (x : Expr) (is : List Instr) → IsExprCode ts rs line x is → length is ≤ 32 * expr_nodes x
+  pub expr_code_short : (x : Expr) (is : List Instr) → IsExprCode ts rs line x is → length is + 8 ≤ 32 * expr_nodes x
   expr_code_short (Constant z) is h = omega (arith, ap length h)
   expr_code_short (Text bytes) is h = omega (arith, ap length h.2)
   expr_code_short (Read p) is h = omega (arith, ap length h.2, length-append h.0 (bare line op.LOAD ∷ []), place_code_short rs line p h.0 h.1)

@@ -11,9 +11,9 @@ use Rattle.ep_object.proofs.Choices.{going_of}
 use Rattle.ep_object.proofs.Fragments.{fragment_to, fragment_from, fragment_credit}
 use Rattle.ep_object.proofs.Rows.{instr, RowPushes, push_pushes, neg_answers, step_answers}
 use Rattle.ep_typed.specs.Operations.{step_answer}
-use Rattle.ep_typed.specs.Valid.{Declarations, Ordinal, least, greatest, is_of_host}
-use Rattle.ep_typed.specs.declared.types.Host.{Host}
-use Rattle.ep_typed.specs.declared.types.Host.TheVariants as host
+use Rattle.ep_typed.specs.Valid.{Declarations, Ordinal}
+use Rattle.ep_typed.specs.Hosts.{Host, least, greatest, is_of_host}
+use Rattle.ep_typed.specs.Hosts as host
 use Rattle.ep_gen_expr.specs.ExprCode.{push, bare, step_code}
 use Rattle.ep_gen_expr.proofs.Answering.{Evaluates, answering, answer_follows, row_waits}
 use Rattle.ep_gen_expr.proofs.Hosts.{bounded_answer, negated}

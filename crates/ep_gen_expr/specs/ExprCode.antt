@@ -1,16 +1,19 @@
 -- Which instructions are the code of an expression or a place, under given tables of texts and references.
-use Rattle.std.specs.Prelude.{◌≡◌, ℕ, ℤ, pos, ◌+◌, Bool, true, false, List, [], ◌∷◌, ◌++◌, Some, slice_get}
+use Rattle.std.specs.Prelude.{◌≡◌, ℕ, ℤ, pos, Bool, true, false, List, [], ◌∷◌, ◌++◌, Some, slice_get}
 pub use Rattle.ep_object.specs.Table.{instr}
 use Rattle.ep_object.specs.declared.code.Instr.{Instr}
 use Rattle.ep_object.specs.declared.code.Reference.{Reference}
 use Rattle.ep_typed.specs.Operations.{last_char}
-use Rattle.ep_typed.specs.Trees.{Place, Variable, Expr, Constant, Text, Read, One, Two, Step}
+use Rattle.ep_typed.specs.Trees.{Place, Variable, Standard, Expr, Constant, Text, Read, One, Two, Step}
 use Rattle.ep_typed.specs.declared.operations.Unary.{Unary}
 use Rattle.ep_typed.specs.declared.operations.Unary.TheVariants as unary
 use Rattle.ep_typed.specs.declared.operations.Binary.{Binary}
 use Rattle.ep_typed.specs.declared.operations.Binary.TheVariants as binary
 use Rattle.ep_object.specs.declared.op.TheConstants as op
 use Rattle.ep_gen_expr.specs.declared.operations.TheConstants as cmp
+use Rattle.ep_gen_expr.specs.declared.standard.TheConstants as constant
+use Rattle.ep_typed.specs.declared.tree.StandardFile.{StandardFile}
+use Rattle.ep_typed.specs.declared.tree.StandardFile.TheVariants as file
 use Rattle.ep_typed.specs.declared.run_error.TheConstants as run_error
 
 -- a reference to this routine or slot of a unit
@@ -65,9 +68,19 @@ module _ (line : ℕ) where
   abbrev pub step_code : Bool → ℤ → ℤ → List Instr
   step_code down low high = count_code down ++ (push low ∷ push high ∷ bare op.STEP ∷ [])
 
+-- the number of a standard file in the unit that has them
+abbrev pub standard_number : StandardFile → ℕ
+standard_number file.Input = constant.INPUT
+standard_number file.Output = constant.OUTPUT
+
+-- the place of a standard file
+abbrev pub standard_code : ℕ → StandardFile → Instr
+standard_code line file = instr op.UNIT constant.STANDARD_UNIT (standard_number file) line
+
 -- the code of a place, whose instructions have this line
 abbrev pub IsPlaceCode : List Reference → ℕ → Place → List Instr → Type 0
 IsPlaceCode references line (Variable unit number) is = (k : ℕ) × (slice_get references k ≡ Some (reference unit number)) × (is ≡ instr op.UNIT (pos k) 0 line ∷ [])
+IsPlaceCode references line (Standard file) is = is ≡ standard_code line file ∷ []
 
 module _ (texts : List (List ℕ)) (references : List Reference) (line : ℕ) where
   -- the code of an expression, whose instructions have this line
@@ -78,16 +91,3 @@ module _ (texts : List (List ℕ)) (references : List Reference) (line : ℕ) wh
   IsExprCode (One operation x) is = (xs : List Instr) × IsExprCode x xs × (is ≡ xs ++ one_code line operation)
   IsExprCode (Two operation x y) is = (xs ys : List Instr) × IsExprCode x xs × IsExprCode y ys × (is ≡ xs ++ (ys ++ two_code line operation ∷ []))
   IsExprCode (Step down low high x n) is = (xs ns : List Instr) × IsExprCode x xs × IsExprCode n ns × (is ≡ xs ++ (ns ++ step_code line down low high))
-
--- the typed nodes of a place
-abbrev pub place_nodes : Place → ℕ
-place_nodes (Variable unit number) = 1
-
--- the typed nodes of an expression, where the value of a constant is one more
-abbrev pub expr_nodes : Expr → ℕ
-expr_nodes (Constant z) = 2
-expr_nodes (Text bytes) = 2
-expr_nodes (Read p) = 1 + place_nodes p
-expr_nodes (One operation x) = 1 + expr_nodes x
-expr_nodes (Two operation x y) = 1 + expr_nodes x + expr_nodes y
-expr_nodes (Step down low high x n) = 1 + expr_nodes x + expr_nodes n

@@ -4,13 +4,15 @@ use Rattle.ep_outside.specs.Known.{IsPrefix}
 use Rattle.ep_object.specs.declared.code.Instr.{Instr}
 use Rattle.ep_object.specs.declared.code.Reference.{Reference}
 use Rattle.ep_typed.specs.Trees.{Place, Expr}
-use Rattle.ep_gen_expr.specs.ExprCode.{IsPlaceCode, IsExprCode, place_nodes, expr_nodes}
+use Rattle.ep_gen_expr.specs.ExprCode.{IsPlaceCode, IsExprCode}
+use Rattle.ep_typed.specs.Nodes.{place_nodes, expr_nodes}
 use Rattle.ep_gen_expr.specs.declared.code.Code.{Code}
+use Rattle.ep_gen_expr.specs.declared.code.TheConstants as code
 pub use Rattle.ep_gen_expr.specs.ExprCode.{reference}
 
 -- no code yet
-abbrev pub empty_code : ℕ → Code
-empty_code line = record { instructions = []; texts = []; references = []; constant_types = []; line = line }
+abbrev pub empty_code : Code
+empty_code = record { instructions = []; texts = []; references = []; constant_types = []; line = code.NO_LINE }
 
 -- the item is none of the list
 abbrev pub IsNowhere : {A : Type 0} → List A → A → Type 0

@@ -1,10 +1,11 @@
 -- What holds of the code of every expression and place: it stays code when the tables grow, and is short.
-use Rattle.std.specs.Prelude.{ℕ, ◌*◌, ◌≤◌, List, length}
+use Rattle.std.specs.Prelude.{ℕ, ◌+◌, ◌*◌, ◌≤◌, List, length}
 use Rattle.ep_outside.specs.Known.{IsPrefix}
 use Rattle.ep_object.specs.declared.code.Instr.{Instr}
 use Rattle.ep_object.specs.declared.code.Reference.{Reference}
 use Rattle.ep_typed.specs.Trees.{Place, Expr}
-use Rattle.ep_gen_expr.specs.ExprCode.{IsPlaceCode, IsExprCode, place_nodes, expr_nodes}
+use Rattle.ep_gen_expr.specs.ExprCode.{IsPlaceCode, IsExprCode}
+use Rattle.ep_typed.specs.Nodes.{place_nodes, expr_nodes}
 
 -- the code of a place is that under larger tables too
 abbrev pub PlaceCodeStays : Type 0
@@ -14,9 +15,9 @@ PlaceCodeStays = (rs ss : List Reference) (line : ℕ) (p : Place) (is : List In
 abbrev pub ExprCodeStays : Type 0
 ExprCodeStays = (ts us : List (List ℕ)) (rs ss : List Reference) (line : ℕ) (x : Expr) (is : List Instr) → IsPrefix ts us → IsPrefix rs ss → IsExprCode ts rs line x is → IsExprCode us ss line x is
 
--- at most 32 instructions for each typed node
+-- at most 32 instructions for each typed node, and 8 fewer for each expression, which are left to what uses its value
 abbrev pub PlaceCodeIsShort : Type 0
 PlaceCodeIsShort = (rs : List Reference) (line : ℕ) (p : Place) (is : List Instr) → IsPlaceCode rs line p is → length is ≤ 32 * place_nodes p
 
 abbrev pub ExprCodeIsShort : Type 0
-ExprCodeIsShort = (ts : List (List ℕ)) (rs : List Reference) (line : ℕ) (x : Expr) (is : List Instr) → IsExprCode ts rs line x is → length is ≤ 32 * expr_nodes x
+ExprCodeIsShort = (ts : List (List ℕ)) (rs : List Reference) (line : ℕ) (x : Expr) (is : List Instr) → IsExprCode ts rs line x is → length is + 8 ≤ 32 * expr_nodes x

@@ -9,6 +9,9 @@ use ep_object::{ConstantTypes, Instr, Instrs, References, Texts};
 use ep_typed::Unit;
 use std::alloc::Global;
 
+/// The line of instructions that no statement and no declaration asks for. No error has it.
+pub const NO_LINE: Line = 0;
+
 /// The instructions so far, and the tables that their fields are places of.
 #[derive(Drop)]
 pub struct Code {
@@ -25,16 +28,16 @@ pub struct Code {
 }
 
 impl Code {
-    /// No code yet, at the line of the unit's block. It takes no memory.
-    pub fn new(alloc: Global, unit: &Unit) -> Code
-        ensures { result ≡ empty_code unit.now.line }
+    /// No code of a unit yet, at no line: nothing of the unit is needed before its parts. It takes no memory.
+    pub fn new(alloc: Global, _unit: &Unit) -> Code
+        ensures { result ≡ empty_code }
     {
         Code {
             instructions: List::new(alloc),
             texts: List::new(alloc),
             references: List::new(alloc),
             constant_types: List::new(alloc),
-            line: unit.line,
+            line: NO_LINE,
         }
     }
 }

@@ -7,6 +7,7 @@ ghost use Rattle.ep_gen_expr.specs.Growth.{AppendsPlace, AppendsExpr};
 
 use crate::code::{Code, emit};
 use crate::operations::{apply_binary, apply_step, apply_unary};
+use crate::standard::standard_code;
 use crate::tables::{reference_number, text_number};
 use ep_base::{Name, NoMemory};
 use ep_object::op;
@@ -14,11 +15,13 @@ use ep_typed::{Binary, TypedExpr, TypedPlace, Unary};
 use std::alloc::Global;
 
 /// Appends the code of a place, which leaves the place.
+#[tactic(auto, using(crate::proofs::Forms::forms))]
 pub fn place_code(alloc: Global, p: &TypedPlace, code: &mut Code) -> Result<(), NoMemory>
     ensures { OnOk result (AppendsPlace code.old code.new (place_of p.now)) }
 {
     match p {
         TypedPlace::Variable(unit, number) => variable_code(alloc, unit, *number, code),
+        TypedPlace::Standard(file) => standard_code(*file, code),
     }
 }
 

@@ -8,9 +8,11 @@ mod code;
 mod expressions;
 mod laws;
 mod operations;
+mod standard;
 mod tables;
 
-pub use code::{Code, emit};
+pub use code::{Code, NO_LINE, emit};
 pub use expressions::{expression_code, place_code};
 pub use laws::{laws_of_code, laws_of_following};
+pub use standard::standard_code;
 pub use tables::{reference_number, text_number};

@@ -18,7 +18,7 @@ use Rattle.ep_typed.specs.Printing.{number_of}
 use Rattle.ep_typed.specs.Trees.{Expr, Stmt, If, While}
 use Rattle.ep_typed.specs.Valid as kind
 use Rattle.ep_typed.specs.Valid.{Declarations, IsExpr}
-use Rattle.ep_typed.specs.declared.types.Host.TheVariants as host
+use Rattle.ep_typed.specs.Hosts as host
 use Rattle.ep_object.specs.declared.op.TheConstants as op
 
 module _ (G : Image) (ps : List Placement) (p : Placement) (references : List Reference) where

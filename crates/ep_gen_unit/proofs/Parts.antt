@@ -3,7 +3,7 @@ use Rattle.std.proofs.Common.{◌≡◌, ℕ, ℤ, ◌+◌, ◌≤◌, List, ◌
 use Rattle.ep_gen_expr.specs.ExprCode.{IsPlaceCode, IsExprCode}
 use Rattle.ep_gen_expr.proofs.Placed.{code_front, code_back}
 use Rattle.ep_object.specs.Follows.{Fragment, Inside, Bare, OnTop, PlaceOnTop}
-use Rattle.ep_object.specs.Matching.{Memory, Injection}
+use Rattle.ep_object.specs.Matching.{Memory, Injection, HasType}
 use Rattle.ep_object.specs.Operands.{Operand}
 use Rattle.ep_object.specs.Placing.{Placement, CodeStands}
 use Rattle.ep_object.specs.Runs.{unit_in}
@@ -14,9 +14,9 @@ use Rattle.ep_typed.specs.Meaning.{place, eval, weight_of}
 use Rattle.ep_typed.specs.Steps.{Computation}
 use Rattle.ep_typed.specs.Trees.{Variable, Expr}
 use Rattle.ep_typed.specs.Valid.{Declarations, Kind, IsExpr, IsTypeOf}
-use Rattle.ep_typed.specs.declared.types.Host.{Host}
-use Rattle.ep_typed.specs.declared.types.TypeValue.{TypeValue}
-use Rattle.ep_typed.specs.declared.types.TypeValue.TheVariants as type
+use Rattle.ep_typed.specs.Hosts.{Host}
+use Rattle.ep_typed.specs.declared.value.TypeValue.{TypeValue}
+use Rattle.ep_typed.specs.declared.value.TypeValue.TheVariants as type
 use Rattle.ep_typed.specs.declared.unit.UnitVariable.{UnitVariable}
 
 -- two parts of code stand one after the other
@@ -51,6 +51,6 @@ module _ (declared : Declarations) (G : Image) (ps : List Placement) (p : Placem
   -- the machine follows places
   abbrev pub PlacesFollow : Type 0
   PlacesFollow =
-      (of_unit : List ℕ) (k : ℕ) (v : UnitVariable) → declared of_unit k ≡ Some v → (line at : ℕ) (code : List Instr) → IsPlaceCode references line (Variable of_unit k) code → CodeStands G ps p references at code
+      (of_unit : List ℕ) (k : ℕ) (v : UnitVariable) (t : TypeValue) → declared.variables of_unit k ≡ Some v → HasType declared of_unit v t → (line at : ℕ) (code : List Instr) → IsPlaceCode references line (Variable of_unit k) code → CodeStands G ps p references at code
       → (injection : Injection) (memory : Memory) (below : List Operand) (d : ℕ) → 32 ≤ d → unit_in G memory.frames ≡ unit
-      → Fragment declared G n injection memory (p.instructions.before + at) below (place n unit line (Variable of_unit k)) (p.instructions.before + (at + length code)) (λ a. Inside injection memory (PlaceOnTop v.type_value below a)) d (λ a. d + 8)
+      → Fragment declared G n injection memory (p.instructions.before + at) below (place n unit line (Variable of_unit k)) (p.instructions.before + (at + length code)) (λ a. Inside injection memory (PlaceOnTop t below a)) d (λ a. d + 8)

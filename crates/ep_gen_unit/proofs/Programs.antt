@@ -1,8 +1,7 @@
 -- The machine follows a whole program.
 use Rattle.std.proofs.Common.{◌≡◌, ℕ, ◌+◌, ◌<◌, false, [], ◌∷◌, ◌++◌, length, length-append, refl, sym, ap, ◌∙◌, subst, arith}
 use Rattle.std.proofs.lemmas.Bool.{lt-ltb}
-use Rattle.ep_gen_expr.specs.ExprCode.{bare}
-use Rattle.ep_gen_unit.specs.StmtCode.{make_all_code}
+use Rattle.ep_gen_unit.specs.StmtCode.{make_all_code, return_code}
 use Rattle.ep_gen_unit.specs.UnitCode.{IsProgramCode, routine_at}
 use Rattle.ep_gen_unit.proofs.Units.{unit_simulates}
 use Rattle.ep_object.proofs.Alone.{placements_alone, stands-alone, distinct-alone}
@@ -25,7 +24,6 @@ use Rattle.ep_typed.specs.Meaning.{starts_of, meaning as meaning_of}
 use Rattle.ep_typed.specs.Steps as meaning
 use Rattle.ep_typed.specs.Valid.{IsValid, own}
 use Rattle.ep_typed.specs.declared.unit.Unit.{Unit as TypedUnit}
-use Rattle.ep_object.specs.declared.op.TheConstants as op
 
 module _ (u : TypedUnit) (o : Object) (is : IsProgramCode u o) where
   -- the frames when the start of the program begins
@@ -37,7 +35,7 @@ module _ (u : TypedUnit) (o : Object) (is : IsProgramCode u o) where
   start_state = standing 0 [] (first_memory start_frames) []
 
   not_empty : 0 < length o.instructions
-  not_empty = omega (arith, ap length is.instructions, length-append (make_all_code 0 u.variables) (is.code ++ bare u.line op.RETURN ∷ bare u.line op.RETURN ∷ []), length-append is.code (bare u.line op.RETURN ∷ bare u.line op.RETURN ∷ []))
+  not_empty = omega (arith, ap length is.instructions, length-append (make_all_code u.types 0 u.variables) (is.code ++ return_code ∷ return_code ∷ []), length-append is.code (return_code ∷ return_code ∷ []))
 
   -- a run begins with the start of the program
   pub begins : begin (alone o) ≡ Running 0 start_state

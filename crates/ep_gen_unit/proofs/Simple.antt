@@ -1,7 +1,7 @@
 -- The machine follows assignments, `halt` and the statements that have no code.
-use Rattle.std.proofs.Common.{◌≡◌, ℕ, ℤ, suc, ◌+◌, ◌≤◌, List, [], ◌∷◌, ◌++◌, length, length-append, Some, refl, ap, ◌∙◌, subst, arith}
+use Rattle.std.proofs.Common.{◌≡◌, ℕ, ℤ, suc, ◌+◌, ◌≤◌, List, [], ◌∷◌, ◌++◌, length, length-append, refl, ap, ◌∙◌, subst, arith}
 use Rattle.ep_gen_expr.specs.ExprCode.{bare, IsPlaceCode, IsExprCode}
-use Rattle.ep_gen_expr.proofs.Following.{declared_variable}
+use Rattle.ep_gen_expr.proofs.Following.{IsTyped, typed_variable}
 use Rattle.ep_gen_unit.proofs.Parts.{Moves, ExpressionsFollow, PlacesFollow, code_stands-parts, ordinal_of_host}
 use Rattle.ep_object.specs.Follows.{Fragment, Inside, Bare}
 use Rattle.ep_object.specs.Matching.{Memory, Injection, IsPlaceOf, Describes, at as standing}
@@ -24,12 +24,11 @@ use Rattle.ep_typed.specs.Meaning.{exec, assign, weight_of}
 use Rattle.ep_typed.specs.Printing.{number_of}
 use Rattle.ep_typed.specs.Steps.{assigned, is_within, type_at}
 use Rattle.ep_typed.specs.Steps as meaning
-use Rattle.ep_typed.specs.Trees.{Place, Variable, Expr, Empty, Assign, Halt}
+use Rattle.ep_typed.specs.Trees.{Place, Variable, Standard, Expr, Empty, Assign, Halt}
 use Rattle.ep_typed.specs.Valid as kind
 use Rattle.ep_typed.specs.Valid.{Declarations, IsExpr, IsPlace}
-use Rattle.ep_typed.specs.declared.types.Host.{Host}
-use Rattle.ep_typed.specs.declared.types.TypeValue.TheVariants as type
-use Rattle.ep_typed.specs.declared.unit.UnitVariable.{UnitVariable}
+use Rattle.ep_typed.specs.Hosts.{Host}
+use Rattle.ep_typed.specs.declared.value.TypeValue.TheVariants as type
 use Rattle.ep_object.specs.declared.op.TheConstants as op
 
 module _ {declared : Declarations} {G : Image} (ps : List Placement) (p : Placement) (texts : List (List ℕ)) (references : List Reference) (n : ℕ) (unit : List ℕ) where
@@ -53,21 +52,22 @@ module _ {declared : Declarations} {G : Image} (ps : List Placement) (p : Placem
 
   module _ (scene : Scene declared G ps p texts) (expressions : ExpressionsFollow declared G ps p texts references n unit) (places : PlacesFollow declared G ps p texts references n unit) where
     -- an assignment to a variable of an ordinal type
-    assign_to : (line at k : ℕ) (of_unit : List ℕ) (v : UnitVariable) (low high : ℤ) (x : Expr) (pcode xcode : List Instr) → declared of_unit k ≡ Some v → v.type_value ≡ type.Ordinal low high → IsExpr declared (kind.Ordinal v.host) x → IsPlaceCode references line (Variable of_unit k) pcode → IsExprCode texts references line x xcode
+    assign_to : (line at k : ℕ) (of_unit : List ℕ) (h : Host) (v : IsTyped declared of_unit k h) (low high : ℤ) (x : Expr) (pcode xcode : List Instr) → v.type_value ≡ type.Ordinal low high → IsExpr declared (kind.Ordinal h) x → IsPlaceCode references line (Variable of_unit k) pcode → IsExprCode texts references line x xcode
         → CodeStands G ps p references at pcode → CodeStands G ps p references (at + length pcode) xcode → CodeStands G ps p references (at + length pcode + length xcode) (bare line op.STORE ∷ []) → Moves declared G ps p texts references n unit at (at + length pcode + length xcode + 1) (exec n unit (Assign line (Variable of_unit k) x))
-    assign_to line at k of_unit v low high x pcode xcode is_declared of_type valid place_code expr_code at_place at_expr at_store injection memory below d enough home =
-        fragment_bind_place {type = v.type_value} {e = λ a. d + 8} (λ a. steady_bind (steady_eval n unit line x) (λ r. steady_assign n unit line a (number_of r))) (places of_unit k v is_declared line at pcode place_code at_place injection memory below d (omega arith) home) (λ a q longer after grown routine place_of described.
-        fragment_bind_number {host = v.host} {e = λ r. d + 8 + 8 + weight_of r} (λ r. steady_assign n unit line a (number_of r)) (expressions (kind.Ordinal v.host) x valid line (at + length pcode) xcode expr_code at_expr longer after (operand.Place q ∷ below) (d + 8) (omega arith) (unit_in-same G routine ∙ home)) (λ z last final of_host grown2 routine2.
+    assign_to line at k of_unit h v low high x pcode xcode of_type valid place_code expr_code at_place at_expr at_store injection memory below d enough home =
+        fragment_bind_place {type = v.type_value} {e = λ a. d + 8} (λ a. steady_bind (steady_eval n unit line x) (λ r. steady_assign n unit line a (number_of r))) (places of_unit k v.variable v.type_value v.is_declared v.has_type line at pcode place_code at_place injection memory below d (omega arith) home) (λ a q longer after grown routine place_of described.
+        fragment_bind_number {host = h} {e = λ r. d + 8 + 8 + weight_of r} (λ r. steady_assign n unit line a (number_of r)) (expressions (kind.Ordinal h) x valid line (at + length pcode) xcode expr_code at_expr longer after (operand.Place q ∷ below) (d + 8) (omega arith) (unit_in-same G routine ∙ home)) (λ z last final of_host grown2 routine2.
         fragment_to {to = p.instructions.before + (at + length pcode + length xcode) + 1} (omega arith) (fragment_credit {d = d + 8 + 8 + 0} {e = λ b. d + 8 + 8 + 0} (omega arith) (λ b. omega arith) (
         store_moves low high z a q line (at + length pcode + length xcode) at_store last final below (d + 8 + 8 + 0) (omega arith) (unit_in-same G routine2 ∙ (unit_in-same G routine ∙ home)) (is_place_of-grown grown2 place_of)
         (describes-grown q.type_number (type.Ordinal low high) grown2 (subst (λ t. Describes after.types q.type_number t) of_type described))))))
 
     pub assign_moves : (line at : ℕ) (q : Place) (h : Host) (x : Expr) (pcode xcode : List Instr) → IsPlace declared h q → IsExpr declared (kind.Ordinal h) x → IsPlaceCode references line q pcode → IsExprCode texts references line x xcode → CodeStands G ps p references at (pcode ++ (xcode ++ bare line op.STORE ∷ [])) → Moves declared G ps p texts references n unit at (at + length (pcode ++ (xcode ++ bare line op.STORE ∷ []))) (exec n unit (Assign line q x))
+    assign_moves line at (Standard file) h x pcode xcode is_place valid place_code expr_code stands = absurd is_place
     assign_moves line at (Variable of_unit k) h x pcode xcode is_place valid place_code expr_code stands =
-        let v = declared_variable h (declared of_unit k) is_place in
-        let t = ordinal_of_host v.0.host v.0.type_value (scene.types_valid of_unit k v.0 v.1) in
+        let v = typed_variable declared scene.types_valid h of_unit k is_place in
+        let t = ordinal_of_host h v.type_value v.of_host in
         let first = code_stands-parts G ps p references at pcode (xcode ++ bare line op.STORE ∷ []) stands in
         let second = code_stands-parts G ps p references (at + length pcode) xcode (bare line op.STORE ∷ []) first.1 in
         let ends : at + length pcode + length xcode + 1 ≡ at + length (pcode ++ (xcode ++ bare line op.STORE ∷ [])) = omega (arith, length-append pcode (xcode ++ bare line op.STORE ∷ []), length-append xcode (bare line op.STORE ∷ [])) in
         λ injection memory below d enough home. fragment_to (ap (λ k. p.instructions.before + k) ends)
-        (assign_to line at k of_unit v.0 t.0 t.1 x pcode xcode v.1 t.2 (subst (λ g. IsExpr declared (kind.Ordinal g) x) v.2 valid) place_code expr_code first.0 second.0 second.1 injection memory below d enough home)
+        (assign_to line at k of_unit h v t.0 t.1 x pcode xcode t.2 valid place_code expr_code first.0 second.0 second.1 injection memory below d enough home)

@@ -3,13 +3,13 @@ use Rattle.std.proofs.Common.{◌≡◌, ℕ, ◌+◌, ◌*◌, ◌≤◌, Bool,
 use Rattle.ep_outside.specs.Known.{IsPrefix}
 use Rattle.ep_object.specs.declared.code.Instr.{Instr}
 use Rattle.ep_object.specs.declared.code.Reference.{Reference}
-use Rattle.ep_typed.specs.Trees.{Place, Variable, Item, Plain, Wide, Stmt, Stmts, Empty, Compound, Assign, If, While, Halt, Write, none, next}
+use Rattle.ep_typed.specs.Trees.{Place, Variable, Standard, Item, Plain, Wide, Stmt, Stmts, Empty, Compound, Assign, If, While, Halt, Write, none, next}
 use Rattle.ep_typed.specs.declared.operations.Print.{Print}
 use Rattle.ep_typed.specs.declared.operations.Print.TheVariants as print
-use Rattle.ep_gen_expr.specs.ExprCode.{bare, place_nodes, expr_nodes}
+use Rattle.ep_gen_expr.specs.ExprCode.{bare}
 use Rattle.ep_gen_expr.proofs.Stays.{place_code_stays, expr_code_stays, place_code_short, expr_code_short}
 use Rattle.ep_gen_unit.specs.StmtCode.{IsItemCode, AreItemsCode, IsStmtCode, AreStmtsCode, plain_code, before_width, wide_code}
-use Rattle.ep_gen_unit.specs.StmtGrowth.{item_nodes, items_nodes, stmt_nodes, stmts_nodes}
+use Rattle.ep_typed.specs.Nodes.{place_nodes, expr_nodes, item_nodes, items_nodes, stmt_nodes, stmts_nodes}
 use Rattle.ep_object.specs.declared.op.TheConstants as op
 
 module _ (ts us : List (List ℕ)) (rs ss : List Reference) (a : IsPrefix ts us) (b : IsPrefix rs ss) where
@@ -49,14 +49,15 @@ before_short line print.Char = omega arith
 before_short line print.Boolean = omega arith
 before_short line print.Text = omega arith
 
-if_short : (xs ys zs : List Instr) (i j : Instr) (is : List Instr) → is ≡ xs ++ i ∷ (ys ++ j ∷ zs) → (k m n : ℕ) → length xs ≤ 32 * k → length ys ≤ 32 * m → length zs ≤ 32 * n → length is ≤ 32 * (1 + k + m + n)
+if_short : (xs ys zs : List Instr) (i j : Instr) (is : List Instr) → is ≡ xs ++ i ∷ (ys ++ j ∷ zs) → (k m n : ℕ) → length xs + 8 ≤ 32 * k → length ys ≤ 32 * m → length zs ≤ 32 * n → length is ≤ 32 * (1 + k + m + n)
 if_short xs ys zs i j is e k m n p q r = omega (arith, ap length e, length-append xs (i ∷ (ys ++ j ∷ zs)), length-append ys (j ∷ zs), p, q, r)
 
-while_short : (xs ys : List Instr) (i j : Instr) (is : List Instr) → is ≡ xs ++ i ∷ (ys ++ j ∷ []) → (k m : ℕ) → length xs ≤ 32 * k → length ys ≤ 32 * m → length is ≤ 32 * (1 + k + m)
+while_short : (xs ys : List Instr) (i j : Instr) (is : List Instr) → is ≡ xs ++ i ∷ (ys ++ j ∷ []) → (k m : ℕ) → length xs + 8 ≤ 32 * k → length ys ≤ 32 * m → length is ≤ 32 * (1 + k + m)
 while_short xs ys i j is e k m p q = omega (arith, ap length e, length-append xs (i ∷ (ys ++ j ∷ [])), length-append ys (j ∷ []), p, q)
 
 place_one : (p : Place) → place_nodes p ≡ 1
 place_one (Variable unit number) = refl
+place_one (Standard file) = refl
 
 module _ (ts : List (List ℕ)) (rs : List Reference) where
   item_code_short : (line : ℕ) (i : Item) (is : List Instr) → IsItemCode ts rs line i is → length is ≤ 32 * item_nodes i

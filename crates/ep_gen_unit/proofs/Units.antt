@@ -1,13 +1,13 @@
 -- The routines of a unit whose object stands in an image simulate the start and the stop of the unit.
 use Rattle.std.proofs.Common.{◌≡◌, ℕ, ◌+◌, ◌≤◌, ◌<◌, List, [], ◌∷◌, ◌++◌, length, length-append, Some, slice_get, refl, sym, ap, ◌∙◌, subst, arith}
+use Rattle.std.specs.Prelude.{All}
 use Rattle.std.proofs.lemmas.Bool.{lt-ltb}
 use Rattle.std.proofs.lemmas.Option.{slice_get_within, same_Some}
-use Rattle.ep_gen_expr.specs.ExprCode.{bare}
 use Rattle.ep_gen_expr.proofs.Following.{place_follows, expression_follows}
-use Rattle.ep_gen_unit.specs.StmtCode.{make_all_code}
+use Rattle.ep_gen_unit.specs.StmtCode.{make_all_code, return_code}
 use Rattle.ep_gen_unit.specs.UnitCode.{IsProgramCode, routine_at}
 use Rattle.ep_gen_unit.specs.UnitLaws.{AreDeclared, idle_stop}
-use Rattle.ep_gen_unit.proofs.Declared.{own_is, own_declared, integer_bounds, variables_valid}
+use Rattle.ep_gen_unit.proofs.Declared.{own_is, own_declared, own_types, own_valid}
 use Rattle.ep_gen_unit.proofs.Makes.{make_all_moves}
 use Rattle.ep_gen_unit.proofs.Parts.{code_stands-parts}
 use Rattle.ep_gen_unit.proofs.Starts.{MakesFollow, body_follows}
@@ -29,11 +29,10 @@ use Rattle.ep_object.specs.declared.code.Object.{Object}
 use Rattle.ep_typed.specs.Meaning.{make_all, exec, start_of}
 use Rattle.ep_typed.specs.Steps.{Computation, bind, give}
 use Rattle.ep_typed.specs.Steps as meaning
-use Rattle.ep_typed.specs.Valid.{Declarations, AreVariables, IsStmt, IsValid, own}
+use Rattle.ep_typed.specs.Valid.{Declarations, IsVariable, IsStmt, IsValid, own}
 use Rattle.ep_typed.specs.Viewed.{stmt_of}
 use Rattle.ep_typed.specs.declared.unit.UnitVariable.{UnitVariable}
 use Rattle.ep_typed.specs.declared.unit.Unit.{Unit as TypedUnit}
-use Rattle.ep_object.specs.declared.op.TheConstants as op
 
 -- a number of an object's own stands behind what comes before
 moved_own : (span : Span) (n : ℕ) → n < span.own → moved span n ≡ span.before + n
@@ -42,7 +41,7 @@ moved_own span n h = rw (lt-ltb n span.own h) refl
 module _ (u : TypedUnit) (o : Object) (is : IsProgramCode u o) (G : Image) (ps : List Placement) (p : Placement) (stands : Stands G ps p o) where
   -- the instructions behind the making of the variables
   abbrev begins_block : ℕ
-  begins_block = length (make_all_code 0 u.variables)
+  begins_block = length (make_all_code u.types 0 u.variables)
 
   -- the place of the `Return` of the start, in the object
   abbrev ends_block : ℕ
@@ -54,24 +53,24 @@ module _ (u : TypedUnit) (o : Object) (is : IsProgramCode u o) (G : Image) (ps :
   instructions_own : p.instructions.own ≡ ends_block + 2
   instructions_own =
       let whole = of_object in
-      omega (arith, whole.instructions, ap length is.instructions, length-append (make_all_code 0 u.variables) (is.code ++ bare u.line op.RETURN ∷ bare u.line op.RETURN ∷ []), length-append is.code (bare u.line op.RETURN ∷ bare u.line op.RETURN ∷ []))
+      omega (arith, whole.instructions, ap length is.instructions, length-append (make_all_code u.types 0 u.variables) (is.code ++ return_code ∷ return_code ∷ []), length-append is.code (return_code ∷ return_code ∷ []))
 
-  all_stands : CodeStands G ps p o.references 0 (make_all_code 0 u.variables ++ (is.code ++ bare u.line op.RETURN ∷ bare u.line op.RETURN ∷ []))
+  all_stands : CodeStands G ps p o.references 0 (make_all_code u.types 0 u.variables ++ (is.code ++ return_code ∷ return_code ∷ []))
   all_stands = subst (λ k. CodeStands G ps p o.references 0 k) is.instructions stands.code
 
-  makes_stand : CodeStands G ps p o.references 0 (make_all_code 0 u.variables)
-  makes_stand = let parts = code_stands-parts G ps p o.references 0 (make_all_code 0 u.variables) (is.code ++ bare u.line op.RETURN ∷ bare u.line op.RETURN ∷ []) all_stands in parts.0
+  makes_stand : CodeStands G ps p o.references 0 (make_all_code u.types 0 u.variables)
+  makes_stand = let parts = code_stands-parts G ps p o.references 0 (make_all_code u.types 0 u.variables) (is.code ++ return_code ∷ return_code ∷ []) all_stands in parts.0
 
   -- the two `Return`s stand behind the block
-  returns_stand : CodeStands G ps p o.references ends_block (bare u.line op.RETURN ∷ bare u.line op.RETURN ∷ [])
+  returns_stand : CodeStands G ps p o.references ends_block (return_code ∷ return_code ∷ [])
   returns_stand =
-      let parts = code_stands-parts G ps p o.references 0 (make_all_code 0 u.variables) (is.code ++ bare u.line op.RETURN ∷ bare u.line op.RETURN ∷ []) all_stands in
-      let block = code_stands-parts G ps p o.references (0 + begins_block) is.code (bare u.line op.RETURN ∷ bare u.line op.RETURN ∷ []) parts.1 in
-      subst (λ k. CodeStands G ps p o.references k (bare u.line op.RETURN ∷ bare u.line op.RETURN ∷ [])) {x = 0 + begins_block + length is.code} {y = ends_block} (omega arith) block.1
+      let parts = code_stands-parts G ps p o.references 0 (make_all_code u.types 0 u.variables) (is.code ++ return_code ∷ return_code ∷ []) all_stands in
+      let block = code_stands-parts G ps p o.references (0 + begins_block) is.code (return_code ∷ return_code ∷ []) parts.1 in
+      subst (λ k. CodeStands G ps p o.references k (return_code ∷ return_code ∷ [])) {x = 0 + begins_block + length is.code} {y = ends_block} (omega arith) block.1
 
   room : p.instructions.before + p.instructions.own ≤ length G.instructions
   room =
-      let within = slice_get_within G.instructions (p.instructions.before + (ends_block + 1)) (bare u.line op.RETURN) returns_stand.1.0 in
+      let within = slice_get_within G.instructions (p.instructions.before + (ends_block + 1)) (return_code) returns_stand.1.0 in
       omega (arith, instructions_own, within)
 
   -- a routine of the object is one of the image
@@ -112,20 +111,19 @@ module _ (u : TypedUnit) (o : Object) (is : IsProgramCode u o) (G : Image) (ps :
         follows = λ m le injection memory below s k enters.
             follows_from (at_entry o.stop (routine_at (ends_block + 1)) stop_is (omega (arith, instructions_own)) enters) (follows_give tt (omega arith) (record {
               place = p.instructions.before + (ends_block + 1);
-              instruction = bare u.line op.RETURN;
+              instruction = return_code;
               stands = returns_stand.1.0;
               returns = refl;
               lands = record { injection = injection; memory = memory; operands = below; is = refl; matches = enters.matches; post = inside_here refl };
             }));
       }
 
-  module _ (declared : Declarations) (variables : AreVariables u.variables) (are_declared : AreDeclared declared u.name 0 u.variables) (valid : IsStmt declared (stmt_of u.start)) (distinct : HasDistinctNames G) (scene : Scene declared G ps p o.texts) (n : ℕ) where
+  module _ (declared : Declarations) (types : declared.types u.name ≡ u.types) (are_declared : AreDeclared declared u.name 0 u.variables) (valid : IsStmt declared (stmt_of u.start)) (distinct : HasDistinctNames G) (scene : Scene declared G ps p o.texts) (n : ℕ) where
     -- the machine makes the variables of the unit
     makes : MakesFollow declared G p n u
     makes injection memory below d enough home framed =
         let there : slice_get G.units memory.frames.unit ≡ Some (placed_object_unit p o) = ap (slice_get G.units) framed ∙ stands.unit in
-        fragment_to {to = p.instructions.before + (0 + begins_block)} (omega arith) (make_all_moves declared G ps p o.references n (placed_object_unit p o) distinct scene.types_valid u.name is.name n 0 0 u.variables are_declared
-        (λ i v h. integer_bounds v.host v.type_value (variables_valid u.variables i v variables h)) (omega (arith, is.unit_slots)) makes_stand injection memory below d enough there)
+        fragment_to {to = p.instructions.before + (0 + begins_block)} (omega arith) (make_all_moves declared G ps p o.references n (placed_object_unit p o) distinct scene.types_valid u.name is.name u.types types n 0 0 u.variables are_declared (omega (arith, is.unit_slots)) makes_stand injection memory below d enough there)
 
     -- the start makes the variables and runs the block
     pub start_simulates : Simulates declared G p.unit (moved p.routines o.start) n (start_of n u) Bare
@@ -134,20 +132,20 @@ module _ (u : TypedUnit) (o : Object) (is : IsProgramCode u o) (G : Image) (ps :
           image_routine = placed_routine p (routine_at 0);
           there = routine_there o.start (routine_at 0) start_is;
           of_unit = refl;
-          body = bind (make_all n u.name 0 u.variables) (λ a. exec n u.name (stmt_of u.start));
+          body = bind (make_all n u.name u.types 0 u.variables) (λ a. exec n u.name (stmt_of u.start));
           called = refl;
           follows = λ m le injection memory below s k enters.
               let whole = of_object in
               let body = body_follows ps p n u o is stands.code room whole.instructions scene
               (λ x_kind x is_x line at code is_code x_stands v1 m1 operands d enough x_home. expression_follows ps p o.texts o.references scene n u.name n x_kind x is_x line at code is_code x_stands v1 m1 operands d (omega arith) x_home)
-              (λ of_unit slot v is_declared line at code is_code x_stands v1 m1 operands d enough x_home. place_follows ps p o.texts o.references scene n u.name n of_unit slot v is_declared line at code is_code x_stands v1 m1 operands d (omega arith) x_home)
+              (λ of_unit slot v t is_declared has_type line at code is_code x_stands v1 m1 operands d enough x_home. place_follows ps p o.texts o.references scene n u.name n of_unit slot v t is_declared has_type line at code is_code x_stands v1 m1 operands d (omega arith) x_home)
               valid makes injection memory below routine_credit (omega arith) (home o.start (routine_at 0) start_is memory.frames enters.runs) enters.in_unit in
               follows_from (at_entry o.start (routine_at 0) start_is (omega (arith, instructions_own)) enters)
-              (follows_less {n = n} (omega arith) (follows_post (λ a t l lands. record { place = p.instructions.before + ends_block; instruction = bare u.line op.RETURN; stands = returns_stand.0; returns = refl; lands = lands }) (body.by s enters.matches)));
+              (follows_less {n = n} (omega arith) (follows_post (λ a t l lands. record { place = p.instructions.before + ends_block; instruction = return_code; stands = returns_stand.0; returns = refl; lands = lands }) (body.by s enters.matches)));
         }
 
   -- the variables of the unit have their slots
-  variable_stands : (unit : List ℕ) (k : ℕ) (v : UnitVariable) → own u unit k ≡ Some v → VariableStands G ps unit k
+  variable_stands : (unit : List ℕ) (k : ℕ) (v : UnitVariable) → (own u).variables unit k ≡ Some v → VariableStands G ps unit k
   variable_stands unit k v h =
       let w = own_is u unit k v h in
       let whole = of_object in
@@ -163,14 +161,14 @@ module _ (u : TypedUnit) (o : Object) (is : IsProgramCode u o) (G : Image) (ps :
       }
 
   -- what the code of the unit needs of the image is there
-  scene_of : AreVariables u.variables → Scene (own u) G ps p o.texts
+  scene_of : All (IsVariable u.types) u.variables → Scene (own u) G ps p o.texts
   scene_of variables =
       let whole = of_object in
       record {
         texts_stand = λ k bytes h. let within = slice_get_within o.texts k bytes h in record { own = lt-ltb k p.texts.own (omega (arith, whole.texts, within)); there = stands.texts k bytes h };
         variables_stand = variable_stands;
-        types_valid = λ unit k v h. let w = own_is u unit k v h in variables_valid u.variables k v variables w.1;
+        types_valid = own_valid u variables;
       }
 
   pub unit_simulates : IsValid u → HasDistinctNames G → (n : ℕ) → Simulates (own u) G p.unit (moved p.routines o.start) n (start_of n u) Bare
-  unit_simulates valid distinct n = start_simulates (own u) valid.variables (own_declared u) valid.start distinct (scene_of valid.variables) n
+  unit_simulates valid distinct n = start_simulates (own u) (own_types u) (own_declared u) valid.start distinct (scene_of valid.variables) n

@@ -28,10 +28,11 @@ use Rattle.ep_typed.specs.Steps.{Computation, bind}
 use Rattle.ep_typed.specs.Steps as meaning
 use Rattle.ep_typed.specs.Trees.{Expr, Item, Plain, Wide, Write}
 use Rattle.ep_typed.specs.Valid as kind
-use Rattle.ep_typed.specs.Valid.{Declarations, IsExpr, IsItem, AreItems, WritesSomething, is_of_host}
+use Rattle.ep_typed.specs.Valid.{Declarations, IsExpr, IsItem, AreItems, WritesSomething}
+use Rattle.ep_typed.specs.Hosts.{is_of_host}
 use Rattle.ep_typed.specs.declared.operations.Print.{Print}
 use Rattle.ep_typed.specs.declared.operations.Print.TheVariants as print
-use Rattle.ep_typed.specs.declared.types.Host.TheVariants as host
+use Rattle.ep_typed.specs.Hosts as host
 use Rattle.ep_object.specs.declared.op.TheConstants as op
 
 -- the operands while an item is written: `output` below them

@@ -2,7 +2,7 @@
 use Rattle.std.specs.Prelude.{ℕ, ◌*◌, ◌≤◌, List, length}
 use Rattle.ep_outside.specs.Known.{IsPrefix}
 use Rattle.ep_gen_unit.specs.StmtCode.{IsStmtCode}
-use Rattle.ep_gen_unit.specs.StmtGrowth.{stmt_nodes}
+use Rattle.ep_typed.specs.Nodes.{stmt_nodes}
 use Rattle.ep_object.specs.declared.code.Instr.{Instr}
 use Rattle.ep_object.specs.declared.code.Reference.{Reference}
 use Rattle.ep_typed.specs.Trees.{Stmt}

@@ -1,14 +1,19 @@
 -- Which instructions are the code of a statement, under given tables of texts and references. Jumps name places of
 -- the object, so the code of a statement depends on where it begins.
-use Rattle.std.specs.Prelude.{◌≡◌, ℕ, pos, suc, ◌+◌, Bool, true, false, List, [], ◌∷◌, ◌++◌, length}
-use Rattle.ep_gen_expr.specs.ExprCode.{instr, bare, push, IsPlaceCode, IsExprCode}
+use Rattle.std.specs.Prelude.{◌≡◌, ℕ, pos, suc, ◌+◌, Bool, true, false, List, [], ◌∷◌, ◌++◌, length, Option, Some, None}
+use Rattle.ep_typed.specs.Denoters.{type_of}
+use Rattle.ep_gen_expr.specs.ExprCode.{instr, bare, push, standard_code, IsPlaceCode, IsExprCode}
+use Rattle.ep_gen_expr.specs.declared.code.TheConstants as code
 use Rattle.ep_object.specs.declared.code.Instr.{Instr}
 use Rattle.ep_object.specs.declared.code.Reference.{Reference}
 use Rattle.ep_typed.specs.Trees.{Item, Plain, Wide, Stmt, Stmts, Empty, Compound, Assign, If, While, Halt, Write, none, next}
+use Rattle.ep_typed.specs.Viewed.{denoter_of}
 use Rattle.ep_typed.specs.declared.operations.Print.{Print}
 use Rattle.ep_typed.specs.declared.operations.Print.TheVariants as print
-use Rattle.ep_typed.specs.declared.types.TypeValue.{TypeValue}
-use Rattle.ep_typed.specs.declared.types.TypeValue.TheVariants.{Ordinal, Text}
+use Rattle.ep_typed.specs.declared.value.TypeValue.{TypeValue}
+use Rattle.ep_typed.specs.declared.value.TypeValue.TheVariants.{Ordinal, Text}
+use Rattle.ep_typed.specs.declared.tree.StandardFile.TheVariants as file
+use Rattle.ep_typed.specs.declared.unit.UnitType.{UnitType}
 use Rattle.ep_typed.specs.declared.unit.UnitVariable.{UnitVariable}
 use Rattle.ep_object.specs.declared.op.TheConstants as op
 use Rattle.ep_gen_unit.specs.declared.items.TheConstants as constant
@@ -16,7 +21,7 @@ use Rattle.ep_gen_unit.specs.declared.items.TheConstants as constant
 module _ (line : ℕ) where
   -- the place of `output`
   abbrev pub output_code : Instr
-  output_code = instr op.UNIT constant.STANDARD_UNIT constant.OUTPUT line
+  output_code = standard_code line file.Output
 
   -- after a value: the text that is written of it
   abbrev pub plain_code : Print → List Instr
@@ -81,11 +86,20 @@ abbrev pub type_code : ℕ → TypeValue → List Instr
 type_code line (Ordinal low high) = push line low ∷ push line high ∷ bare line op.T_ORD ∷ []
 type_code line Text = []
 
--- the code that makes a variable in a slot
-abbrev pub make_code : ℕ → UnitVariable → List Instr
-make_code number v = type_code v.line v.type_value ++ instr op.MAKE (pos number) 0 v.line ∷ []
+-- the code that elaborates a denoter of this type value; one without a type value has no meaning and no code
+abbrev pub elaborating_code : ℕ → Option TypeValue → List Instr
+elaborating_code line None = []
+elaborating_code line (Some t) = type_code line t
+
+-- the code that makes a variable of a unit with these types, in a slot
+abbrev pub make_code : List UnitType → ℕ → UnitVariable → List Instr
+make_code types number v = elaborating_code v.line (type_of types (denoter_of v.denoter)) ++ instr op.MAKE (pos number) 0 v.line ∷ []
 
 -- the code that makes the variables from this number on
-abbrev pub make_all_code : ℕ → List UnitVariable → List Instr
-make_all_code number [] = []
-make_all_code number (v ∷ vs) = make_code number v ++ make_all_code (suc number) vs
+abbrev pub make_all_code : List UnitType → ℕ → List UnitVariable → List Instr
+make_all_code types number [] = []
+make_all_code types number (v ∷ vs) = make_code types number v ++ make_all_code types (suc number) vs
+
+-- the end of a routine, which no statement asks for
+abbrev pub return_code : Instr
+return_code = bare code.NO_LINE op.RETURN

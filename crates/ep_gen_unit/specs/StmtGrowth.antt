@@ -1,16 +1,16 @@
 -- How code under construction grows by statements, whose lines differ, and how forward jumps get their goals.
 use Rattle.std.specs.Prelude.{◌≡◌, ℕ, pos, ◌+◌, ◌*◌, ◌^◌, ◌-◌, ◌<◌, ◌≤◌, Bool, false, List, [], ◌∷◌, ◌++◌, length, slice_set}
-use Rattle.ep_gen_expr.specs.ExprCode.{instr, bare, expr_nodes}
+use Rattle.ep_gen_expr.specs.ExprCode.{instr}
 use Rattle.ep_gen_expr.specs.Growth.{TableGrows, Grows, IsTable, AreDistinct}
 use Rattle.ep_gen_expr.specs.declared.code.Code.{Code}
-use Rattle.ep_gen_unit.specs.StmtCode.{IsItemCode, AreItemsCode, IsStmtCode, AreStmtsCode, make_all_code}
+use Rattle.ep_gen_unit.specs.StmtCode.{IsItemCode, AreItemsCode, IsStmtCode, AreStmtsCode, make_all_code, return_code}
 use Rattle.ep_object.specs.declared.code.CodeRoutine.{CodeRoutine}
 use Rattle.ep_object.specs.declared.code.Instr.{Instr}
 use Rattle.ep_object.specs.declared.code.Object.{Object}
+use Rattle.ep_typed.specs.Nodes.{stmt_nodes}
 use Rattle.ep_typed.specs.Viewed.{stmt_of}
 use Rattle.ep_typed.specs.declared.unit.Unit.{Unit as TypedUnit}
-use Rattle.ep_typed.specs.Trees.{Item, Plain, Wide, Stmt, Stmts, Empty, Compound, Assign, If, While, Halt, Write, none, next}
-use Rattle.ep_object.specs.declared.op.TheConstants as op
+use Rattle.ep_typed.specs.Trees.{Item, Stmt, Stmts}
 
 -- these instructions are appended, the line is any, and all else is as before but for new items of the two tables
 pub record Follows (old new : Code) (is : List Instr) : Type 0 where
@@ -33,30 +33,6 @@ pub record LeavesHole (old new : Code) (k : ℕ) : Type 0 where
 -- in place of the filler stands a jump to the place after the code, and all else is as before
 abbrev pub landed : Code → ℕ → ℕ → ℕ → Code
 landed code hole jump line = record code { instructions = slice_set code.instructions hole (instr jump (pos (length code.instructions)) 0 line) }
-
--- the nodes of an item, and one for what writes it
-abbrev pub item_nodes : Item → ℕ
-item_nodes (Plain print x) = 1 + expr_nodes x
-item_nodes (Wide print x w) = 1 + expr_nodes x + expr_nodes w
-
-abbrev pub items_nodes : List Item → ℕ
-items_nodes [] = 0
-items_nodes (i ∷ items) = item_nodes i + items_nodes items
-
--- the nodes of a statement: one for itself, and those of its parts
-abbrev mutual
-  pub stmt_nodes : Stmt → ℕ
-  stmt_nodes Empty = 1
-  stmt_nodes (Compound ss) = 1 + stmts_nodes ss
-  stmt_nodes (Assign line p x) = 2 + expr_nodes x
-  stmt_nodes (If line x a b) = 1 + expr_nodes x + stmt_nodes a + stmt_nodes b
-  stmt_nodes (While line x s) = 1 + expr_nodes x + stmt_nodes s
-  stmt_nodes (Halt line) = 1
-  stmt_nodes (Write line items ends_line) = 1 + items_nodes items
-
-  pub stmts_nodes : Stmts → ℕ
-  stmts_nodes none = 0
-  stmts_nodes (next s ss) = stmt_nodes s + stmts_nodes ss
 
 -- the code that writes the item is appended
 pub record AppendsItem (old new : Code) (i : Item) : Type 0 where
@@ -88,9 +64,9 @@ pub record AppendsStmts (old new : Code) (ss : Stmts) : Type 0 where
 pub record AppendsRoutines (old new : Code) (u : TypedUnit) (stop_entry : ℕ) : Type 0 where
   -- the code of the block
   pub code : List Instr
-  pub is_code : IsStmtCode new.texts new.references (length old.instructions + length (make_all_code 0 u.variables)) (stmt_of u.start) code
-  pub follows : Follows old new (make_all_code 0 u.variables ++ (code ++ bare u.line op.RETURN ∷ bare u.line op.RETURN ∷ []))
-  pub stops : stop_entry ≡ length old.instructions + length (make_all_code 0 u.variables) + length code + 1
+  pub is_code : IsStmtCode new.texts new.references (length old.instructions + length (make_all_code u.types 0 u.variables)) (stmt_of u.start) code
+  pub follows : Follows old new (make_all_code u.types 0 u.variables ++ (code ++ return_code ∷ return_code ∷ []))
+  pub stops : stop_entry ≡ length old.instructions + length (make_all_code u.types 0 u.variables) + length code + 1
   pub small : IsTable new.instructions
 
 -- the tables and the code of an object have places that a field of 32 bits holds, and each text and reference is there once

@@ -1,13 +1,11 @@
 -- Which object is the code of a program: its start makes the variables and runs the block, and its stop does nothing.
 use Rattle.std.specs.Prelude.{◌≡◌, ℕ, ◌+◌, false, List, [], ◌∷◌, ◌++◌, length}
-use Rattle.ep_gen_expr.specs.ExprCode.{bare}
-use Rattle.ep_gen_unit.specs.StmtCode.{IsStmtCode, make_all_code}
+use Rattle.ep_gen_unit.specs.StmtCode.{IsStmtCode, make_all_code, return_code}
 use Rattle.ep_object.specs.declared.code.CodeRoutine.{CodeRoutine}
 use Rattle.ep_object.specs.declared.code.Instr.{Instr}
 use Rattle.ep_object.specs.declared.code.Object.{Object}
 use Rattle.ep_typed.specs.Viewed.{stmt_of}
 use Rattle.ep_typed.specs.declared.unit.Unit.{Unit as TypedUnit}
-use Rattle.ep_object.specs.declared.op.TheConstants as op
 
 -- a routine without arguments and slots of its own
 abbrev pub routine_at : ℕ → CodeRoutine
@@ -17,9 +15,9 @@ routine_at entry = record { entry = entry; arguments = 0; slots = 0 }
 pub record IsProgramCode (u : TypedUnit) (o : Object) : Type 0 where
   -- the code of the block
   pub code : List Instr
-  pub is_code : IsStmtCode o.texts o.references (length (make_all_code 0 u.variables)) (stmt_of u.start) code
-  pub instructions : o.instructions ≡ make_all_code 0 u.variables ++ (code ++ bare u.line op.RETURN ∷ bare u.line op.RETURN ∷ [])
-  pub routines : o.routines ≡ routine_at 0 ∷ routine_at (length (make_all_code 0 u.variables) + length code + 1) ∷ []
+  pub is_code : IsStmtCode o.texts o.references (length (make_all_code u.types 0 u.variables)) (stmt_of u.start) code
+  pub instructions : o.instructions ≡ make_all_code u.types 0 u.variables ++ (code ++ return_code ∷ return_code ∷ [])
+  pub routines : o.routines ≡ routine_at 0 ∷ routine_at (length (make_all_code u.types 0 u.variables) + length code + 1) ∷ []
   pub start : o.start ≡ 0
   pub stop : o.stop ≡ 1
   pub unit_slots : o.unit_slots ≡ length u.variables

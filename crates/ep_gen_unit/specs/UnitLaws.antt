@@ -9,14 +9,14 @@ use Rattle.ep_object.specs.declared.code.Image.{Image}
 use Rattle.ep_object.specs.declared.code.Object.{Object}
 use Rattle.ep_typed.specs.Meaning.{start_of}
 use Rattle.ep_typed.specs.Steps.{Computation, give, spend}
-use Rattle.ep_typed.specs.Valid.{Declarations, AreVariables, IsStmt, IsValid, own}
+use Rattle.ep_typed.specs.Valid.{Declarations, IsStmt, IsValid, own}
 use Rattle.ep_typed.specs.Viewed.{stmt_of}
 use Rattle.ep_typed.specs.declared.unit.UnitVariable.{UnitVariable}
 use Rattle.ep_typed.specs.declared.unit.Unit.{Unit as TypedUnit}
 
 -- these variables of a unit are declared, from this number on
 abbrev pub AreDeclared : Declarations → List ℕ → ℕ → List UnitVariable → Type 0
-AreDeclared declared unit number vs = (i : ℕ) (v : UnitVariable) → slice_get vs i ≡ Some v → declared unit (number + i) ≡ Some v
+AreDeclared declared unit number vs = (i : ℕ) (v : UnitVariable) → slice_get vs i ≡ Some v → declared.variables unit (number + i) ≡ Some v
 
 -- a stop that does nothing spends the step of its call
 abbrev pub idle_stop : Computation (Unit {0})
@@ -28,10 +28,10 @@ StartsAreSimulated =
     (u : TypedUnit) (o : Object) → IsProgramCode u o → IsValid u → (G : Image) (ps : List Placement) (p : Placement) → Stands G ps p o → HasDistinctNames G
     → (n : ℕ) → Simulates (own u) G p.unit (moved p.routines o.start) n (start_of n u) Bare
 
--- The same under any declarations that have the variables of the unit, where all that is declared stands in the image and the block is valid under them.
+-- The same under any declarations that have the types and the variables of the unit, where all that is declared stands in the image and the block is valid under them.
 abbrev pub StartsAreSimulatedUnder : Type 0
 StartsAreSimulatedUnder =
-    (declared : Declarations) (u : TypedUnit) (o : Object) → IsProgramCode u o → AreVariables u.variables → AreDeclared declared u.name 0 u.variables → IsStmt declared (stmt_of u.start)
+    (declared : Declarations) (u : TypedUnit) (o : Object) → IsProgramCode u o → declared.types u.name ≡ u.types → AreDeclared declared u.name 0 u.variables → IsStmt declared (stmt_of u.start)
     → (G : Image) (ps : List Placement) (p : Placement) → Stands G ps p o → HasDistinctNames G → Scene declared G ps p o.texts
     → (n : ℕ) → Simulates declared G p.unit (moved p.routines o.start) n (start_of n u) Bare
 

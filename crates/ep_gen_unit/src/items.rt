@@ -9,16 +9,10 @@ ghost use Rattle.ep_gen_unit.specs.StmtCode.{output_code, plain_code, before_wid
 ghost use Rattle.ep_gen_unit.specs.StmtGrowth.{AppendsItem, AppendsItems};
 
 use ep_base::NoMemory;
-use ep_gen_expr::{Code, emit, expression_code};
+use ep_gen_expr::{Code, emit, expression_code, standard_code};
 use ep_object::op;
-use ep_typed::{Print, TypedExpr, WriteItem};
+use ep_typed::{Print, StandardFile, TypedExpr, WriteItem};
 use std::alloc::Global;
-
-/// The number of the unit that has `output`.
-const STANDARD_UNIT: i64 = -1;
-
-/// The number of `output` in its unit.
-const OUTPUT: u32 = 1;
 
 /// The char that ends a line.
 const LINE_END: i64 = 10;
@@ -68,7 +62,7 @@ fn line_end(code: &mut Code) -> Result<(), NoMemory>
 fn output_place(code: &mut Code) -> Result<(), NoMemory>
     ensures { OnOk result (Grows code.old code.new (output_code code.old.line ∷ [])) }
 {
-    emit(code, op::UNIT, STANDARD_UNIT, OUTPUT)
+    standard_code(StandardFile::Output, code)
 }
 
 /// Appends the code that writes an item.
@@ -76,8 +70,8 @@ fn item_code(alloc: Global, item: &WriteItem, code: &mut Code) -> Result<(), NoM
     ensures { OnOk result (AppendsItem code.old code.new (item_of item.now)) }
 {
     match &item.width {
-        None => plain_item(alloc, item.print, &item.value, code),
-        Some(width) => wide_item(alloc, item.print, &item.value, width, code),
+        None => plain_item(alloc, item.print, item.value.get(), code),
+        Some(width) => wide_item(alloc, item.print, item.value.get(), width.get(), code),
     }
 }
 

@@ -1,18 +1,18 @@
 //! The object of a program.
 
 ghost use Rattle.std.specs.Prelude.{◌≡◌, [], ◌∷◌, OnOk, IfOk};
-ghost use Rattle.ep_typed.specs.declared.types.TypeValue.TheVariants.{Ordinal};
+ghost use Rattle.ep_typed.specs.declared.value.TypeValue.TheVariants.{Ordinal};
 ghost use Rattle.ep_gen_expr.specs.Growth.{Grows};
-ghost use Rattle.ep_gen_unit.specs.StmtCode.{type_code, make_code, make_all_code};
+ghost use Rattle.ep_gen_unit.specs.StmtCode.{type_code, elaborating_code, make_code, make_all_code};
 ghost use Rattle.ep_gen_unit.specs.StmtGrowth.{AppendsRoutines, Follows, IsCompact, assembled};
 ghost use Rattle.ep_gen_unit.specs.UnitCode.{IsProgramCode, routine_at};
 
 use crate::jumps::{field_number, next_place};
 use crate::statements::statement_code;
 use ep_base::{List, Name, NoMemory};
-use ep_gen_expr::{Code, emit};
+use ep_gen_expr::{Code, NO_LINE, emit};
 use ep_object::{CodeRoutine, CodeRoutines, Object, op};
-use ep_typed::{TypeValue, Unit, UnitVariable};
+use ep_typed::{TypeValue, Unit, UnitType, UnitVariable, type_of};
 use std::alloc::Global;
 
 /// The object of a program. Its routine 0 makes the variables and runs the block, and its routine 1 does nothing.
@@ -33,9 +33,9 @@ pub fn program_code(alloc: Global, u: &Unit) -> Result<Object, NoMemory>
 fn routines_code(alloc: Global, u: &Unit, code: &mut Code) -> Result<u32, NoMemory>
     ensures { IfOk result (λ k. AppendsRoutines code.old code.new u.now k) }
 {
-    make_all(u.variables.items(), code)?;
+    make_all(u.types.items(), u.variables.items(), code)?;
     statement_code(alloc, &u.start, code)?;
-    code.line = u.line;
+    code.line = NO_LINE;
     emit(code, op::RETURN, 0, 0)?;
     let stop_entry = next_place(code)?;
     emit(code, op::RETURN, 0, 0)?;
@@ -85,24 +85,39 @@ fn two_routines(alloc: Global, stop_entry: u32) -> Result<CodeRoutines, NoMemory
     List::from_slice(alloc, &[start, stop])
 }
 
-/// Appends the code that makes the variables, in order.
-fn make_all(variables: &[UnitVariable], code: &mut Code) -> Result<(), NoMemory>
-    ensures { OnOk result (Follows code.old code.new (make_all_code 0 variables.now)) }
+/// Appends the code that makes the variables of a unit with these types, in order.
+fn make_all(types: &[UnitType], variables: &[UnitVariable], code: &mut Code) -> Result<(), NoMemory>
+    ensures { OnOk result (Follows code.old code.new (make_all_code types.now 0 variables.now)) }
 {
     for (number, variable) in variables.iter().enumerate() {
         let slot = field_number(number)?;
-        make_variable(variable, slot, code)?;
+        make_variable(types, variable, slot, code)?;
     }
     Ok(())
 }
 
 /// Appends the code that makes a variable in a slot.
-fn make_variable(variable: &UnitVariable, slot: u32, code: &mut Code) -> Result<(), NoMemory>
-    ensures { OnOk result (Follows code.old code.new (make_code slot variable.now)) }
+fn make_variable(
+    types: &[UnitType],
+    variable: &UnitVariable,
+    slot: u32,
+    code: &mut Code,
+) -> Result<(), NoMemory>
+    ensures { OnOk result (Follows code.old code.new (make_code types.now slot variable.now)) }
 {
     code.line = variable.line;
-    push_type(variable.type_value, code)?;
+    elaborate(type_of(types, &variable.denoter), code)?;
     emit(code, op::MAKE, slot as i64, 0)
+}
+
+/// Appends the code that elaborates a denoter of this type value. One without has no meaning and no code.
+fn elaborate(found: Option<TypeValue>, code: &mut Code) -> Result<(), NoMemory>
+    ensures { OnOk result (Grows code.old code.new (elaborating_code code.old.line found)) }
+{
+    match found {
+        None => Ok(()),
+        Some(type_value) => push_type(type_value, code),
+    }
 }
 
 /// Appends the code that leaves an ordinal type. The type of text files needs none.

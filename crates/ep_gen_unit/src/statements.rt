@@ -24,19 +24,21 @@ pub fn statement_code(alloc: Global, s: &TypedStmt, code: &mut Code) -> Result<(
     match s {
         TypedStmt::Empty => Ok(()),
         TypedStmt::Compound(statements) => compound_code(alloc, statements.items(), code),
-        TypedStmt::Assign(line, place, value) => assign_code(alloc, *line, place, value, code),
+        TypedStmt::Assign(line, place, value) => {
+            assign_code(alloc, *line, place, value.get(), code)
+        }
         TypedStmt::If(line, condition, then_part, else_part) => {
             if_code(
                 alloc,
                 *line,
-                condition,
+                condition.get(),
                 then_part.get(),
                 else_part.get(),
                 code,
             )
         }
         TypedStmt::While(line, condition, body) => {
-            while_code(alloc, *line, condition, body.get(), code)
+            while_code(alloc, *line, condition.get(), body.get(), code)
         }
         TypedStmt::Halt(line) => halt_code(*line, code),
         TypedStmt::Write(line, items, ends_line) => {

@@ -5,8 +5,8 @@ use Rattle.std.specs.Prelude.{◌+ℤ◌, ◌-ℤ◌, neg_ℤ}
 use Rattle.ep_object.specs.Effects.{is_zero}
 use Rattle.ep_object.specs.WordRows as rows
 use Rattle.ep_typed.specs.Operations.{is_integer, ordinal_of, is_same, is_true}
-use Rattle.ep_typed.specs.Valid.{is_of_host}
-use Rattle.ep_typed.specs.declared.types.Host.TheVariants as host
+use Rattle.ep_typed.specs.Hosts.{is_of_host}
+use Rattle.ep_typed.specs.Hosts as host
 
 -- both tests of integers agree
 pub is_integer-same : (z : ℤ) → rows.is_integer z ≡ is_integer z

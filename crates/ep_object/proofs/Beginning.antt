@@ -9,7 +9,7 @@ use Rattle.ep_object.proofs.Grows.{is_prefix}
 use Rattle.ep_typed.specs.Steps.{Allocation, Resources}
 use Rattle.ep_typed.specs.Steps as meaning
 use Rattle.ep_typed.specs.Valid.{Declarations}
-use Rattle.ep_typed.specs.declared.types.TypeValue.TheVariants as type
+use Rattle.ep_typed.specs.declared.value.TypeValue.TheVariants as type
 
 -- before the first start, in these frames
 abbrev pub first_memory : Frames → Memory

@@ -22,7 +22,7 @@ use Rattle.ep_typed.specs.Printing.{piece_events}
 use Rattle.ep_typed.specs.Steps.{Value, Undefined, Allocation, type_in, type_at, is_within, assigned, with_events}
 use Rattle.ep_typed.specs.Steps as meaning
 use Rattle.ep_typed.specs.Valid.{Declarations}
-use Rattle.ep_typed.specs.declared.types.TypeValue.TheVariants as type
+use Rattle.ep_typed.specs.declared.value.TypeValue.TheVariants as type
 use Rattle.ep_object.specs.declared.op.TheConstants as op
 use Rattle.ep_typed.specs.declared.run_error.TheConstants as run_error
 

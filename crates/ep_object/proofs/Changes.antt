@@ -1,7 +1,7 @@
 -- The machine goes on matching where a value is assigned or events are added.
 use Rattle.std.proofs.Common.{◌≡◌, ℕ, zero, suc, ◌⊎◌, inl, inr, List, length, Option, Some, None, slice_get, slice_set, refl, sym, ap, ◌∙◌, subst, arith}
 use Rattle.std.proofs.lemmas.Option.{same_Some}
-use Rattle.ep_object.specs.Matching.{Memory, Injection, IsIn, MatchesSlot, MatchesFrame, IsValueOf, layout, Represents, Matches, Grown}
+use Rattle.ep_object.specs.Matching.{Memory, Injection, IsIn, MatchesSlot, MatchesFrame, IsValueOf, layout, Represents, HasType, Matches, Grown}
 use Rattle.ep_object.specs.declared.code.Image.{Image}
 use Rattle.ep_object.specs.declared.code.ImageUnit.{ImageUnit}
 use Rattle.ep_object.specs.declared.state.Place.{Place}
@@ -133,7 +133,7 @@ module _ {declared : Declarations} {G : Image} {injection : Injection} {s : mean
             omega (arith, w, length-set memory.segments segment (Some (record { type_number = r.type_number; words = layout value })));
         output = h.output;
         frames = λ unit u e. matches_frame-grown {s = s} unit u grown_storing refl (λ k. refl) (h.frames unit u e);
-        typed = λ unit k m v p q. type_at_assigned m (same_or_not n m) ∙ h.typed unit k m v p q;
+        typed = λ unit k m v p q. subst (λ t. HasType declared unit v t) (sym (type_at_assigned m (same_or_not n m))) (h.typed unit k m v p q);
         types = h.types;
         live = h.live;
       }

@@ -20,7 +20,7 @@ use Rattle.ep_typed.specs.Steps.{Computation, give, stop, go_on, bind, spend, ch
 use Rattle.ep_typed.specs.Steps as meaning
 use Rattle.ep_typed.specs.Valid as kind
 use Rattle.ep_typed.specs.Valid.{Declarations}
-use Rattle.ep_typed.specs.declared.types.Host.TheVariants as host
+use Rattle.ep_typed.specs.Hosts as host
 
 -- ---- a read that may find nothing
 

@@ -15,9 +15,9 @@ use Rattle.ep_typed.specs.Steady.{Steady}
 use Rattle.ep_typed.specs.Steps.{Gives, Ends, Cut, Computation, state_of, give, cut, stop, go_on, bind, spend, change, found, fetch}
 use Rattle.ep_typed.specs.Steps as meaning
 use Rattle.ep_typed.specs.Valid as kind
-use Rattle.ep_typed.specs.Valid.{Declarations, Kind, is_of_host}
-use Rattle.ep_typed.specs.declared.types.Host.{Host}
-use Rattle.ep_typed.specs.declared.types.TypeValue.{TypeValue}
+use Rattle.ep_typed.specs.Valid.{Declarations, Kind}
+use Rattle.ep_typed.specs.Hosts.{Host, is_of_host}
+use Rattle.ep_typed.specs.declared.value.TypeValue.{TypeValue}
 
 -- ---- one fragment after another
 

@@ -12,8 +12,8 @@ use Rattle.ep_object.specs.declared.state.Place.{Place}
 use Rattle.ep_object.specs.declared.state.Segment.{Segment}
 use Rattle.ep_object.proofs.Grows.{is_prefix, prefix_then}
 use Rattle.ep_outside.specs.Known.{IsPrefix}
-use Rattle.ep_typed.specs.declared.types.TypeValue.{TypeValue}
-use Rattle.ep_typed.specs.declared.types.TypeValue.TheVariants as type
+use Rattle.ep_typed.specs.declared.value.TypeValue.{TypeValue}
+use Rattle.ep_typed.specs.declared.value.TypeValue.TheVariants as type
 
 -- an element of a front is the same one of the whole
 pub slice_get-prefix : {A : Type 0} (xs ys : List A) (i : ℕ) (x : A) → IsPrefix xs ys → slice_get xs i ≡ Some x → slice_get ys i ≡ Some x

@@ -8,10 +8,11 @@ use Rattle.std.proofs.lemmas.Option.{slice_get_within, same_Some}
 use Rattle.std.proofs.lemmas.Slice.Eq.{bytes_eq-Decides}
 use native.Mathlib.Decide.{ℕ_discrete}
 use Rattle.ep_object.specs.Follows.{GivesUp, Bare, Inside}
-use Rattle.ep_object.specs.Matching.{Memory, at, Injection, IsIn, IsPlaceOf, Describes, IsHidden, MatchesSlot, MatchesFrame, Represents, Matches, Grown}
+use Rattle.ep_object.specs.Matching.{Memory, at, Injection, IsIn, IsPlaceOf, Describes, IsHidden, MatchesSlot, MatchesFrame, Represents, HasType, Matches, Grown}
 use Rattle.ep_object.specs.Operands.{Operand, Word}
 use Rattle.ep_object.specs.Placing.{HasDistinctNames}
 use Rattle.ep_object.specs.Runs.{outcome, unit_in}
+use Rattle.ep_object.specs.Scene.{HaveValidTypes}
 use Rattle.ep_object.specs.State.{Frames, Running, Stopped, Error, live_limit, undefined}
 use Rattle.ep_object.specs.Table.{with_slots}
 use Rattle.ep_object.specs.Types.{ordinal_entry}
@@ -27,22 +28,18 @@ use Rattle.ep_object.proofs.Growing.{slice_get-prefix, is_in-longer}
 use Rattle.ep_object.proofs.Grows.{is_prefix}
 use Rattle.ep_object.proofs.Making.{lost_words}
 use Rattle.ep_object.proofs.Rows.{instr, in_one, outcome_at}
-use Rattle.ep_object.proofs.Standing.{slice_get-some, both}
+use Rattle.ep_object.proofs.Standing.{slice_get-some, both, instance_valid}
 use Rattle.ep_typed.specs.Events.{Trace}
 use Rattle.ep_typed.specs.Operations.{is_integer}
 use Rattle.ep_typed.specs.Steps.{Undefined, Allocation, allocation_at, type_in, type_at, bound, counted, made}
 use Rattle.ep_typed.specs.Steps as meaning
 use Rattle.ep_typed.specs.Valid.{Declarations, IsTypeOf}
-use Rattle.ep_typed.specs.declared.types.Host.{Host}
-use Rattle.ep_typed.specs.declared.types.TypeValue.{TypeValue}
-use Rattle.ep_typed.specs.declared.types.TypeValue.TheVariants as type
+use Rattle.ep_typed.specs.Hosts.{Host}
+use Rattle.ep_typed.specs.declared.value.TypeValue.{TypeValue}
+use Rattle.ep_typed.specs.declared.value.TypeValue.TheVariants as type
 use Rattle.ep_typed.specs.declared.unit.UnitVariable.{UnitVariable}
 use Rattle.ep_object.specs.declared.op.TheConstants as op
 use Rattle.ep_typed.specs.declared.run_error.TheConstants as run_error
-
--- the types of the variables that are declared are those of their hosts
-abbrev pub HasTypesOfHosts : Declarations → Type 0
-HasTypesOfHosts declared = (unit : List ℕ) (j : ℕ) (v : UnitVariable) → declared unit j ≡ Some v → IsTypeOf v.host v.type_value
 
 -- ---- what is bound
 
@@ -260,22 +257,25 @@ module _ {declared : Declarations} {G : Image} {injection : Injection} {s : mean
                 matches = f.matches;
               }
 
-      module _ (types_valid : HasTypesOfHosts declared) (declared_so : (v : UnitVariable) → declared x.name k ≡ Some v → v.type_value ≡ type.Ordinal low high) where
+      module _ (types_valid : HaveValidTypes declared) (declared_so : (v : UnitVariable) → declared.variables x.name k ≡ Some v → HasType declared x.name v (type.Ordinal low high)) where
         -- the new allocation has the type of its declaration, and the others keep theirs
-        typed_making : (unit : List ℕ) (j n : ℕ) (v : UnitVariable) → later_state.variables unit j ≡ Some n → declared unit j ≡ Some v → type_at n later_state ≡ v.type_value
+        typed_making : (unit : List ℕ) (j n : ℕ) (v : UnitVariable) → later_state.variables unit j ≡ Some n → declared.variables unit j ≡ Some v → HasType declared unit v (type_at n later_state)
         typed_making unit j n v is is_declared = elim (same_name x.name unit) [ inl p ↦ elim (ℕ_discrete k j) [ yes q ↦ same p q | no q ↦ other (λ a b. q b) ] | inr p ↦ other (λ a b. p a) ]
           where
-            same : x.name ≡ unit → k ≡ j → type_at n later_state ≡ v.type_value
+            same : x.name ≡ unit → k ≡ j → HasType declared unit v (type_at n later_state)
             same p q =
                 let here : later_state.variables x.name k ≡ Some n = subst (λ u. later_state.variables u k ≡ Some n) (sym p) (subst (λ i. later_state.variables unit i ≡ Some n) (sym q) is) in
                 let n_is : suc (length s.allocations) ≡ n = same_Some (suc (length s.allocations)) n (sym (bound-same x.name k (suc (length s.allocations)) s.variables) ∙ here) in
-                let t_is : v.type_value ≡ type.Ordinal low high = declared_so v (subst (λ u. declared u k ≡ Some v) (sym p) (subst (λ i. declared unit i ≡ Some v) (sym q) is_declared)) in
-                subst (λ i. type_at i later_state ≡ v.type_value) n_is (ap type_in (slice_get-pushed s.allocations new_allocation) ∙ sym t_is)
+                let has_type : HasType declared unit v (type.Ordinal low high) = subst (λ u. HasType declared u v (type.Ordinal low high)) p (declared_so v (subst (λ u. declared.variables u k ≡ Some v) (sym p) (subst (λ i. declared.variables unit i ≡ Some v) (sym q) is_declared))) in
+                let new_type : type_at (suc (length s.allocations)) later_state ≡ type.Ordinal low high = ap type_in (slice_get-pushed s.allocations new_allocation) in
+                subst (λ i. HasType declared unit v (type_at i later_state)) n_is (subst (λ t. HasType declared unit v t) (sym new_type) has_type)
 
-            other : (x.name ≡ unit → k ≡ j → ⊥) → type_at n later_state ≡ v.type_value
+            other : (x.name ≡ unit → k ≡ j → ⊥) → HasType declared unit v (type_at n later_state)
             other different =
                 let before : s.variables unit j ≡ Some n = sym (bound-other x.name k (suc (length s.allocations)) s.variables unit j different) ∙ is in
-                type_more s.allocations new_allocation n v.host v.type_value (types_valid unit j v is_declared) (h.typed unit j n v before is_declared)
+                let has_type : HasType declared unit v (type_at n s) = h.typed unit j n v before is_declared in
+                let kept : type_at n later_state ≡ type_at n s = type_more s.allocations new_allocation n (types_valid unit j v is_declared).host (type_at n s) (instance_valid (types_valid unit j v is_declared) (type_at n s) has_type) refl in
+                subst (λ t. HasType declared unit v t) (sym kept) has_type
 
         -- the machine goes on matching
         matches_making : Matches declared G (with_segment injection memory) later_state later
@@ -309,7 +309,7 @@ make_outcome G place line below low high number k slots memory trace false has f
 -- `Make` of an ordinal type in a slot of the unit's frame, over the number of the type
 pub make_does : (declared : Declarations) (G : Image) (place line : ℕ) (below : List Operand) (low high : ℤ) (number k : ℕ) (x : ImageUnit) → slice_get G.instructions place ≡ Some (instr op.MAKE (pos k) 0 line)
     → HasDistinctNames G → IsTrue (is_integer low) → IsTrue (is_integer high)
-    → HasTypesOfHosts declared → ((v : UnitVariable) → declared x.name k ≡ Some v → v.type_value ≡ type.Ordinal low high)
+    → HaveValidTypes declared → ((v : UnitVariable) → declared.variables x.name k ≡ Some v → HasType declared x.name v (type.Ordinal low high))
     → (injection : Injection) (memory : Memory) (s : meaning.State) → slice_get G.units memory.frames.unit ≡ Some x → k < x.slots → Describes memory.types number (type.Ordinal low high) → Matches declared G injection s memory
     → Does declared G (at place (Word (pos number) ∷ below) memory s.trace) 1 (place + 1) (Inside injection memory (Bare below tt)) (made x.name k (type.Ordinal low high) (counted (type.Ordinal low high) s)) ⊎ GivesUp G (at place (Word (pos number) ∷ below) memory s.trace) 0 1 (counted (type.Ordinal low high) s)
 make_does declared G place line below low high number k x has distinct low_fits high_fits types_valid declared_so injection memory s is_unit within described matches = go (leb (memory.live + 2) live_limit) refl

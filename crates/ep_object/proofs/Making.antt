@@ -30,8 +30,8 @@ use Rattle.ep_typed.specs.Valid.{Declarations}
 use Rattle.ep_outside.specs.Known.{IsPrefix}
 use Rattle.ep_typed.specs.Events.{Trace}
 use Rattle.ep_object.specs.declared.code.Image.{Image}
-use Rattle.ep_typed.specs.declared.types.TypeValue.{TypeValue}
-use Rattle.ep_typed.specs.declared.types.TypeValue.TheVariants as type
+use Rattle.ep_typed.specs.declared.value.TypeValue.{TypeValue}
+use Rattle.ep_typed.specs.declared.value.TypeValue.TheVariants as type
 use Rattle.ep_object.specs.declared.op.TheConstants as op
 use Rattle.ep_typed.specs.declared.run_error.TheConstants as run_error
 

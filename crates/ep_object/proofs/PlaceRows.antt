@@ -2,7 +2,7 @@
 use Rattle.std.proofs.Common.{◌≡◌, ℕ, ℤ, pos, negsuc, ◌+◌, ◌<◌, true, List, [], ◌∷◌, Option, Some, None, slice_get, refl, ap, ◌∙◌, subst, arith}
 use Rattle.std.specs.Prelude.{int_lt}
 use Rattle.ep_object.specs.Follows.{OnTop, PlaceOnTop, Inside}
-use Rattle.ep_object.specs.Matching.{Memory, at, Injection, MatchesSlot, MatchesFrame, IsPlaceOf, Describes, IsValueOf, layout, Represents, Matches}
+use Rattle.ep_object.specs.Matching.{Memory, at, Injection, MatchesSlot, MatchesFrame, IsPlaceOf, Describes, IsValueOf, layout, Represents, HasType, Matches}
 use Rattle.ep_object.specs.Operands.{Operand, Word, Text}
 use Rattle.ep_object.specs.Operands as operand
 use Rattle.ep_object.specs.Places.{loaded}
@@ -16,15 +16,16 @@ use Rattle.ep_object.specs.declared.state.Place.{Place}
 use Rattle.ep_object.proofs.Choices.{Reads, Misses, Finds}
 use Rattle.ep_object.proofs.Growing.{inside_here}
 use Rattle.ep_object.proofs.Rows.{instr, in_one, RowPushes, outcome_at}
-use Rattle.ep_object.proofs.Standing.{slice_get-some, Stands, place_stands, described-same, place_described, within_host, word_defined}
+use Rattle.ep_object.proofs.Standing.{slice_get-some, Stands, place_stands, described-same, place_described, one_type, within_host, word_defined}
 use Rattle.ep_typed.specs.Events.{Trace}
 use Rattle.ep_typed.specs.Printing.{Number}
 use Rattle.ep_typed.specs.Steps.{Value, Undefined, Allocation, allocation_at, word_of, word_in, word_at, is_within}
 use Rattle.ep_typed.specs.Steps as meaning
 use Rattle.ep_typed.specs.Valid as kind
 use Rattle.ep_typed.specs.Valid.{Declarations, IsTypeOf}
-use Rattle.ep_typed.specs.declared.types.Host.{Host}
-use Rattle.ep_typed.specs.declared.types.TypeValue.TheVariants as type
+use Rattle.ep_typed.specs.Hosts.{Host}
+use Rattle.ep_typed.specs.declared.value.TypeValue.{TypeValue}
+use Rattle.ep_typed.specs.declared.value.TypeValue.TheVariants as type
 use Rattle.ep_typed.specs.declared.unit.UnitVariable.{UnitVariable}
 use Rattle.ep_object.specs.declared.op.TheConstants as op
 
@@ -34,13 +35,13 @@ module _ (declared : Declarations) (G : Image) (place line : ℕ) (below : List 
   output_pushes has memory trace = outcome_at G (instr op.UNIT (negsuc 0) 1 line) place below memory trace has
 
   -- `Unit`, for a variable that is declared
-  pub unit_reads : (u k : ℕ) (unit : ImageUnit) (v : UnitVariable) → slice_get G.instructions place ≡ Some (instr op.UNIT (pos u) k line) → slice_get G.units u ≡ Some unit → k < unit.slots → declared unit.name k ≡ Some v → (injection : Injection) (memory : Memory) (s : meaning.State) → Matches declared G injection s memory → Reads declared G (at place below memory s.trace) 1 (unit_in G memory.frames) line (place + 1) (λ n. Inside injection memory (PlaceOnTop v.type_value below n)) s (s.variables unit.name k)
-  unit_reads u k unit v has there inside is_declared injection memory s matches =
+  pub unit_reads : (u k : ℕ) (unit : ImageUnit) (v : UnitVariable) (t : TypeValue) → slice_get G.instructions place ≡ Some (instr op.UNIT (pos u) k line) → slice_get G.units u ≡ Some unit → k < unit.slots → declared.variables unit.name k ≡ Some v → HasType declared unit.name v t → (injection : Injection) (memory : Memory) (s : meaning.State) → Matches declared G injection s memory → Reads declared G (at place below memory s.trace) 1 (unit_in G memory.frames) line (place + 1) (λ n. Inside injection memory (PlaceOnTop t below n)) s (s.variables unit.name k)
+  unit_reads u k unit v t has there inside is_declared has_type injection memory s matches =
       let f : MatchesFrame injection s memory u unit = matches.frames u unit there in
       let x = slice_get-some f.slots k (omega (arith, f.count)) in
       go f.slots f.is x.0 x.1 (s.variables unit.name k) refl (f.matches k x.0 x.1)
     where
-      go : (slots : List (Option Place)) → slice_get memory.frames.units u ≡ Some slots → (slot : Option Place) → slice_get slots k ≡ Some slot → (o : Option ℕ) → s.variables unit.name k ≡ o → MatchesSlot injection memory.segments o slot → Reads declared G (at place below memory s.trace) 1 (unit_in G memory.frames) line (place + 1) (λ n. Inside injection memory (PlaceOnTop v.type_value below n)) s (s.variables unit.name k)
+      go : (slots : List (Option Place)) → slice_get memory.frames.units u ≡ Some slots → (slot : Option Place) → slice_get slots k ≡ Some slot → (o : Option ℕ) → s.variables unit.name k ≡ o → MatchesSlot injection memory.segments o slot → Reads declared G (at place below memory s.trace) 1 (unit_in G memory.frames) line (place + 1) (λ n. Inside injection memory (PlaceOnTop t below n)) s (s.variables unit.name k)
       go slots is None slot_is None o_is h =
           Misses o_is (record { fails = outcome_at G (instr op.UNIT (pos u) k line) place below memory s.trace has ∙ rw (is, slot_is) refl })
       go slots is (Some p) slot_is None o_is h = absurd h
@@ -52,7 +53,7 @@ module _ (declared : Declarations) (G : Image) (place line : ℕ) (below : List 
             operands = operand.Place p ∷ below;
             does = outcome_at G (instr op.UNIT (pos u) k line) place below memory s.trace has ∙ rw (is, slot_is) refl;
             matches = matches;
-            post = inside_here (record { place = p; is = refl; place_of = h; described = place_described v.type_value matches h (matches.typed unit.name k n v o_is is_declared) });
+            post = inside_here (record { place = p; is = refl; place_of = h; described = place_described t matches h (one_type (matches.typed unit.name k n v o_is is_declared) has_type) });
           })
 
   -- what `Load` finds

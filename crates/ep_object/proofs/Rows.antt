@@ -18,10 +18,10 @@ use Rattle.ep_object.proofs.Answers.{is_integer-same, is_zero-same, is_zero-true
 use Rattle.ep_object.proofs.Choices.{going_of}
 use Rattle.ep_typed.specs.Events.{Trace}
 use Rattle.ep_typed.specs.Operations.{Answer, Number, Fault, integer, is_integer, ordinal_of, is_same, is_true, unary_answer, binary_answer, step_answer, within}
-use Rattle.ep_typed.specs.Valid.{is_of_host}
+use Rattle.ep_typed.specs.Hosts.{is_of_host}
 use Rattle.ep_typed.specs.declared.operations.Binary.TheVariants as binary
 use Rattle.ep_typed.specs.declared.operations.Unary.TheVariants as unary
-use Rattle.ep_typed.specs.declared.types.Host.TheVariants as host
+use Rattle.ep_typed.specs.Hosts as host
 use Rattle.ep_object.specs.declared.op.TheConstants as op
 use Rattle.ep_typed.specs.declared.run_error.TheConstants as run_error
 

@@ -9,13 +9,17 @@ use Rattle.ep_object.specs.Types.{ordinal_entry}
 use Rattle.ep_object.specs.declared.code.Image.{Image}
 use Rattle.ep_object.specs.declared.state.Place.{Place}
 use Rattle.ep_object.specs.declared.state.TypeEntry.{TypeEntry}
+use Rattle.ep_typed.proofs.Denoters.{types_are_instances, instances_are_one}
+use Rattle.ep_typed.specs.Denoters.{IsInstance}
 use Rattle.ep_typed.specs.Operations.{is_integer, maxint}
 use Rattle.ep_typed.specs.Steps.{Allocation, allocation_at, type_in, is_within}
 use Rattle.ep_typed.specs.Steps as meaning
-use Rattle.ep_typed.specs.Valid.{Declarations, is_of_host, least, greatest, IsTypeOf}
-use Rattle.ep_typed.specs.declared.types.Host.{Host}
-use Rattle.ep_typed.specs.declared.types.TypeValue.{TypeValue}
-use Rattle.ep_typed.specs.declared.types.TypeValue.TheVariants as type
+use Rattle.ep_typed.specs.Valid.{Declarations, IsTypeOf, IsDenoter}
+use Rattle.ep_typed.specs.Hosts.{Host, is_of_host, least, greatest}
+use Rattle.ep_typed.specs.Trees.{Denoter}
+use Rattle.ep_typed.specs.declared.unit.UnitType.{UnitType}
+use Rattle.ep_typed.specs.declared.value.TypeValue.{TypeValue}
+use Rattle.ep_typed.specs.declared.value.TypeValue.TheVariants as type
 
 -- an element that is there
 pub slice_get-some : {A : Type 0} (xs : List A) (k : ℕ) → k < length xs → (x : A) × (slice_get xs k ≡ Some x)
@@ -80,6 +84,14 @@ pub both : (a b : Bool) → IsTrue (a && b) → IsTrue a × IsTrue b
 both true true h = (refl, refl)
 both true false h = cc
 both false b h = cc
+
+-- a denoter has at most one type value
+pub one_type : {types : List UnitType} {d : Denoter} {t u : TypeValue} → IsInstance types d t → IsInstance types d u → t ≡ u
+one_type {types = types} {d = d} {t = t} {u = u} p q = instances_are_one types d t u p q
+
+-- the type value of a valid denoter is one of its host
+pub instance_valid : {types : List UnitType} {d : Denoter} (valid : IsDenoter types d) (t : TypeValue) → IsInstance types d t → IsTypeOf valid.host t
+instance_valid {types = types} {d = d} valid t h = subst (λ u. IsTypeOf valid.host u) (one_type (types_are_instances types d valid.type_value valid.has_type) h) valid.is_type
 
 -- a value of a type is one of its host
 pub within_host : (h : Host) (low high w : ℤ) → IsTypeOf h (type.Ordinal low high) → IsTrue (is_within (type.Ordinal low high) w) → IsTrue (is_of_host h w)

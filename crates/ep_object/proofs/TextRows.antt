@@ -18,9 +18,9 @@ use Rattle.ep_object.proofs.Rows.{instr, RowPushes, outcome_at}
 use Rattle.ep_typed.specs.Operations.{last_char}
 use Rattle.ep_typed.specs.Events.{Trace}
 use Rattle.ep_typed.specs.Printing.{Number, Bytes, boolean_text, plain_text, wide_text, piece_events}
-use Rattle.ep_typed.specs.Valid.{is_of_host}
+use Rattle.ep_typed.specs.Hosts.{is_of_host}
 use Rattle.ep_typed.specs.declared.operations.Print.TheVariants as print
-use Rattle.ep_typed.specs.declared.types.Host.TheVariants as host
+use Rattle.ep_typed.specs.Hosts as host
 use Rattle.ep_object.specs.declared.op.TheConstants as op
 use Rattle.ep_typed.specs.declared.run_error.TheConstants as run_error
 

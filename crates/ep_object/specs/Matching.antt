@@ -2,13 +2,15 @@
 use Rattle.std.specs.Prelude.{◌≡◌, ℕ, ℤ, zero, suc, ◌+◌, ◌≤◌, IsTrue, List, [], ◌∷◌, length, slice_get, Option, Some, None, ⊤}
 use Rattle.std.specs.List.{list_any}
 use Rattle.ep_outside.specs.Known.{IsPrefix}
+use Rattle.ep_typed.specs.Denoters.{IsInstance}
 use Rattle.ep_typed.specs.Events.{Trace}
 use Rattle.ep_typed.specs.Operations.{is_integer}
 use Rattle.ep_typed.specs.Steps.{Value, Undefined, Allocation, Resources, is_within, same_type}
 use Rattle.ep_typed.specs.Steps as meaning
 use Rattle.ep_typed.specs.Valid.{Declarations}
-use Rattle.ep_typed.specs.declared.types.TypeValue.{TypeValue}
-use Rattle.ep_typed.specs.declared.types.TypeValue.TheVariants as type
+use Rattle.ep_typed.specs.Viewed.{denoter_of}
+use Rattle.ep_typed.specs.declared.value.TypeValue.{TypeValue}
+use Rattle.ep_typed.specs.declared.value.TypeValue.TheVariants as type
 use Rattle.ep_typed.specs.declared.unit.UnitVariable.{UnitVariable}
 use Rattle.ep_object.specs.Operands.{Operand}
 use Rattle.ep_object.specs.State.{Frames, Segments, TypeTable, State, text_entry, first_types, undefined}
@@ -102,6 +104,10 @@ pub record MatchesTypes (resources : Resources) (types : TypeTable) : Type 0 whe
   pub sized : (n : ℕ) (entry : TypeEntry) → slice_get types n ≡ Some entry → entry.size ≡ 1
   pub count : length types ≤ length resources.types + 5
 
+-- the type value is that of a variable of the unit
+abbrev pub HasType : Declarations → List ℕ → UnitVariable → TypeValue → Type 0
+HasType declared unit v t = IsInstance (declared.types unit) (denoter_of v.denoter) t
+
 -- the state of the meaning matches the machine's memory by the injection, where these variables are declared
 pub record Matches (declared : Declarations) (G : Image) (injection : Injection) (s : meaning.State) (memory : Memory) : Type 0 where
   pub made : length injection ≡ length s.allocations
@@ -111,7 +117,7 @@ pub record Matches (declared : Declarations) (G : Image) (injection : Injection)
   pub output : IsIn injection 2 2
   pub frames : (unit : ℕ) (u : ImageUnit) → slice_get G.units unit ≡ Some u → MatchesFrame injection s memory unit u
   -- the allocation of a variable that is declared has the type of the declaration
-  pub typed : (unit : List ℕ) (k n : ℕ) (v : UnitVariable) → s.variables unit k ≡ Some n → declared unit k ≡ Some v → meaning.type_at n s ≡ v.type_value
+  pub typed : (unit : List ℕ) (k n : ℕ) (v : UnitVariable) → s.variables unit k ≡ Some n → declared.variables unit k ≡ Some v → HasType declared unit v (meaning.type_at n s)
   pub types : MatchesTypes s.resources memory.types
   pub live : memory.live ≤ s.resources.words
 

@@ -4,7 +4,8 @@ use Rattle.ep_object.specs.Placing.{Placement, placed_unit}
 use Rattle.ep_object.specs.declared.code.Image.{Image}
 use Rattle.ep_object.specs.declared.code.ImageUnit.{ImageUnit}
 use Rattle.ep_object.specs.declared.code.Instr.{Instr}
-use Rattle.ep_typed.specs.Valid.{Declarations, IsTypeOf}
+use Rattle.ep_typed.specs.Valid.{Declarations, IsDenoter}
+use Rattle.ep_typed.specs.Viewed.{denoter_of}
 use Rattle.ep_typed.specs.declared.unit.UnitVariable.{UnitVariable}
 
 -- A text of an object stands in the image.
@@ -21,9 +22,13 @@ pub record VariableStands (G : Image) (ps : List Placement) (unit : List ℕ) (k
   pub within : k < image_unit.slots
   pub placed : (i : Instr) → placed_unit ps (Some (record { unit = unit; number = k })) i ≡ record i { a = pos number; b = k }
 
+-- the denoters of all variables that are declared are valid
+abbrev pub HaveValidTypes : Declarations → Type 0
+HaveValidTypes declared = (unit : List ℕ) (k : ℕ) (v : UnitVariable) → declared.variables unit k ≡ Some v → IsDenoter (declared.types unit) (denoter_of v.denoter)
+
 -- The texts of an object and all variables that are declared stand in the image, and the types of the variables are
--- those of their hosts.
+-- valid.
 pub record Scene (declared : Declarations) (G : Image) (ps : List Placement) (p : Placement) (texts : List (List ℕ)) : Type 0 where
   pub texts_stand : (k : ℕ) (bytes : List ℕ) → slice_get texts k ≡ Some bytes → TextStands G p k bytes
-  pub variables_stand : (unit : List ℕ) (k : ℕ) (v : UnitVariable) → declared unit k ≡ Some v → VariableStands G ps unit k
-  pub types_valid : (unit : List ℕ) (k : ℕ) (v : UnitVariable) → declared unit k ≡ Some v → IsTypeOf v.host v.type_value
+  pub variables_stand : (unit : List ℕ) (k : ℕ) (v : UnitVariable) → declared.variables unit k ≡ Some v → VariableStands G ps unit k
+  pub types_valid : HaveValidTypes declared

@@ -8,7 +8,7 @@ use Rattle.ep_typed.specs.Meaning.{exec}
 use Rattle.ep_typed.specs.declared.operations.Unary.TheVariants as unary
 use Rattle.ep_typed.specs.declared.operations.Binary.TheVariants as binary
 use Rattle.ep_typed.specs.declared.operations.Print.TheVariants as print
-use Rattle.ep_typed.specs.declared.types.TypeValue.TheVariants.{Ordinal}
+use Rattle.ep_typed.specs.declared.value.TypeValue.TheVariants.{Ordinal}
 use Rattle.ep_typed.specs.declared.run_error.TheConstants as run_error
 
 -- what a statement of unit p comes to, with one variable x of type integer

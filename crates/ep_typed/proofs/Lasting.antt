@@ -1,19 +1,22 @@
 -- With more steps, and more turns of its loops, a computation comes to the same, or goes on from where it was cut.
 use Rattle.std.proofs.Common.{◌≡◌, ℕ, ℤ, pos, negsuc, zero, suc, ◌+◌, List, [], ◌∷◌, Option, Some, None, Bool, true, false, length, refl, arith}
 use Rattle.std.specs.Prelude.{if◌then◌else◌}
-use Rattle.ep_typed.specs.Meaning.{answered, place, eval, write_piece, write_wide, write_item, write_items, assign, turns, exec, exec_all, make, make_all, start_of, starts_of}
+use Rattle.ep_typed.specs.Denoters.{type_of}
+use Rattle.ep_typed.specs.Meaning.{answered, place, eval, write_piece, write_wide, write_item, write_items, assign, turns, exec, exec_all, elaborated, make, make_all, start_of, starts_of}
 use Rattle.ep_typed.specs.Operations.{Answer, Number, Fault, is_true}
 use Rattle.ep_typed.specs.Printing.{Result, number_of, plain_text, wide_text, piece_events}
 use Rattle.ep_typed.specs.Printing as result
 use Rattle.ep_typed.specs.Steady.{Grows, Steady}
-use Rattle.ep_typed.specs.Steps.{End, Normal, Halted, Error, Word, State, Outcome, Gives, Ends, Cut, state_of, Computation, give, stop, go_on, bind, spend, change, found, fetch, assigned, type_at, is_within, size_of, with_type, counted, made, allocate, first_state}
-use Rattle.ep_typed.specs.Trees.{Place, Variable, Expr, Constant, Text, Read, One, Two, Step, Item, Plain, Wide, Stmt, Stmts, Empty, Compound, Assign, If, While, Halt, Write, none, next}
-use Rattle.ep_typed.specs.Viewed.{stmt_of}
+use Rattle.ep_typed.specs.Steps.{End, Normal, Halted, Error, Word, State, Outcome, Gives, Ends, Cut, state_of, Computation, give, cut, stop, go_on, bind, spend, change, found, fetch, assigned, type_at, is_within, size_of, with_type, counted, made, allocate, standard_file, first_state}
+use Rattle.ep_typed.specs.Trees.{Place, Variable, Standard, Expr, Constant, Text, Read, One, Two, Step, Item, Plain, Wide, Stmt, Stmts, Empty, Compound, Assign, If, While, Halt, Write, none, next}
+use Rattle.ep_typed.specs.Viewed.{denoter_of, stmt_of}
 use Rattle.ep_typed.specs.declared.operations.Print.{Print}
 use Rattle.ep_typed.specs.declared.unit.Unit.{Unit as TypedUnit}
+use Rattle.ep_typed.specs.declared.unit.UnitType.{UnitType}
 use Rattle.ep_typed.specs.declared.unit.UnitVariable.{UnitVariable}
+use Rattle.ep_typed.specs.declared.value.TypeValue.{TypeValue}
 use Rattle.ep_typed.specs.Laws.{IsLonger, MeaningsLast}
-use Rattle.ep_typed.proofs.Steady.{grows_trans, grows_quiet, grows_events, grows_type, grows_counted, grows_made, steady_give, steady_stop, steady_bind, steady_spend, steady_change, steady_fetch, steady_turns, steady_assign}
+use Rattle.ep_typed.proofs.Steady.{grows_refl, grows_trans, grows_quiet, grows_events, grows_type, grows_counted, grows_made, steady_give, steady_cut, steady_stop, steady_bind, steady_spend, steady_change, steady_fetch, steady_turns, steady_assign}
 use Rattle.ep_typed.specs.declared.run_error.TheConstants as run_error
 
 -- What one computation comes to, another one comes to with more steps.
@@ -26,6 +29,10 @@ pub record Lasting {A : Type 0} (c d : Computation A) : Type 0 where
 -- a value
 lasting_give : {A : Type 0} (a : A) → Lasting (give a) (give a)
 lasting_give a = record { steady = steady_give a; by = λ m k s. refl }
+
+-- no more steps
+lasting_cut : {A : Type 0} → Lasting {A = A} cut cut
+lasting_cut = record { steady = steady_cut; by = λ m k s. grows_refl s }
 
 -- an end
 lasting_stop : {A : Type 0} (e : End) → Lasting {A = A} (stop e) (stop e)
@@ -103,6 +110,7 @@ module _ (g j : ℕ) (unit : List ℕ) where
   -- a place
   lasting_place : (line : ℕ) (p : Place) → Lasting (place g unit line p) (place (g + j) unit line p)
   lasting_place line (Variable u k) = lasting_bind (lasting_fetch _ _) (λ n. lasting_spend 1 (lasting_give n))
+  lasting_place line (Standard file) = lasting_spend 1 (lasting_give (standard_file file))
 
   -- an expression
   lasting_eval : (line : ℕ) (x : Expr) → Lasting (eval g unit line x) (eval (g + j) unit line x)
@@ -166,19 +174,28 @@ module _ (g j : ℕ) (unit : List ℕ) where
     lasting_exec_all none = lasting_give tt
     lasting_exec_all (next s ss) = lasting_bind (lasting_exec s) (λ _. lasting_exec_all ss)
 
+  -- a type that is elaborated
+  lasting_elaborated : (o : Option TypeValue) → Lasting (elaborated g unit o) (elaborated (g + j) unit o)
+  lasting_elaborated None = lasting_cut
+  lasting_elaborated (Some t) = lasting_spend 1 (lasting_bind {c = change (with_type t)} {f = λ _. give t} (lasting_change (grows_type t)) (λ _. lasting_give t))
+
+  -- a variable that is allocated
+  lasting_allocate : (number : ℕ) (t : TypeValue) → Lasting (allocate unit number t) (allocate unit number t)
+  lasting_allocate number t =
+      lasting_bind {c = change (counted t)} {f = λ _. spend (size_of t) (change (made unit number t))} (lasting_change (grows_counted t)) (λ _. lasting_spend (size_of t) (lasting_change (grows_made unit number t)))
+
   -- a variable
-  lasting_make : (number : ℕ) (v : UnitVariable) → Lasting (make g unit number v) (make (g + j) unit number v)
-  lasting_make number v =
-      lasting_spend 1 (lasting_bind {c = change (with_type v.type_value)} {f = λ _. allocate unit number v.type_value} (lasting_change (grows_type v.type_value)) (λ _. lasting_bind {c = change (counted v.type_value)} {f = λ _. spend (size_of v.type_value) (change (made unit number v.type_value))} (lasting_change (grows_counted v.type_value)) (λ _. lasting_spend (size_of v.type_value) (lasting_change (grows_made unit number v.type_value)))))
+  lasting_make : (types : List UnitType) (number : ℕ) (v : UnitVariable) → Lasting (make g unit types number v) (make (g + j) unit types number v)
+  lasting_make types number v = lasting_bind (lasting_elaborated (type_of types (denoter_of v.denoter))) (λ t. lasting_allocate number t)
 
   -- variables
-  lasting_make_all : (number : ℕ) (vs : List UnitVariable) → Lasting (make_all g unit number vs) (make_all (g + j) unit number vs)
-  lasting_make_all number [] = lasting_give tt
-  lasting_make_all number (v ∷ vs) = lasting_bind (lasting_make number v) (λ _. lasting_make_all (suc number) vs)
+  lasting_make_all : (types : List UnitType) (number : ℕ) (vs : List UnitVariable) → Lasting (make_all g unit types number vs) (make_all (g + j) unit types number vs)
+  lasting_make_all types number [] = lasting_give tt
+  lasting_make_all types number (v ∷ vs) = lasting_bind (lasting_make types number v) (λ _. lasting_make_all types (suc number) vs)
 
 -- the start of a unit
 lasting_start_of : (g j : ℕ) (u : TypedUnit) → Lasting (start_of g u) (start_of (g + j) u)
-lasting_start_of g j u = lasting_spend 1 (lasting_bind (lasting_make_all g j u.name 0 u.variables) (λ _. lasting_exec g j u.name (stmt_of u.start)))
+lasting_start_of g j u = lasting_spend 1 (lasting_bind (lasting_make_all g j u.name u.types 0 u.variables) (λ _. lasting_exec g j u.name (stmt_of u.start)))
 
 -- the starts of units
 lasting_starts_of : (g j : ℕ) (us : List TypedUnit) → Lasting (starts_of g us) (starts_of (g + j) us)

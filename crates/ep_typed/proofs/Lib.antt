@@ -1,4 +1,7 @@
+pub mod Denoters
 pub mod Done
 pub mod Examples
+pub mod Forms
 pub mod Lasting
+pub mod Routines
 pub mod Steady

@@ -3,18 +3,20 @@ use Rattle.std.proofs.Common.{◌≡◌, ℕ, ℤ, pos, negsuc, zero, suc, ◌+�
 use Rattle.std.specs.Prelude.{if◌then◌else◌}
 use Rattle.std.specs.List.{list_any}
 use Rattle.ep_outside.specs.Known.{IsPrefix}
+use Rattle.ep_typed.specs.Denoters.{type_of}
 use Rattle.ep_typed.specs.Events.{Trace}
-use Rattle.ep_typed.specs.Meaning.{answered, place, eval, write_piece, write_wide, write_item, write_items, assign, turns, exec, exec_all, make, make_all, start_of, starts_of}
+use Rattle.ep_typed.specs.Meaning.{answered, place, eval, write_piece, write_wide, write_item, write_items, assign, turns, exec, exec_all, elaborated, make, make_all, start_of, starts_of}
 use Rattle.ep_typed.specs.Operations.{Answer, Number, Fault, is_true}
 use Rattle.ep_typed.specs.Printing.{Result, number_of, plain_text, wide_text, piece_events}
 use Rattle.ep_typed.specs.Printing as result
 use Rattle.ep_typed.specs.Steady.{Grows, Steady}
-use Rattle.ep_typed.specs.Steps.{End, Normal, Halted, Error, Word, State, Outcome, Gives, Ends, Cut, state_of, Computation, give, cut, stop, go_on, bind, spend, change, found, fetch, with_events, assigned, type_at, is_within, size_of, same_type, Resources, watched, words_of_type, met, with_type, counted, made, allocate}
-use Rattle.ep_typed.specs.Trees.{Place, Variable, Expr, Constant, Text, Read, One, Two, Step, Item, Plain, Wide, Stmt, Stmts, Empty, Compound, Assign, If, While, Halt, Write, none, next}
-use Rattle.ep_typed.specs.Viewed.{stmt_of}
+use Rattle.ep_typed.specs.Steps.{End, Normal, Halted, Error, Word, State, Outcome, Gives, Ends, Cut, state_of, Computation, give, cut, stop, go_on, bind, spend, change, found, fetch, with_events, assigned, type_at, is_within, size_of, same_type, Resources, watched, words_of_type, met, with_type, counted, made, allocate, standard_file}
+use Rattle.ep_typed.specs.Trees.{Place, Variable, Standard, Expr, Constant, Text, Read, One, Two, Step, Item, Plain, Wide, Stmt, Stmts, Empty, Compound, Assign, If, While, Halt, Write, none, next}
+use Rattle.ep_typed.specs.Viewed.{denoter_of, stmt_of}
 use Rattle.ep_typed.specs.declared.operations.Print.{Print}
-use Rattle.ep_typed.specs.declared.types.TypeValue.{TypeValue}
+use Rattle.ep_typed.specs.declared.value.TypeValue.{TypeValue}
 use Rattle.ep_typed.specs.declared.unit.Unit.{Unit as TypedUnit}
+use Rattle.ep_typed.specs.declared.unit.UnitType.{UnitType}
 use Rattle.ep_typed.specs.declared.unit.UnitVariable.{UnitVariable}
 use Rattle.ep_typed.specs.declared.run_error.TheConstants as run_error
 
@@ -138,6 +140,7 @@ module _ (g : ℕ) (unit : List ℕ) where
   -- a place
   pub steady_place : (line : ℕ) (p : Place) → Steady (place g unit line p)
   steady_place line (Variable u k) = steady_bind (steady_fetch _ _) (λ n. steady_spend 1 (steady_give n))
+  steady_place line (Standard file) = steady_spend 1 (steady_give (standard_file file))
 
   -- an expression
   pub steady_eval : (line : ℕ) (x : Expr) → Steady (eval g unit line x)
@@ -201,19 +204,23 @@ module _ (g : ℕ) (unit : List ℕ) where
     steady_exec_all none = steady_give tt
     steady_exec_all (next s ss) = steady_bind (steady_exec s) (λ _. steady_exec_all ss)
 
+  -- a type that is elaborated
+  pub steady_elaborated : (o : Option TypeValue) → Steady (elaborated g unit o)
+  steady_elaborated None = steady_cut
+  steady_elaborated (Some t) = steady_spend 1 (steady_bind {c = change (with_type t)} {f = λ _. give t} (steady_change (grows_type t)) (λ _. steady_give t))
+
   -- a variable of a type that is elaborated
-  pub steady_make : (number : ℕ) (v : UnitVariable) → Steady (make g unit number v)
-  steady_make number v =
-      steady_spend 1 (steady_bind {c = change (with_type v.type_value)} {f = λ _. allocate unit number v.type_value} (steady_change (grows_type v.type_value)) (λ _. steady_allocate unit number v.type_value))
+  pub steady_make : (types : List UnitType) (number : ℕ) (v : UnitVariable) → Steady (make g unit types number v)
+  steady_make types number v = steady_bind (steady_elaborated (type_of types (denoter_of v.denoter))) (λ t. steady_allocate unit number t)
 
   -- variables
-  pub steady_make_all : (number : ℕ) (vs : List UnitVariable) → Steady (make_all g unit number vs)
-  steady_make_all number [] = steady_give tt
-  steady_make_all number (v ∷ vs) = steady_bind (steady_make number v) (λ _. steady_make_all (suc number) vs)
+  pub steady_make_all : (types : List UnitType) (number : ℕ) (vs : List UnitVariable) → Steady (make_all g unit types number vs)
+  steady_make_all types number [] = steady_give tt
+  steady_make_all types number (v ∷ vs) = steady_bind (steady_make types number v) (λ _. steady_make_all types (suc number) vs)
 
 -- the start of a unit
 pub steady_start_of : (g : ℕ) (u : TypedUnit) → Steady (start_of g u)
-steady_start_of g u = steady_spend 1 (steady_bind (steady_make_all g u.name 0 u.variables) (λ _. steady_exec g u.name (stmt_of u.start)))
+steady_start_of g u = steady_spend 1 (steady_bind (steady_make_all g u.name u.types 0 u.variables) (λ _. steady_exec g u.name (stmt_of u.start)))
 
 -- the starts of units
 pub steady_starts_of : (g : ℕ) (us : List TypedUnit) → Steady (starts_of g us)

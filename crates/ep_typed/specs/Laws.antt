@@ -1,9 +1,13 @@
--- The laws of meanings.
-use Rattle.std.specs.Prelude.{◌≡◌, ℕ, ◌+◌, List}
+-- The laws of meanings and of denoters.
+use Rattle.std.specs.Prelude.{◌≡◌, ℕ, ◌+◌, List, Some}
+use Rattle.ep_typed.specs.Denoters.{IsInstance, type_of}
 use Rattle.ep_typed.specs.Meaning.{meaning}
 use Rattle.ep_typed.specs.Steady.{Grows}
 use Rattle.ep_typed.specs.Steps.{Outcome, Gives, Ends, Cut, state_of}
+use Rattle.ep_typed.specs.Trees.{Denoter}
 use Rattle.ep_typed.specs.declared.unit.Unit.{Unit as TypedUnit}
+use Rattle.ep_typed.specs.declared.unit.UnitType.{UnitType}
+use Rattle.ep_typed.specs.declared.value.TypeValue.{TypeValue}
 
 -- With so many more steps a computation that was not cut comes to the same, and they are left. One that was cut goes on from there.
 abbrev pub IsLonger : {A : Type 0} → ℕ → Outcome A → Outcome A → Type 0
@@ -14,3 +18,11 @@ IsLonger more (Cut s) o = Grows s (state_of o)
 -- a meaning that has ended ends so with more steps too, and one that has not goes on from there
 abbrev pub MeaningsLast : Type 0
 MeaningsLast = (units : List TypedUnit) (steps more : ℕ) → IsLonger more (meaning units steps) (meaning units (steps + more))
+
+-- what is found for a denoter is its type value
+abbrev pub TypesAreInstances : Type 0
+TypesAreInstances = (types : List UnitType) (d : Denoter) (v : TypeValue) → type_of types d ≡ Some v → IsInstance types d v
+
+-- a denoter has at most one type value
+abbrev pub InstancesAreOne : Type 0
+InstancesAreOne = (types : List UnitType) (d : Denoter) (v w : TypeValue) → IsInstance types d v → IsInstance types d w → v ≡ w

@@ -1,6 +1,9 @@
+pub mod Denoters
 pub mod Events
+pub mod Hosts
 pub mod Laws
 pub mod Meaning
+pub mod Nodes
 pub mod Operations
 pub mod Printing
 pub mod Steady

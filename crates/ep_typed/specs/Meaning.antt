@@ -1,14 +1,17 @@
 -- The meaning of typed trees, by recursion on them, in counted steps.
-use Rattle.std.specs.Prelude.{ℕ, ℤ, pos, negsuc, zero, suc, Bool, true, false, List, [], ◌∷◌, length, if◌then◌else◌}
-use Rattle.ep_typed.specs.Trees.{Place, Variable, Expr, Constant, Text, Read, One, Two, Step, Item, Plain, Wide, Stmt, Stmts, Empty, Compound, Assign, If, While, Halt, Write, none, next}
-use Rattle.ep_typed.specs.Viewed.{stmt_of}
-use Rattle.ep_typed.specs.Steps.{Normal, Halted, Error, Word, Outcome, Computation, give, cut, stop, bind, spend, change, fetch, with_events, word_at, assigned, type_at, is_within, with_type, allocate, first_state}
+use Rattle.std.specs.Prelude.{ℕ, ℤ, pos, negsuc, zero, suc, Bool, true, false, List, [], ◌∷◌, length, Option, Some, None, if◌then◌else◌}
+use Rattle.ep_typed.specs.Denoters.{type_of}
+use Rattle.ep_typed.specs.Trees.{Denoter, Place, Variable, Standard, Expr, Constant, Text, Read, One, Two, Step, Item, Plain, Wide, Stmt, Stmts, Empty, Compound, Assign, If, While, Halt, Write, none, next}
+use Rattle.ep_typed.specs.Viewed.{denoter_of, stmt_of}
+use Rattle.ep_typed.specs.Steps.{Normal, Halted, Error, Word, Outcome, Computation, give, cut, stop, bind, spend, change, fetch, with_events, word_at, assigned, type_at, is_within, with_type, allocate, standard_file, first_state}
 use Rattle.ep_typed.specs.Operations.{Answer, Number, Fault, unary_answer, binary_answer, step_answer, is_true}
 use Rattle.ep_typed.specs.Printing.{Result, Bytes, number_of, line_end, plain_text, wide_text, piece_events}
 use Rattle.ep_typed.specs.Printing as result
 use Rattle.ep_typed.specs.declared.operations.Print.{Print}
 use Rattle.ep_typed.specs.declared.run_error.TheConstants as run_error
+use Rattle.ep_typed.specs.declared.unit.UnitType.{UnitType}
 use Rattle.ep_typed.specs.declared.unit.UnitVariable.{UnitVariable}
+use Rattle.ep_typed.specs.declared.value.TypeValue.{TypeValue}
 use Rattle.ep_typed.specs.declared.unit.Unit.{Unit as TypedUnit}
 
 -- the steps that a result spends besides the one of its node: a text has its length
@@ -25,6 +28,7 @@ module _ (g : ℕ) (unit : List ℕ) where
   -- a place is an allocation; an undefined value where the variable is not made yet
   abbrev pub place : ℕ → Place → Computation ℕ
   place line (Variable u k) = bind (fetch (Error run_error.UNDEFINED_VALUE unit line) (λ s. s.variables u k)) (λ n. spend 1 (give n))
+  place line (Standard file) = spend 1 (give (standard_file file))
 
   -- an expression spends a step and its weight when it is done
   abbrev pub eval : ℕ → Expr → Computation Result
@@ -80,18 +84,27 @@ module _ (g : ℕ) (unit : List ℕ) where
     exec_all none = give tt
     exec_all (next s ss) = bind (exec s) (λ _. exec_all ss)
 
-  -- The type is elaborated, which spends a step for its node, and then the variable is made, which spends its size.
-  abbrev pub make : ℕ → UnitVariable → Computation (Unit {0})
-  make number v = spend 1 (bind (change (with_type v.type_value)) (λ _. allocate unit number v.type_value))
+  -- A type is elaborated, which spends a step for its node: constant bounds spend none, and a name spends what its
+  -- definition does. A denoter without a type value has no meaning, and no valid unit has one.
+  abbrev pub elaborated : Option TypeValue → Computation TypeValue
+  elaborated None = cut
+  elaborated (Some t) = spend 1 (bind (change (with_type t)) (λ _. give t))
+
+  abbrev pub elaborate : List UnitType → Denoter → Computation TypeValue
+  elaborate types d = elaborated (type_of types d)
+
+  -- its type is elaborated, and then the variable is made, which spends its size
+  abbrev pub make : List UnitType → ℕ → UnitVariable → Computation (Unit {0})
+  make types number v = bind (elaborate types (denoter_of v.denoter)) (λ t. allocate unit number t)
 
   -- the variables from this number on, in order
-  abbrev pub make_all : ℕ → List UnitVariable → Computation (Unit {0})
-  make_all number [] = give tt
-  make_all number (v ∷ vs) = bind (make number v) (λ _. make_all (suc number) vs)
+  abbrev pub make_all : List UnitType → ℕ → List UnitVariable → Computation (Unit {0})
+  make_all types number [] = give tt
+  make_all types number (v ∷ vs) = bind (make types number v) (λ _. make_all types (suc number) vs)
 
 -- The start of a unit spends the step of a call, makes its variables, and runs its block.
 abbrev pub start_of : ℕ → TypedUnit → Computation (Unit {0})
-start_of g u = spend 1 (bind (make_all g u.name 0 u.variables) (λ _. exec g u.name (stmt_of u.start)))
+start_of g u = spend 1 (bind (make_all g u.name u.types 0 u.variables) (λ _. exec g u.name (stmt_of u.start)))
 
 -- the starts of units in order
 abbrev pub starts_of : ℕ → List TypedUnit → Computation (Unit {0})

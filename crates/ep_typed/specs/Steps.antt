@@ -5,8 +5,10 @@ use Rattle.std.specs.Str.{bytes_eq}
 use Rattle.std.specs.Prelude.{int_le}
 use Rattle.ep_typed.specs.Events.{Trace}
 use Rattle.ep_typed.specs.Operations.{maxint, last_char}
-use Rattle.ep_typed.specs.declared.types.TypeValue.{TypeValue}
-use Rattle.ep_typed.specs.declared.types.TypeValue.TheVariants.{Ordinal, Text}
+use Rattle.ep_typed.specs.declared.tree.StandardFile.{StandardFile}
+use Rattle.ep_typed.specs.declared.tree.StandardFile.TheVariants.{Input, Output}
+use Rattle.ep_typed.specs.declared.value.TypeValue.{TypeValue}
+use Rattle.ep_typed.specs.declared.value.TypeValue.TheVariants.{Ordinal, Text}
 
 -- how a run ends
 pub data End : Type 0 where
@@ -204,6 +206,11 @@ made unit number t s =
 -- A variable is made: its words are counted, and then it is there, which spends its size. So room is lost before the steps that it is wanted for.
 abbrev pub allocate : List ℕ → ℕ → TypeValue → Computation (Unit {0})
 allocate unit number t = bind (change (counted t)) (λ _. spend (size_of t) (change (made unit number t)))
+
+-- the allocation of a standard file
+abbrev pub standard_file : StandardFile → ℕ
+standard_file Input = 1
+standard_file Output = 2
 
 -- the state before the first unit is started: `input` and `output` are there
 abbrev pub first_state : State

@@ -3,10 +3,26 @@ use Rattle.std.specs.Prelude.{ℕ, ℤ, Bool, List, [], ◌∷◌}
 use Rattle.ep_typed.specs.declared.operations.Unary.{Unary}
 use Rattle.ep_typed.specs.declared.operations.Binary.{Binary}
 use Rattle.ep_typed.specs.declared.operations.Print.{Print}
+use Rattle.ep_typed.specs.declared.denoter.RequiredType.{RequiredType}
+use Rattle.ep_typed.specs.declared.tree.StandardFile.{StandardFile}
 
--- where a variable is: the variable of this number of the unit of this name
+-- a bound of a type: a constant, by its ordinal number
+pub data Bound : Type 0 where
+  Fixed : (value : ℤ) → Bound
+
+-- a type denoter (ISO 10206, 6.4.1)
+pub data Denoter : Type 0 where
+  Required : (required : RequiredType) → Denoter
+  -- the type at this place of a list of types, with the bounds of its tuple
+  Named : (index : ℕ) (tuple : List Bound) → Denoter
+  Subrange : (host : Denoter) (low high : Bound) → Denoter
+  Enumeration : (names : List (List ℕ)) → Denoter
+
+-- where a variable is
 pub data Place : Type 0 where
+  -- the variable of this number of the unit of this name
   Variable : (unit : List ℕ) (number : ℕ) → Place
+  Standard : (file : StandardFile) → Place
 
 -- an expression
 pub data Expr : Type 0 where

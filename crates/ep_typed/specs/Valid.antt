@@ -1,19 +1,28 @@
 -- Which typed trees the static rules give: each form has parts of the kinds, types and numbers that it asks for.
-use Rattle.std.specs.Prelude.{◌≡◌, ℕ, ℤ, pos, neg_ℤ, Bool, true, false, ◌&&◌, List, [], ◌∷◌, slice_get, Option, Some, None, IsTrue, int_le, ⊤, if◌then◌else◌}
+use Rattle.std.specs.Prelude.{◌≡◌, ℕ, Bool, true, false, All, List, [], ◌∷◌, map, slice_get, Option, Some, None, IsTrue, int_le, ⊤, if◌then◌else◌}
 use Rattle.std.specs.Str.{bytes_eq}
-use Rattle.ep_typed.specs.Operations.{maxint, last_char, is_integer}
-use Rattle.ep_typed.specs.Trees.{Place, Variable, Expr, Constant, Text, Read, One, Two, Step, Item, Plain, Wide, Stmt, Stmts, Empty, Compound, Assign, If, While, Halt, Write, none, next}
-use Rattle.ep_typed.specs.Viewed.{stmt_of}
+use Rattle.ep_typed.specs.Denoters.{definition_of, type_of, host_of}
+use Rattle.ep_typed.specs.Hosts.{Host, least, greatest, is_of_host}
+use Rattle.ep_typed.specs.Hosts as host
+use Rattle.ep_typed.specs.Operations.{is_integer}
+use Rattle.ep_typed.specs.Steps.{is_within}
+use Rattle.ep_typed.specs.Trees.{Denoter, Place, Variable, Standard, Expr, Constant, Text, Read, One, Two, Step, Item, Plain, Wide, Stmt, Stmts, Empty, Compound, Assign, If, While, Halt, Write, none, next}
+use Rattle.ep_typed.specs.Viewed.{denoter_of, stmt_of}
 use Rattle.ep_typed.specs.declared.operations.Unary.{Unary}
 use Rattle.ep_typed.specs.declared.operations.Unary.TheVariants as unary
 use Rattle.ep_typed.specs.declared.operations.Binary.{Binary}
 use Rattle.ep_typed.specs.declared.operations.Binary.TheVariants as binary
 use Rattle.ep_typed.specs.declared.operations.Print.{Print}
 use Rattle.ep_typed.specs.declared.operations.Print.TheVariants as print
-use Rattle.ep_typed.specs.declared.types.Host.{Host}
-use Rattle.ep_typed.specs.declared.types.Host.TheVariants as host
-use Rattle.ep_typed.specs.declared.types.TypeValue.{TypeValue}
-use Rattle.ep_typed.specs.declared.types.TypeValue.TheVariants as type
+use Rattle.ep_typed.specs.declared.interface.ConstantEntry.{ConstantEntry}
+use Rattle.ep_typed.specs.declared.interface.RoutineEntry.{RoutineEntry}
+use Rattle.ep_typed.specs.declared.value.TypeValue.{TypeValue}
+use Rattle.ep_typed.specs.declared.value.TypeValue.TheVariants as type
+use Rattle.ep_typed.specs.declared.value.Value.{Value}
+use Rattle.ep_typed.specs.declared.value.Value.TheVariants as value
+use Rattle.ep_typed.specs.declared.unit.UnitRoutine.{UnitRoutine}
+use Rattle.ep_typed.specs.declared.unit.UnitRoutine.TheViews.{out-UnitRoutine}
+use Rattle.ep_typed.specs.declared.unit.UnitType.{UnitType}
 use Rattle.ep_typed.specs.declared.unit.UnitVariable.{UnitVariable}
 use Rattle.ep_typed.specs.declared.unit.Unit.{Unit as TypedUnit}
 
@@ -22,30 +31,14 @@ pub data Kind : Type 0 where
   Ordinal : (host : Host) → Kind
   Bytes : Kind
 
--- the least and the greatest value of a host
-abbrev pub least : Host → ℤ
-least host.Integer = neg_ℤ (pos maxint)
-least host.Char = pos 0
-least host.Boolean = pos 0
-least (host.Enumeration last) = pos 0
-
-abbrev pub greatest : Host → ℤ
-greatest host.Integer = pos maxint
-greatest host.Char = pos last_char
-greatest host.Boolean = pos 1
-greatest (host.Enumeration last) = pos last
-
--- the number is a value of the host
-abbrev pub is_of_host : Host → ℤ → Bool
-is_of_host h z = int_le (least h) z && int_le z (greatest h)
-
--- the units whose variables may be named, by name
-abbrev pub Declarations : Type 0
-Declarations = List ℕ → ℕ → Option UnitVariable
-
-abbrev pub host_of : Option UnitVariable → Option Host
-host_of None = None
-host_of (Some v) = Some v.host
+-- what the units whose declarations may be named declare, by the unit's name
+pub record Declarations : Type 0 where
+  -- the variable of this number of the unit
+  pub variables : List ℕ → ℕ → Option UnitVariable
+  -- the types of the unit, in which its denoters name
+  pub types : List ℕ → List UnitType
+  pub constants : List ℕ → List ConstantEntry
+  pub routines : List ℕ → List RoutineEntry
 
 -- the kinds of an operation's operand and result; a value of which the number is taken is of a host whose numbers are integers
 abbrev pub IsUnary : Unary → Kind → Kind → Type 0
@@ -92,9 +85,10 @@ printed_kind print.Boolean = Ordinal host.Boolean
 printed_kind print.Text = Bytes
 
 module _ (declared : Declarations) where
-  -- the place of a variable that is declared, whose type has this host
+  -- the place of a variable that is declared, whose type has this host; a standard file is of no ordinal type
   abbrev pub IsPlace : Host → Place → Type 0
-  IsPlace h (Variable unit number) = host_of (declared unit number) ≡ Some h
+  IsPlace h (Variable unit number) = (v : UnitVariable) × (declared.variables unit number ≡ Some v) × (host_of (declared.types unit) (denoter_of v.denoter) ≡ Some h)
+  IsPlace h (Standard file) = ⊥
 
   -- an expression of this kind
   abbrev pub IsExpr : Kind → Expr → Type 0
@@ -138,15 +132,58 @@ abbrev pub IsTypeOf : Host → TypeValue → Type 0
 IsTypeOf h (type.Ordinal low high) = IsTrue (int_le low high) × IsTrue (is_of_host h low) × IsTrue (is_of_host h high) × IsTrue (is_integer low) × IsTrue (is_integer high)
 IsTypeOf h type.Text = ⊥
 
-abbrev pub AreVariables : List UnitVariable → Type 0
-AreVariables [] = ⊤
-AreVariables (v ∷ vs) = IsTypeOf v.host v.type_value × AreVariables vs
+-- under a list of types the denoter has a host, and a type value that is a type of it
+pub record IsDenoter (types : List UnitType) (d : Denoter) : Type 0 where
+  pub host : Host
+  pub has_host : host_of types d ≡ Some host
+  pub type_value : TypeValue
+  pub has_type : type_of types d ≡ Some type_value
+  pub is_type : IsTypeOf host type_value
 
--- the variables of one unit alone
+-- The value is one of the type. A text is of none so far.
+abbrev pub IsValue : TypeValue → Value → Type 0
+IsValue t (value.Word w) = IsTrue (is_within t w)
+IsValue t (value.Text bytes) = ⊥
+
+-- a type that is no schema, of a valid denoter
+pub record IsType (types : List UnitType) (t : UnitType) : Type 0 where
+  pub formals : t.entry.formals ≡ []
+  pub denoter : IsDenoter types (definition_of t)
+
+-- a constant that is a value of its type
+pub record IsConstant (types : List UnitType) (c : ConstantEntry) : Type 0 where
+  pub denoter : IsDenoter types (denoter_of c.denoter)
+  pub value : IsValue denoter.type_value c.value
+
+-- a variable of a valid denoter without discriminants
+pub record IsVariable (types : List UnitType) (v : UnitVariable) : Type 0 where
+  pub denoter : IsDenoter types (denoter_of v.denoter)
+  pub tuple : v.tuple ≡ []
+
+-- the heading of a routine
+abbrev pub heading_of : UnitRoutine → RoutineEntry
+heading_of r = let parts = out-UnitRoutine r in record { name = parts.name; formals = parts.formals; result = parts.result }
+
+-- what the unit of this name has, and nothing of another one
+abbrev pub own_list : {A : Type 0} → List ℕ → List A → List ℕ → List A
+own_list name items unit = if bytes_eq name unit then items else []
+
+-- the declarations of one unit alone
 abbrev pub own : TypedUnit → Declarations
-own u = λ unit number. if bytes_eq u.name unit then slice_get u.variables number else None
+own u =
+    record {
+      variables = λ unit number. if bytes_eq u.name unit then slice_get u.variables number else None;
+      types = own_list u.name u.types;
+      constants = own_list u.name u.constants;
+      routines = own_list u.name (map heading_of u.routines);
+    }
 
--- a unit that names no other one
+-- a unit that names no other one, and so far has no interface, no routine and nothing to do when it is stopped
 pub record IsValid (u : TypedUnit) : Type 0 where
-  pub variables : AreVariables u.variables
+  pub interface : u.interface ≡ None
+  pub types : All (IsType u.types) u.types
+  pub constants : All (IsConstant u.types) u.constants
+  pub variables : All (IsVariable u.types) u.variables
+  pub routines : u.routines ≡ []
   pub start : IsStmt (own u) (stmt_of u.start)
+  pub stop : stmt_of u.stop ≡ Empty

@@ -1,9 +1,15 @@
 -- The plain data of the code's typed trees.
 use Rattle.std.specs.Prelude.{Option, None, Some, map}
 use Rattle.ep_typed.specs.Trees as tree
+use Rattle.ep_typed.specs.declared.denoter.Bound.{Bound}
+use Rattle.ep_typed.specs.declared.denoter.Bound.TheVariants.{Constant}
+use Rattle.ep_typed.specs.declared.denoter.Denoter.{Denoter}
+use Rattle.ep_typed.specs.declared.denoter.Denoter.TheOpen as denoter
+use Rattle.ep_typed.specs.declared.denoter.Denoter.TheOpen.{Denoter-F}
+use Rattle.ep_typed.specs.declared.denoter.Denoter.TheFolds.{fold-Denoter}
 use Rattle.ep_typed.specs.declared.operations.Print.{Print}
 use Rattle.ep_typed.specs.declared.tree.TypedPlace.{TypedPlace}
-use Rattle.ep_typed.specs.declared.tree.TypedPlace.TheVariants.{Variable}
+use Rattle.ep_typed.specs.declared.tree.TypedPlace.TheVariants.{Variable, Standard}
 use Rattle.ep_typed.specs.declared.tree.TypedExpr.{TypedExpr}
 use Rattle.ep_typed.specs.declared.tree.TypedExpr.TheOpen as expr
 use Rattle.ep_typed.specs.declared.tree.TypedExpr.TheOpen.{TypedExpr-F}
@@ -14,8 +20,21 @@ use Rattle.ep_typed.specs.declared.tree.TypedStmt.TheOpen as stmt
 use Rattle.ep_typed.specs.declared.tree.TypedStmt.TheOpen.{TypedStmt-F}
 use Rattle.ep_typed.specs.declared.tree.TypedStmt.TheFolds.{fold-TypedStmt}
 
+abbrev pub bound_of : Bound → tree.Bound
+bound_of (Constant value) = tree.Fixed value
+
+abbrev pub denoter_step : Denoter-F tree.Denoter → tree.Denoter
+denoter_step (denoter.Required required) = tree.Required required
+denoter_step (denoter.Named index tuple) = tree.Named index (map bound_of tuple)
+denoter_step (denoter.Subrange host low high) = tree.Subrange host (bound_of low) (bound_of high)
+denoter_step (denoter.Enumeration names) = tree.Enumeration names
+
+abbrev pub denoter_of : Denoter → tree.Denoter
+denoter_of = fold-Denoter tree.Denoter denoter_step
+
 abbrev pub place_of : TypedPlace → tree.Place
 place_of (Variable unit number) = tree.Variable unit number
+place_of (Standard file) = tree.Standard file
 
 abbrev pub expr_step : TypedExpr-F tree.Expr → tree.Expr
 expr_step (expr.Constant value) = tree.Constant value

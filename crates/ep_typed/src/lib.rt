@@ -1,20 +1,33 @@
 //! Typed programs and what they mean.
 //!
 //! specs/Events.antt has the events by which a run changes the outside, and what it says that some of them
-//! were done: every meaning of this project is a trace of these events and an end. specs/Meaning.antt has
-//! the meaning of typed trees, by recursion on them, in steps that are counted; specs/Valid.antt says which
-//! trees the static rules give.
+//! were done: every meaning of this project is a trace of these events and an end. specs/Denoters.antt says
+//! which type a denoter has, specs/Meaning.antt has the meaning of typed trees, by recursion on them, in steps
+//! that are counted; specs/Valid.antt says which trees the static rules give, and specs/Nodes.antt counts them.
 #![tactic(auto)]
 
+mod denoter;
+mod interface;
 mod laws;
+mod nodes;
 mod operations;
 pub mod run_error;
 mod tree;
-mod types;
 mod unit;
+mod value;
 
-pub use laws::laws_of_meanings;
+pub use denoter::{Bound, Bounds, Denoter, RequiredType, type_of};
+pub use interface::{
+    ConstantEntries, ConstantEntry, Constituent, ConstituentKind, Constituents, ExportEntries,
+    ExportEntry, Formal, FormalMode, Formals, ImportSpec, ImportSpecs, Interface, NamePair,
+    NamePairs, RoutineEntries, RoutineEntry, RoutineResult, SchemaFormal, SchemaFormals,
+    TypeEntries, TypeEntry, VariableEntries, VariableEntry,
+};
+pub use laws::{laws_of_denoters, laws_of_meanings};
+pub use nodes::unit_nodes;
 pub use operations::{Binary, Print, Unary};
-pub use tree::{TypedExpr, TypedPlace, TypedStmt, WriteItem};
-pub use types::{Host, TypeValue};
-pub use unit::{Unit, UnitVariable, UnitVariables};
+pub use tree::{
+    StandardFile, TypedExpr, TypedExprs, TypedPlace, TypedStmt, TypedStmts, WriteItem, WriteItems,
+};
+pub use unit::{Unit, UnitRoutine, UnitRoutines, UnitType, UnitTypes, UnitVariable, UnitVariables};
+pub use value::{TypeValue, Value};

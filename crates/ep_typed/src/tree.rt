@@ -3,11 +3,30 @@
 use crate::operations::{Binary, Print, Unary};
 use ep_base::{Boxed, Bytes, Line, List, Name};
 
+/// A standard file (ISO 10206, 6.10 and 6.12).
+#[derive(Clone, Copy, Drop)]
+pub enum StandardFile {
+    /// `input`
+    Input,
+    /// `output`
+    Output,
+}
+
 /// A place, which is where a variable is (ISO 10206, 6.5.1).
-#[derive(Drop)]
 pub enum TypedPlace {
     /// The variable of this number of the unit of this name.
     Variable(Name, u32),
+    /// A standard file.
+    Standard(StandardFile),
+}
+
+impl Drop for TypedPlace {
+    fn drop(self) {
+        match self {
+            TypedPlace::Variable(_, _) => {}
+            TypedPlace::Standard(_) => {}
+        }
+    }
 }
 
 /// An expression (ISO 10206, 6.8.1).
@@ -28,16 +47,31 @@ pub enum TypedExpr {
     Step(bool, i64, i64, Boxed<TypedExpr>, Boxed<TypedExpr>),
 }
 
+/// An owned list of expressions.
+pub type TypedExprs = List<TypedExpr>;
+
 /// An expression that is written, and its width where there is one.
-#[derive(Drop)]
 pub struct WriteItem {
     /// How it is printed.
     pub print: Print,
     /// The value.
-    pub value: TypedExpr,
+    pub value: Boxed<TypedExpr>,
     /// The total width.
-    pub width: Option<TypedExpr>,
+    pub width: Option<Boxed<TypedExpr>>,
 }
+
+impl Drop for WriteItem {
+    fn drop(self) {
+        let WriteItem {
+            print: _,
+            value: _,
+            width: _,
+        } = self;
+    }
+}
+
+/// The values that a statement writes, in order.
+pub type WriteItems = List<WriteItem>;
 
 /// A statement, with the line of its first token (ISO 10206, 6.9.1).
 #[derive(Drop)]
@@ -45,15 +79,18 @@ pub enum TypedStmt {
     /// The empty statement.
     Empty,
     /// Statements in order.
-    Compound(List<TypedStmt>),
+    Compound(TypedStmts),
     /// An assignment.
-    Assign(Line, TypedPlace, TypedExpr),
+    Assign(Line, TypedPlace, Boxed<TypedExpr>),
     /// `if`; a missing `else` is the empty statement.
-    If(Line, TypedExpr, Boxed<TypedStmt>, Boxed<TypedStmt>),
+    If(Line, Boxed<TypedExpr>, Boxed<TypedStmt>, Boxed<TypedStmt>),
     /// `while`
-    While(Line, TypedExpr, Boxed<TypedStmt>),
+    While(Line, Boxed<TypedExpr>, Boxed<TypedStmt>),
     /// `halt`
     Halt(Line),
     /// `write`, or with the flag `writeln`, to `output`.
-    Write(Line, List<WriteItem>, bool),
+    Write(Line, WriteItems, bool),
 }
+
+/// Statements in order.
+pub type TypedStmts = List<TypedStmt>;

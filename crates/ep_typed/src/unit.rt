@@ -1,44 +1,120 @@
 //! Typed units.
 
-use crate::tree::TypedStmt;
-use crate::types::{Host, TypeValue};
+use crate::denoter::Denoter;
+use crate::interface::{
+    ConstantEntries, Formals, ImportSpecs, Interface, RoutineResult, TypeEntry,
+};
+use crate::tree::{TypedExprs, TypedStmt};
 use ep_base::{Line, List, Name};
 
-/// A variable of a unit, with the line of its declaration.
-#[derive(Drop)]
+/// A type of a unit, or one of another unit that it reaches through names.
+pub struct UnitType {
+    /// What it is.
+    pub entry: TypeEntry,
+    /// The line of its definition, where the unit writes it.
+    pub line: Option<Line>,
+}
+
+impl Drop for UnitType {
+    fn drop(self) {
+        let UnitType { entry: _, line: _ } = self;
+    }
+}
+
+/// The types of a unit, in which its denoters name.
+pub type UnitTypes = List<UnitType>;
+
+/// A variable of a unit or a routine (ISO 10206, 6.5.1).
 pub struct UnitVariable {
     /// Its name.
     pub name: Name,
     /// The line of its declaration.
     pub line: Line,
-    /// The host of its type.
-    pub host: Host,
+    /// The number of its declaration.
+    pub declaration: u32,
     /// Its type.
-    pub type_value: TypeValue,
+    pub denoter: Denoter,
+    /// The discriminant values of its type, which are evaluated once for the whole declaration.
+    pub tuple: TypedExprs,
+    /// Whether it is a program parameter.
+    pub parameter: bool,
 }
 
-/// The variables of a unit, by number.
+impl Drop for UnitVariable {
+    fn drop(self) {
+        let UnitVariable {
+            name: _,
+            line: _,
+            declaration: _,
+            denoter: _,
+            tuple: _,
+            parameter: _,
+        } = self;
+    }
+}
+
+/// The variables of a unit or a routine, by number.
 pub type UnitVariables = List<UnitVariable>;
 
-/// A whole unit.
+/// A procedure or a function of a unit (ISO 10206, 6.7.1 and 6.7.2).
+#[derive(Drop)]
+pub struct UnitRoutine {
+    /// Its name.
+    pub name: Name,
+    /// The line of its declaration.
+    pub line: Line,
+    /// Its formal parameters.
+    pub formals: Formals,
+    /// The result, where it is a function.
+    pub result: Option<RoutineResult>,
+    /// Its own variables.
+    pub variables: UnitVariables,
+    /// The routines that are declared in it.
+    pub routines: UnitRoutines,
+    /// What it does.
+    pub block: TypedStmt,
+}
+
+/// The routines of a unit or a routine, by number.
+pub type UnitRoutines = List<UnitRoutine>;
+
+/// A whole unit (ISO 10206, 6.11.1 and 6.12).
 pub struct Unit {
     /// Its name.
     pub name: Name,
-    /// The line of its block.
-    pub line: Line,
+    /// Whether it is a program.
+    pub program: bool,
+    /// What other units may use of it, where it is a module.
+    pub interface: Option<Interface>,
+    /// What it imports.
+    pub imports: ImportSpecs,
+    /// Its types, in which its denoters name.
+    pub types: UnitTypes,
+    /// Its constants.
+    pub constants: ConstantEntries,
     /// Its variables, in the order in which they are made.
     pub variables: UnitVariables,
+    /// Its routines.
+    pub routines: UnitRoutines,
     /// What it does when it is started. For a program this is its block.
     pub start: TypedStmt,
+    /// What it does when it is stopped.
+    pub stop: TypedStmt,
 }
 
 impl Drop for Unit {
     fn drop(self) {
         let Unit {
             name: _,
-            line: _,
+            program: _,
+            interface: _,
+            imports: _,
+            types: _,
+            constants: _,
             variables: _,
+            routines: _,
             start: _,
+            stop: _,
         } = self;
     }
 }

@@ -1,0 +1,84 @@
+-- Which type value and which host a denoter has, under the list of types in which it names.
+use Rattle.std.specs.Prelude.{◌≡◌, ℕ, ℤ, pos, neg_ℤ, zero, suc, List, [], ◌∷◌, length, slice_get, Option, Some, None}
+use Rattle.ep_typed.specs.Hosts as host
+use Rattle.ep_typed.specs.Hosts.{Host}
+use Rattle.ep_typed.specs.Operations.{maxint, last_char}
+use Rattle.ep_typed.specs.Trees.{Bound, Fixed, Denoter, Required, Named, Subrange, Enumeration}
+use Rattle.ep_typed.specs.Viewed.{denoter_of}
+use Rattle.ep_typed.specs.declared.denoter.RequiredType.{RequiredType}
+use Rattle.ep_typed.specs.declared.denoter.RequiredType.TheVariants as simple
+use Rattle.ep_typed.specs.declared.unit.UnitType.{UnitType}
+use Rattle.ep_typed.specs.declared.value.TypeValue.{TypeValue}
+use Rattle.ep_typed.specs.declared.value.TypeValue.TheVariants.{Ordinal}
+
+-- the type value of a required type (ISO 10206, 6.4.2.2)
+abbrev pub required_type : RequiredType → TypeValue
+required_type simple.Integer = Ordinal (neg_ℤ (pos maxint)) (pos maxint)
+required_type simple.Char = Ordinal (pos 0) (pos last_char)
+required_type simple.Boolean = Ordinal (pos 0) (pos 1)
+
+-- the denoter of a type in the list
+abbrev pub definition_of : UnitType → Denoter
+definition_of t = denoter_of t.entry.denoter
+
+-- The denoter has the type value: a required type its own, a name that of what it is defined as, a subrange its
+-- bounds, and an enumeration of one name or more the ordinal numbers of its constants.
+pub data IsInstance (types : List UnitType) : Denoter → TypeValue → Type 0 where
+  required : (r : RequiredType) → IsInstance types (Required r) (required_type r)
+  named : (index : ℕ) (t : UnitType) {v : TypeValue} → slice_get types index ≡ Some t → IsInstance types (definition_of t) v → IsInstance types (Named index []) v
+  subrange : (host : Denoter) (low high : ℤ) → IsInstance types (Subrange host (Fixed low) (Fixed high)) (Ordinal low high)
+  enumeration : (first : List ℕ) (others : List (List ℕ)) → IsInstance types (Enumeration (first ∷ others)) (Ordinal (pos 0) (pos (length others)))
+
+-- the type value of a subrange whose bounds are constants
+abbrev pub subrange_type : Bound → Bound → Option TypeValue
+subrange_type (Fixed low) (Fixed high) = Some (Ordinal low high)
+
+-- the type value and the host of an enumeration, which has a name
+abbrev pub enumeration_type : List (List ℕ) → Option TypeValue
+enumeration_type [] = None
+enumeration_type (first ∷ others) = Some (Ordinal (pos 0) (pos (length others)))
+
+abbrev pub enumeration_host : List (List ℕ) → Option Host
+enumeration_host [] = None
+enumeration_host (first ∷ others) = Some (host.Enumeration (length others))
+
+-- what is found of the definition of a name, where the list has it
+abbrev pub found_of : {A : Type 0} → (Denoter → Option A) → Option UnitType → Option A
+found_of find None = None
+found_of find (Some t) = find (definition_of t)
+
+module _ (types : List UnitType) where
+  -- the type value of a denoter, by that of the definition where it is a name
+  abbrev pub type_step : (Denoter → Option TypeValue) → Denoter → Option TypeValue
+  type_step find (Required r) = Some (required_type r)
+  type_step find (Named index []) = found_of find (slice_get types index)
+  type_step find (Named index (b ∷ bs)) = None
+  type_step find (Subrange host low high) = subrange_type low high
+  type_step find (Enumeration names) = enumeration_type names
+
+  -- the host of a denoter, likewise
+  abbrev pub host_step : (Denoter → Option Host) → Denoter → Option Host
+  host_step find (Required simple.Integer) = Some host.Integer
+  host_step find (Required simple.Char) = Some host.Char
+  host_step find (Required simple.Boolean) = Some host.Boolean
+  host_step find (Named index []) = found_of find (slice_get types index)
+  host_step find (Named index (b ∷ bs)) = None
+  host_step find (Subrange of low high) = host_step find of
+  host_step find (Enumeration names) = enumeration_host names
+
+  -- at most so many denoters are looked at, each but the first the definition of the name before it
+  abbrev pub type_within : ℕ → Denoter → Option TypeValue
+  type_within zero d = None
+  type_within (suc n) d = type_step (type_within n) d
+
+  abbrev pub host_within : ℕ → Denoter → Option Host
+  host_within zero d = None
+  host_within (suc n) d = host_step (host_within n) d
+
+  -- the type value of a denoter, where it has one; names that lead back to themselves have none
+  abbrev pub type_of : Denoter → Option TypeValue
+  type_of = type_within (suc (length types))
+
+  -- the host of a denoter, where it has one
+  abbrev pub host_of : Denoter → Option Host
+  host_of = host_within (suc (length types))

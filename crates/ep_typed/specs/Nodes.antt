@@ -1,0 +1,112 @@
+-- How many typed nodes a unit has: its expressions, places, statements, imports, routines, formals, variables, denoters, bounds and values. An expression that is a constant or a text counts one, and its value one more.
+use Rattle.std.specs.Prelude.{ℕ, ◌+◌, List, [], ◌∷◌, length, map, sum, Option, Some, None}
+use Rattle.ep_typed.specs.Trees.{Denoter, Required, Named, Subrange, Enumeration, Place, Variable, Standard, Expr, Constant, Text, Read, One, Two, Step, Item, Plain, Wide, Stmt, Stmts, Empty, Compound, Assign, If, While, Halt, Write, none, next}
+use Rattle.ep_typed.specs.Viewed.{denoter_of, expr_of, stmt_of}
+use Rattle.ep_typed.specs.declared.interface.ConstantEntry.{ConstantEntry}
+use Rattle.ep_typed.specs.declared.interface.Formal.{Formal}
+use Rattle.ep_typed.specs.declared.interface.RoutineResult.{RoutineResult}
+use Rattle.ep_typed.specs.declared.interface.SchemaFormal.{SchemaFormal}
+use Rattle.ep_typed.specs.declared.tree.TypedExpr.{TypedExpr}
+use Rattle.ep_typed.specs.declared.unit.Unit.{Unit as TypedUnit}
+use Rattle.ep_typed.specs.declared.unit.UnitRoutine.{UnitRoutine}
+use Rattle.ep_typed.specs.declared.unit.UnitRoutine.TheOpen.{UnitRoutine-F}
+use Rattle.ep_typed.specs.declared.unit.UnitRoutine.TheFolds.{fold-UnitRoutine}
+use Rattle.ep_typed.specs.declared.unit.UnitType.{UnitType}
+use Rattle.ep_typed.specs.declared.unit.UnitVariable.{UnitVariable}
+
+-- ---- types
+
+-- a denoter, those in it, and their bounds
+abbrev pub denoter_nodes : Denoter → ℕ
+denoter_nodes (Required required) = 1
+denoter_nodes (Named index tuple) = 1 + length tuple
+denoter_nodes (Subrange host low high) = 3 + denoter_nodes host
+denoter_nodes (Enumeration names) = 1
+
+-- ---- expressions
+
+abbrev pub place_nodes : Place → ℕ
+place_nodes (Variable unit number) = 1
+place_nodes (Standard file) = 1
+
+abbrev pub expr_nodes : Expr → ℕ
+expr_nodes (Constant value) = 2
+expr_nodes (Text bytes) = 2
+expr_nodes (Read place) = 1 + place_nodes place
+expr_nodes (One operation x) = 1 + expr_nodes x
+expr_nodes (Two operation x y) = 1 + expr_nodes x + expr_nodes y
+expr_nodes (Step down low high x y) = 1 + expr_nodes x + expr_nodes y
+
+-- ---- statements
+
+abbrev pub item_nodes : Item → ℕ
+item_nodes (Plain print x) = expr_nodes x
+item_nodes (Wide print x w) = expr_nodes x + expr_nodes w
+
+abbrev pub items_nodes : List Item → ℕ
+items_nodes [] = 0
+items_nodes (i ∷ is) = item_nodes i + items_nodes is
+
+abbrev mutual
+  pub stmt_nodes : Stmt → ℕ
+  stmt_nodes Empty = 1
+  stmt_nodes (Compound ss) = 1 + stmts_nodes ss
+  stmt_nodes (Assign line p x) = 1 + place_nodes p + expr_nodes x
+  stmt_nodes (If line x a b) = 1 + expr_nodes x + stmt_nodes a + stmt_nodes b
+  stmt_nodes (While line x s) = 1 + expr_nodes x + stmt_nodes s
+  stmt_nodes (Halt line) = 1
+  stmt_nodes (Write line items ends_line) = 1 + items_nodes items
+
+  pub stmts_nodes : Stmts → ℕ
+  stmts_nodes none = 0
+  stmts_nodes (next s ss) = stmt_nodes s + stmts_nodes ss
+
+-- ---- declarations
+
+-- a formal discriminant, and its denoter
+abbrev pub schema_formal_nodes : SchemaFormal → ℕ
+schema_formal_nodes f = 1 + denoter_nodes (denoter_of f.denoter)
+
+-- the formals and the denoter of a type
+abbrev pub type_nodes : UnitType → ℕ
+type_nodes t = sum (map schema_formal_nodes t.entry.formals) + denoter_nodes (denoter_of t.entry.denoter)
+
+-- the denoter of a constant, and its value
+abbrev pub constant_nodes : ConstantEntry → ℕ
+constant_nodes c = denoter_nodes (denoter_of c.denoter) + 1
+
+-- an expression of the code
+abbrev pub typed_expr_nodes : TypedExpr → ℕ
+typed_expr_nodes x = expr_nodes (expr_of x)
+
+-- a variable, its denoter, and its discriminant values
+abbrev pub variable_nodes : UnitVariable → ℕ
+variable_nodes v = 1 + denoter_nodes (denoter_of v.denoter) + sum (map typed_expr_nodes v.tuple)
+
+-- a formal parameter, and its denoter
+abbrev pub formal_nodes : Formal → ℕ
+formal_nodes f = 1 + denoter_nodes (denoter_of f.denoter)
+
+-- the denoter of a result, where there is one
+abbrev pub result_nodes : Option RoutineResult → ℕ
+result_nodes None = 0
+result_nodes (Some r) = denoter_nodes (denoter_of r.denoter)
+
+-- a routine, its formals, and its result
+abbrev pub heading_nodes : List Formal → Option RoutineResult → ℕ
+heading_nodes formals result = 1 + sum (map formal_nodes formals) + result_nodes result
+
+-- a routine with its variables, the routines in it, and its block
+abbrev pub routine_step : UnitRoutine-F ℕ → ℕ
+routine_step r = heading_nodes r.formals r.result + sum (map variable_nodes r.variables) + sum r.routines + stmt_nodes (stmt_of r.block)
+
+abbrev pub routine_nodes : UnitRoutine → ℕ
+routine_nodes = fold-UnitRoutine ℕ routine_step
+
+-- the imports of a unit, each of which is one node, its types, its constants and its variables
+abbrev pub declared_nodes : TypedUnit → ℕ
+declared_nodes u = length u.imports + sum (map type_nodes u.types) + sum (map constant_nodes u.constants) + sum (map variable_nodes u.variables)
+
+-- all that a unit has; none has an interface so far
+abbrev pub unit_nodes : TypedUnit → ℕ
+unit_nodes u = declared_nodes u + sum (map routine_nodes u.routines) + stmt_nodes (stmt_of u.start) + stmt_nodes (stmt_of u.stop)

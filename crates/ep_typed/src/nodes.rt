@@ -1,0 +1,247 @@
+//! The number of typed nodes, as specs/Nodes.antt says, at most the greatest `u64`. Nothing here takes memory.
+
+ghost use Rattle.std.specs.Prelude.{◌≡◌, min, map, sum};
+ghost use Rattle.ep_typed.specs.Nodes as nodes;
+ghost use Rattle.ep_typed.specs.Viewed.{denoter_of, expr_of, item_of, place_of, stmt_of};
+ghost use Rattle.ep_typed.specs.Trees.{stmts};
+
+use crate::denoter::Denoter;
+use crate::interface::{ConstantEntry, Formal, RoutineResult, SchemaFormal};
+use crate::tree::{TypedExpr, TypedPlace, TypedStmt, WriteItem};
+use crate::unit::{Unit, UnitRoutine, UnitType, UnitVariable};
+
+/// The typed nodes of a unit, at most the greatest `u64`. It takes no memory.
+pub fn unit_nodes(u: &Unit) -> u64
+    ensures { result ≡ min (nodes.unit_nodes u.now) u64.MAX }
+{
+    declared(u)
+        .saturating_add(routines(u.routines.items()))
+        .saturating_add(statement(&u.start))
+        .saturating_add(statement(&u.stop))
+}
+
+/// The nodes of a unit's imports, types, constants and variables.
+fn declared(u: &Unit) -> u64
+    ensures { result ≡ min (nodes.declared_nodes u.now) u64.MAX }
+{
+    (u.imports.items().len() as u64)
+        .saturating_add(types(u.types.items()))
+        .saturating_add(constants(u.constants.items()))
+        .saturating_add(variables(u.variables.items()))
+}
+
+fn types(all: &[UnitType]) -> u64
+    ensures { result ≡ min (sum (map nodes.type_nodes all.now)) u64.MAX }
+{
+    let mut total = 0;
+    for t in all {
+        total = type_of_unit(t).saturating_add(total);
+    }
+    total
+}
+
+fn type_of_unit(t: &UnitType) -> u64
+    ensures { result ≡ min (nodes.type_nodes t.now) u64.MAX }
+{
+    schema_formals(t.entry.formals.items()).saturating_add(denoter(&t.entry.denoter))
+}
+
+fn schema_formals(all: &[SchemaFormal]) -> u64
+    ensures { result ≡ min (sum (map nodes.schema_formal_nodes all.now)) u64.MAX }
+{
+    let mut total = 0;
+    for formal in all {
+        total = denoter(&formal.denoter)
+            .saturating_add(1)
+            .saturating_add(total);
+    }
+    total
+}
+
+fn constants(all: &[ConstantEntry]) -> u64
+    ensures { result ≡ min (sum (map nodes.constant_nodes all.now)) u64.MAX }
+{
+    let mut total = 0;
+    for constant in all {
+        total = denoter(&constant.denoter)
+            .saturating_add(1)
+            .saturating_add(total);
+    }
+    total
+}
+
+fn variables(all: &[UnitVariable]) -> u64
+    ensures { result ≡ min (sum (map nodes.variable_nodes all.now)) u64.MAX }
+{
+    let mut total = 0;
+    for variable in all {
+        total = variable_of_unit(variable).saturating_add(total);
+    }
+    total
+}
+
+fn variable_of_unit(v: &UnitVariable) -> u64
+    ensures { result ≡ min (nodes.variable_nodes v.now) u64.MAX }
+{
+    denoter(&v.denoter)
+        .saturating_add(1)
+        .saturating_add(expressions(v.tuple.items()))
+}
+
+#[cycle(routines)]
+fn routines(all: &[UnitRoutine]) -> u64
+    ensures { result ≡ min (sum (map nodes.routine_nodes all.now)) u64.MAX }
+{
+    let mut total = 0;
+    for r in all {
+        total = routine(r).saturating_add(total);
+    }
+    total
+}
+
+#[cycle(routines)]
+fn routine(r: &UnitRoutine) -> u64
+    ensures { result ≡ min (nodes.routine_nodes r.now) u64.MAX }
+{
+    heading(r.formals.items(), &r.result)
+        .saturating_add(variables(r.variables.items()))
+        .saturating_add(routines(r.routines.items()))
+        .saturating_add(statement(&r.block))
+}
+
+/// The nodes of a routine's heading.
+fn heading(all: &[Formal], of: &Option<RoutineResult>) -> u64
+    ensures { result ≡ min (nodes.heading_nodes all.now of.now) u64.MAX }
+{
+    formals(all)
+        .saturating_add(result_of_routine(of))
+        .saturating_add(1)
+}
+
+fn formals(all: &[Formal]) -> u64
+    ensures { result ≡ min (sum (map nodes.formal_nodes all.now)) u64.MAX }
+{
+    let mut total = 0;
+    for formal in all {
+        total = denoter(&formal.denoter)
+            .saturating_add(1)
+            .saturating_add(total);
+    }
+    total
+}
+
+fn result_of_routine(r: &Option<RoutineResult>) -> u64
+    ensures { result ≡ min (nodes.result_nodes r.now) u64.MAX }
+{
+    match r {
+        None => 0,
+        Some(r) => denoter(&r.denoter),
+    }
+}
+
+#[cycle(denoters)]
+fn denoter(d: &Denoter) -> u64
+    ensures { result ≡ min (nodes.denoter_nodes (denoter_of d.now)) u64.MAX }
+{
+    match d {
+        Denoter::Required(_) | Denoter::Enumeration(_) => 1,
+        Denoter::Named(_, tuple) => (tuple.items().len() as u64).saturating_add(1),
+        Denoter::Subrange(host, _, _) => denoter(host.get()).saturating_add(3),
+    }
+}
+
+#[cycle(statements)]
+fn statement(s: &TypedStmt) -> u64
+    ensures { result ≡ min (nodes.stmt_nodes (stmt_of s.now)) u64.MAX }
+{
+    match s {
+        TypedStmt::Empty | TypedStmt::Halt(_) => 1,
+        TypedStmt::Compound(all) => statements(all.items()).saturating_add(1),
+        TypedStmt::Assign(_, p, value) => {
+            place(p)
+                .saturating_add(expression(value.get()))
+                .saturating_add(1)
+        }
+        TypedStmt::If(_, condition, then_part, else_part) => {
+            expression(condition.get())
+                .saturating_add(statement(then_part.get()))
+                .saturating_add(statement(else_part.get()))
+                .saturating_add(1)
+        }
+        TypedStmt::While(_, condition, body) => {
+            expression(condition.get())
+                .saturating_add(statement(body.get()))
+                .saturating_add(1)
+        }
+        TypedStmt::Write(_, all, _) => items(all.items()).saturating_add(1),
+    }
+}
+
+#[cycle(statements)]
+fn statements(all: &[TypedStmt]) -> u64
+    ensures { result ≡ min (nodes.stmts_nodes (stmts (map stmt_of all.now))) u64.MAX }
+{
+    let mut total = 0;
+    for s in all {
+        total = statement(s).saturating_add(total);
+    }
+    total
+}
+
+fn items(all: &[WriteItem]) -> u64
+    ensures { result ≡ min (nodes.items_nodes (map item_of all.now)) u64.MAX }
+{
+    let mut total = 0;
+    for i in all {
+        total = item(i).saturating_add(total);
+    }
+    total
+}
+
+fn item(i: &WriteItem) -> u64
+    ensures { result ≡ min (nodes.item_nodes (item_of i.now)) u64.MAX }
+{
+    match &i.width {
+        None => expression(i.value.get()),
+        Some(width) => expression(i.value.get()).saturating_add(expression(width.get())),
+    }
+}
+
+fn place(p: &TypedPlace) -> u64
+    ensures { result ≡ nodes.place_nodes (place_of p.now) }
+{
+    match p {
+        TypedPlace::Variable(_, _) | TypedPlace::Standard(_) => 1,
+    }
+}
+
+fn expressions(all: &[TypedExpr]) -> u64
+    ensures { result ≡ min (sum (map nodes.typed_expr_nodes all.now)) u64.MAX }
+{
+    let mut total = 0;
+    for x in all {
+        total = expression(x).saturating_add(total);
+    }
+    total
+}
+
+#[cycle(expressions)]
+fn expression(x: &TypedExpr) -> u64
+    ensures { result ≡ min (nodes.expr_nodes (expr_of x.now)) u64.MAX }
+{
+    match x {
+        TypedExpr::Constant(_) | TypedExpr::Text(_) => 2,
+        TypedExpr::Read(p) => place(p).saturating_add(1),
+        TypedExpr::Unary(_, operand) => expression(operand.get()).saturating_add(1),
+        TypedExpr::Binary(_, left, right) => {
+            expression(left.get())
+                .saturating_add(expression(right.get()))
+                .saturating_add(1)
+        }
+        TypedExpr::Step(_, _, _, value, count) => {
+            expression(value.get())
+                .saturating_add(expression(count.get()))
+                .saturating_add(1)
+        }
+    }
+}
