@@ -133,20 +133,15 @@ lost_at_end units m n l e s h lost =
 not_lost : (s : State) → IsTrue s.resources.lost → s.resources.lost ≡ false → ⊥
 not_lost s h i = cc
 
-status_of_end : (e : meant.End) (trace : Trace) → run_status (Stopped (end_of e) trace) ≡ end_status e
-status_of_end meant.Normal trace = refl
-status_of_end meant.Halted trace = refl
-status_of_end (meant.Error n u l) trace = refl
-
 -- a run with enough ticks has ended as the meaning does
-settled_status : (units : List TypedUnit) (ticks m l : ℕ) (e : meant.End) (s : State) (g : Going) → Tells (meaning units) ticks g → meaning units m ≡ Ends l e s → s.resources.lost ≡ false → 64 * (m + 1) ≤ ticks → run_status g ≡ end_status e
+settled_status : (units : List TypedUnit) (ticks m l : ℕ) (e : meant.End) (s : State) (g : Going) → Tells (meaning units) ticks g → meaning units m ≡ Ends l e s → s.resources.lost ≡ false → 64 * (m + 1) ≤ ticks → run_status g ≡ end_status (end_of e)
 settled_status units ticks m l e s (Running wait k) t h room few =
     let goes = t.all m (omega arith) in
     let no : ◌≡◌ {A = Outcome (Unit {0})} (Ends l e s) (Cut goes.state) = sym h ∙ goes.is in
     absurd cc
 settled_status units ticks m l e s (Stopped end trace) (inl t) h room few =
     let same = one_end units t.steps m t.left l t.its_end e t.state s t.is h in
-    ap (λ x. run_status (Stopped x trace)) t.same_end ∙ ap (λ x. run_status (Stopped (end_of x) trace)) same.ends ∙ status_of_end e trace
+    ap end_status t.same_end ∙ ap (λ x. end_status (end_of x)) same.ends
 settled_status units ticks m l e s (Stopped end trace) (inr t) h room few = absurd (not_lost s (lost_at_end units m t.steps l e s h t.lost) room)
 
 -- ---- texts and units

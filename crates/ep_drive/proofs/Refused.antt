@@ -3,32 +3,27 @@ use Rattle.std.proofs.Common.{◌≡◌, ℕ, List, inl, inr, Option, None, Some
 use Rattle.ep_drive.specs.Calls.{Answers, AnswersAs, Begins, IsStoppedAs}
 use Rattle.ep_drive.specs.Jobs.{AnswersJob, Finishes, Part, Front}
 use Rattle.ep_drive.specs.Outcomes.{IsToldAs, whole, fault, nothing}
-use Rattle.ep_drive.specs.Refusals.{Refusal, Usage, Missing, TooLong, InText, status_of, text_status, report_of}
+use Rattle.ep_drive.specs.Refusals.{Refusal, Usage, Missing, TooLong, InSource, status_of, source_status, report_of}
 use Rattle.ep_drive.specs.Seen.{Seen, Untouched}
 use Rattle.ep_drive.specs.Statuses.{Kind, Finished, Refused, Faulted, Starved, kind_of}
 use Rattle.ep_drive.specs.Verdicts.{Job, Refuse, Begin, HasVerdict}
-use Rattle.ep_drive.specs.declared.source.Cause.{Cause}
-use Rattle.ep_drive.specs.declared.source.Cause.TheVariants as cause
+use Rattle.ep_drive.specs.declared.source.SourceRefusal.{SourceRefusal}
+use Rattle.ep_drive.specs.declared.source.SourceRefusal.TheVariants as source
 use Rattle.ep_drive.specs.declared.status.Status.{Status}
 use Rattle.ep_drive.specs.declared.status.Status.TheVariants as status
 use Rattle.ep_drive.proofs.Jobs.{part_rose}
 
 -- a refusal has the status of one
-text_kind : (why : Cause) → kind_of (text_status why) ≡ Refused
-text_kind cause.NotBuilt = refl
-text_kind cause.NoToken = refl
-text_kind cause.OpenComment = refl
-text_kind cause.OpenString = refl
-text_kind cause.BadNumber = refl
-text_kind cause.LongName = refl
-text_kind cause.Syntax = refl
-text_kind cause.Nested = refl
+source_kind : (why : SourceRefusal) → kind_of (source_status why) ≡ Refused
+source_kind (source.NotBuilt line) = refl
+source_kind (source.Token refusal) = refl
+source_kind (source.Parse refusal) = refl
 
 refusal_kind : (refusal : Refusal) → kind_of (status_of refusal) ≡ Refused
 refusal_kind Usage = refl
 refusal_kind (Missing file) = refl
 refusal_kind (TooLong file bytes) = refl
-refusal_kind (InText file why line) = text_kind why
+refusal_kind (InSource file why) = source_kind why
 
 -- a refusal is the verdict, and nothing was done but its report
 pub answers-refused : (answer : Status) (words : List (List ℕ)) (refusal : Refusal) (before after : Seen)

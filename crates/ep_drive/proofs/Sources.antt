@@ -1,15 +1,13 @@
 -- Which texts are programs and which are refused: no text is both, and a text is one program at most.
 use Rattle.std.proofs.Common.{◌≡◌, ℕ, ◌+◌, ◌≤◌, List, [], ◌∷◌, ◌++◌, map, length, Option, Some, None, Result, Ok, Err, refl, sym, ap, ◌∙◌, subst, arith}
 use Rattle.std.specs.Prelude.{IsOkUnless, MatchResult}
-use Rattle.ep_token.proofs.TokenLaws.{tokens-one, tokens-apart}
-use Rattle.ep_token.specs.Tokens.{AreInOrder, Tokens}
-use Rattle.ep_token.specs.declared.refusal.TokenRefusal.TheVariants as token
+use Rattle.ep_token.proofs.TokenLaws.{tokens-one}
+use Rattle.ep_token.specs.Tokens.{AreInOrder}
 use Rattle.ep_token.specs.declared.token.Token.{Token}
 use Rattle.ep_built.specs.Built.{component_line, component_unbuilt, first_of}
 use Rattle.ep_tree.specs.declared.component.Component.{Component}
 use Rattle.ep_tree.specs.declared.component.Component.TheVariants as component_is
 use Rattle.ep_grammar.proofs.Refusal.{one_tree}
-use Rattle.ep_grammar.specs.Refusals.{RefusedAt}
 use Rattle.ep_grammar.specs.Rules.{Grammar}
 use Rattle.ep_grammar.specs.Units.{components}
 use Rattle.ep_grammar.specs.declared.stop.TheConstants.{MAX_NESTING}
@@ -18,11 +16,12 @@ use Rattle.ep_typed.specs.Viewed.{stmt_of}
 use Rattle.ep_typed.specs.declared.unit.Unit.{Unit as TypedUnit}
 use Rattle.ep_drive.specs.Elaboration.{IsTyped}
 use Rattle.ep_drive.specs.ProgramTexts.{IsProgramText, IsBuilt, components_unbuilt}
-use Rattle.ep_drive.specs.Refusals.{IsTextCause, RefusesText}
-use Rattle.ep_drive.specs.declared.source.Cause.{Cause}
-use Rattle.ep_drive.specs.declared.source.Cause.TheVariants as cause
-use Rattle.ep_drive.specs.declared.source.TextRefusal.{TextRefusal}
-use Rattle.ep_drive.specs.declared.source.TextRefusal.TheVariants as text_refusal
+use Rattle.ep_drive.specs.Refusals.{IsRefusedText, StopsText}
+use Rattle.ep_drive.specs.declared.source.SourceRefusal.{SourceRefusal}
+use Rattle.ep_drive.specs.declared.source.SourceRefusal.TheVariants as source
+use Rattle.ep_drive.specs.declared.source.SourceStop.{SourceStop}
+use Rattle.ep_drive.specs.declared.source.SourceStop.TheVariants as stop
+use Rattle.ep_drive.proofs.Causes.{no_tree, one_unbuilt}
 use Rattle.ep_drive.proofs.Elaborated.{rest_unbuilt}
 
 -- ---- the components of a text
@@ -60,31 +59,21 @@ one_component (c ∷ b ∷ more) some e =
 
 -- ---- why a text is refused
 
--- tokens that are refused do not derive the component of a program
-not_derived : (text : List ℕ) (ts : List Token) (place : ℕ) (u : TypedUnit) → Tokens text ts → RefusedAt MAX_NESTING ts place → IsProgramText text u → ⊥
-not_derived text ts place u t r p = r.not_derived (p.component ∷ []) (subst (λ x. Grammar MAX_NESTING x (p.component ∷ [])) (tokens-one text p.tokens ts p.are_tokens t) p.derived)
+-- all nodes of the text of a program are built
+pub program_built : (text : List ℕ) (u : TypedUnit) → IsProgramText text u → IsBuilt text
+program_built text u p = record { tokens = p.tokens; are_tokens = p.are_tokens; components = p.component ∷ []; derived = p.derived; unbuilt = ap (λ o. first_of o None) p.built }
 
--- the text of a program has no cause for a refusal
-pub apart : (text : List ℕ) (why : Cause) (line : ℕ) (u : TypedUnit) → IsTextCause text why line → IsProgramText text u → ⊥
-apart text cause.NoToken line u c p = tokens-apart text p.tokens c.0 (token.NoToken line) p.are_tokens c.1
-apart text cause.OpenComment line u c p = tokens-apart text p.tokens c.0 (token.OpenComment line) p.are_tokens c.1
-apart text cause.OpenString line u c p = tokens-apart text p.tokens c.0 (token.OpenString line) p.are_tokens c.1
-apart text cause.BadNumber line u c p = tokens-apart text p.tokens c.0 (token.BadNumber line) p.are_tokens c.1
-apart text cause.LongName line u c p = tokens-apart text p.tokens c.0 (token.LongName line) p.are_tokens c.1
-apart text cause.Syntax line u c p = let r = c.refused in not_derived text c.tokens c.place u c.are_tokens (r.refused MAX_NESTING) p
-apart text cause.Nested line u c p = let r = c.refused in not_derived text c.tokens c.place u c.are_tokens r.refused p
-apart text cause.NotBuilt line u c p =
-    let derived : Grammar MAX_NESTING p.tokens c.components = subst (λ ts. Grammar MAX_NESTING ts c.components) (tokens-one text c.tokens p.tokens c.are_tokens p.are_tokens) c.derived in
-    let same : c.components ≡ p.component ∷ [] = one_tree MAX_NESTING MAX_NESTING p.tokens c.components (p.component ∷ []) derived p.derived in
-    let none : components_unbuilt (p.component ∷ []) ≡ None = ap (λ o. first_of o None) p.built in
-    let no : Some line ≡ None = sym c.unbuilt ∙ ap components_unbuilt same ∙ none in
-    absurd cc
+-- the text of a program is refused in no way
+apart : (text : List ℕ) (why : SourceRefusal) (u : TypedUnit) → IsRefusedText text why → IsProgramText text u → ⊥
+apart text (source.NotBuilt line) u c p = let no : Some line ≡ None = one_unbuilt text (Some line) None c (program_built text u p) in absurd cc
+apart text (source.Token refusal) u c p = no_tree text (source.Token refusal) c (None, program_built text u p)
+apart text (source.Parse refusal) u c p = no_tree text (source.Parse refusal) c (None, program_built text u p)
 
 -- so it is read, unless memory is wanting
-pub accepted : (text : List ℕ) (r : Result TypedUnit TextRefusal) (P : TypedUnit → Type 0) → MatchResult r P (RefusesText text) → (u : TypedUnit) → IsProgramText text u → IsOkUnless r text_refusal.NoMemory
+pub accepted : (text : List ℕ) (r : Result TypedUnit SourceStop) (P : TypedUnit → Type 0) → MatchResult r P (StopsText text) → (u : TypedUnit) → IsProgramText text u → IsOkUnless r stop.NoMemory
 accepted text (Ok x) P h u p = tt
-accepted text (Err (text_refusal.Refused why line)) P h u p = absurd (apart text why line u h p)
-accepted text (Err text_refusal.NoMemory) P h u p = refl
+accepted text (Err (stop.Refused why)) P h u p = absurd (apart text why u h p)
+accepted text (Err stop.NoMemory) P h u p = refl
 
 -- ---- a text is one program
 
@@ -117,7 +106,3 @@ one_program text u v p q =
     let lists : p.component ∷ [] ≡ q.component ∷ [] = one_tree MAX_NESTING MAX_NESTING q.tokens (p.component ∷ []) (q.component ∷ []) derived q.derived in
     let same : p.component ≡ q.component = cc in
     alike q.component u v (subst (λ c. IsTyped c u) same p.typed) q.typed
-
--- all nodes of the text of a program are built
-pub program_built : (text : List ℕ) (u : TypedUnit) → IsProgramText text u → IsBuilt text
-program_built text u p = record { tokens = p.tokens; are_tokens = p.are_tokens; components = p.component ∷ []; derived = p.derived; unbuilt = ap (λ o. first_of o None) p.built }

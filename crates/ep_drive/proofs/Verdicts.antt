@@ -9,11 +9,11 @@ use Rattle.ep_typed.specs.declared.unit.Unit.{Unit as TypedUnit}
 use Rattle.ep_drive.specs.Commands.{Command, WordsOf}
 use Rattle.ep_drive.specs.Commands as commands
 use Rattle.ep_drive.specs.ProgramTexts.{HasUnbuilt, HasTree, IsBuilt, Joins}
-use Rattle.ep_drive.specs.Refusals.{Usage, Missing, TooLong, InText, source_limit, IsOutside, IsTextCause}
+use Rattle.ep_drive.specs.Refusals.{Usage, Missing, TooLong, InSource, source_limit, IsOutside, IsRefusedText}
 use Rattle.ep_drive.specs.Verdicts.{Job, Go, Verdict, Refuse, Begin, IsFirst, HasText, IsLoaded, AreTexts, OfSources, missing, too_long, outside, not_built, begin, OfCommand, IsVerdict, usage, asked, IsTold, HasVerdict}
-use Rattle.ep_drive.specs.declared.source.Cause.{Cause}
-use Rattle.ep_drive.specs.declared.source.Cause.TheVariants as cause
-use Rattle.ep_drive.proofs.Causes.{one_cause, no_tree, one_unbuilt}
+use Rattle.ep_drive.specs.declared.source.SourceRefusal.{SourceRefusal}
+use Rattle.ep_drive.specs.declared.source.SourceRefusal.TheVariants as source
+use Rattle.ep_drive.proofs.Causes.{one_refusal, no_tree, one_unbuilt}
 use Rattle.ep_drive.proofs.Loaded.{weaker, text-loaded, both_texts, not_missing, not_long}
 use Rattle.ep_drive.proofs.Sources.{program_built}
 use Rattle.ep_drive.proofs.WordRows.{words-one}
@@ -69,10 +69,10 @@ module _ (d : Directory) (sources : List (List ℕ)) (job : List (List ℕ) → 
   GivesUnloaded file v = ((d file ≡ None) × (v ≡ Refuse (Missing file))) ⊎ ((text : List ℕ) × (d file ≡ Some text) × (v ≡ Refuse (TooLong file (length text))))
 
   abbrev GivesOutside : List ℕ → Verdict → Type 0
-  GivesOutside file v = (why : Cause) × (line : ℕ) × HasText d (λ text. IsOutside text why line) file × (v ≡ Refuse (InText file why line))
+  GivesOutside file v = (why : SourceRefusal) × HasText d (λ text. IsOutside text why) file × (v ≡ Refuse (InSource file why))
 
   abbrev GivesUnbuilt : List ℕ → Verdict → Type 0
-  GivesUnbuilt file v = (line : ℕ) × HasText d (λ text. HasUnbuilt text (Some line)) file × (v ≡ Refuse (InText file cause.NotBuilt line))
+  GivesUnbuilt file v = (line : ℕ) × HasText d (λ text. HasUnbuilt text (Some line)) file × (v ≡ Refuse (InSource file (source.NotBuilt line)))
 
   abbrev GivesJob : Verdict → Type 0
   GivesJob v = (texts : List (List ℕ)) × AreTexts d sources texts × (v ≡ Begin (job texts))
@@ -87,13 +87,13 @@ module _ (d : Directory) (sources : List (List ℕ)) (job : List (List ℕ) → 
 
   outside_one : (file : List ℕ) → IsOne (GivesOutside file)
   outside_one file v w a b =
-      let same = both_texts d (λ text. IsOutside text a.0 a.1) (λ text. IsOutside text b.0 b.1) file (λ text p q. one_cause text a.0 b.0 a.1 b.1 p q) a.2 b.2 in
-      a.3 ∙ (λ i. Refuse (InText file (same.causes i) (same.lines i))) ∙ sym b.3
+      let same : a.0 ≡ b.0 = both_texts d (λ text. IsOutside text a.0) (λ text. IsOutside text b.0) file (λ text p q. one_refusal text a.0 b.0 p q) a.1 b.1 in
+      a.2 ∙ ap (λ why. Refuse (InSource file why)) same ∙ sym b.2
 
   unbuilt_one : (file : List ℕ) → IsOne (GivesUnbuilt file)
   unbuilt_one file v w a b =
       let same : Some a.0 ≡ Some b.0 = both_texts d (λ text. HasUnbuilt text (Some a.0)) (λ text. HasUnbuilt text (Some b.0)) file (λ text p q. one_unbuilt text (Some a.0) (Some b.0) p q) a.1 b.1 in
-      a.2 ∙ ap (λ line. Refuse (InText file cause.NotBuilt line)) (same_Some a.0 b.0 same) ∙ sym b.2
+      a.2 ∙ ap (λ line. Refuse (InSource file (source.NotBuilt line))) (same_Some a.0 b.0 same) ∙ sym b.2
 
   texts_one : (files texts others : List (List ℕ)) → AreTexts d files texts → AreTexts d files others → texts ≡ others
   texts_one [] [] [] a b = refl
@@ -135,8 +135,8 @@ module _ (d : Directory) (sources : List (List ℕ)) (job : List (List ℕ) → 
   tests : (v : Verdict) → OfSources d sources job v → OfTests v
   tests v (missing file first none) = inl (record { file = file; first = first; stops = not_missing d file none; gives = inl (none, refl) })
   tests v (too_long file text first is long) = inl (record { file = file; first = first; stops = not_long d file text is long; gives = inr (text, is, refl) })
-  tests v (outside file why line loaded first gives) =
-      inr (loaded, inl (record { file = file; first = first; stops = λ t. both_texts d (λ text. IsOutside text why line) HasTree file (λ text p q. no_tree text why line p q) gives t; gives = (why, line, gives, refl) }))
+  tests v (outside file why loaded first gives) =
+      inr (loaded, inl (record { file = file; first = first; stops = λ t. both_texts d (λ text. IsOutside text why) HasTree file (λ text p q. no_tree text why p q) gives t; gives = (why, gives, refl) }))
   tests v (not_built file line trees first gives) =
       inr (
         all_loaded HasTree trees,
@@ -230,33 +230,28 @@ module _ (words : List (List ℕ)) (files : Option Directory) (budget : ℕ) (fi
     has : (P : List ℕ → Type 0) (d : Directory) → d file ≡ Some text → P text → HasText d P file
     has P d is p = record { text = text; is = is; short = short; holds = p }
 
-    outside_verdict : (why : Cause) (line : ℕ) → IsOutside text why line → HasVerdict words files (Refuse (InText file why line))
-    outside_verdict why line c =
+    outside_verdict : (why : SourceRefusal) → IsOutside text why → HasVerdict words files (Refuse (InSource file why))
+    outside_verdict why c =
         let k = known_file files file (Some text) loaded in
         let d = k.directory in
         record {
           directory = d;
           told = k.told;
-          is = go_asked d (Refuse (InText file why line))
-              (outside file why line (only_all (IsLoaded d) file (has (λ t. Unit {0}) d k.holds tt)) (only_first (HasText d HasTree) file) (has (λ t. IsOutside t why line) d k.holds c));
+          is = go_asked d (Refuse (InSource file why))
+              (outside file why (only_all (IsLoaded d) file (has (λ t. Unit {0}) d k.holds tt)) (only_first (HasText d HasTree) file) (has (λ t. IsOutside t why) d k.holds c));
         }
 
     -- a text that is refused
-    pub text_verdict : (why : Cause) (line : ℕ) → IsTextCause text why line → HasVerdict words files (Refuse (InText file why line))
-    text_verdict cause.NoToken line c = outside_verdict cause.NoToken line c
-    text_verdict cause.OpenComment line c = outside_verdict cause.OpenComment line c
-    text_verdict cause.OpenString line c = outside_verdict cause.OpenString line c
-    text_verdict cause.BadNumber line c = outside_verdict cause.BadNumber line c
-    text_verdict cause.LongName line c = outside_verdict cause.LongName line c
-    text_verdict cause.Syntax line c = outside_verdict cause.Syntax line c
-    text_verdict cause.Nested line c = outside_verdict cause.Nested line c
-    text_verdict cause.NotBuilt line c =
+    pub text_verdict : (why : SourceRefusal) → IsRefusedText text why → HasVerdict words files (Refuse (InSource file why))
+    text_verdict (source.Token refusal) c = outside_verdict (source.Token refusal) c
+    text_verdict (source.Parse refusal) c = outside_verdict (source.Parse refusal) c
+    text_verdict (source.NotBuilt line) c =
         let k = known_file files file (Some text) loaded in
         let d = k.directory in
         record {
           directory = d;
           told = k.told;
-          is = go_asked d (Refuse (InText file cause.NotBuilt line))
+          is = go_asked d (Refuse (InSource file (source.NotBuilt line)))
               (not_built file line (only_all (HasText d HasTree) file (has HasTree d k.holds (Some line, c))) (only_first (HasText d IsBuilt) file) (has (λ t. HasUnbuilt t (Some line)) d k.holds c));
         }
 

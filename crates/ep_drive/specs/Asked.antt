@@ -15,4 +15,4 @@ abbrev pub refused_by : Refusal → refusals.Refusal
 refused_by refusal.Usage = refusals.Usage
 refused_by (refusal.Missing file) = refusals.Missing file.now
 refused_by (refusal.TooLong file bytes) = refusals.TooLong file.now bytes
-refused_by (refusal.InText file why line) = refusals.InText file.now why line
+refused_by (refusal.InSource file why) = refusals.InSource file.now why

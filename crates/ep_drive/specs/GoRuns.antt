@@ -1,6 +1,7 @@
 -- What a run of texts within a budget comes to: by the machine, and by the meaning of the units that the texts join to.
 use Rattle.std.specs.Prelude.{◌≡◌, ℕ, ◌+◌, ◌*◌, ◌<◌, ◌≤◌, false, ◌⊎◌, List}
 use Rattle.ep_outside.specs.Known.{Appends}
+use Rattle.ep_object.specs.Follows.{end_of}
 use Rattle.ep_object.specs.Implements.{Implements}
 use Rattle.ep_object.specs.Runs.{begin, run_to, timed, trace_of}
 use Rattle.ep_object.specs.State.{Going}
@@ -127,4 +128,4 @@ pub record GoSettles (budget : ℕ) (texts : List (List ℕ)) (answer : Status) 
   pub ends : meaning units steps ≡ Ends left end state
   pub room : state.resources.lost ≡ false
   pub few : 64 * (steps + 1) ≤ budget
-  pub answers : answer ≡ end_status end
+  pub answers : answer ≡ end_status (end_of end)

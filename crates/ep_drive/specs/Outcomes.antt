@@ -1,40 +1,43 @@
 -- The status and the line of the report of a run, and how a line is reported.
 use Rattle.std.specs.Prelude.{◌≡◌, ℕ, ◌<◌, List, ◌++◌, Option, Some, None, codes, decimal}
 use Rattle.ep_outside.specs.Known.{Keeps, Appends, AppendsFront}
-use Rattle.ep_object.specs.State.{Going, Running, Stopped, Normal, Halt, Error, Broken}
-use Rattle.ep_typed.specs.Steps as meaning
+use Rattle.ep_object.specs.State.{End, Normal, Halt, Error, Broken, Going, Running, Stopped}
 use Rattle.ep_drive.specs.declared.status.Status.{Status}
 use Rattle.ep_drive.specs.declared.status.Status.TheVariants as status
 
--- the status of a run by where it stands when its budget is spent, if not before
-abbrev pub run_status : Going → Status
-run_status (Running wait s) = status.Budget
-run_status (Stopped Normal trace) = status.Done
-run_status (Stopped Halt trace) = status.Halted
-run_status (Stopped (Error number unit line) trace) = status.RunError
-run_status (Stopped (Broken place) trace) = status.BrokenImage
+-- ---- the end of a run
+
+-- the status of a run that has ended so
+abbrev pub end_status : End → Status
+end_status Normal = status.Done
+end_status Halt = status.Halted
+end_status (Error number unit line) = status.RunError
+end_status (Broken place) = status.BrokenImage
 
 -- the line that reports an error of a run
 abbrev pub error_line : ℕ → List ℕ → ℕ → List ℕ
 error_line number unit line = codes "error " ++ decimal number ++ codes " in " ++ unit ++ codes " at line " ++ decimal line ++ codes "\n"
 
+-- the line that reports such an end, where there is one
+abbrev pub end_line : End → Option (List ℕ)
+end_line Normal = None
+end_line Halt = None
+end_line (Error number unit line) = Some (error_line number unit line)
+end_line (Broken place) = Some (codes "broken image at " ++ decimal place ++ codes "\n")
+
 -- the line that reports that the budget is spent
 abbrev pub budget_line : List ℕ
 budget_line = codes "budget spent\n"
 
+-- the status of a run by where it stands when its budget is spent, if not before
+abbrev pub run_status : Going → Status
+run_status (Running wait s) = status.Budget
+run_status (Stopped end trace) = end_status end
+
 -- the line that reports how a run stands, where there is one
 abbrev pub run_line : Going → Option (List ℕ)
 run_line (Running wait s) = Some budget_line
-run_line (Stopped Normal trace) = None
-run_line (Stopped Halt trace) = None
-run_line (Stopped (Error number unit line) trace) = Some (error_line number unit line)
-run_line (Stopped (Broken place) trace) = Some (codes "broken image at " ++ decimal place ++ codes "\n")
-
--- the status of an end of the meaning
-abbrev pub end_status : meaning.End → Status
-end_status meaning.Normal = status.Done
-end_status meaning.Halted = status.Halted
-end_status (meaning.Error number unit line) = status.RunError
+run_line (Stopped end trace) = end_line end
 
 -- ---- reports
 

@@ -1,111 +1,115 @@
 -- Why a call is refused, and what it then answers and reports.
-use Rattle.std.specs.Prelude.{◌≡◌, ℕ, List, ◌++◌, Some, codes, decimal}
+use Rattle.std.specs.Prelude.{ℕ, ⊤, List, [], ◌++◌, Some, codes, decimal}
 use Rattle.ep_token.specs.Tokens.{Tokens, Stuck}
 use Rattle.ep_token.specs.declared.refusal.TokenRefusal.{TokenRefusal}
 use Rattle.ep_token.specs.declared.refusal.TokenRefusal.TheVariants as token
 use Rattle.ep_token.specs.declared.token.Token.{Token}
-use Rattle.ep_grammar.specs.Refusals.{SyntaxRefusedAt, NestingRefusedAt}
 use Rattle.ep_grammar.specs.declared.stop.TheConstants.{MAX_NESTING}
-use Rattle.ep_parse.specs.Refusals.{line_at}
+use Rattle.ep_parse.specs.Refusals.{Refuses}
 use Rattle.ep_parse.specs.declared.text.ParseRefusal.{ParseRefusal}
 use Rattle.ep_parse.specs.declared.text.ParseRefusal.TheVariants as parse
 use Rattle.ep_drive.specs.ProgramTexts.{HasUnbuilt}
-use Rattle.ep_drive.specs.declared.source.Cause.{Cause}
-use Rattle.ep_drive.specs.declared.source.Cause.TheVariants as cause
-use Rattle.ep_drive.specs.declared.source.TextRefusal.{TextRefusal}
-use Rattle.ep_drive.specs.declared.source.TextRefusal.TheVariants as text_refusal
+use Rattle.ep_drive.specs.declared.source.SourceRefusal.{SourceRefusal}
+use Rattle.ep_drive.specs.declared.source.SourceRefusal.TheVariants as source
+use Rattle.ep_drive.specs.declared.source.SourceStop.{SourceStop}
+use Rattle.ep_drive.specs.declared.source.SourceStop.TheVariants as stop
 use Rattle.ep_drive.specs.declared.status.Status.{Status}
 use Rattle.ep_drive.specs.declared.status.Status.TheVariants as status
 
--- the words are no command; a named file is missing, or has more bytes than a source may have; or its text is refused at a line
+-- the words are no command; a named file is missing, or has more bytes than a source may have; or its text is refused
 pub data Refusal : Type 0 where
   Usage : Refusal
   Missing : (file : List ℕ) → Refusal
   TooLong : (file : List ℕ) (bytes : ℕ) → Refusal
-  InText : (file : List ℕ) (why : Cause) (line : ℕ) → Refusal
+  InSource : (file : List ℕ) (why : SourceRefusal) → Refusal
 
--- the text is outside the language, or it is not built
-abbrev pub text_status : Cause → Status
-text_status cause.NotBuilt = status.Unbuilt
-text_status _ = status.SourceRefused
+-- the most bytes of a source
+abbrev pub source_limit : ℕ
+source_limit = 1048576
+
+-- ---- what is answered and reported
+
+-- the source is outside the language, or it is not built
+abbrev pub source_status : SourceRefusal → Status
+source_status (source.NotBuilt line) = status.Unbuilt
+source_status _ = status.SourceRefused
 
 -- the status of a refusal
 abbrev pub status_of : Refusal → Status
 status_of Usage = status.Usage
 status_of (Missing file) = status.FileMissing
 status_of (TooLong file bytes) = status.FileMissing
-status_of (InText file why line) = text_status why
+status_of (InSource file why) = source_status why
 
--- the most bytes of a source
-abbrev pub source_limit : ℕ
-source_limit = 1048576
+-- what is reported behind the file where a line of its text is refused
+abbrev pub on_line : ℕ → List ℕ → List ℕ
+on_line line words = codes ": line " ++ decimal line ++ codes ": " ++ words
 
--- the words of the report of a text that is refused
-abbrev pub words_of : Cause → List ℕ
-words_of cause.NoToken = codes "no token"
-words_of cause.OpenComment = codes "open comment"
-words_of cause.OpenString = codes "open string"
-words_of cause.BadNumber = codes "bad number"
-words_of cause.LongName = codes "long name"
-words_of cause.Syntax = codes "syntax"
-words_of cause.Nested = codes "nested"
-words_of cause.NotBuilt = codes "not built"
+-- what is reported behind the file of a source that is refused; want of memory is no refusal, and has no words
+abbrev pub source_words : SourceRefusal → List ℕ
+source_words (source.Token (token.NoToken line)) = on_line line (codes "no token")
+source_words (source.Token (token.OpenComment line)) = on_line line (codes "open comment")
+source_words (source.Token (token.OpenString line)) = on_line line (codes "open string")
+source_words (source.Token (token.BadNumber line)) = on_line line (codes "bad number")
+source_words (source.Token (token.LongName line)) = on_line line (codes "long name")
+source_words (source.Parse (parse.Syntax place line)) = on_line line (codes "syntax")
+source_words (source.Parse (parse.Nested place line)) = on_line line (codes "nested")
+source_words (source.NotBuilt line) = on_line line (codes "not built")
+source_words _ = []
 
 -- the report of a refusal, one line
 abbrev pub report_of : Refusal → List ℕ
 report_of Usage = codes "usage\n"
 report_of (Missing file) = file ++ codes ": missing\n"
 report_of (TooLong file bytes) = file ++ codes ": too long " ++ decimal bytes ++ codes "\n"
-report_of (InText file why line) = file ++ codes ": line " ++ decimal line ++ codes ": " ++ words_of why ++ codes "\n"
+report_of (InSource file why) = file ++ source_words why ++ codes "\n"
 
--- ---- why a text is refused
+-- ---- why a source is refused
 
 -- the text has a place where nothing can be taken, which is refused so
 abbrev pub IsStuck : List ℕ → TokenRefusal → Type 0
 IsStuck text refusal = (place : ℕ) × Stuck text place refusal
 
--- the text has tokens, which are refused so at a place on this line
-pub record HasNoTree (Refused : ℕ → List Token → ℕ → Type 0) (text : List ℕ) (line : ℕ) : Type 0 where
+-- the text has tokens, which are refused so
+pub record HasNoTree (text : List ℕ) (refusal : ParseRefusal) : Type 0 where
   pub tokens : List Token
   pub are_tokens : Tokens text tokens
-  pub place : ℕ
-  pub refused : Refused MAX_NESTING tokens place
-  pub line_is : line ≡ line_at tokens place
+  pub refused : Refuses MAX_NESTING tokens refusal
 
--- the text is outside the language: it gives this cause on this line
-abbrev pub IsOutside : List ℕ → Cause → ℕ → Type 0
-IsOutside text cause.NoToken line = IsStuck text (token.NoToken line)
-IsOutside text cause.OpenComment line = IsStuck text (token.OpenComment line)
-IsOutside text cause.OpenString line = IsStuck text (token.OpenString line)
-IsOutside text cause.BadNumber line = IsStuck text (token.BadNumber line)
-IsOutside text cause.LongName line = IsStuck text (token.LongName line)
-IsOutside text cause.Syntax line = HasNoTree SyntaxRefusedAt text line
-IsOutside text cause.Nested line = HasNoTree NestingRefusedAt text line
-IsOutside text cause.NotBuilt line = ⊥
+-- the text is outside the language, and is refused so: it has no tokens, or these have no tree
+abbrev pub IsOutside : List ℕ → SourceRefusal → Type 0
+IsOutside text (source.Token why) = IsStuck text why
+IsOutside text (source.Parse parse.NoMemory) = ⊥
+IsOutside text (source.Parse why) = HasNoTree text why
+IsOutside text (source.NotBuilt line) = ⊥
 
--- ---- how the layers below refuse a text
+-- the text is refused so: it is outside the language, or its first node that is not built begins on this line
+abbrev pub IsRefusedText : List ℕ → SourceRefusal → Type 0
+IsRefusedText text (source.NotBuilt line) = HasUnbuilt text (Some line)
+IsRefusedText text why = IsOutside text why
 
--- the text gives this cause on this line: it is outside the language, or its first node that is not built is there
-abbrev pub IsTextCause : List ℕ → Cause → ℕ → Type 0
-IsTextCause text cause.NotBuilt line = HasUnbuilt text (Some line)
-IsTextCause text why line = IsOutside text why line
+-- some text is refused so, as none is for want of memory
+abbrev pub RefusesSome : SourceRefusal → Type 0
+RefusesSome why = (text : List ℕ) × IsRefusedText text why
 
--- the text gives the cause of this refusal; want of memory needs none
-abbrev pub RefusesText : List ℕ → TextRefusal → Type 0
-RefusesText text (text_refusal.Refused why line) = IsTextCause text why line
-RefusesText text text_refusal.NoMemory = Unit {0}
+-- the refusal of a source is one of a text
+abbrev pub IsRefusal : Refusal → Type 0
+IsRefusal (InSource file why) = RefusesSome why
+IsRefusal _ = ⊤
 
--- the refusal of a text that has no tokens
-abbrev pub by_tokens : TokenRefusal → TextRefusal
-by_tokens (token.NoToken line) = text_refusal.Refused cause.NoToken line
-by_tokens (token.OpenComment line) = text_refusal.Refused cause.OpenComment line
-by_tokens (token.OpenString line) = text_refusal.Refused cause.OpenString line
-by_tokens (token.BadNumber line) = text_refusal.Refused cause.BadNumber line
-by_tokens (token.LongName line) = text_refusal.Refused cause.LongName line
-by_tokens token.NoMemory = text_refusal.NoMemory
+-- ---- how a text comes to have no program
 
--- the refusal of tokens that have no tree
-abbrev pub by_grammar : ParseRefusal → TextRefusal
-by_grammar (parse.Syntax place line) = text_refusal.Refused cause.Syntax line
-by_grammar (parse.Nested place line) = text_refusal.Refused cause.Nested line
-by_grammar parse.NoMemory = text_refusal.NoMemory
+-- the text is refused so; want of memory says nothing of it
+abbrev pub StopsText : List ℕ → SourceStop → Type 0
+StopsText text (stop.Refused why) = IsRefusedText text why
+StopsText text stop.NoMemory = ⊤
+
+-- what becomes of a text that has no tokens
+abbrev pub by_tokens : TokenRefusal → SourceStop
+by_tokens token.NoMemory = stop.NoMemory
+by_tokens why = stop.Refused (source.Token why)
+
+-- what becomes of tokens that have no tree
+abbrev pub by_grammar : ParseRefusal → SourceStop
+by_grammar parse.NoMemory = stop.NoMemory
+by_grammar why = stop.Refused (source.Parse why)

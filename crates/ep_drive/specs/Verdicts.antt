@@ -5,9 +5,9 @@ use Rattle.ep_typed.specs.declared.unit.Unit.{Unit as TypedUnit}
 use Rattle.ep_drive.specs.Commands.{Command, WordsOf}
 use Rattle.ep_drive.specs.Commands as commands
 use Rattle.ep_drive.specs.ProgramTexts.{HasUnbuilt, HasTree, IsBuilt, Joins}
-use Rattle.ep_drive.specs.Refusals.{Refusal, Usage, Missing, TooLong, InText, source_limit, IsOutside}
-use Rattle.ep_drive.specs.declared.source.Cause.{Cause}
-use Rattle.ep_drive.specs.declared.source.Cause.TheVariants as cause
+use Rattle.ep_drive.specs.Refusals.{Refusal, Usage, Missing, TooLong, InSource, source_limit, IsOutside}
+use Rattle.ep_drive.specs.declared.source.SourceRefusal.{SourceRefusal}
+use Rattle.ep_drive.specs.declared.source.SourceRefusal.TheVariants as source
 
 -- what a call has to do: run the program of these texts within a budget of ticks
 pub data Job : Type 0 where
@@ -50,12 +50,12 @@ pub data OfSources (directory : Directory) (sources : List (List ℕ)) (job : Li
   missing : (file : List ℕ) → IsFirst (IsLoaded directory) file sources → directory file ≡ None → OfSources directory sources job (Refuse (Missing file))
   -- or it is too long
   too_long : (file text : List ℕ) → IsFirst (IsLoaded directory) file sources → directory file ≡ Some text → source_limit < length text → OfSources directory sources job (Refuse (TooLong file (length text)))
-  -- all are loaded, and the first text that has no tree gives this cause on this line
-  outside : (file : List ℕ) (why : Cause) (line : ℕ) → All (IsLoaded directory) sources → IsFirst (HasText directory HasTree) file sources → HasText directory (λ text. IsOutside text why line) file
-      → OfSources directory sources job (Refuse (InText file why line))
+  -- all are loaded, and the first text that has no tree is refused so
+  outside : (file : List ℕ) (why : SourceRefusal) → All (IsLoaded directory) sources → IsFirst (HasText directory HasTree) file sources → HasText directory (λ text. IsOutside text why) file
+      → OfSources directory sources job (Refuse (InSource file why))
   -- all have trees, and the first node that is not built begins on this line of the first text that has one
   not_built : (file : List ℕ) (line : ℕ) → All (HasText directory HasTree) sources → IsFirst (HasText directory IsBuilt) file sources → HasText directory (λ text. HasUnbuilt text (Some line)) file
-      → OfSources directory sources job (Refuse (InText file cause.NotBuilt line))
+      → OfSources directory sources job (Refuse (InSource file (source.NotBuilt line)))
   -- all are built, and they join to units
   begin : (texts : List (List ℕ)) (units : List TypedUnit) → AreTexts directory sources texts → Joins texts units → OfSources directory sources job (Begin (job texts))
 

@@ -9,14 +9,14 @@ ghost use Rattle.ep_drive.specs.Executions.{CameTo, IsImageOf};
 ghost use Rattle.ep_drive.specs.GoRuns.{run_within};
 ghost use Rattle.ep_drive.specs.Jobs.{AnswersJob};
 ghost use Rattle.ep_drive.specs.ProgramTexts.{Joins};
-ghost use Rattle.ep_drive.specs.Refusals.{RefusesText};
+ghost use Rattle.ep_drive.specs.Refusals.{StopsText};
 ghost use Rattle.ep_drive.specs.Seen.{NoneFell, seen};
 ghost use Rattle.ep_drive.specs.Statuses.{kind_of};
 ghost use Rattle.ep_drive.specs.Verdicts.{Go};
 
 use crate::image::image_alone;
 use crate::outcome::tell;
-use crate::source::{TextRefusal, read_program};
+use crate::source::{SourceStop, read_program};
 use crate::status::Status;
 use ep_base::NoMemory;
 use ep_gen_unit::program_code;
@@ -60,9 +60,9 @@ pub fn run_and_tell<F: Files, I: Source, O: Sink, R: Sink>(
 }
 
 /// An image that does what the program of a text means.
-pub fn text_image(alloc: Global, text: &[u8]) -> Result<Image, TextRefusal>
+pub fn text_image(alloc: Global, text: &[u8]) -> Result<Image, SourceStop>
     requires { length text.now ≤ MAX_SOURCE }
-    ensures { MatchResult result (λ image. IsImageOf text.now image) (RefusesText text.now) }
+    ensures { MatchResult result (λ image. IsImageOf text.now image) (StopsText text.now) }
 {
     let unit = read_program(alloc, text)?;
     let image = unit_image(alloc, &unit)?;

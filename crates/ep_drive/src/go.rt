@@ -8,7 +8,7 @@ ghost use Rattle.ep_drive.specs.Seen.{NoneFell, seen};
 
 use crate::execution::{run_and_tell, text_image};
 use crate::report::{Refusal, refuse};
-use crate::source::TextRefusal;
+use crate::source::SourceStop;
 use crate::status::Status;
 use ep_outside::{Files, LoadAnswer, Sink, Source};
 use ep_token::MAX_SOURCE;
@@ -85,10 +85,10 @@ fn go_text<F: Files, I: Source, O: Sink, R: Sink>(
 {
     let image = match text_image(alloc, text) {
         Ok(image) => image,
-        Err(TextRefusal::Refused(cause, line)) => {
-            return refuse(alloc, &Refusal::InText(source, cause, line), report);
+        Err(SourceStop::Refused(why)) => {
+            return refuse(alloc, &Refusal::InSource(source, why), report);
         }
-        Err(TextRefusal::NoMemory) => return Status::NoMemory,
+        Err(SourceStop::NoMemory) => return Status::NoMemory,
     };
     run_and_tell(alloc, &image, budget, files, input, output, report)
 }

@@ -1,32 +1,26 @@
 //! How the end of a run is answered and reported.
 
-ghost use Rattle.std.specs.Prelude.{◌≡◌, ◌≤◌, ◌++◌, decimal, IfOk, OnOk, MatchOption, Some, None};
+ghost use Rattle.std.specs.Prelude.{◌≡◌, ◌≤◌, IfOk, MatchOption, Some, None};
 ghost use Rattle.ep_drive.specs.Executions.{answer_status, answer_line};
 ghost use Rattle.ep_drive.specs.Outcomes.{IsToldAs, error_line};
 
+use crate::report::report_line;
 use crate::status::Status;
 use ep_base::{Line, Name, NoMemory};
 use ep_machine::End;
-use ep_outside::{Sink, WriteAnswer};
-use itoa::Buffer;
+use ep_outside::Sink;
 use std::alloc::Global;
 
-/// Reports how a run ended, by one write where there is something to report, and tells the status.
+/// Reports how a run ended where there is something to report, and tells the status.
 pub fn tell<R: Sink>(alloc: Global, end: &End, report: &mut R) -> Status
     ensures told { IsToldAs (answer_status end.now) (answer_line end.now) result
         (R.held report.old) (R.held report.new) (R.faults report.old) (R.faults report.new) }
     ensures faults { R.faults report.old ≤ R.faults report.new }
 {
-    let Ok(line) = line_of(alloc, end) else {
-        return Status::NoMemory;
-    };
-    let Some(line) = line else {
-        return status_of(end);
-    };
-    match report.write(line.as_slice()) {
-        WriteAnswer::Done => status_of(end),
-        WriteAnswer::Failed => Status::WriteFault,
-        WriteAnswer::NoMemory => Status::NoMemory,
+    match line_of(alloc, end) {
+        Ok(Some(line)) => report_line(line.as_slice(), status_of(end), report),
+        Ok(None) => status_of(end),
+        Err(_) => Status::NoMemory,
     }
 }
 
@@ -55,10 +49,8 @@ fn line_of(alloc: Global, end: &End) -> Result<Option<Vec<u8>>, NoMemory>
         End::Error { number, unit, line } => Ok(Some(error_line(alloc, *number, unit, *line)?)),
         End::Budget => Ok(Some(Vec::from_slice(alloc, b"budget spent\n")?)),
         End::Broken { pc } => {
-            let mut text = Vec::from_slice(alloc, b"broken image at ")?;
-            push_number(&mut text, u64::from(*pc))?;
-            text.push(b'\n')?;
-            Ok(Some(text))
+            let text = format!(in alloc; "broken image at {pc}\n")?;
+            Ok(Some(text.into_bytes()))
         }
         End::Normal
         | End::Halt
@@ -73,20 +65,8 @@ fn line_of(alloc: Global, end: &End) -> Result<Option<Vec<u8>>, NoMemory>
 fn error_line(alloc: Global, number: u8, unit: &Name, line: Line) -> Result<Vec<u8>, NoMemory>
     ensures { IfOk result (λ text. text.items ≡ error_line number unit.now line) }
 {
-    let mut text = Vec::from_slice(alloc, b"error ")?;
-    push_number(&mut text, u64::from(number))?;
-    text.extend_from_slice(b" in ")?;
+    let mut text = format!(in alloc; "error {number} in ")?.into_bytes();
     text.extend_from_slice(unit.bytes())?;
-    text.extend_from_slice(b" at line ")?;
-    push_number(&mut text, u64::from(line))?;
-    text.push(b'\n')?;
+    text.extend_from_slice(format!(in alloc; " at line {line}\n")?.as_bytes())?;
     Ok(text)
-}
-
-/// Adds the digits of a number.
-fn push_number(text: &mut Vec<u8>, number: u64) -> Result<(), NoMemory>
-    ensures { OnOk result (text.new.items ≡ text.old.items ++ decimal number) }
-{
-    let mut buffer = Buffer::new();
-    text.extend_from_slice(buffer.format(number).as_bytes())
 }

@@ -1,20 +1,21 @@
-//! Refusals, and the one line that reports each.
+//! Refusals, and how the one line of a report is written.
 
-ghost use Rattle.std.specs.Prelude.{◌≡◌, ◌≤◌, ◌++◌, decimal, IfOk, Some};
+ghost use Rattle.std.specs.Prelude.{◌≡◌, ◌≤◌, ◌++◌, codes, IfOk, Some};
 ghost use Rattle.std.specs.String.{string_bytes};
-ghost use Rattle.ep_drive.specs.Refusals.{InText, report_of, status_of, words_of};
+ghost use Rattle.ep_drive.specs.Refusals.{InSource, IsRefusal, RefusesSome, on_line, report_of, status_of};
 ghost use Rattle.ep_drive.specs.Outcomes.{IsToldAs};
 ghost use Rattle.ep_drive.specs.Asked.{refused_by};
 
-use crate::source::Cause;
+use crate::source::SourceRefusal;
 use crate::status::Status;
 use ep_base::{Line, NoMemory};
 use ep_outside::{Sink, WriteAnswer};
-use itoa::Buffer;
+use ep_parse::ParseRefusal;
+use ep_token::TokenRefusal;
 use std::alloc::Global;
 
 /// Why a call is refused.
-#[derive(Clone, Copy, Debug)]
+#[derive(Clone, Copy)]
 pub enum Refusal<'a> {
     /// The words are no command.
     Usage,
@@ -22,8 +23,34 @@ pub enum Refusal<'a> {
     Missing(&'a str),
     /// This file has this many bytes, more than its limit.
     TooLong(&'a str, u64),
-    /// The text of this file is refused for this cause, on this line.
-    InText(&'a str, Cause, Line),
+    /// The text of this file is refused so.
+    InSource(&'a str, SourceRefusal),
+}
+
+/// Reports a refusal, and tells how the call ends.
+pub fn refuse<R: Sink>(alloc: Global, refusal: &Refusal, report: &mut R) -> Status
+    requires { IsRefusal (refused_by refusal.now) }
+    ensures told { IsToldAs (status_of (refused_by refusal.now)) (Some (report_of (refused_by refusal.now))) result
+        (R.held report.old) (R.held report.new) (R.faults report.old) (R.faults report.new) }
+    ensures faults { R.faults report.old ≤ R.faults report.new }
+{
+    match line_of(alloc, refusal) {
+        Ok(line) => report_line(line.as_bytes(), status_of(refusal), report),
+        Err(_) => Status::NoMemory,
+    }
+}
+
+/// Reports a line by one write, and tells how the call ends: with its own status where the whole line was written.
+pub fn report_line<R: Sink>(line: &[u8], own: Status, report: &mut R) -> Status
+    ensures told { IsToldAs own (Some line.now) result
+        (R.held report.old) (R.held report.new) (R.faults report.old) (R.faults report.new) }
+    ensures faults { R.faults report.old ≤ R.faults report.new }
+{
+    match report.write(line) {
+        WriteAnswer::Done => own,
+        WriteAnswer::Failed => Status::WriteFault,
+        WriteAnswer::NoMemory => Status::NoMemory,
+    }
 }
 
 /// The status of a refusal.
@@ -33,79 +60,52 @@ fn status_of(refusal: &Refusal) -> Status
     match refusal {
         Refusal::Usage => Status::Usage,
         Refusal::Missing(_) | Refusal::TooLong(_, _) => Status::FileMissing,
-        Refusal::InText(_, Cause::NotBuilt, _) => Status::Unbuilt,
-        Refusal::InText(_, _, _) => Status::SourceRefused,
+        Refusal::InSource(_, SourceRefusal::NotBuilt(_)) => Status::Unbuilt,
+        Refusal::InSource(_, _) => Status::SourceRefused,
     }
 }
 
 /// The line that reports a refusal.
 fn line_of(alloc: Global, refusal: &Refusal) -> Result<String, NoMemory>
+    requires { IsRefusal (refused_by refusal.now) }
     ensures { IfOk result (λ line. string_bytes line ≡ report_of (refused_by refusal.now)) }
 {
     match refusal {
         Refusal::Usage => String::from_str(alloc, "usage\n"),
         Refusal::Missing(file) => format!(in alloc; "{file}: missing\n"),
-        Refusal::TooLong(file, bytes) => { numbered_line(alloc, file, ": too long ", *bytes, "\n") }
-        Refusal::InText(file, cause, line) => text_line(alloc, file, *cause, *line),
+        Refusal::TooLong(file, bytes) => format!(in alloc; "{file}: too long {bytes}\n"),
+        Refusal::InSource(file, why) => source_line(alloc, file, why),
     }
 }
 
-/// The line that reports why a text is refused.
-fn text_line(alloc: Global, file: &str, cause: Cause, line: Line) -> Result<String, NoMemory>
-    ensures { IfOk result (λ text. string_bytes text ≡ report_of (InText file.now cause line)) }
+/// The line that reports why a source is refused.
+fn source_line(alloc: Global, file: &str, why: &SourceRefusal) -> Result<String, NoMemory>
+    requires { RefusesSome why.now }
+    ensures { IfOk result (λ line. string_bytes line ≡ report_of (InSource file.now why.now)) }
 {
-    let mut text = numbered_line(alloc, file, ": line ", u64::from(line), ": ")?;
-    text.push_str(words_of(cause))?;
-    text.push_str("\n")?;
-    Ok(text)
-}
-
-/// The words that report a cause.
-fn words_of(cause: Cause) -> &'static str
-    ensures { result.now ≡ words_of cause }
-{
-    match cause {
-        Cause::NoToken => "no token",
-        Cause::OpenComment => "open comment",
-        Cause::OpenString => "open string",
-        Cause::BadNumber => "bad number",
-        Cause::LongName => "long name",
-        Cause::Syntax => "syntax",
-        Cause::Nested => "nested",
-        Cause::NotBuilt => "not built",
+    match why {
+        SourceRefusal::Token(TokenRefusal::NoToken(at)) => line_at(alloc, file, *at, "no token"),
+        SourceRefusal::Token(TokenRefusal::OpenComment(at)) => {
+            line_at(alloc, file, *at, "open comment")
+        }
+        SourceRefusal::Token(TokenRefusal::OpenString(at)) => {
+            line_at(alloc, file, *at, "open string")
+        }
+        SourceRefusal::Token(TokenRefusal::BadNumber(at)) => {
+            line_at(alloc, file, *at, "bad number")
+        }
+        SourceRefusal::Token(TokenRefusal::LongName(at)) => line_at(alloc, file, *at, "long name"),
+        SourceRefusal::Parse(ParseRefusal::Syntax(_, at)) => line_at(alloc, file, *at, "syntax"),
+        SourceRefusal::Parse(ParseRefusal::Nested(_, at)) => line_at(alloc, file, *at, "nested"),
+        SourceRefusal::NotBuilt(at) => line_at(alloc, file, *at, "not built"),
+        SourceRefusal::Token(TokenRefusal::NoMemory) => unreachable!(),
+        SourceRefusal::Parse(ParseRefusal::NoMemory) => unreachable!(),
     }
 }
 
-/// A file, a text, a number and a text.
-fn numbered_line(
-    alloc: Global,
-    file: &str,
-    before: &str,
-    number: u64,
-    after: &str,
-) -> Result<String, NoMemory>
-    ensures { IfOk result (λ line. string_bytes line ≡ file.now ++ before.now ++ decimal number ++ after.now) }
+/// The line that reports a file, a line of its text, and words.
+fn line_at(alloc: Global, file: &str, at: Line, words: &str) -> Result<String, NoMemory>
+    ensures { IfOk result (λ line. string_bytes line ≡ file.now ++ on_line at words.now ++ codes "\n") }
 {
-    let mut buffer = Buffer::new();
-    let mut line = String::from_str(alloc, file)?;
-    line.push_str(before)?;
-    line.push_str(buffer.format(number))?;
-    line.push_str(after)?;
-    Ok(line)
-}
-
-/// Reports a refusal by one write, and tells how the call ends.
-pub fn refuse<R: Sink>(alloc: Global, refusal: &Refusal, report: &mut R) -> Status
-    ensures told { IsToldAs (status_of (refused_by refusal.now)) (Some (report_of (refused_by refusal.now))) result
-        (R.held report.old) (R.held report.new) (R.faults report.old) (R.faults report.new) }
-    ensures faults { R.faults report.old ≤ R.faults report.new }
-{
-    let Ok(line) = line_of(alloc, refusal) else {
-        return Status::NoMemory;
-    };
-    match report.write(line.as_bytes()) {
-        WriteAnswer::Done => status_of(refusal),
-        WriteAnswer::Failed => Status::WriteFault,
-        WriteAnswer::NoMemory => Status::NoMemory,
-    }
+    format!(in alloc; "{file}: line {at}: {words}\n")
 }

@@ -1,6 +1,6 @@
 use Rattle.std.proofs.Common.{[], ◌∷◌, refl, subst}
 use Rattle.std.proofs.KnownBytes.{Keeps-refl}
-use Rattle.ep_drive.specs.Refusals.{InText, RefusesText}
+use Rattle.ep_drive.specs.Refusals.{InSource, StopsText}
 use Rattle.ep_drive.specs.Seen.{Seen, seen}
 use Rattle.ep_drive.specs.Statuses.{kind_of}
 use Rattle.ep_drive.specs.Verdicts.{Go}
@@ -9,13 +9,16 @@ use Rattle.ep_drive.proofs.Refused.{answers-job, answers-refused}
 use Rattle.ep_drive.proofs.Verdicts.{begin_verdict, text_verdict}
 use Rattle.ep_drive.proofs.go.go_text.Goals as goal
 
+pub refuse-requires : goal.refuse-requires
+refuse-requires g c = (c.args.text.now, subst (StopsText c.args.text.now) c.in-Err-Refused.field-0-is c.in-Err-Refused.ensures)
+
 pub returns-in-Err-Refused-clause-answers : goal.returns-in-Err-Refused-clause-answers
 returns-in-Err-Refused-clause-answers g c = λ words before n command loaded kept.
-    let cause = subst (RefusesText c.args.text.now) c.in-Err-Refused.field-0-is c.in-Err-Refused.ensures in
+    let refused = subst (StopsText c.args.text.now) c.in-Err-Refused.field-0-is c.in-Err-Refused.ensures in
     let then : Seen = seen (g.O.Sink.held c.args.output.now) before (g.I.Source.left c.args.input.now) (g.R.Sink.held c.args.report.now) (g.O.Sink.faults c.args.output.now) n (g.I.Source.faults c.args.input.now) (g.R.Sink.faults c.args.report.now) in
     let after : Seen = seen (g.O.Sink.held c.args.output.now) (g.F.Files.files c.args.files.now) (g.I.Source.left c.args.input.now) (g.R.Sink.held c.refuse.new.report) (g.O.Sink.faults c.args.output.now) (g.F.Files.faults c.args.files.now) (g.I.Source.faults c.args.input.now) (g.R.Sink.faults c.refuse.new.report) in
-    answers-refused c.refuse.result words (InText c.args.source.now c.in-Err-Refused.cause c.in-Err-Refused.line) then after c.refuse.ensures.told
-    (text_verdict words before c.args.budget c.args.source.now command c.args.text.now loaded c.requires.short c.in-Err-Refused.cause c.in-Err-Refused.line cause)
+    answers-refused c.refuse.result words (InSource c.args.source.now c.in-Err-Refused.why) then after c.refuse.ensures.told
+    (text_verdict words before c.args.budget c.args.source.now command c.args.text.now loaded c.requires.short c.in-Err-Refused.why refused)
     (record { same = record { output = Keeps-refl _; files = kept }; unread = record { left = refl; faults = refl } })
 
 pub returns-clause-answers : goal.returns-clause-answers

@@ -1,4 +1,4 @@
-use Rattle.std.proofs.Common.{[], List, subst, sym, ◌∙◌}
+use Rattle.std.proofs.Common.{List, subst, sym, ◌∙◌}
 use Rattle.ep_tree.specs.declared.component.Component.{Component}
 use Rattle.ep_grammar.specs.Rules.{Grammar}
 use Rattle.ep_grammar.specs.declared.stop.TheConstants.{MAX_NESTING}
