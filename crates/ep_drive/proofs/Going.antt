@@ -1,5 +1,5 @@
 -- What `go` answers of a text that was loaded.
-use Rattle.std.proofs.Common.{ℕ, ◌<◌, ◌^◌, List, [], ◌∷◌, ◌⊎◌, inl, inr, Option, arith}
+use Rattle.std.proofs.Common.{◌≡◌, ℕ, ◌<◌, ◌^◌, List, [], ◌∷◌, ◌⊎◌, inl, inr, Option, Bor, refl, arith}
 use Rattle.std.proofs.KnownBytes.{Keeps-refl}
 use Rattle.ep_object.specs.State.{Going}
 use Rattle.ep_outside.specs.Known.{Directory, KeepsFiles}
@@ -12,10 +12,24 @@ use Rattle.ep_drive.specs.Jobs.{AnswersJob}
 use Rattle.ep_drive.specs.Seen.{Seen, Unread, Unreported, outside_of, seen}
 use Rattle.ep_drive.specs.Statuses.{Kind, Finished, Refused, Faulted, Starved}
 use Rattle.ep_drive.specs.Verdicts as job
+use Rattle.ep_drive.specs.declared.words.Command.{Command as ReadCommand}
+use Rattle.ep_drive.specs.declared.words.Command.TheVariants as read
 use Rattle.ep_drive.specs.declared.status.Status.{Status}
 use Rattle.ep_drive.specs.declared.status.Status.TheVariants as status
 
--- ---- the budget of a command is small
+-- ---- the command
+
+-- the parts of a command that was read
+pub record IsGo (command : ReadCommand) : Type 0 where
+  pub budget : ℕ
+  pub source : Bor (List ℕ)
+  pub is : command ≡ read.Go budget source
+
+-- so far there is one
+pub is_go : (command : ReadCommand) → IsGo command
+is_go (read.Go budget source) = record { budget = budget; source = source; is = refl }
+
+-- ---- its budget is small
 
 option_small : {words sources : List (List ℕ)} {n : ℕ} {more : List ℕ} → IsWordRow words (n ∷ more) sources → n < 10 ^ 10
 option_small (option w is row) = is.greatest

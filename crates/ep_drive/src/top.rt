@@ -56,7 +56,7 @@ fn carry_out<F: Files, I: Source, O: Sink, R: Sink>(
         (O.faults output.new) (F.faults files.new) (I.faults input.new) (R.faults report.new)) }
 {
     match command_of(words) {
-        Some(Command { budget, source }) => {
+        Some(Command::Go { budget, source }) => {
             go(alloc, budget, source, files, input, output, report)
         }
         None => refuse(alloc, &Refusal::Usage, report),

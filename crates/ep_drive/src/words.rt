@@ -17,13 +17,16 @@ const MAX_BUDGET: u64 = 9_999_999_999;
 /// The most digits of such a number.
 const MAX_BUDGET_DIGITS: usize = 10;
 
-/// What a list of words asks for, which is to compile, link and run a source.
+/// What a list of words asks for.
 #[derive(Clone, Copy, Debug)]
-pub struct Command<'a> {
-    /// The ticks that the run may spend.
-    pub budget: u64,
-    /// The name of the source.
-    pub source: &'a str,
+pub enum Command<'a> {
+    /// To compile, link and run a source.
+    Go {
+        /// The ticks that the run may spend.
+        budget: u64,
+        /// The name of the source.
+        source: &'a str,
+    },
 }
 
 /// What a word may be where it stands.
@@ -93,7 +96,7 @@ impl<'a> Row<'a> {
         }
         let source = self.source?;
         let budget = self.ticks.unwrap_or(USUAL_BUDGET);
-        Some(Command { budget, source })
+        Some(Command::Go { budget, source })
     }
 
     /// After one more word, or `None` where the word cannot stand there.

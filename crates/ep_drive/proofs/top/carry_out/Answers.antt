@@ -1,16 +1,19 @@
-use Rattle.std.proofs.Common.{[], ◌∷◌, refl}
+use Rattle.std.proofs.Common.{[], ◌∷◌, refl, subst}
 use Rattle.std.proofs.KnownBytes.{Keeps-refl}
 use Rattle.ep_typed.proofs.Done.{keeps_files-refl}
-use Rattle.ep_drive.specs.Commands.{bytes_of}
+use Rattle.ep_drive.specs.Asked.{asked_by}
+use Rattle.ep_drive.specs.Commands.{bytes_of, WordsOf}
 use Rattle.ep_drive.specs.Refusals.{Usage}
 use Rattle.ep_drive.specs.Seen.{Seen, seen}
-use Rattle.ep_drive.proofs.Going.{budget_small}
+use Rattle.ep_drive.proofs.Going.{budget_small, is_go}
 use Rattle.ep_drive.proofs.Refused.{answers-refused}
 use Rattle.ep_drive.proofs.Verdicts.{usage_verdict}
 use Rattle.ep_drive.proofs.top.carry_out.Goals as goal
 
 pub go-requires : goal.go-requires
-go-requires g c = budget_small (bytes_of c.args.words.now) c.in-Some.field-0.budget (c.in-Some.field-0.source.now ∷ []) c.in-Some.ensures.0
+go-requires g c =
+    let go = is_go c.in-Some-Go.field-0 in
+    rw go.is (budget_small (bytes_of c.args.words.now) go.budget (go.source.now ∷ []) (subst (λ command. WordsOf (bytes_of c.args.words.now) (asked_by command)) go.is c.in-Some-Go.ensures.0))
 
 pub returns-in-None-clause-answers : goal.returns-in-None-clause-answers
 returns-in-None-clause-answers g c =
