@@ -1,10 +1,10 @@
 //! The machine.
 
 ghost use Rattle.std.specs.Prelude.{◌≡◌, ◌≢◌, ◌⊎◌, ℕ, ◌<◌, ◌≤◌, ◌+◌, ◌^◌, length, List, [], Option, Some, None, IsTrue, IfOk, MatchOption};
-ghost use Rattle.ep_object.specs.Runs.{begin as beginning, run_to, timed, trace_of};
+ghost use Rattle.ep_object.specs.Runs.{begin as beginning, timed};
 ghost use Rattle.ep_typed.specs.Events.{Trace, DoesFront, DoesPart, Outside};
 ghost use Rattle.ep_object.specs.State.{State};
-ghost use Rattle.ep_machine.specs.Answers.{Answers, RunsTo, UnlessStopped, OnNoMemoryEnd, OnWriteFaultEnd, IsEnd, outside};
+ghost use Rattle.ep_machine.specs.Answers.{Answers, UnlessStopped, OnNoMemoryEnd, OnWriteFaultEnd, IsEnd, outside};
 ghost use Rattle.ep_machine.specs.Turns.{ended_at};
 ghost use Rattle.ep_machine.specs.declared.end.Ended.TheVariants as ended;
 ghost use Rattle.ep_machine.specs.Turns.{UnlessFailed, OnFailed, OnWriteFault, Ran, RunFailed, is_ready, is_known};
@@ -34,7 +34,7 @@ pub struct Machine<'a> {
 }
 
 impl<'a> Machine<'a> {
-    ghost use Rattle.ep_machine.specs.Machines.{image_of, ticks_of, ended_of, standing};
+    ghost use Rattle.ep_machine.specs.Machines.{image_of, ticks_of, ended_of, standing, GoesOnTo, events_within};
 
     /// A machine before the first instruction of an image. An image of 2^32 or more instructions is refused as if
     /// memory were wanting.
@@ -78,13 +78,17 @@ impl<'a> Machine<'a> {
     /// Goes on for at most so many ticks, unless it has ended.
     fn resume<O: Sink>(&mut self, budget: u64, output: &mut O)
         requires { ticks_of self.old + budget < 2 ^ 61 }
-        ensures exact { UnlessFailed (ended_of self.new) (Ran (image_of self.old) (ticks_of self.old + budget) (standing self.old) (standing self.new) (O.held output.old) (O.held output.new)) }
-        ensures failed { OnFailed (ended_of self.new) (RunFailed (image_of self.old) (ticks_of self.old + budget) (standing self.old) (O.held output.old) (O.held output.new)) }
+        ensures exact { UnlessFailed (ended_of self.new) (Ran (image_of self.old) (ticks_of self.old + budget)
+            (standing self.old) (standing self.new) (O.held output.old) (O.held output.new)) }
+        ensures failed { OnFailed (ended_of self.new) (RunFailed (image_of self.old) (ticks_of self.old + budget)
+            (standing self.old) (O.held output.old) (O.held output.new)) }
         ensures image { image_of self.new ≡ image_of self.old }
         ensures within { ticks_of self.new < 2 ^ 61 }
         ensures counts { O.faults output.old ≤ O.faults output.new }
-        ensures fault { OnWriteFault (ended_of self.new) ((ended_of self.old ≡ ended.WriteFault) ⊎ (O.faults output.old < O.faults output.new)) }
-        ensures again { ended_of self.old ≢ ended.Budget → (ended_of self.new ≡ ended_of self.old) × (ticks_of self.new ≡ ticks_of self.old) × (output.new ≡ output.old) }
+        ensures fault { OnWriteFault (ended_of self.new)
+            ((ended_of self.old ≡ ended.WriteFault) ⊎ (O.faults output.old < O.faults output.new)) }
+        ensures again { ended_of self.old ≢ ended.Budget → (ended_of self.new ≡ ended_of self.old)
+            × (ticks_of self.new ≡ ticks_of self.old) × (output.new ≡ output.old) }
     {
         if let Ended::Budget = self.ended {
             let limit = self.ticks + budget;
@@ -114,15 +118,20 @@ impl<'a> Machine<'a> {
         output: &mut O,
     ) -> End
         requires { ticks_of self.old + budget < 2 ^ 61 }
-        ensures exact { UnlessStopped result (RunsTo (image_of self.old) (ticks_of self.old + budget) (standing self.old) (standing self.new) (outside (O.held output.old) (F.files files.old)) (outside (O.held output.new) (F.files files.new))) }
-        ensures part { OnWriteFaultEnd result (DoesPart (trace_of (run_to (image_of self.old) (ticks_of self.old + budget) (standing self.old [])).going) (outside (O.held output.old) (F.files files.old)) (outside (O.held output.new) (F.files files.new))) }
-        ensures whole { OnNoMemoryEnd result (DoesFront (trace_of (run_to (image_of self.old) (ticks_of self.old + budget) (standing self.old [])).going) (outside (O.held output.old) (F.files files.old)) (outside (O.held output.new) (F.files files.new))) }
+        ensures exact { UnlessStopped result (GoesOnTo self.old budget self.new
+            (outside (O.held output.old) (F.files files.old)) (outside (O.held output.new) (F.files files.new))) }
+        ensures part { OnWriteFaultEnd result (DoesPart (events_within self.old budget)
+            (outside (O.held output.old) (F.files files.old)) (outside (O.held output.new) (F.files files.new))) }
+        ensures whole { OnNoMemoryEnd result (DoesFront (events_within self.old budget)
+            (outside (O.held output.old) (F.files files.old)) (outside (O.held output.new) (F.files files.new))) }
         ensures end { (trace : Trace) → IsEnd result (standing self.new trace).going }
         ensures image { image_of self.new ≡ image_of self.old }
         ensures within { ticks_of self.new < 2 ^ 61 }
         ensures counts { O.faults output.old ≤ O.faults output.new }
-        ensures fault { OnWriteFaultEnd result ((ended_of self.old ≡ ended.WriteFault) ⊎ (O.faults output.old < O.faults output.new)) }
-        ensures again { ended_of self.old ≢ ended.Budget → Answers (ended_of self.old) result × (ticks_of self.new ≡ ticks_of self.old) × (output.new ≡ output.old) }
+        ensures fault { OnWriteFaultEnd result
+            ((ended_of self.old ≡ ended.WriteFault) ⊎ (O.faults output.old < O.faults output.new)) }
+        ensures again { ended_of self.old ≢ ended.Budget
+            → Answers (ended_of self.old) result × (ticks_of self.new ≡ ticks_of self.old) × (output.new ≡ output.old) }
         ensures files { files.new ≡ files.old }
         ensures input { input.new ≡ input.old }
     {
