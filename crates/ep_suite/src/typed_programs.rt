@@ -3,12 +3,13 @@
 pub(crate) mod builder;
 
 use builder::{Builder, Step, Unbuilt};
-use ep_base::{Line, List, Name};
+use ep_base::{Boxed, Line, List, Name};
 use ep_gen_expr::{Code, expression_code, laws_of_code};
 use ep_gen_unit::{laws_of_programs, laws_of_statements, program_code, statement_code};
 use ep_object::{Instr, Object, op};
 use ep_typed::{
-    Binary, Host, Print, TypeValue, TypedStmt, Unary, Unit, UnitVariable, UnitVariables, run_error,
+    Binary, Bound, Denoter, Print, RequiredType, TypeEntry, TypedStmt, Unary, Unit, UnitType,
+    UnitTypes, UnitVariable, UnitVariables, laws_of_denoters, run_error, unit_nodes,
 };
 use std::alloc::Global;
 use std::test::Fail;
@@ -306,25 +307,34 @@ fn are(instructions: &[Instr], want: &[Row]) -> bool {
     true
 }
 
-/// A unit `main` at line 3 with these variables, which does these statements.
+/// A program `main` with these types and variables, which does these statements.
 pub(crate) fn unit_of(
     alloc: Global,
+    types: UnitTypes,
     variables: UnitVariables,
     statements: List<TypedStmt>,
 ) -> Result<Unit, Unbuilt> {
     let name = Name::from_bytes(alloc, b"main")?;
     Ok(Unit {
         name,
-        line: 3,
+        program: true,
+        interface: None,
+        imports: List::new(alloc),
+        types,
+        constants: List::new(alloc),
         variables,
+        routines: List::new(alloc),
         start: TypedStmt::Compound(statements),
+        stop: TypedStmt::Empty,
     })
 }
 
 /// No code yet, at line 3.
 fn no_code(alloc: Global) -> Result<Code, Unbuilt> {
-    let unit = unit_of(alloc, List::new(alloc), List::new(alloc))?;
-    Ok(Code::new(alloc, &unit))
+    let unit = unit_of(alloc, List::new(alloc), List::new(alloc), List::new(alloc))?;
+    let mut code = Code::new(alloc, &unit);
+    code.line = 3;
+    Ok(code)
 }
 
 /// Appends the code of the expressions that steps left, and then of the statements.
@@ -368,31 +378,62 @@ fn trees_have_their_code(rt: HostRuntime) -> Result<(), Fail> {
     Ok(())
 }
 
-/// A variable of the type from 0 to 9.
-fn digit(alloc: Global, name: &[u8], line: Line) -> Result<UnitVariable, Unbuilt> {
+/// The denoter `0..9`.
+fn digits(alloc: Global) -> Result<Denoter, Unbuilt> {
+    let host = Boxed::new(alloc, Denoter::Required(RequiredType::Integer))?;
+    Ok(Denoter::Subrange(host, Bound::Constant(0), Bound::Constant(9)))
+}
+
+/// The type `digit = 0..9`, on line 1.
+fn digit(alloc: Global) -> Result<UnitTypes, Unbuilt> {
+    let entry = TypeEntry {
+        module: Name::from_bytes(alloc, b"main")?,
+        number: 0,
+        name: Some(Name::from_bytes(alloc, b"digit")?),
+        formals: List::new(alloc),
+        denoter: digits(alloc)?,
+    };
+    let mut types = List::new(alloc);
+    types.push(UnitType {
+        entry,
+        line: Some(1),
+    })?;
+    Ok(types)
+}
+
+/// A variable of this type, the only one of its declaration.
+pub(crate) fn variable(
+    alloc: Global,
+    name: &[u8],
+    line: Line,
+    denoter: Denoter,
+) -> Result<UnitVariable, Unbuilt> {
     Ok(UnitVariable {
         name: Name::from_bytes(alloc, name)?,
         line,
-        host: Host::Integer,
-        type_value: TypeValue::Ordinal(0, 9),
+        declaration: line,
+        denoter,
+        tuple: List::new(alloc),
+        parameter: false,
     })
 }
 
-/// The variables `x` and `y`, on lines 1 and 2.
+/// The variables `x: digit` and `y: 0..9`, on lines 1 and 2.
 fn two_digits(alloc: Global) -> Result<UnitVariables, Unbuilt> {
     let mut variables = List::new(alloc);
-    variables.push(digit(alloc, b"x", 1)?)?;
-    variables.push(digit(alloc, b"y", 2)?)?;
+    let named = Denoter::Named(0, List::new(alloc));
+    variables.push(variable(alloc, b"x", 1, named)?)?;
+    variables.push(variable(alloc, b"y", 2, digits(alloc)?)?)?;
     Ok(variables)
 }
 
-/// The object of a program with these variables, whose block is `y := 7` on line 4.
-fn program(alloc: Global) -> Result<Object, Unbuilt> {
+/// A program with these types and variables, whose block is `y := 7` on line 4.
+fn program(alloc: Global) -> Result<Unit, Unbuilt> {
     let steps = [Step::Constant(7), Step::Assign(4, 1)];
+    let types = digit(alloc)?;
     let variables = two_digits(alloc)?;
     let statements = Builder::after(alloc, &steps)?.into_statements();
-    let unit = unit_of(alloc, variables, statements)?;
-    Ok(program_code(alloc, &unit)?)
+    unit_of(alloc, types, variables, statements)
 }
 
 /// The code of that program.
@@ -408,8 +449,8 @@ const PROGRAM: &[Row] = &[
     (op::UNIT, 0, 0, 4),
     (op::PUSH, 7, 0, 4),
     (op::STORE, 0, 0, 4),
-    (op::RETURN, 0, 0, 3),
-    (op::RETURN, 0, 0, 3),
+    (op::RETURN, 0, 0, 0),
+    (op::RETURN, 0, 0, 0),
 ];
 
 /// Whether an object has this code, its start at 0 and its stop at 12.
@@ -425,8 +466,19 @@ fn is_program(object: &Object) -> bool {
 
 #[test]
 fn a_program_has_its_object(rt: HostRuntime) -> Result<(), Fail> {
-    let object = program(rt.alloc())?;
+    let unit = program(rt.alloc())?;
+    let object = program_code(rt.alloc(), &unit)?;
     assert!(rt; is_program(&object));
     laws_of_programs();
+    laws_of_denoters();
+    Ok(())
+}
+
+// The type: 4 with its host and bounds. The variables: 1 and its name, 1 and the four. The statements: the compound one,
+// and the assignment with a place, a constant and its value; the empty one of the stop.
+#[test]
+fn the_nodes_of_a_program_are_counted(rt: HostRuntime) -> Result<(), Fail> {
+    let unit = program(rt.alloc())?;
+    assert_eq!(rt; unit_nodes(&unit), 4 + 2 + 5 + 1 + 4 + 1);
     Ok(())
 }

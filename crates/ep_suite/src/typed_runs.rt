@@ -2,8 +2,8 @@
 
 use crate::machine::end_of;
 use crate::typed_programs::builder::{Builder, Step, Unbuilt};
-use crate::typed_programs::unit_of;
-use ep_base::{Bytes, List, Name};
+use crate::typed_programs::{unit_of, variable};
+use ep_base::{Bytes, List};
 use ep_gen_unit::program_code;
 use ep_machine::{End, Machine};
 use ep_object::{
@@ -11,7 +11,7 @@ use ep_object::{
     Texts, op,
 };
 use ep_outside::SureSink;
-use ep_typed::{Binary, Host, Print, TypeValue, Unary, UnitVariable, UnitVariables};
+use ep_typed::{Binary, Denoter, Print, RequiredType, Unary, UnitVariables};
 use std::alloc::{AllocError, Global};
 use std::test::Fail;
 
@@ -80,14 +80,9 @@ const RUNS: &[(&[Step], u32, &str)] = &[
 
 /// The variable `x` of the type integer, on line 1.
 fn integer(alloc: Global) -> Result<UnitVariables, Unbuilt> {
-    let variable = UnitVariable {
-        name: Name::from_bytes(alloc, b"x")?,
-        line: 1,
-        host: Host::Integer,
-        type_value: TypeValue::Ordinal(-i64::MAX, i64::MAX),
-    };
     let mut variables = List::new(alloc);
-    variables.push(variable)?;
+    let denoter = Denoter::Required(RequiredType::Integer);
+    variables.push(variable(alloc, b"x", 1, denoter)?)?;
     Ok(variables)
 }
 
@@ -95,7 +90,7 @@ fn integer(alloc: Global) -> Result<UnitVariables, Unbuilt> {
 fn object(alloc: Global, steps: &[Step]) -> Result<Object, Unbuilt> {
     let variables = integer(alloc)?;
     let statements = Builder::after(alloc, steps)?.into_statements();
-    let unit = unit_of(alloc, variables, statements)?;
+    let unit = unit_of(alloc, List::new(alloc), variables, statements)?;
     Ok(program_code(alloc, &unit)?)
 }
 

@@ -113,8 +113,11 @@ impl Drop for Unit {
             constants: _,
             variables: _,
             routines: _,
-            start: _,
-            stop: _,
+            start,
+            stop,
         } = self;
+        // By a call each, since the walk over all fields at once took four times as long to check.
+        drop(start);
+        drop(stop);
     }
 }

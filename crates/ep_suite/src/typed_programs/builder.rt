@@ -188,8 +188,8 @@ impl Builder {
         Ok(
             self.items.push(WriteItem {
                 print,
-                value: value.into_inner(),
-                width: width.map(Boxed::into_inner),
+                value,
+                width,
             })?,
         )
     }
@@ -197,20 +197,20 @@ impl Builder {
     fn assign(&mut self, line: Line, number: u32) -> Result<(), Unbuilt> {
         let value = self.expression()?;
         let place = self.place(number)?;
-        self.put(TypedStmt::Assign(line, place, value.into_inner()))
+        self.put(TypedStmt::Assign(line, place, value))
     }
 
     fn choice(&mut self, line: Line) -> Result<(), Unbuilt> {
         let condition = self.expression()?;
         let else_part = self.statement()?;
         let then_part = self.statement()?;
-        self.put(TypedStmt::If(line, condition.into_inner(), then_part, else_part))
+        self.put(TypedStmt::If(line, condition, then_part, else_part))
     }
 
     fn repetition(&mut self, line: Line) -> Result<(), Unbuilt> {
         let condition = self.expression()?;
         let body = self.statement()?;
-        self.put(TypedStmt::While(line, condition.into_inner(), body))
+        self.put(TypedStmt::While(line, condition, body))
     }
 
     fn write(&mut self, line: Line, ends_line: bool) -> Result<(), Unbuilt> {
