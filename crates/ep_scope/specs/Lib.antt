@@ -1,0 +1,6 @@
+pub mod Entering
+pub mod Keys
+pub mod Kinds
+pub mod Meanings
+pub mod Required
+pub mod Scopes

@@ -1,0 +1,78 @@
+-- What names stand for: lists of declarations, and what a name means in them.
+use Rattle.std.specs.Prelude.{ℕ, List, [], ◌∷◌, ◌++◌, Option, Some, None, if◌then◌else◌}
+use Rattle.std.specs.Str.{bytes_eq}
+use Rattle.ep_typed.specs.declared.tree.StandardFile.{StandardFile}
+use Rattle.ep_scope.specs.Required.{look_up, required_of}
+use Rattle.ep_scope.specs.declared.required.Required.{Required}
+use Rattle.ep_scope.specs.declared.thing.Declared.{Declared}
+use Rattle.ep_scope.specs.declared.thing.Thing.{Thing}
+use Rattle.ep_scope.specs.declared.thing.Thing.TheVariants as thing
+
+-- names with what they stand for, in the order in which they were entered
+abbrev pub Entries : Type 0
+Entries = List (List ℕ × Thing)
+
+-- what a scope has under names, and what its interfaces have (ISO 10206, 6.2.2 and 6.11.3)
+pub record Region : Type 0 where
+  pub entries : Entries
+  pub qualified : List (List ℕ × Entries)
+
+-- no name yet
+abbrev pub empty_region : Region
+empty_region = record { entries = []; qualified = [] }
+
+-- one name more
+abbrev pub with_entry : Region → List ℕ → Thing → Region
+with_entry r name thing = record r { entries = r.entries ++ (name, thing) ∷ [] }
+
+-- what an interface has under a name
+abbrev pub look_up_if : Option Entries → List ℕ → Option Thing
+look_up_if None name = None
+look_up_if (Some entries) name = look_up entries name
+
+abbrev pub look_up_in : Region → List ℕ → List ℕ → Option Thing
+look_up_in r interface name = look_up_if (look_up r.qualified interface) name
+
+-- one interface more, with its first name
+abbrev pub with_interface : Region → List ℕ → List ℕ → Thing → Region
+with_interface r interface name thing = record r { qualified = r.qualified ++ (interface, (name, thing) ∷ []) ∷ [] }
+
+-- one constituent more of an interface, which is the last one where it is new
+abbrev pub with_constituent : List (List ℕ × Entries) → List ℕ → List ℕ → Thing → List (List ℕ × Entries)
+with_constituent [] interface name thing = (interface, (name, thing) ∷ []) ∷ []
+with_constituent (e ∷ es) interface name thing =
+    if bytes_eq interface e.0 then (e.0, e.1 ++ (name, thing) ∷ []) ∷ es else e ∷ with_constituent es interface name thing
+
+-- what a name may stand for
+pub data Meant : Type 0 where
+  Declares : (declared : Declared) → Meant
+  Standard : (file : StandardFile) → Meant
+  Requires : (required : Required) → Meant
+  Nothing : Meant
+
+abbrev pub as_thing : Thing → Meant
+as_thing (thing.Declared declared) = Declares declared
+as_thing (thing.Standard file) = Standard file
+
+abbrev pub as_required : Option Required → Meant
+as_required None = Nothing
+as_required (Some required) = Requires required
+
+abbrev pub or_outside : Option Thing → Meant → Meant
+or_outside None outside = outside
+or_outside (Some thing) outside = as_thing thing
+
+-- the innermost scope that has the name (ISO 10206, 6.2.2.5), or the required identifier (6.2.2.10)
+abbrev pub meant : List Region → List ℕ → Meant
+meant [] name = as_required (required_of name)
+meant (r ∷ rs) name = or_outside (look_up r.entries name) (meant rs name)
+
+-- nothing where the name of the interface is that of something else
+abbrev pub unless_hidden : Option Thing → Meant → Meant
+unless_hidden None inside = inside
+unless_hidden (Some thing) inside = Nothing
+
+-- `i.a`: the innermost scope whose interface i has the name a, where neither it nor a scope inside of it has i itself (own)
+abbrev pub meant_in : List Region → List ℕ → List ℕ → Meant
+meant_in [] interface name = Nothing
+meant_in (r ∷ rs) interface name = unless_hidden (look_up r.entries interface) (or_outside (look_up_in r interface name) (meant_in rs interface name))

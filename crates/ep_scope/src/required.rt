@@ -1,0 +1,151 @@
+//! The required identifiers (ISO 10206, 6.2.2.10).
+
+ghost use Rattle.std.specs.Prelude.{◌≡◌};
+ghost use Rattle.ep_scope.specs.Required.{look_up, required_of, required_constants, required_types, required_functions, required_procedures};
+
+use ep_typed::RequiredType;
+
+/// What a required identifier stands for where no scope has it.
+#[derive(Clone, Copy, Drop)]
+pub enum Required {
+    /// A required constant.
+    Constant(RequiredConstant),
+    /// A required type.
+    Type(RequiredType),
+    /// A required function.
+    Function(Function),
+    /// A required procedure.
+    Procedure(Procedure),
+}
+
+/// A required constant (ISO 10206, 6.4.2.2).
+#[derive(Clone, Copy, Drop)]
+pub enum RequiredConstant {
+    /// `maxint`
+    MaxInt,
+    /// `maxchar`
+    MaxChar,
+    /// `True`
+    True,
+    /// `False`
+    False,
+}
+
+/// A required function (ISO 10206, 6.7.6).
+#[derive(Clone, Copy, Drop)]
+pub enum Function {
+    /// `abs`
+    Absolute,
+    /// `sqr`
+    Square,
+    /// `odd`
+    Odd,
+    /// `ord`
+    Ordinal,
+    /// `chr`
+    Character,
+    /// `succ`
+    Successor,
+    /// `pred`
+    Predecessor,
+}
+
+/// A required procedure (ISO 10206, 6.7.5 and 6.10).
+#[derive(Clone, Copy, Drop)]
+pub enum Procedure {
+    /// `halt`
+    Halt,
+    /// `write`
+    Write,
+    /// `writeln`
+    WriteLine,
+}
+
+/// What a name stands for as a required identifier.
+pub fn required_identifier(name: &[u8]) -> Option<Required>
+    ensures { result ≡ required_of name.now }
+{
+    if let Some(constant) = required_constant(name) {
+        return Some(Required::Constant(constant));
+    }
+    if let Some(required) = required_type(name) {
+        return Some(Required::Type(required));
+    }
+    if let Some(function) = required_function(name) {
+        return Some(Required::Function(function));
+    }
+    match required_procedure(name) {
+        None => None,
+        Some(procedure) => Some(Required::Procedure(procedure)),
+    }
+}
+
+/// The required constant of a name.
+fn required_constant(name: &[u8]) -> Option<RequiredConstant>
+    ensures { result ≡ look_up required_constants name.now }
+{
+    if name == b"maxint".as_slice() {
+        Some(RequiredConstant::MaxInt)
+    } else if name == b"maxchar".as_slice() {
+        Some(RequiredConstant::MaxChar)
+    } else if name == b"true".as_slice() {
+        Some(RequiredConstant::True)
+    } else if name == b"false".as_slice() {
+        Some(RequiredConstant::False)
+    } else {
+        None
+    }
+}
+
+/// The required type of a name.
+fn required_type(name: &[u8]) -> Option<RequiredType>
+    ensures { result ≡ look_up required_types name.now }
+{
+    if name == b"integer".as_slice() {
+        Some(RequiredType::Integer)
+    } else if name == b"char".as_slice() {
+        Some(RequiredType::Char)
+    } else if name == b"boolean".as_slice() {
+        Some(RequiredType::Boolean)
+    } else {
+        None
+    }
+}
+
+/// The required function of a name.
+fn required_function(name: &[u8]) -> Option<Function>
+    ensures { result ≡ look_up required_functions name.now }
+{
+    if name == b"abs".as_slice() {
+        Some(Function::Absolute)
+    } else if name == b"sqr".as_slice() {
+        Some(Function::Square)
+    } else if name == b"odd".as_slice() {
+        Some(Function::Odd)
+    } else if name == b"ord".as_slice() {
+        Some(Function::Ordinal)
+    } else if name == b"chr".as_slice() {
+        Some(Function::Character)
+    } else if name == b"succ".as_slice() {
+        Some(Function::Successor)
+    } else if name == b"pred".as_slice() {
+        Some(Function::Predecessor)
+    } else {
+        None
+    }
+}
+
+/// The required procedure of a name.
+fn required_procedure(name: &[u8]) -> Option<Procedure>
+    ensures { result ≡ look_up required_procedures name.now }
+{
+    if name == b"halt".as_slice() {
+        Some(Procedure::Halt)
+    } else if name == b"write".as_slice() {
+        Some(Procedure::Write)
+    } else if name == b"writeln".as_slice() {
+        Some(Procedure::WriteLine)
+    } else {
+        None
+    }
+}

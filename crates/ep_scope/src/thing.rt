@@ -1,0 +1,62 @@
+//! What a name may stand for.
+
+use crate::kind::{Host, Kind};
+use ep_base::Name;
+use ep_typed::{StandardFile, Value};
+
+/// What a name of a scope stands for.
+pub enum Thing {
+    /// A declaration of a unit.
+    Declared(Declared),
+    /// `input` or `output`, as a parameter (ISO 10206, 6.12).
+    Standard(StandardFile),
+}
+
+impl Drop for Thing {
+    fn drop(self) {
+        match self {
+            Thing::Declared(_) => {}
+            Thing::Standard(_) => {}
+        }
+    }
+}
+
+/// A declaration of a unit (ISO 10206, 6.2.1).
+pub struct Declared {
+    /// The unit.
+    pub unit: Name,
+    /// Its number among the unit's constants, types or variables.
+    pub number: u32,
+    /// What is declared.
+    pub what: Declaration,
+}
+
+impl Drop for Declared {
+    fn drop(self) {
+        let Declared {
+            unit: _,
+            number: _,
+            what: _,
+        } = self;
+    }
+}
+
+/// What a declaration declares.
+pub enum Declaration {
+    /// A constant (ISO 10206, 6.3.1).
+    Constant(Kind, Value),
+    /// A type with this host (ISO 10206, 6.4.1).
+    Type(Host),
+    /// A variable (ISO 10206, 6.5.1).
+    Variable(Kind),
+}
+
+impl Drop for Declaration {
+    fn drop(self) {
+        match self {
+            Declaration::Constant(_, _) => {}
+            Declaration::Type(_) => {}
+            Declaration::Variable(_) => {}
+        }
+    }
+}
