@@ -1,0 +1,134 @@
+-- What the rules say of small expressions.
+use Rattle.std.proofs.Common.{◌≡◌, ℕ, pos, negsuc, true, false, List, [], ◌∷◌, Option, Some, None, refl, codes}
+use Rattle.ep_tree.specs.Nodes.{expression_node, comparison_node, simple_node, addend_node, term_node, multiplier_node, access_node, argument_node}
+use Rattle.ep_tree.specs.declared.expression.Argument.{Argument}
+use Rattle.ep_tree.specs.declared.expression.Expression.{Expression}
+use Rattle.ep_tree.specs.declared.expression.Factor.{Factor}
+use Rattle.ep_tree.specs.declared.expression.Factor.TheVariants as factor
+use Rattle.ep_tree.specs.declared.expression.Selector.TheVariants as selector
+use Rattle.ep_tree.specs.declared.expression.Simple.{Simple}
+use Rattle.ep_tree.specs.declared.expression.Term.{Term}
+use Rattle.ep_tree.specs.declared.operator.AddingOperator.TheVariants as adding
+use Rattle.ep_tree.specs.declared.operator.MultiplyingOperator.TheVariants as multiplying
+use Rattle.ep_tree.specs.declared.operator.RelationalOperator.TheVariants as relation
+use Rattle.ep_typed.specs.Trees.{Constant, Read, Two, Step, Variable}
+use Rattle.ep_typed.specs.declared.operations.Binary.TheVariants as binary
+use Rattle.ep_typed.specs.declared.value.Value.TheVariants as value
+use Rattle.ep_scope.specs.Scopes.{Region}
+use Rattle.ep_scope.specs.declared.kind.Host.{Host}
+use Rattle.ep_scope.specs.declared.kind.Host.TheVariants as host
+use Rattle.ep_scope.specs.declared.kind.Kind.TheVariants as kind
+use Rattle.ep_scope.specs.declared.rule.TheConstants as rule
+use Rattle.ep_scope.specs.declared.thing.Declaration.{Declaration}
+use Rattle.ep_scope.specs.declared.thing.Declaration.TheVariants as declaration
+use Rattle.ep_scope.specs.declared.thing.Thing.{Thing}
+use Rattle.ep_scope.specs.declared.thing.Thing.TheVariants as thing
+use Rattle.ep_check_expr.proofs.Nodes.{expression-judged, comparison-judged, simple-judged, addend-judged, term-judged, multiplier-judged, name-judged, arguments-judged, argument-judged, wide-judged, number-judged, string-judged}
+use Rattle.ep_check_expr.specs.Constants.{constant_expression, bound_judged}
+use Rattle.ep_check_expr.specs.Expressions.{judged}
+use Rattle.ep_check_expr.specs.Judgements.{Accepts, Breaks}
+use Rattle.ep_check_expr.specs.Operators.{integer}
+
+-- an expression of one factor
+abbrev factor_term : Factor → Term
+factor_term f = term_node 1 f []
+
+abbrev simple_of : Factor → Simple
+simple_of f = simple_node 1 None (factor_term f) []
+
+abbrev bare : Factor → Expression
+bare f = expression_node 1 (simple_of f) None
+
+abbrev name : List ℕ → Factor
+name n = factor.Access (access_node 1 n [])
+
+abbrev number : ℕ → Factor
+number n = factor.Number 1 (pos n)
+
+-- a sum
+abbrev sum : Factor → Factor → Expression
+sum x y = expression_node 1 (simple_node 1 None (factor_term x) (addend_node adding.Plus (factor_term y) ∷ [])) None
+
+abbrev text : List ℕ → Factor
+text bytes = factor.Text 1 bytes
+
+-- x div y
+abbrev quotient : Factor → Factor → Expression
+quotient x y = expression_node 1 (simple_node 1 None (term_node 1 x (multiplier_node multiplying.Div y ∷ [])) []) None
+
+-- x = y
+abbrev equality : Factor → Factor → Expression
+equality x y = expression_node 1 (simple_of x) (Some (comparison_node relation.Equal (simple_of y)))
+
+-- a call
+abbrev call : List ℕ → List Argument → Factor
+call f arguments = factor.Access (access_node 1 f (selector.Arguments 1 arguments ∷ []))
+
+abbrev plain : Factor → Argument
+plain x = argument_node 1 (bare x) None
+
+abbrev wide : Factor → Factor → Argument
+wide x w = argument_node 1 (bare x) (Some (bare w))
+
+-- the colors, of which red is the first and blue the last one
+abbrev color : Host
+color = host.Enumeration (record { number = 0; last = 1 })
+
+abbrev declares : ℕ → Declaration → Thing
+declares number what = thing.Declared (record { unit = codes "p"; number = number; what = what })
+
+-- red, of the colors, and the integer x
+abbrev scope : List Region
+scope = record { entries = (codes "red", declares 0 (declaration.Constant (kind.Ordinal color) (value.Word (pos 0)))) ∷ (codes "x", declares 0 (declaration.Variable integer)) ∷ []; qualified = [] } ∷ []
+
+-- 3
+three : judged scope (bare (number 3)) ≡ Accepts (record { form = Some (Constant (pos 3)); kind = integer; depth = 1 })
+three = simp (expression-judged, simple-judged, term-judged, number-judged) refl
+
+-- x + 3
+variable_and_number : judged scope (sum (name (codes "x")) (number 3)) ≡ Accepts (record { form = Some (Two binary.Add (Read (Variable (codes "p") 0)) (Constant (pos 3))); kind = integer; depth = 3 })
+variable_and_number = simp (expression-judged, simple-judged, addend-judged, term-judged, name-judged, number-judged) refl
+
+-- succ(red), within the colors
+successor : judged scope (bare (call (codes "succ") (plain (name (codes "red")) ∷ []))) ≡ Accepts (record { form = Some (Step false (pos 0) (pos 1) (Constant (pos 0)) (Constant (pos 1))); kind = kind.Ordinal color; depth = 2 })
+successor = simp (expression-judged, simple-judged, term-judged, name-judged, arguments-judged, argument-judged) refl
+
+-- 1 + true
+number_and_boolean : judged scope (sum (number 1) (name (codes "true"))) ≡ Breaks (rule.OPERANDS ∷ [])
+number_and_boolean = simp (expression-judged, simple-judged, addend-judged, term-judged, name-judged, number-judged) refl
+
+-- x = red
+number_and_color : judged scope (equality (name (codes "x")) (name (codes "red"))) ≡ Breaks (rule.OPERANDS ∷ [])
+number_and_color = simp (comparison-judged, simple-judged, term-judged, name-judged) refl
+
+-- 'a' + 'b', which has no code yet
+characters : judged scope (sum (text (codes "a")) (text (codes "b"))) ≡ Accepts (record { form = None; kind = kind.Text; depth = 2 })
+characters = simp (expression-judged, simple-judged, addend-judged, term-judged, string-judged) refl
+
+-- abs('a')
+absolute : judged scope (bare (call (codes "abs") (plain (text (codes "a")) ∷ []))) ≡ Breaks (rule.REQUIRED_ARGUMENT ∷ [])
+absolute = simp (expression-judged, simple-judged, term-judged, name-judged, arguments-judged, argument-judged, string-judged) refl
+
+-- abs(1, 2)
+two_arguments : judged scope (bare (call (codes "abs") (plain (number 1) ∷ plain (number 2) ∷ []))) ≡ Breaks (rule.ARGUMENTS ∷ [])
+two_arguments = simp (expression-judged, simple-judged, term-judged, name-judged, arguments-judged, argument-judged, number-judged) refl
+
+-- abs(1:2)
+width : judged scope (bare (call (codes "abs") (wide (number 1) (number 2) ∷ []))) ≡ Breaks (rule.WIDTH ∷ [])
+width = simp (expression-judged, simple-judged, term-judged, name-judged, arguments-judged, wide-judged, number-judged) refl
+
+-- y + output, where neither is declared
+other_names : judged scope (sum (name (codes "y")) (name (codes "output"))) ≡ Breaks (rule.UNDECLARED ∷ rule.STANDARD_FILE ∷ rule.UNDECLARED ∷ [])
+other_names = simp (expression-judged, simple-judged, addend-judged, term-judged, name-judged) refl
+
+-- 1 div 0, where no constant is asked for
+quotient_by_zero : judged scope (quotient (number 1) (number 0)) ≡ Accepts (record { form = Some (Two binary.Divide (Constant (pos 1)) (Constant (pos 0))); kind = integer; depth = 2 })
+quotient_by_zero = simp (expression-judged, simple-judged, term-judged, multiplier-judged, number-judged) refl
+
+-- and where one is
+constant_quotient_by_zero : constant_expression scope (quotient (number 1) (number 0)) ≡ Breaks (rule.CONSTANT ∷ [])
+constant_quotient_by_zero = simp (expression-judged, simple-judged, term-judged, multiplier-judged, number-judged) refl
+
+-- a bound that varies
+varying_bound : bound_judged scope (bare (name (codes "x"))) ≡ Breaks (rule.BOUND_CONSTANT ∷ rule.CONSTANT ∷ [])
+varying_bound = simp (expression-judged, simple-judged, term-judged, name-judged) refl

@@ -1,0 +1,231 @@
+-- What is known of a valid form as a constant is a value of its host.
+use Rattle.std.proofs.Common.{◌≡◌, ℕ, ℤ, pos, negsuc, zero, suc, ◌%◌, Bool, true, false, List, Option, Some, None, Result, Ok, Err, IsTrue, refl, sym, ap, ◌∙◌, subst, arith}
+use Rattle.std.proofs.lemmas.Bool.Decides.{nat_tests}
+use Rattle.std.specs.Prelude.{⊤, IfOk, if◌then◌else◌, ◌-ℤ◌, unsigned_abs}
+use Rattle.ep_typed.specs.Hosts.{Host, least, greatest, is_of_host}
+use Rattle.ep_typed.specs.Hosts as host
+use Rattle.ep_typed.specs.Operations.{Answer, Number, Fault, is_integer, within, ordinal_of, unary_answer, binary_answer, step_answer}
+use Rattle.ep_typed.specs.Trees.{Expr, Constant, Text, Read, One, Two, Step}
+use Rattle.ep_typed.specs.Valid.{Declarations, IsExpr, IsUnary, IsBinary}
+use Rattle.ep_typed.specs.Valid as valid
+use Rattle.ep_typed.specs.declared.operations.Unary.{Unary}
+use Rattle.ep_typed.specs.declared.operations.Unary.TheVariants as unary
+use Rattle.ep_typed.specs.declared.operations.Binary.{Binary}
+use Rattle.ep_typed.specs.declared.operations.Binary.TheVariants as binary
+use Rattle.ep_typed.specs.declared.run_error.TheConstants as run_error
+use Rattle.ep_scope.specs.Scopes.{Region}
+use Rattle.ep_scope.specs.declared.kind.Host as scope
+use Rattle.ep_scope.specs.declared.kind.Kind.TheVariants as kind
+use Rattle.ep_scope.specs.declared.kind.Kind.{Kind}
+use Rattle.ep_check_expr.specs.Agreement.{IsHost, IsConstantOf, IsFormOf, IsSound}
+use Rattle.ep_check_expr.specs.Answers.{AnswersJudged}
+use Rattle.ep_check_expr.specs.Constants.{IsSoundConstant, as_constant, constant_of, constant_folded}
+use Rattle.ep_check_expr.specs.Hosts.{typed_host}
+use Rattle.ep_check_expr.specs.Judgements.{Judged, Accepts, Breaks, Typed}
+use Rattle.ep_check_expr.specs.declared.constants.ConstantForm.{ConstantForm}
+use Rattle.ep_check_expr.specs.declared.forms.Refusal.{Refusal}
+use Rattle.ep_check_expr.specs.declared.forms.Refusal.TheVariants.{Rule, NoMemory}
+use Rattle.ep_check_expr.specs.Folding.{answered, one_folded, two_folded, folded}
+use Rattle.ep_check_expr.specs.declared.folding.Folded.{Folded}
+use Rattle.ep_check_expr.specs.declared.folding.Folded.TheVariants.{Known, Varies, Errs}
+
+-- a number that is known is an integer, and the one that was answered
+record IsAnswer (a : Answer) (z : ℤ) : Type 0 where
+  number : a ≡ Number z
+  whole : IsTrue (is_integer z)
+
+answered-number : (b : Bool) (w z : ℤ) → is_integer w ≡ b → (if b then Known w else Errs) ≡ Known z → IsAnswer (Number w) z
+answered-number true w z whole e =
+    let is : w ≡ z = cc in
+    record { number = ap Number is; whole = subst (λ x. IsTrue (is_integer x)) is whole }
+answered-number false w z whole e = cc
+
+answered-known : (a : Answer) (z : ℤ) → answered a ≡ Known z → IsAnswer a z
+answered-known (Number w) z e = answered-number (is_integer w) w z refl e
+answered-known (Fault error) z e = cc
+
+-- the host of an ordinal kind
+host_in : valid.Kind → Host
+host_in (valid.Ordinal h) = h
+host_in valid.Bytes = host.Integer
+
+as_host : (h k : Host) (z : ℤ) → valid.Ordinal h ≡ valid.Ordinal k → IsTrue (is_of_host k z) → IsTrue (is_of_host h z)
+unfolding host_in
+as_host h k z e s = subst (λ x. IsTrue (is_of_host x z)) (sym (ap host_in e)) s
+
+not_boolean : (x : ℤ) → IsTrue (is_of_host host.Boolean x) → IsTrue (is_of_host host.Boolean (pos 1 -ℤ x))
+not_boolean (pos zero) h = refl
+not_boolean (pos (suc zero)) h = refl
+not_boolean (pos (suc (suc n))) h = grind (arith, nat_tests)
+not_boolean (negsuc n) h = cc
+
+odd_boolean : (n : ℕ) → IsTrue (is_of_host host.Boolean (pos (n % 2)))
+odd_boolean n = grind (arith, nat_tests)
+
+ordinal_boolean : (b : Bool) → IsTrue (is_of_host host.Boolean (ordinal_of b))
+ordinal_boolean true = refl
+ordinal_boolean false = refl
+
+-- a number that is the answer
+same_number : (h : Host) (w z : ℤ) → IsTrue (is_of_host h w) → ◌≡◌ {A = Answer} (Number w) (Number z) → IsTrue (is_of_host h z)
+same_number h w z s e =
+    let is : w ≡ z = cc in
+    subst (λ x. IsTrue (is_of_host h x)) is s
+
+within-number : (b : Bool) (h : Host) (w z : ℤ) → is_of_host h w ≡ b → (if b then Number w else Fault 14) ≡ Number z → IsTrue (is_of_host h z)
+within-number true h w z s e = same_number h w z s e
+within-number false h w z s e = cc
+
+bounded-number : (h : Host) (low high w z : ℤ) → low ≡ least h → high ≡ greatest h → within run_error.SUCCESSOR low high w ≡ Number z → IsTrue (is_of_host h z)
+bounded-number h low high w z l g e =
+    within-number (is_of_host h w) h w z refl (sym (ap (λ b. within run_error.SUCCESSOR b high w) l ∙ ap (λ b. within run_error.SUCCESSOR (least h) b w) g) ∙ e)
+
+-- what a known number of this kind is
+abbrev pub OfKind : valid.Kind → ℤ → Type 0
+OfKind (valid.Ordinal h) z = IsTrue (is_of_host h z)
+OfKind valid.Bytes z = ⊤
+
+-- an operation of a known number
+one-of_host : (operation : Unary) (k : valid.Kind) (h : Host) (y z : ℤ) → IsUnary operation k (valid.Ordinal h) → OfKind k y → IsAnswer (unary_answer operation y) z → IsTrue (is_of_host h z)
+one-of_host unary.Same k h y z u s a = as_host h host.Integer z u.1 a.whole
+one-of_host unary.Negate k h y z u s a = as_host h host.Integer z u.1 a.whole
+one-of_host unary.Not k h y z u s a = as_host h host.Boolean z u.1 (same_number host.Boolean (pos 1 -ℤ y) z (not_boolean y (subst (λ o. OfKind o y) u.0 s)) a.number)
+one-of_host unary.Absolute k h y z u s a = as_host h host.Integer z u.1 a.whole
+one-of_host unary.Square k h y z u s a = as_host h host.Integer z u.1 a.whole
+one-of_host unary.Odd k h y z u s a = as_host h host.Boolean z u.1 (same_number host.Boolean _ z (odd_boolean (unsigned_abs y)) a.number)
+one-of_host unary.Character k h y z u s a = as_host h host.Char z u.1 (bounded-number host.Char _ _ y z refl refl a.number)
+
+-- an operation of two
+two-of_host : (operation : Binary) (k l : valid.Kind) (h : Host) (x y z : ℤ) → IsBinary operation k l (valid.Ordinal h) → IsAnswer (binary_answer operation x y) z → IsTrue (is_of_host h z)
+two-of_host binary.Add k l h x y z u a = as_host h host.Integer z u.2 a.whole
+two-of_host binary.Subtract k l h x y z u a = as_host h host.Integer z u.2 a.whole
+two-of_host binary.Multiply k l h x y z u a = as_host h host.Integer z u.2 a.whole
+two-of_host binary.Divide k l h x y z u a = as_host h host.Integer z u.2 a.whole
+two-of_host binary.Modulo k l h x y z u a = as_host h host.Integer z u.2 a.whole
+two-of_host binary.And k l h x y z u a = as_host h host.Boolean z u.2 (same_number host.Boolean _ z (ordinal_boolean _) a.number)
+two-of_host binary.Or k l h x y z u a = as_host h host.Boolean z u.2 (same_number host.Boolean _ z (ordinal_boolean _) a.number)
+two-of_host binary.Equal k l h x y z u a = as_host h host.Boolean z u.1 (same_number host.Boolean _ z (ordinal_boolean _) a.number)
+two-of_host binary.Unequal k l h x y z u a = as_host h host.Boolean z u.1 (same_number host.Boolean _ z (ordinal_boolean _) a.number)
+two-of_host binary.Less k l h x y z u a = as_host h host.Boolean z u.1 (same_number host.Boolean _ z (ordinal_boolean _) a.number)
+two-of_host binary.Greater k l h x y z u a = as_host h host.Boolean z u.1 (same_number host.Boolean _ z (ordinal_boolean _) a.number)
+two-of_host binary.AtMost k l h x y z u a = as_host h host.Boolean z u.1 (same_number host.Boolean _ z (ordinal_boolean _) a.number)
+two-of_host binary.AtLeast k l h x y z u a = as_host h host.Boolean z u.1 (same_number host.Boolean _ z (ordinal_boolean _) a.number)
+
+step-of_host : (down : Bool) (low high : ℤ) (h k : Host) (x n z : ℤ) → valid.Ordinal h ≡ valid.Ordinal k → low ≡ least k → high ≡ greatest k → IsAnswer (step_answer down low high x n) z → IsTrue (is_of_host h z)
+step-of_host true low high h k x n z e l g a = as_host h k z e (bounded-number k low high _ z l g a.number)
+step-of_host false low high h k x n z e l g a = as_host h k z e (bounded-number k low high _ z l g a.number)
+
+-- what is known of the operands of a form that is known
+record BothKnown (f : ℤ → ℤ → Answer) (r s : Folded) (z : ℤ) : Type 0 where
+  left : ℤ
+  right : ℤ
+  is_answer : IsAnswer (f left right) z
+
+two_folded-known : (f : ℤ → ℤ → Answer) (r s : Folded) (z : ℤ) → two_folded f r s ≡ Known z → BothKnown f r s z
+two_folded-known f (Known x) (Known y) z e = record { left = x; right = y; is_answer = answered-known (f x y) z e }
+two_folded-known f (Known x) Varies z e = cc
+two_folded-known f (Known x) Errs z e = cc
+two_folded-known f Varies s z e = cc
+two_folded-known f Errs (Known y) z e = cc
+two_folded-known f Errs Varies z e = cc
+two_folded-known f Errs Errs z e = cc
+
+one_folded-known : (operation : Unary) (k : valid.Kind) (h : Host) (r : Folded) (z : ℤ) → IsUnary operation k (valid.Ordinal h) → ((y : ℤ) → r ≡ Known y → OfKind k y) → one_folded (unary_answer operation) r ≡ Known z → IsTrue (is_of_host h z)
+one_folded-known operation k h (Known y) z u s e = one-of_host operation k h y z u (s y refl) (answered-known (unary_answer operation y) z e)
+one_folded-known operation k h Varies z u s e = cc
+one_folded-known operation k h Errs z u s e = cc
+
+module _ (declared : Declarations) where
+  -- a known number of a valid form is of the form's kind
+  pub known-of_kind : (e : Expr) (k : valid.Kind) (z : ℤ) → IsExpr declared k e → folded e ≡ Known z → OfKind k z
+  known-of_kind e valid.Bytes z v f = tt
+  known-of_kind (Constant w) (valid.Ordinal h) z v f =
+      let is : w ≡ z = cc in
+      as_host h v.0 z v.1 (subst (λ x. IsTrue (is_of_host v.0 x)) is v.2)
+  known-of_kind (Text bytes) (valid.Ordinal h) z v f = cc
+  known-of_kind (Read place) (valid.Ordinal h) z v f = cc
+  known-of_kind (One operation x) (valid.Ordinal h) z v f = one_folded-known operation v.0 h (folded x) z v.1 (λ y e. known-of_kind x v.0 y v.2 e) f
+  known-of_kind (Two operation x y) (valid.Ordinal h) z v f = let p = two_folded-known (binary_answer operation) (folded x) (folded y) z f in two-of_host operation v.0 v.1 h p.left p.right z v.2 p.is_answer
+  known-of_kind (Step down low high x y) (valid.Ordinal h) z v f = let p = two_folded-known (step_answer down low high) (folded x) (folded y) z f in step-of_host down low high h v.0 p.left p.right z v.1 v.2 v.3 p.is_answer
+
+  -- of a valid form of a host it is a value of the host
+  pub known-of_host : (e : Expr) (h : Host) (z : ℤ) → IsExpr declared (valid.Ordinal h) e → folded e ≡ Known z → IsTrue (is_of_host h z)
+  known-of_host e h z v f = known-of_kind e (valid.Ordinal h) z v f
+
+-- ---- constants
+
+zero_of_host : (h : Host) → IsTrue (is_of_host h (pos 0))
+zero_of_host host.Integer = refl
+zero_of_host host.Char = refl
+zero_of_host host.Boolean = refl
+zero_of_host (host.Enumeration last) = grind (arith, nat_tests)
+
+-- an operation gives an ordinal kind, and no bytes
+unary-bytes : (operation : Unary) (k : valid.Kind) → IsUnary operation k valid.Bytes → ⊥
+unary-bytes unary.Same k u = let e = u.1 in cc
+unary-bytes unary.Negate k u = let e = u.1 in cc
+unary-bytes unary.Not k u = let e = u.1 in cc
+unary-bytes unary.Absolute k u = let e = u.1 in cc
+unary-bytes unary.Square k u = let e = u.1 in cc
+unary-bytes unary.Odd k u = let e = u.1 in cc
+unary-bytes unary.Character k u = let e = u.1 in cc
+
+binary-bytes : (operation : Binary) (k l : valid.Kind) → IsBinary operation k l valid.Bytes → ⊥
+binary-bytes binary.Add k l u = let e = u.2 in cc
+binary-bytes binary.Subtract k l u = let e = u.2 in cc
+binary-bytes binary.Multiply k l u = let e = u.2 in cc
+binary-bytes binary.Divide k l u = let e = u.2 in cc
+binary-bytes binary.Modulo k l u = let e = u.2 in cc
+binary-bytes binary.And k l u = let e = u.2 in cc
+binary-bytes binary.Or k l u = let e = u.2 in cc
+binary-bytes binary.Equal k l u = let e = u.1 in cc
+binary-bytes binary.Unequal k l u = let e = u.1 in cc
+binary-bytes binary.Less k l u = let e = u.1 in cc
+binary-bytes binary.Greater k l u = let e = u.1 in cc
+binary-bytes binary.AtMost k l u = let e = u.1 in cc
+binary-bytes binary.AtLeast k l u = let e = u.1 in cc
+
+-- what is accepted is of its kind
+abbrev IsJudgedConstant : Judged ConstantForm → Type 0
+IsJudgedConstant (Accepts c) = IsConstantOf c.kind c.value
+IsJudgedConstant (Breaks rules) = ⊤
+
+module _ (declared : Declarations) where
+  folded-constant : (h : scope.Host) (x : Expr) (r : Folded) → folded x ≡ r → IsHost h → IsExpr declared (valid.Ordinal (typed_host h)) x → IsJudgedConstant (constant_folded (kind.Ordinal h) r)
+  folded-constant h x (Known z) e s v = (s, known-of_host declared x (typed_host h) z v e)
+  folded-constant h x Varies e s v = tt
+  folded-constant h x Errs e s v = tt
+
+  -- a valid form is a constant of its kind, if it is one
+  constant-fits : (k : Kind) (form : Option Expr) → IsFormOf declared k form → IsJudgedConstant (constant_of k form)
+  constant-fits (kind.Ordinal h) None s = (s, zero_of_host (typed_host h))
+  constant-fits (kind.Ordinal h) (Some (Text bytes)) s = let e = s.1 in cc
+  constant-fits (kind.Ordinal h) (Some (Constant z)) s = folded-constant h (Constant z) (Known z) refl s.0 s.1
+  constant-fits (kind.Ordinal h) (Some (Read place)) s = tt
+  constant-fits (kind.Ordinal h) (Some (One operation x)) s = folded-constant h (One operation x) (folded (One operation x)) refl s.0 s.1
+  constant-fits (kind.Ordinal h) (Some (Two operation x y)) s = folded-constant h (Two operation x y) (folded (Two operation x y)) refl s.0 s.1
+  constant-fits (kind.Ordinal h) (Some (Step down low high x y)) s = folded-constant h (Step down low high x y) (folded (Step down low high x y)) refl s.0 s.1
+  constant-fits kind.Text None s = tt
+  constant-fits kind.Text (Some (Text bytes)) s = tt
+  constant-fits kind.Text (Some (Constant z)) s = let e = s.1 in cc
+  constant-fits kind.Text (Some (Read place)) s = tt
+  constant-fits kind.Text (Some (One operation x)) s = absurd (unary-bytes operation s.0 s.1)
+  constant-fits kind.Text (Some (Two operation x y)) s = absurd (binary-bytes operation s.0 s.1 s.2)
+  constant-fits kind.Text (Some (Step down low high x y)) s = let e = s.1 in cc
+  constant-fits kind.File None s = absurd s
+  constant-fits kind.File (Some (Text bytes)) s = absurd s
+  constant-fits kind.File (Some (Constant z)) s = absurd s
+  constant-fits kind.File (Some (Read place)) s = tt
+  constant-fits kind.File (Some (One operation x)) s = absurd s
+  constant-fits kind.File (Some (Two operation x y)) s = absurd s
+  constant-fits kind.File (Some (Step down low high x y)) s = absurd s
+
+-- the constant of a sound form is sound
+pub constant-sound : (scopes : List Region) (t : Typed) (c : ConstantForm) → IsSound scopes t → as_constant t ≡ Accepts c → IsSoundConstant scopes c
+constant-sound scopes t c s e = λ declared agrees. subst IsJudgedConstant e (constant-fits declared t.kind t.form (s declared agrees))
+
+-- and so is the answer
+pub constant-answer : (scopes : List Region) (t : Typed) (result : Result ConstantForm Refusal) → IsSound scopes t → AnswersJudged (λ c. c) result (as_constant t) → IfOk result (IsSoundConstant scopes)
+constant-answer scopes t (Ok c) s a = constant-sound scopes t c s a
+constant-answer scopes t (Err (Rule rule)) s a = tt
+constant-answer scopes t (Err NoMemory) s a = tt

@@ -1,0 +1,9 @@
+pub mod Breaking
+pub mod Calls
+pub mod Examples
+pub mod Folds
+pub mod Known
+pub mod Meant
+pub mod Nodes
+pub mod Rows
+pub mod Sound

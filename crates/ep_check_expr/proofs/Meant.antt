@@ -1,0 +1,138 @@
+-- What names stand for is valid under declarations that hold what the scopes declare.
+use Rattle.std.proofs.Common.{ℕ, Bool, true, false, List, [], ◌∷◌, Option, Some, None, Result, refl}
+use Rattle.std.specs.Prelude.{⊤, IfOk, if◌then◌else◌}
+use Rattle.std.specs.Str.{bytes_eq}
+use Rattle.ep_typed.specs.Valid.{Declarations}
+use Rattle.ep_typed.specs.declared.value.Value.{Value}
+use Rattle.ep_typed.specs.declared.value.Value.TheVariants as value
+use Rattle.ep_typed.specs.Hosts as hosts
+use Rattle.ep_typed.specs.Trees.{Read, Variable}
+use Rattle.ep_scope.specs.Required.{look_up, required_of}
+use Rattle.ep_scope.specs.Scopes.{Entries, Region, Meant, Declares, Requires, Nothing, meant, meant_in, look_up_in, look_up_if, as_thing, as_required, or_outside, unless_hidden}
+use Rattle.ep_scope.specs.Scopes as meaning
+use Rattle.ep_scope.specs.declared.kind.Kind.{Kind}
+use Rattle.ep_scope.specs.declared.kind.Kind.TheVariants as kind
+use Rattle.ep_scope.specs.declared.required.Required.{Required}
+use Rattle.ep_scope.specs.declared.required.Required.TheVariants as required
+use Rattle.ep_scope.specs.declared.required.RequiredConstant.TheVariants as constant
+use Rattle.ep_scope.specs.declared.thing.Declaration.{Declaration}
+use Rattle.ep_scope.specs.declared.thing.Declaration.TheVariants as declaration
+use Rattle.ep_scope.specs.declared.thing.Thing.{Thing}
+use Rattle.ep_scope.specs.declared.thing.Thing.TheVariants as thing
+use Rattle.ep_check_expr.specs.Agreement.{IsConstantOf, IsVariableOf, IsDeclaration, IsThing, AreThings, AreInterfaces, Agrees, IsFormOf, IsSound}
+use Rattle.ep_check_expr.specs.Answers.{AnswersTyped, typed_of}
+use Rattle.ep_check_expr.specs.Hosts.{typed_host}
+use Rattle.ep_check_expr.specs.Names.{value_form, value_declared, value_required, value_named}
+use Rattle.ep_check_expr.specs.declared.forms.Typed as code
+use Rattle.ep_check_expr.specs.declared.forms.Refusal.{Refusal}
+use Rattle.ep_check_expr.proofs.Sound.{Fits, answer-sound}
+
+module _ (declared : Declarations) where
+  -- what is found is declared
+  abbrev IsThingIf : Option Thing → Type 0
+  IsThingIf None = ⊤
+  IsThingIf (Some t) = IsThing declared t
+
+  -- what is meant is declared
+  abbrev IsMeant : Meant → Type 0
+  IsMeant (Declares d) = IsDeclaration declared d.unit d.number d.what
+  IsMeant (meaning.Standard file) = ⊤
+  IsMeant (Requires r) = ⊤
+  IsMeant Nothing = ⊤
+
+  found-thing : (b : Bool) (t : Thing) (o : Option Thing) → IsThing declared t → IsThingIf o → IsThingIf (if b then Some t else o)
+  found-thing true t o h g = h
+  found-thing false t o h g = g
+
+  look_up-thing : (es : Entries) (name : List ℕ) → AreThings declared es → IsThingIf (look_up es name)
+  look_up-thing [] name h = tt
+  look_up-thing (e ∷ es) name h = found-thing (bytes_eq name e.0) e.1 (look_up es name) h.0 (look_up-thing es name h.1)
+
+  -- the names of an interface that is found
+  abbrev AreThingsIf : Option Entries → Type 0
+  AreThingsIf None = ⊤
+  AreThingsIf (Some es) = AreThings declared es
+
+  found-things : (b : Bool) (t : Entries) (o : Option Entries) → AreThings declared t → AreThingsIf o → AreThingsIf (if b then Some t else o)
+  found-things true t o h g = h
+  found-things false t o h g = g
+
+  look_up-things : (es : List (List ℕ × Entries)) (name : List ℕ) → AreInterfaces declared es → AreThingsIf (look_up es name)
+  look_up-things [] name h = tt
+  look_up-things (e ∷ es) name h = found-things (bytes_eq name e.0) e.1 (look_up es name) h.0 (look_up-things es name h.1)
+
+  look_up_if-thing : (o : Option Entries) (name : List ℕ) → AreThingsIf o → IsThingIf (look_up_if o name)
+  look_up_if-thing None name h = tt
+  look_up_if-thing (Some es) name h = look_up-thing es name h
+
+  as_thing-meant : (t : Thing) → IsThing declared t → IsMeant (as_thing t)
+  as_thing-meant (thing.Declared d) h = h
+  as_thing-meant (thing.Standard file) h = tt
+
+  or_outside-meant : (o : Option Thing) (m : Meant) → IsThingIf o → IsMeant m → IsMeant (or_outside o m)
+  or_outside-meant None m h g = g
+  or_outside-meant (Some t) m h g = as_thing-meant t h
+
+  as_required-meant : (o : Option Required) → IsMeant (as_required o)
+  as_required-meant None = tt
+  as_required-meant (Some r) = tt
+
+  unless_hidden-meant : (o : Option Thing) (m : Meant) → IsMeant m → IsMeant (unless_hidden o m)
+  unless_hidden-meant None m h = h
+  unless_hidden-meant (Some t) m h = tt
+
+  meant-declared : (scopes : List Region) (name : List ℕ) → Agrees declared scopes → IsMeant (meant scopes name)
+  meant-declared [] name h = as_required-meant (required_of name)
+  meant-declared (r ∷ rs) name h = or_outside-meant (look_up r.entries name) (meant rs name) (look_up-thing r.entries name h.0) (meant-declared rs name h.2)
+
+  meant_in-declared : (scopes : List Region) (interface name : List ℕ) → Agrees declared scopes → IsMeant (meant_in scopes interface name)
+  meant_in-declared [] interface name h = tt
+  meant_in-declared (r ∷ rs) interface name h =
+      unless_hidden-meant (look_up r.entries interface) (or_outside (look_up_in r interface name) (meant_in rs interface name))
+      (or_outside-meant (look_up_in r interface name) (meant_in rs interface name) (look_up_if-thing (look_up r.qualified interface) name (look_up-things r.qualified interface h.1)) (meant_in-declared rs interface name h.2))
+
+  constant-fits : (k : Kind) (v : Value) → IsConstantOf k v → IsFormOf declared k (Some (value_form v))
+  constant-fits (kind.Ordinal h) (value.Word z) s = (s.0, (typed_host h, refl, s.1))
+  constant-fits (kind.Ordinal h) (value.Text bytes) s = absurd s
+  constant-fits kind.Text (value.Word z) s = absurd s
+  constant-fits kind.Text (value.Text bytes) s = refl
+  constant-fits kind.File v s = absurd s
+
+  variable-fits : (unit : List ℕ) (number : ℕ) (k : Kind) → IsVariableOf declared unit number k → IsFormOf declared k (Some (Read (Variable unit number)))
+  variable-fits unit number (kind.Ordinal h) s = (s.0, (typed_host h, refl, s.1))
+  variable-fits unit number kind.Text s = absurd s
+  variable-fits unit number kind.File s = tt
+
+  value_declared-fits : (unit : List ℕ) (number : ℕ) (d : Declaration) → IsDeclaration declared unit number d → Fits declared (value_declared unit number d)
+  value_declared-fits unit number (declaration.Constant k v) s = constant-fits k v s
+  value_declared-fits unit number (declaration.«Type» host) s = tt
+  value_declared-fits unit number (declaration.Variable k) s = variable-fits unit number k s
+
+  value_required-fits : (r : Required) → Fits declared (value_required r)
+  value_required-fits (required.Constant constant.MaxInt) = (refl, (hosts.Integer, refl, refl))
+  value_required-fits (required.Constant constant.MaxChar) = (refl, (hosts.Char, refl, refl))
+  value_required-fits (required.Constant constant.True) = (refl, (hosts.Boolean, refl, refl))
+  value_required-fits (required.Constant constant.False) = (refl, (hosts.Boolean, refl, refl))
+  value_required-fits (required.«Type» t) = tt
+  value_required-fits (required.Function f) = tt
+  value_required-fits (required.Procedure p) = tt
+
+  value_named-fits : (name : List ℕ) (m : Meant) → IsMeant m → Fits declared (value_named name m)
+  value_named-fits name (Declares d) s = value_declared-fits d.unit d.number d.what s
+  value_named-fits name (meaning.Standard file) s = tt
+  value_named-fits name (Requires r) s = value_required-fits r
+  value_named-fits name Nothing s = tt
+
+module _ (scopes : List Region) (result : Result code.Typed Refusal) where
+  -- a name as a value
+  pub value_named-sound : (name : List ℕ) → AnswersTyped result (value_named name (meant scopes name)) → IfOk result (λ t. IsSound scopes (typed_of t))
+  value_named-sound name a =
+      answer-sound scopes result (value_named name (meant scopes name)) (λ declared agrees. value_named-fits declared name (meant scopes name) (meant-declared declared scopes name agrees)) a
+
+  -- the name of an interface's constituent as a value
+  pub value_within-sound : (interface name : List ℕ) → AnswersTyped result (value_named name (meant_in scopes interface name)) → IfOk result (λ t. IsSound scopes (typed_of t))
+  value_within-sound interface name a =
+      answer-sound scopes result (value_named name (meant_in scopes interface name))
+      (λ declared agrees. value_named-fits declared name (meant_in scopes interface name) (meant_in-declared declared scopes interface name agrees)) a
+
+pub ruleset named = (value_named-sound)

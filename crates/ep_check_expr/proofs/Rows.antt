@@ -1,0 +1,71 @@
+-- Rows of operands, read from the left.
+use Rattle.std.proofs.Common.{◌≡◌, ℕ, suc, ◌+◌, ◌<◌, Bool, true, false, ◌&&◌, List, ◌∷◌, drop, get_or, length, map, Some, None, refl, sym, ap, ◌∙◌, add-one, drop-cons}
+use Rattle.ep_built.specs.Built.{Belonging, Found, at_node, first_of, lines_in, all_are_built}
+use Rattle.ep_check_expr.proofs.Breaking.{both-second, chained-first}
+use Rattle.ep_check_expr.specs.Expressions.{Operand, chained}
+use Rattle.ep_check_expr.specs.Judgements.{Judged, Accepts, Typed, breaks, both}
+
+-- the item at a place is the first one of what is left there
+pub left-cons : {I : Type 0} (xs : List I) (i : ℕ) (x : I) → i < length xs → x ≡ get_or xs i x → drop i xs ≡ x ∷ drop (i + 1) xs
+left-cons xs i x h e = rw (add-one, drop-cons xs i x) (ap (λ y. y ∷ drop (suc i) xs) (sym e))
+
+module _ {I O : Type 0} (rule : O → Typed → Typed → Judged Typed) (f : I → Operand O) (xs : List I) (i : ℕ) (x : I) (within : i < length xs) (is : x ≡ get_or xs i x)
+    (operator : O) (J : Judged Typed) (form : f x ≡ record { operator = operator; operand = J }) (a : Typed) where
+  chained-left : chained rule (Accepts a) (map f (drop i xs)) ≡ chained rule (both (rule operator) (Accepts a) J) (map f (drop (i + 1) xs))
+  chained-left =
+      ap (λ ys. chained rule (Accepts a) (map f ys)) (left-cons xs i x within is) ∙ ap (λ o. chained rule (both (rule o.operator) (Accepts a) o.operand) (map f (drop (i + 1) xs))) form
+
+  -- one operand more
+  pub chained-step : (b c : Typed) → J ≡ Accepts b → rule operator a b ≡ Accepts c → chained rule (Accepts c) (map f (drop (i + 1) xs)) ≡ chained rule (Accepts a) (map f (drop i xs))
+  chained-step b c operand accepted = sym (chained-left ∙ rw (operand, accepted) refl)
+
+  -- an operand that breaks a rule
+  pub chained-operand : (n : ℕ) → breaks n J ≡ true → breaks n (chained rule (Accepts a) (map f (drop i xs))) ≡ true
+  chained-operand n h = rw chained-left (chained-first n rule (both (rule operator) (Accepts a) J) (map f (drop (i + 1) xs)) (both-second n (rule operator) (Accepts a) J h))
+
+  -- an operator whose rule fails
+  pub chained-operator : (b : Typed) → J ≡ Accepts b → (n : ℕ) → breaks n (rule operator a b) ≡ true → breaks n (chained rule (Accepts a) (map f (drop i xs))) ≡ true
+  chained-operator b operand n h = rw (chained-left, operand) (chained-first n rule (rule operator a b) (map f (drop (i + 1) xs)) h)
+
+pub first_of-first : (a b : Found) → first_of a b ≡ None → a ≡ None
+first_of-first None b h = refl
+first_of-first (Some line) b h = h
+
+pub first_of-second : (a b : Found) → first_of a b ≡ None → b ≡ None
+first_of-second None b h = h
+first_of-second (Some line) b h = cc
+
+and_first : (a b : Bool) → (a && b) ≡ true → a ≡ true
+and_first true b e = refl
+and_first false b e = e
+
+and_second : (a b : Bool) → (a && b) ≡ true → b ≡ true
+and_second true b e = e
+and_second false b e = cc
+
+-- a node that is built, and its parts
+pub at_node-built : (b : Bool) (line : ℕ) (f : Found) → at_node b line f ≡ None → b ≡ true
+at_node-built true line f h = refl
+at_node-built false line f h = cc
+
+pub at_node-inner : (b : Bool) (line : ℕ) (f : Found) → at_node b line f ≡ None → f ≡ None
+at_node-inner true line f h = h
+at_node-inner false line f h = cc
+
+module _ {I : Type 0} (g : I → Belonging) (xs : List I) (i : ℕ) (x : I) (within : i < length xs) (is : x ≡ get_or xs i x) (b : Bool) (o : Found) (form : g x ≡ (b, o)) where
+  lines_in-left : lines_in (map g (drop i xs)) ≡ first_of o (lines_in (map g (drop (i + 1) xs)))
+  lines_in-left = ap (λ ys. lines_in (map g ys)) (left-cons xs i x within is) ∙ ap (λ p. first_of p.1 (lines_in (map g (drop (i + 1) xs)))) form
+
+  built-left : all_are_built (map g (drop i xs)) ≡ (b && all_are_built (map g (drop (i + 1) xs)))
+  built-left = ap (λ ys. all_are_built (map g ys)) (left-cons xs i x within is) ∙ ap (λ p. p.0 && all_are_built (map g (drop (i + 1) xs))) form
+
+  -- the operands that are left are built
+  pub operands-built : lines_in (map g (drop i xs)) ≡ None → lines_in (map g (drop (i + 1) xs)) ≡ None
+  operands-built h = first_of-second o (lines_in (map g (drop (i + 1) xs))) (sym lines_in-left ∙ h)
+
+  -- an operator is, and those that are left
+  pub operator-built : all_are_built (map g (drop i xs)) ≡ true → b ≡ true
+  operator-built h = and_first b (all_are_built (map g (drop (i + 1) xs))) (sym built-left ∙ h)
+
+  pub operators-built : all_are_built (map g (drop i xs)) ≡ true → all_are_built (map g (drop (i + 1) xs)) ≡ true
+  operators-built h = and_second b (all_are_built (map g (drop (i + 1) xs))) (sym built-left ∙ h)

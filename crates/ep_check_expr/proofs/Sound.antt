@@ -1,0 +1,285 @@
+-- The rules give valid forms of valid parts.
+use Rattle.std.proofs.Common.{◌≡◌, ℕ, suc, max, Bool, true, false, ◌&&◌, nat_eq, nat_le, List, [], ◌∷◌, Option, Some, None, Result, Ok, Err, refl, subst, arith}
+use Rattle.std.specs.Prelude.{⊤, IfOk, if◌then◌else◌}
+use Rattle.std.specs.Option.{option_map}
+use Rattle.std.proofs.lemmas.Bool.Decides.{nat_tests}
+use Rattle.ep_tree.specs.declared.operator.Sign.{Sign}
+use Rattle.ep_tree.specs.declared.operator.Sign.TheVariants as sign
+use Rattle.ep_tree.specs.declared.operator.AddingOperator.{AddingOperator}
+use Rattle.ep_tree.specs.declared.operator.AddingOperator.TheVariants as adding
+use Rattle.ep_tree.specs.declared.operator.MultiplyingOperator.{MultiplyingOperator}
+use Rattle.ep_tree.specs.declared.operator.MultiplyingOperator.TheVariants as multiplying
+use Rattle.ep_tree.specs.declared.operator.RelationalOperator.{RelationalOperator}
+use Rattle.ep_tree.specs.declared.operator.RelationalOperator.TheVariants as relation
+use Rattle.ep_typed.specs.Hosts.{least, greatest}
+use Rattle.ep_typed.specs.Trees.{Expr, One, Two, Step}
+use Rattle.ep_typed.specs.Valid.{Declarations, IsExpr, IsUnary, IsBinary}
+use Rattle.ep_typed.specs.Valid as valid
+use Rattle.ep_typed.specs.declared.operations.Unary.{Unary}
+use Rattle.ep_typed.specs.declared.operations.Unary.TheVariants as unary
+use Rattle.ep_typed.specs.declared.operations.Binary.{Binary}
+use Rattle.ep_typed.specs.declared.operations.Binary.TheVariants as binary
+use Rattle.ep_scope.specs.Scopes.{Region}
+use Rattle.ep_scope.specs.declared.kind.Enumeration.{Enumeration}
+use Rattle.ep_scope.specs.declared.kind.Host.{Host}
+use Rattle.ep_scope.specs.declared.kind.Host.TheVariants as host
+use Rattle.ep_scope.specs.declared.kind.Kind.{Kind}
+use Rattle.ep_scope.specs.declared.kind.Kind.TheVariants as kind
+use Rattle.ep_scope.specs.declared.required.Function.{Function}
+use Rattle.ep_scope.specs.declared.required.Function.TheVariants as function
+use Rattle.ep_check_expr.specs.Agreement.{IsHost, IsFormOf, IsSound, Agrees}
+use Rattle.ep_check_expr.specs.Answers.{AnswersTyped, typed_of}
+use Rattle.ep_check_expr.specs.Functions.{of_integer, ordinal_by, step_typed, stepped_by, one, applied_one, applied_two}
+use Rattle.ep_check_expr.specs.Hosts.{typed_host}
+use Rattle.ep_check_expr.specs.Judgements.{Judged, Accepts, Breaks, Typed}
+use Rattle.ep_check_expr.specs.Operators.{integer, boolean, is_integer, is_boolean, is_string, are_compatible, map_both, within_depth, unary_typed, binary_typed, unbuilt_typed, signed, negated, arithmetic, logical, added, multiplied, comparison, compared}
+use Rattle.ep_check_expr.specs.declared.forms.Typed as code
+use Rattle.ep_check_expr.specs.declared.forms.Refusal.{Refusal}
+use Rattle.ep_check_expr.specs.declared.forms.Refusal.TheVariants.{Rule, NoMemory}
+use Rattle.ep_check_expr.specs.declared.forms.TheConstants as limit
+
+-- the kind of a typed tree
+abbrev of_host : Host → valid.Kind
+of_host h = valid.Ordinal (typed_host h)
+
+module _ (declared : Declarations) where
+  -- what is accepted is valid
+  abbrev pub Fits : Judged Typed → Type 0
+  Fits (Accepts t) = IsFormOf declared t.kind t.form
+  Fits (Breaks rules) = ⊤
+
+  within_depth-fits : (form : Option Expr) (k : Kind) (depth : ℕ) → IsFormOf declared k form → Fits (within_depth form k depth)
+  within_depth-fits form k depth s =
+      elim (nat_le depth limit.DEPTH) as (λ b. Fits (if b then Accepts (record { form = form; kind = k; depth = depth }) else Breaks (58 ∷ []))) [ true ↦ s | false ↦ tt ]
+
+  if-fits : (b : Bool) (J K : Judged Typed) → (b ≡ true → Fits J) → Fits K → Fits (if b then J else K)
+  if-fits true J K f s = f refl
+  if-fits false J K f s = s
+
+  one-form : (operation : Unary) (h r : Host) → IsUnary operation (of_host h) (of_host r) → IsHost r → (form : Option Expr) → IsFormOf declared (kind.Ordinal h) form → IsFormOf declared (kind.Ordinal r) (option_map (One operation) form)
+  one-form operation h r u s None f = s
+  one-form operation h r u s (Some x) f = (s, (of_host h, u, f.1))
+
+  two-form : (operation : Binary) (h k r : Host) → IsBinary operation (of_host h) (of_host k) (of_host r) → IsHost r → (x y : Option Expr)
+      → IsFormOf declared (kind.Ordinal h) x → IsFormOf declared (kind.Ordinal k) y → IsFormOf declared (kind.Ordinal r) (map_both (Two operation) x y)
+  two-form operation h k r u s None None f g = s
+  two-form operation h k r u s None (Some y) f g = s
+  two-form operation h k r u s (Some x) None f g = s
+  two-form operation h k r u s (Some x) (Some y) f g = (s, (of_host h, of_host k, u, f.1, g.1))
+
+  pub as_integer : (k : Kind) (form : Option Expr) → is_integer k ≡ true → IsFormOf declared k form → IsFormOf declared integer form
+  as_integer (kind.Ordinal host.Integer) form e f = f
+  as_integer (kind.Ordinal host.Char) form e f = cc
+  as_integer (kind.Ordinal host.Boolean) form e f = cc
+  as_integer (kind.Ordinal (host.Enumeration n)) form e f = cc
+  as_integer kind.Text form e f = cc
+  as_integer kind.File form e f = cc
+
+  as_boolean : (k : Kind) (form : Option Expr) → is_boolean k ≡ true → IsFormOf declared k form → IsFormOf declared boolean form
+  as_boolean (kind.Ordinal host.Boolean) form e f = f
+  as_boolean (kind.Ordinal host.Integer) form e f = cc
+  as_boolean (kind.Ordinal host.Char) form e f = cc
+  as_boolean (kind.Ordinal (host.Enumeration n)) form e f = cc
+  as_boolean kind.Text form e f = cc
+  as_boolean kind.File form e f = cc
+
+  and_first : (a b : Bool) → (a && b) ≡ true → a ≡ true
+  and_first true b e = refl
+  and_first false b e = e
+
+  and_second : (a b : Bool) → (a && b) ≡ true → b ≡ true
+  and_second true b e = e
+  and_second false b e = cc
+
+  unary-fits : (operation : Unary) (h r : Host) → IsUnary operation (of_host h) (of_host r) → IsHost r → (x : Typed) → IsFormOf declared (kind.Ordinal h) x.form → Fits (unary_typed operation (kind.Ordinal r) x)
+  unary-fits operation h r u s x f = within_depth-fits (option_map (One operation) x.form) (kind.Ordinal r) (suc x.depth) (one-form operation h r u s x.form f)
+
+  binary-fits : (operation : Binary) (h k r : Host) → IsBinary operation (of_host h) (of_host k) (of_host r) → IsHost r → (x y : Typed)
+      → IsFormOf declared (kind.Ordinal h) x.form → IsFormOf declared (kind.Ordinal k) y.form → Fits (binary_typed operation (kind.Ordinal r) x y)
+  binary-fits operation h k r u s x y f g =
+      within_depth-fits (map_both (Two operation) x.form y.form) (kind.Ordinal r) (suc (max x.depth y.depth)) (two-form operation h k r u s x.form y.form f g)
+
+  signed-fits : (s : Option Sign) (x : Typed) → IsFormOf declared x.kind x.form → Fits (signed s x)
+  signed-fits None x f = f
+  signed-fits (Some sign.Plus) x f =
+      if-fits (is_integer x.kind) (unary_typed unary.Same integer x) (Breaks (32 ∷ []))
+      (λ e. unary-fits unary.Same host.Integer host.Integer ((typed_host host.Integer, refl, refl), refl) refl x (as_integer x.kind x.form e f)) tt
+  signed-fits (Some sign.Minus) x f =
+      if-fits (is_integer x.kind) (unary_typed unary.Negate integer x) (Breaks (32 ∷ []))
+      (λ e. unary-fits unary.Negate host.Integer host.Integer (refl, refl) refl x (as_integer x.kind x.form e f)) tt
+
+  pub negated-fits : (x : Typed) → IsFormOf declared x.kind x.form → Fits (negated x)
+  negated-fits x f =
+      if-fits (is_boolean x.kind) (unary_typed unary.Not boolean x) (Breaks (32 ∷ []))
+      (λ e. unary-fits unary.Not host.Boolean host.Boolean (refl, refl) refl x (as_boolean x.kind x.form e f)) tt
+
+  arithmetic-fits : (operation : Binary) → IsBinary operation (of_host host.Integer) (of_host host.Integer) (of_host host.Integer) → (x y : Typed) → IsFormOf declared x.kind x.form → IsFormOf declared y.kind y.form → Fits (arithmetic operation x y)
+  arithmetic-fits operation u x y f g =
+      if-fits (is_integer x.kind && is_integer y.kind) (binary_typed operation integer x y) (Breaks (32 ∷ []))
+      (λ e. binary-fits operation host.Integer host.Integer host.Integer u refl x y (as_integer x.kind x.form (and_first (is_integer x.kind) (is_integer y.kind) e) f) (as_integer y.kind y.form (and_second (is_integer x.kind) (is_integer y.kind) e) g)) tt
+
+  logical-fits : (operation : Binary) → IsBinary operation (of_host host.Boolean) (of_host host.Boolean) (of_host host.Boolean) → (x y : Typed) → IsFormOf declared x.kind x.form → IsFormOf declared y.kind y.form → Fits (logical operation x y)
+  logical-fits operation u x y f g =
+      if-fits (is_boolean x.kind && is_boolean y.kind) (binary_typed operation boolean x y) (Breaks (32 ∷ []))
+      (λ e. binary-fits operation host.Boolean host.Boolean host.Boolean u refl x y (as_boolean x.kind x.form (and_first (is_boolean x.kind) (is_boolean y.kind) e) f) (as_boolean y.kind y.form (and_second (is_boolean x.kind) (is_boolean y.kind) e) g)) tt
+
+  joined-fits : (x y : Typed) → Fits (unbuilt_typed kind.Text x y)
+  joined-fits x y = within_depth-fits None kind.Text (suc (max x.depth y.depth)) tt
+
+  added-fits : (operator : AddingOperator) (x y : Typed) → IsFormOf declared x.kind x.form → IsFormOf declared y.kind y.form → Fits (added operator x y)
+  added-fits adding.Plus x y f g =
+      if-fits (is_string x.kind && is_string y.kind) (unbuilt_typed kind.Text x y) (arithmetic binary.Add x y) (λ e. joined-fits x y) (arithmetic-fits binary.Add (refl, refl, refl) x y f g)
+  added-fits adding.Minus x y f g = arithmetic-fits binary.Subtract (refl, refl, refl) x y f g
+  added-fits adding.Or x y f g = logical-fits binary.Or (refl, refl, refl) x y f g
+  added-fits adding.SymmetricDifference x y f g = tt
+  added-fits adding.OrElse x y f g = tt
+
+  multiplied-fits : (operator : MultiplyingOperator) (x y : Typed) → IsFormOf declared x.kind x.form → IsFormOf declared y.kind y.form → Fits (multiplied operator x y)
+  multiplied-fits multiplying.Times x y f g = arithmetic-fits binary.Multiply (refl, refl, refl) x y f g
+  multiplied-fits multiplying.Div x y f g = arithmetic-fits binary.Divide (refl, refl, refl) x y f g
+  multiplied-fits multiplying.Mod x y f g = arithmetic-fits binary.Modulo (refl, refl, refl) x y f g
+  multiplied-fits multiplying.And x y f g = logical-fits binary.And (refl, refl, refl) x y f g
+  multiplied-fits multiplying.AndThen x y f g = tt
+
+  -- two values of one host
+  pub record OneHost (x y : Typed) : Type 0 where
+    pub host : Host
+    pub left : IsFormOf declared (kind.Ordinal host) x.form
+    pub right : IsFormOf declared (kind.Ordinal host) y.form
+
+  same_enumeration-last : (e g : Enumeration) → (nat_eq e.number g.number && nat_eq e.last g.last) ≡ true → g.last ≡ e.last
+  same_enumeration-last e g s = grind (arith, nat_tests)
+
+  -- the form is one of another enumeration with as many constants
+  as_enumeration : (e g : Enumeration) → g.last ≡ e.last → (form : Option Expr) → IsFormOf declared (kind.Ordinal (host.Enumeration g)) form → IsFormOf declared (kind.Ordinal (host.Enumeration e)) form
+  as_enumeration e g p form f = let P : ℕ → Type 0 = λ n. IsFormOf declared (kind.Ordinal (host.Enumeration (record { number = e.number; last = n }))) form in subst P p (renumbered form f)
+    where
+      renumbered : (form : Option Expr) → IsFormOf declared (kind.Ordinal (host.Enumeration g)) form → IsFormOf declared (kind.Ordinal (host.Enumeration (record { number = e.number; last = g.last }))) form
+      renumbered None f = f
+      renumbered (Some x) f = f
+
+  compatible-host : (x y : Typed) (k l : Kind) → are_compatible k l ≡ true → IsFormOf declared k x.form → IsFormOf declared l y.form → OneHost x y
+  compatible-host x y (kind.Ordinal host.Integer) (kind.Ordinal host.Integer) e f g = record { host = host.Integer; left = f; right = g }
+  compatible-host x y (kind.Ordinal host.Char) (kind.Ordinal host.Char) e f g = record { host = host.Char; left = f; right = g }
+  compatible-host x y (kind.Ordinal host.Boolean) (kind.Ordinal host.Boolean) e f g = record { host = host.Boolean; left = f; right = g }
+  compatible-host x y (kind.Ordinal (host.Enumeration n)) (kind.Ordinal (host.Enumeration m)) e f g =
+      record { host = host.Enumeration n; left = f; right = as_enumeration n m (same_enumeration-last n m e) y.form g }
+  compatible-host x y (kind.Ordinal host.Integer) (kind.Ordinal host.Char) e f g = cc
+  compatible-host x y (kind.Ordinal host.Integer) (kind.Ordinal host.Boolean) e f g = cc
+  compatible-host x y (kind.Ordinal host.Integer) (kind.Ordinal (host.Enumeration m)) e f g = cc
+  compatible-host x y (kind.Ordinal host.Char) (kind.Ordinal host.Integer) e f g = cc
+  compatible-host x y (kind.Ordinal host.Char) (kind.Ordinal host.Boolean) e f g = cc
+  compatible-host x y (kind.Ordinal host.Char) (kind.Ordinal (host.Enumeration m)) e f g = cc
+  compatible-host x y (kind.Ordinal host.Boolean) (kind.Ordinal host.Integer) e f g = cc
+  compatible-host x y (kind.Ordinal host.Boolean) (kind.Ordinal host.Char) e f g = cc
+  compatible-host x y (kind.Ordinal host.Boolean) (kind.Ordinal (host.Enumeration m)) e f g = cc
+  compatible-host x y (kind.Ordinal (host.Enumeration n)) (kind.Ordinal host.Integer) e f g = cc
+  compatible-host x y (kind.Ordinal (host.Enumeration n)) (kind.Ordinal host.Char) e f g = cc
+  compatible-host x y (kind.Ordinal (host.Enumeration n)) (kind.Ordinal host.Boolean) e f g = cc
+  compatible-host x y (kind.Ordinal h) kind.Text e f g = cc
+  compatible-host x y (kind.Ordinal h) kind.File e f g = cc
+  compatible-host x y kind.Text l e f g = cc
+  compatible-host x y kind.File l e f g = cc
+
+  -- an operation that compares
+  abbrev IsComparing : Binary → Type 0
+  IsComparing operation = (h : Host) → IsBinary operation (of_host h) (of_host h) (of_host host.Boolean)
+
+  comparison-fits : (operation : Binary) → IsComparing operation → (x y : Typed) → IsFormOf declared x.kind x.form → IsFormOf declared y.kind y.form → Fits (comparison operation x y)
+  comparison-fits operation u x y f g =
+      if-fits (are_compatible x.kind y.kind) (binary_typed operation boolean x y) (if is_string x.kind && is_string y.kind then unbuilt_typed boolean x y else Breaks (32 ∷ []))
+      (λ e. let p = compatible-host x y x.kind y.kind e f g in binary-fits operation p.host p.host host.Boolean (u p.host) refl x y p.left p.right)
+      (if-fits (is_string x.kind && is_string y.kind) (unbuilt_typed boolean x y) (Breaks (32 ∷ [])) (λ e. within_depth-fits None boolean (suc (max x.depth y.depth)) refl) tt)
+
+  compared-fits : (operator : RelationalOperator) (x y : Typed) → IsFormOf declared x.kind x.form → IsFormOf declared y.kind y.form → Fits (compared operator x y)
+  compared-fits relation.Equal x y f g = comparison-fits binary.Equal (λ h. ((typed_host h, refl, refl), refl)) x y f g
+  compared-fits relation.NotEqual x y f g = comparison-fits binary.Unequal (λ h. ((typed_host h, refl, refl), refl)) x y f g
+  compared-fits relation.Less x y f g = comparison-fits binary.Less (λ h. ((typed_host h, refl, refl), refl)) x y f g
+  compared-fits relation.Greater x y f g = comparison-fits binary.Greater (λ h. ((typed_host h, refl, refl), refl)) x y f g
+  compared-fits relation.AtMost x y f g = comparison-fits binary.AtMost (λ h. ((typed_host h, refl, refl), refl)) x y f g
+  compared-fits relation.AtLeast x y f g = comparison-fits binary.AtLeast (λ h. ((typed_host h, refl, refl), refl)) x y f g
+  compared-fits relation.In x y f g = tt
+
+  of_integer-fits : (operation : Unary) (r : Host) → IsUnary operation (of_host host.Integer) (of_host r) → IsHost r → (x : Typed) → IsFormOf declared x.kind x.form → Fits (of_integer operation (kind.Ordinal r) x)
+  of_integer-fits operation r u s x f =
+      if-fits (is_integer x.kind) (unary_typed operation (kind.Ordinal r) x) (Breaks (57 ∷ [])) (λ e. unary-fits operation host.Integer r u s x (as_integer x.kind x.form e f)) tt
+
+  -- the numbers of a host are integers
+  form-host : (h : Host) (form : Option Expr) → IsFormOf declared (kind.Ordinal h) form → IsHost h
+  form-host h None f = f
+  form-host h (Some x) f = f.0
+
+  ordinal_by-fits : (k : Kind) (x : Typed) → IsFormOf declared k x.form → Fits (ordinal_by k x)
+  ordinal_by-fits (kind.Ordinal h) x f = unary-fits unary.Same h host.Integer ((typed_host h, refl, form-host h x.form f), refl) refl x f
+  ordinal_by-fits kind.Text x f = tt
+  ordinal_by-fits kind.File x f = tt
+
+  step-form : (down : Bool) (h : Host) (x y : Option Expr) → IsFormOf declared (kind.Ordinal h) x → IsFormOf declared integer y
+      → IsFormOf declared (kind.Ordinal h) (map_both (Step down (least (typed_host h)) (greatest (typed_host h))) x y)
+  step-form down h None None f g = f
+  step-form down h None (Some y) f g = f
+  step-form down h (Some x) None f g = f.0
+  step-form down h (Some x) (Some y) f g = (f.0, (typed_host h, refl, refl, refl, f.1, g.1))
+
+  stepped_by-fits : (k : Kind) (down : Bool) (x y : Typed) → IsFormOf declared k x.form → IsFormOf declared y.kind y.form → Fits (stepped_by k down x y)
+  stepped_by-fits (kind.Ordinal h) down x y f g =
+      if-fits (is_integer y.kind) (step_typed down h x y) (Breaks (57 ∷ []))
+      (λ e. within_depth-fits (map_both (Step down (least (typed_host h)) (greatest (typed_host h))) x.form y.form) (kind.Ordinal h) (suc (max x.depth y.depth)) (step-form down h x.form y.form f (as_integer y.kind y.form e g)))
+      tt
+  stepped_by-fits kind.Text down x y f g = tt
+  stepped_by-fits kind.File down x y f g = tt
+
+  one-fits : IsFormOf declared one.kind one.form
+  one-fits = (refl, (typed_host host.Integer, refl, refl))
+
+  applied_one-fits : (fn : Function) (x : Typed) → IsFormOf declared x.kind x.form → Fits (applied_one fn x)
+  applied_one-fits function.Absolute x f = of_integer-fits unary.Absolute host.Integer (refl, refl) refl x f
+  applied_one-fits function.Square x f = of_integer-fits unary.Square host.Integer (refl, refl) refl x f
+  applied_one-fits function.Odd x f = of_integer-fits unary.Odd host.Boolean (refl, refl) refl x f
+  applied_one-fits function.Ordinal x f = ordinal_by-fits x.kind x f
+  applied_one-fits function.Character x f = of_integer-fits unary.Character host.Char (refl, refl) refl x f
+  applied_one-fits function.Successor x f = stepped_by-fits x.kind false x one f one-fits
+  applied_one-fits function.Predecessor x f = stepped_by-fits x.kind true x one f one-fits
+
+  applied_two-fits : (fn : Function) (x y : Typed) → IsFormOf declared x.kind x.form → IsFormOf declared y.kind y.form → Fits (applied_two fn x y)
+  applied_two-fits function.Successor x y f g = stepped_by-fits x.kind false x y f g
+  applied_two-fits function.Predecessor x y f g = stepped_by-fits x.kind true x y f g
+  applied_two-fits function.Absolute x y f g = tt
+  applied_two-fits function.Square x y f g = tt
+  applied_two-fits function.Odd x y f g = tt
+  applied_two-fits function.Ordinal x y f g = tt
+  applied_two-fits function.Character x y f g = tt
+
+-- what is accepted is sound
+abbrev pub IsSoundJudged : List Region → Judged Typed → Type 0
+IsSoundJudged scopes J = (declared : Declarations) → Agrees declared scopes → Fits declared J
+
+-- an answer of what is sound is
+pub answer-sound : (scopes : List Region) (result : Result code.Typed Refusal) (J : Judged Typed) → IsSoundJudged scopes J → AnswersTyped result J → IfOk result (λ t. IsSound scopes (typed_of t))
+answer-sound scopes (Ok t) J s a = λ declared agrees. subst (Fits declared) a (s declared agrees)
+answer-sound scopes (Err (Rule rule)) J s a = tt
+answer-sound scopes (Err NoMemory) J s a = tt
+
+module _ (scopes : List Region) (result : Result code.Typed Refusal) where
+  pub signed-sound : (s : Option Sign) (x : Typed) → AnswersTyped result (signed s x) → IsSound scopes x → IfOk result (λ t. IsSound scopes (typed_of t))
+  signed-sound s x a f = answer-sound scopes result (signed s x) (λ declared agrees. signed-fits declared s x (f declared agrees)) a
+
+  pub negated-sound : (x : Typed) → AnswersTyped result (negated x) → IsSound scopes x → IfOk result (λ t. IsSound scopes (typed_of t))
+  negated-sound x a f = answer-sound scopes result (negated x) (λ declared agrees. negated-fits declared x (f declared agrees)) a
+
+  pub added-sound : (operator : AddingOperator) (x y : Typed) → AnswersTyped result (added operator x y) → IsSound scopes x → IsSound scopes y → IfOk result (λ t. IsSound scopes (typed_of t))
+  added-sound operator x y a f g = answer-sound scopes result (added operator x y) (λ declared agrees. added-fits declared operator x y (f declared agrees) (g declared agrees)) a
+
+  pub multiplied-sound : (operator : MultiplyingOperator) (x y : Typed) → AnswersTyped result (multiplied operator x y) → IsSound scopes x → IsSound scopes y → IfOk result (λ t. IsSound scopes (typed_of t))
+  multiplied-sound operator x y a f g = answer-sound scopes result (multiplied operator x y) (λ declared agrees. multiplied-fits declared operator x y (f declared agrees) (g declared agrees)) a
+
+  pub compared-sound : (operator : RelationalOperator) (x y : Typed) → AnswersTyped result (compared operator x y) → IsSound scopes x → IsSound scopes y → IfOk result (λ t. IsSound scopes (typed_of t))
+  compared-sound operator x y a f g = answer-sound scopes result (compared operator x y) (λ declared agrees. compared-fits declared operator x y (f declared agrees) (g declared agrees)) a
+
+  pub applied_one-sound : (fn : Function) (x : Typed) → AnswersTyped result (applied_one fn x) → IsSound scopes x → IfOk result (λ t. IsSound scopes (typed_of t))
+  applied_one-sound fn x a f = answer-sound scopes result (applied_one fn x) (λ declared agrees. applied_one-fits declared fn x (f declared agrees)) a
+
+  pub applied_two-sound : (fn : Function) (x y : Typed) → AnswersTyped result (applied_two fn x y) → IsSound scopes x → IsSound scopes y → IfOk result (λ t. IsSound scopes (typed_of t))
+  applied_two-sound fn x y a f g = answer-sound scopes result (applied_two fn x y) (λ declared agrees. applied_two-fits declared fn x y (f declared agrees) (g declared agrees)) a
+
+pub ruleset sound = (signed-sound, negated-sound, added-sound, multiplied-sound, compared-sound, applied_one-sound, applied_two-sound)

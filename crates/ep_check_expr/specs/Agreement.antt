@@ -1,0 +1,82 @@
+-- Declarations that hold what scopes declare, under which typed forms are valid.
+use Rattle.std.specs.Prelude.{ℕ, pos, List, [], ◌∷◌, Option, Some, None, IsTrue, int_le, ⊤}
+use Rattle.ep_typed.specs.Hosts.{greatest, is_of_host}
+use Rattle.ep_typed.specs.Operations.{maxint}
+use Rattle.ep_typed.specs.Trees.{Expr, Constant, Text, Read, One, Two, Step, Variable}
+use Rattle.ep_typed.specs.Valid.{Declarations, IsPlace, IsExpr}
+use Rattle.ep_typed.specs.Valid as valid
+use Rattle.ep_typed.specs.declared.value.Value.{Value}
+use Rattle.ep_typed.specs.declared.value.Value.TheVariants as value
+use Rattle.ep_scope.specs.Scopes.{Entries, Region}
+use Rattle.ep_scope.specs.declared.kind.Host.{Host}
+use Rattle.ep_scope.specs.declared.kind.Kind.{Kind}
+use Rattle.ep_scope.specs.declared.kind.Kind.TheVariants as kind
+use Rattle.ep_scope.specs.declared.thing.Declaration.{Declaration}
+use Rattle.ep_scope.specs.declared.thing.Declaration.TheVariants as declaration
+use Rattle.ep_scope.specs.declared.thing.Thing.{Thing}
+use Rattle.ep_scope.specs.declared.thing.Thing.TheVariants as thing
+use Rattle.ep_check_expr.specs.Hosts.{typed_host}
+use Rattle.ep_check_expr.specs.Judgements.{Typed}
+
+-- the ordinal numbers of the host are integers
+abbrev pub IsHost : Host → Type 0
+IsHost h = IsTrue (int_le (greatest (typed_host h)) (pos maxint))
+
+-- the constant is of its kind
+abbrev pub IsConstantOf : Kind → Value → Type 0
+IsConstantOf (kind.Ordinal h) (value.Word z) = IsHost h × IsTrue (is_of_host (typed_host h) z)
+IsConstantOf (kind.Ordinal h) (value.Text bytes) = ⊥
+IsConstantOf kind.Text (value.Word z) = ⊥
+IsConstantOf kind.Text (value.Text bytes) = ⊤
+IsConstantOf kind.File v = ⊥
+
+-- a read file is its place, and of no ordinal type
+abbrev pub IsFile : Expr → Type 0
+IsFile (Constant z) = ⊥
+IsFile (Text bytes) = ⊥
+IsFile (Read place) = ⊤
+IsFile (One operation x) = ⊥
+IsFile (Two operation x y) = ⊥
+IsFile (Step down low high x y) = ⊥
+
+module _ (declared : Declarations) where
+  -- the variable is declared, with a type of this host; there are no variables of string types so far
+  abbrev pub IsVariableOf : List ℕ → ℕ → Kind → Type 0
+  IsVariableOf unit number (kind.Ordinal h) = IsHost h × IsPlace declared (typed_host h) (Variable unit number)
+  IsVariableOf unit number kind.Text = ⊥
+  IsVariableOf unit number kind.File = ⊤
+
+  abbrev pub IsDeclaration : List ℕ → ℕ → Declaration → Type 0
+  IsDeclaration unit number (declaration.Constant kind value) = IsConstantOf kind value
+  IsDeclaration unit number (declaration.«Type» host) = IsHost host
+  IsDeclaration unit number (declaration.Variable kind) = IsVariableOf unit number kind
+
+  abbrev pub IsThing : Thing → Type 0
+  IsThing (thing.Declared d) = IsDeclaration d.unit d.number d.what
+  IsThing (thing.Standard file) = ⊤
+
+  abbrev pub AreThings : Entries → Type 0
+  AreThings [] = ⊤
+  AreThings (e ∷ es) = IsThing e.1 × AreThings es
+
+  abbrev pub AreInterfaces : List (List ℕ × Entries) → Type 0
+  AreInterfaces [] = ⊤
+  AreInterfaces (e ∷ es) = AreThings e.1 × AreInterfaces es
+
+  -- the declarations hold all that the scopes declare
+  abbrev pub Agrees : List Region → Type 0
+  Agrees [] = ⊤
+  Agrees (r ∷ rs) = AreThings r.entries × AreInterfaces r.qualified × Agrees rs
+
+  -- the form is a valid expression of the kind
+  abbrev pub IsFormOf : Kind → Option Expr → Type 0
+  IsFormOf (kind.Ordinal h) None = IsHost h
+  IsFormOf (kind.Ordinal h) (Some x) = IsHost h × IsExpr declared (valid.Ordinal (typed_host h)) x
+  IsFormOf kind.Text None = ⊤
+  IsFormOf kind.Text (Some x) = IsExpr declared valid.Bytes x
+  IsFormOf kind.File None = ⊥
+  IsFormOf kind.File (Some x) = IsFile x
+
+-- under all declarations that hold what the scopes declare, the typed form is valid
+abbrev pub IsSound : List Region → Typed → Type 0
+IsSound scopes t = (declared : Declarations) → Agrees declared scopes → IsFormOf declared t.kind t.form

@@ -1,0 +1,39 @@
+-- What a call answers of what is judged: the typed form, or one of the rules that fail; want of memory is free.
+use Rattle.std.specs.Prelude.{◌≡◌, ℕ, suc, nat_eq, nat_le, true, false, None, Result, Ok, Err, IsTrue, ⊤}
+use Rattle.std.specs.List.{list_any}
+use Rattle.std.specs.Option.{option_map}
+use Rattle.ep_typed.specs.Viewed.{expr_of}
+use Rattle.ep_check_expr.specs.Functions.{Given, given_faults}
+use Rattle.ep_check_expr.specs.Judgements as spec
+use Rattle.ep_check_expr.specs.Judgements.{Judged, Accepts, breaks}
+use Rattle.ep_scope.specs.declared.rule.TheConstants as rules
+use Rattle.ep_check_expr.specs.declared.forms.TheConstants as limit
+use Rattle.ep_check_expr.specs.declared.forms.Typed.{Typed}
+use Rattle.ep_check_expr.specs.declared.forms.Refusal.{Refusal}
+use Rattle.ep_check_expr.specs.declared.forms.Refusal.TheVariants.{Rule, NoMemory}
+
+-- the plain data of a typed form
+abbrev pub typed_of : Typed → spec.Typed
+typed_of t = record { form = option_map expr_of t.form; kind = t.kind; depth = t.depth }
+
+-- the form exactly where it is accepted, or a rule that fails
+abbrev pub AnswersJudged : {T A : Type 0} → (T → A) → Result T Refusal → Judged A → Type 0
+AnswersJudged view (Ok t) judged = judged ≡ Accepts (view t)
+AnswersJudged view (Err (Rule rule)) judged = IsTrue (breaks rule judged)
+AnswersJudged view (Err NoMemory) judged = ⊤
+
+-- alike, of a typed form
+abbrev pub AnswersTyped : Result Typed Refusal → Judged spec.Typed → Type 0
+AnswersTyped result judged = AnswersJudged typed_of result judged
+
+-- one typed node more, where there is room for it
+abbrev pub AnswersDepth : ℕ → Result ℕ Refusal → Type 0
+AnswersDepth depth (Ok deeper) = (deeper ≡ suc depth) × (nat_le deeper limit.DEPTH ≡ true)
+AnswersDepth depth (Err (Rule rule)) = (rule ≡ rules.TOO_DEEP) × (nat_le (suc depth) limit.DEPTH ≡ false)
+AnswersDepth depth (Err NoMemory) = ⊥
+
+-- an argument of a function that is accepted has no width; or one of the rules that fail in it
+abbrev pub AnswersGiven : Result Typed Refusal → Given → Type 0
+AnswersGiven (Ok t) g = (g.value ≡ Accepts (typed_of t)) × (g.width ≡ None)
+AnswersGiven (Err (Rule rule)) g = IsTrue (list_any (nat_eq rule) (given_faults g))
+AnswersGiven (Err NoMemory) g = ⊤

@@ -1,0 +1,75 @@
+-- The rules of constant expressions (ISO 10206, 6.3.1 and 6.8.2).
+use Rattle.std.specs.Prelude.{pos, Bool, true, false, List, [], ◌∷◌, Option, Some, None, if◌then◌else◌}
+use Rattle.std.specs.Option.{option_map_or}
+use Rattle.ep_tree.specs.declared.expression.ComponentValue.{ComponentValue}
+use Rattle.ep_tree.specs.declared.expression.Expression.{Expression}
+use Rattle.ep_typed.specs.Trees.{Expr, Text}
+use Rattle.ep_typed.specs.declared.value.Value.{Value}
+use Rattle.ep_typed.specs.declared.value.Value.TheVariants as value
+use Rattle.ep_typed.specs.Valid.{Declarations}
+use Rattle.ep_scope.specs.Scopes.{Region}
+use Rattle.ep_scope.specs.declared.kind.Kind.{Kind}
+use Rattle.ep_scope.specs.declared.kind.Kind.TheVariants as kind
+use Rattle.ep_scope.specs.declared.rule.TheConstants as rule
+use Rattle.ep_check_expr.specs.Agreement.{Agrees, IsConstantOf}
+use Rattle.ep_check_expr.specs.Expressions.{judged, judged_value}
+use Rattle.ep_check_expr.specs.Folding.{folded}
+use Rattle.ep_check_expr.specs.Judgements.{Judged, Accepts, Breaks, Typed, when_accepted}
+use Rattle.ep_check_expr.specs.declared.constants.ConstantForm.{ConstantForm}
+use Rattle.ep_check_expr.specs.declared.folding.Folded.{Folded}
+use Rattle.ep_check_expr.specs.declared.folding.Folded.TheVariants.{Known, Varies, Errs}
+
+-- the value of a form that is not built stands for none: the least of its kind (own)
+abbrev pub stand_in : Kind → Value
+stand_in (kind.Ordinal h) = value.Word (pos 0)
+stand_in kind.Text = value.Text []
+stand_in kind.File = value.Text []
+
+-- a constant with its value
+abbrev pub known : Kind → Value → Judged ConstantForm
+known kind v = Accepts (record { value = v; kind = kind; built = true })
+
+-- a constant expression is constant, and no error
+abbrev pub constant_folded : Kind → Folded → Judged ConstantForm
+constant_folded kind (Known z) = known kind (value.Word z)
+constant_folded kind Varies = Breaks (rule.CONSTANT ∷ [])
+constant_folded kind Errs = Breaks (rule.CONSTANT ∷ [])
+
+abbrev pub constant_of : Kind → Option Expr → Judged ConstantForm
+constant_of kind None = Accepts (record { value = stand_in kind; kind = kind; built = false })
+constant_of kind (Some (Text bytes)) = known kind (value.Text bytes)
+constant_of kind (Some x) = constant_folded kind (folded x)
+
+-- what an expression that is accepted is as a constant
+abbrev pub as_constant : Typed → Judged ConstantForm
+as_constant t = constant_of t.kind t.form
+
+-- whether a variable is read
+abbrev pub is_varying : Folded → Bool
+is_varying (Known z) = false
+is_varying Varies = true
+is_varying Errs = false
+
+abbrev pub varies : Typed → Bool
+varies t = option_map_or (λ x. is_varying (folded x)) t.form false
+
+-- a bound that varies breaks the rule of bounds too (ISO 10206, 6.4.2.4)
+abbrev pub as_bound : Typed → Judged ConstantForm
+as_bound t = if varies t then Breaks (rule.BOUND_CONSTANT ∷ rule.CONSTANT ∷ []) else as_constant t
+
+module _ (scopes : List Region) where
+  -- the value of a constant definition
+  abbrev pub constant_judged : ComponentValue → Judged ConstantForm
+  constant_judged v = when_accepted as_constant (judged_value scopes v)
+
+  -- a constant expression
+  abbrev pub constant_expression : Expression → Judged ConstantForm
+  constant_expression e = when_accepted as_constant (judged scopes e)
+
+  -- a bound outside of a schema
+  abbrev pub bound_judged : Expression → Judged ConstantForm
+  bound_judged e = when_accepted as_bound (judged scopes e)
+
+-- under all declarations that hold what the scopes declare, the constant is of its kind
+abbrev pub IsSoundConstant : List Region → ConstantForm → Type 0
+IsSoundConstant scopes c = (declared : Declarations) → Agrees declared scopes → IsConstantOf c.kind c.value

@@ -1,0 +1,167 @@
+-- What the static rules say of each expression, by its parts: one clause for each production (ISO 10206, 6.8.1).
+use Rattle.std.specs.Prelude.{ℕ, pos, List, [], ◌∷◌, Option, Some, None}
+use Rattle.ep_tree.specs.declared.operator.RelationalOperator.{RelationalOperator}
+use Rattle.ep_tree.specs.declared.operator.AddingOperator.{AddingOperator}
+use Rattle.ep_tree.specs.declared.operator.MultiplyingOperator.{MultiplyingOperator}
+use Rattle.ep_tree.specs.declared.expression.ComponentValue.TheOpen.{ComponentValue-F, Element-F, Factor-F, Selector-F, Access-F, Addend-F, Argument-F, Comparison-F, Expression-F, Label-F, Multiplier-F, Simple-F, Term-F, Values-F}
+use Rattle.ep_tree.specs.declared.expression.ComponentValue.{ComponentValue, fold-ComponentValue}
+use Rattle.ep_tree.specs.declared.expression.Factor.{Factor, fold-Factor}
+use Rattle.ep_tree.specs.declared.expression.Selector.{Selector, fold-Selector}
+use Rattle.ep_tree.specs.declared.expression.Access.{Access, fold-Access}
+use Rattle.ep_tree.specs.declared.expression.Addend.{Addend, fold-Addend}
+use Rattle.ep_tree.specs.declared.expression.Argument.{Argument, fold-Argument}
+use Rattle.ep_tree.specs.declared.expression.Comparison.{Comparison, fold-Comparison}
+use Rattle.ep_tree.specs.declared.expression.Expression.{Expression, fold-Expression}
+use Rattle.ep_tree.specs.declared.expression.Multiplier.{Multiplier, fold-Multiplier}
+use Rattle.ep_tree.specs.declared.expression.Simple.{Simple, fold-Simple}
+use Rattle.ep_tree.specs.declared.expression.Term.{Term, fold-Term}
+use Rattle.ep_typed.specs.Trees as tree
+use Rattle.ep_scope.specs.Scopes.{Region, meant}
+use Rattle.ep_scope.specs.declared.kind.Kind.TheVariants as kind
+use Rattle.ep_check_expr.specs.Functions.{Given}
+use Rattle.ep_check_expr.specs.Judgements.{Judged, Typed, unbuilt, when_accepted, both}
+use Rattle.ep_check_expr.specs.Names.{leaf, value_named, call_named, qualified_value}
+use Rattle.ep_check_expr.specs.Operators.{integer, character, signed, negated, added, multiplied, compared}
+
+-- an operand with the operator before it
+pub record Operand (O : Type 0) : Type 0 where
+  pub operator : O
+  pub operand : Judged Typed
+
+-- what the fold gives of each kind of node
+abbrev pub Result : Type 0
+Result = Judged Typed
+
+abbrev pub Addition : Type 0
+Addition = Operand AddingOperator
+
+abbrev pub Multiplication : Type 0
+Multiplication = Operand MultiplyingOperator
+
+abbrev pub Relation : Type 0
+Relation = Operand RelationalOperator
+
+-- of nodes that no built form has
+abbrev pub Skipped : Type 0
+Skipped = Unit {0}
+
+-- operands after a first one, from left to right
+abbrev pub chained : {O : Type 0} → (O → Typed → Typed → Judged Typed) → Judged Typed → List (Operand O) → Judged Typed
+chained rule first [] = first
+chained rule first (o ∷ os) = chained rule (both (rule o.operator) first o.operand) os
+
+-- what follows the name of an access
+pub data Selected : Type 0 where
+  Field : (name : List ℕ) → Selected
+  Arguments : (given : List Given) → Selected
+  Other : Selected
+
+-- a character string of one byte is a char, and any other one a text (ISO 10206, 6.1.9)
+abbrev pub string_judged : List ℕ → Judged Typed
+string_judged (byte ∷ []) = leaf (tree.Constant (pos byte)) character
+string_judged bytes = leaf (tree.Text bytes) kind.Text
+
+-- an expression, with the second half of a comparison where it has one
+abbrev pub compared_if : Judged Typed → Option (Operand RelationalOperator) → Judged Typed
+compared_if left None = left
+compared_if left (Some right) = both (compared right.operator) left right.operand
+
+module _ (scopes : List Region) where
+  -- a name, a name with arguments, or a name that an interface has
+  abbrev pub access_judged : List ℕ → List Selected → Judged Typed
+  access_judged name [] = value_named name (meant scopes name)
+  access_judged name (Arguments given ∷ []) = call_named name (meant scopes name) given
+  access_judged name (Field field ∷ []) = qualified_value scopes name field
+  access_judged name _ = unbuilt
+
+  -- the results of the parts of a node
+  abbrev pub at_component_value : ComponentValue-F Result Skipped Result Selected Result Addition Given Relation Result Skipped Multiplication Result Result Skipped → Judged Typed
+  at_component_value (ComponentValue-F.Expression e) = e
+  at_component_value (ComponentValue-F.Bracketed line values) = unbuilt
+
+  abbrev pub at_element : Element-F Result Skipped Result Selected Result Addition Given Relation Result Skipped Multiplication Result Result Skipped → Unit {0}
+  at_element e = tt
+
+  abbrev pub at_factor : Factor-F Result Skipped Result Selected Result Addition Given Relation Result Skipped Multiplication Result Result Skipped → Judged Typed
+  at_factor (Factor-F.Access access) = access
+  at_factor (Factor-F.Number line number) = leaf (tree.Constant number) integer
+  at_factor (Factor-F.Text line bytes) = string_judged bytes
+  at_factor (Factor-F.Nil line) = unbuilt
+  at_factor (Factor-F.Parenthesized line inner) = inner
+  at_factor (Factor-F.Not line inner) = when_accepted negated inner
+  at_factor (Factor-F.Set line labels) = unbuilt
+  at_factor (Factor-F.Structured line name values) = unbuilt
+
+  abbrev pub at_selector : Selector-F Result Skipped Result Selected Result Addition Given Relation Result Skipped Multiplication Result Result Skipped → Selected
+  at_selector (Selector-F.Field line name) = Field name
+  at_selector (Selector-F.Index line indexes) = Other
+  at_selector (Selector-F.Dereference line) = Other
+  at_selector (Selector-F.Arguments line arguments) = Arguments arguments
+
+  abbrev pub at_access : Access-F Result Skipped Result Selected Result Addition Given Relation Result Skipped Multiplication Result Result Skipped → Judged Typed
+  at_access a = access_judged a.name a.selectors
+
+  abbrev pub at_addend : Addend-F Result Skipped Result Selected Result Addition Given Relation Result Skipped Multiplication Result Result Skipped → Operand AddingOperator
+  at_addend a = record { operator = a.operator; operand = a.term }
+
+  abbrev pub at_argument : Argument-F Result Skipped Result Selected Result Addition Given Relation Result Skipped Multiplication Result Result Skipped → Given
+  at_argument a = record { value = a.value; width = a.width }
+
+  abbrev pub at_comparison : Comparison-F Result Skipped Result Selected Result Addition Given Relation Result Skipped Multiplication Result Result Skipped → Operand RelationalOperator
+  at_comparison c = record { operator = c.operator; operand = c.right }
+
+  abbrev pub at_expression : Expression-F Result Skipped Result Selected Result Addition Given Relation Result Skipped Multiplication Result Result Skipped → Judged Typed
+  at_expression e = compared_if e.left e.right
+
+  abbrev pub at_label : Label-F Result Skipped Result Selected Result Addition Given Relation Result Skipped Multiplication Result Result Skipped → Unit {0}
+  at_label l = tt
+
+  abbrev pub at_multiplier : Multiplier-F Result Skipped Result Selected Result Addition Given Relation Result Skipped Multiplication Result Result Skipped → Operand MultiplyingOperator
+  at_multiplier m = record { operator = m.operator; operand = m.factor }
+
+  -- a sign belongs to the first term (ISO 10206, 6.8.3.2)
+  abbrev pub at_simple : Simple-F Result Skipped Result Selected Result Addition Given Relation Result Skipped Multiplication Result Result Skipped → Judged Typed
+  at_simple s = chained added (when_accepted (signed s.sign) s.first) s.more
+
+  abbrev pub at_term : Term-F Result Skipped Result Selected Result Addition Given Relation Result Skipped Multiplication Result Result Skipped → Judged Typed
+  at_term t = chained multiplied t.first t.more
+
+  abbrev pub at_values : Values-F Result Skipped Result Selected Result Addition Given Relation Result Skipped Multiplication Result Result Skipped → Unit {0}
+  at_values v = tt
+
+  -- what the rules say of an expression
+  abbrev pub judged : Expression → Judged Typed
+  judged = fold-Expression Result Skipped Result Selected Result Addition Given Relation Result Skipped Multiplication Result Result Skipped at_component_value at_element at_factor at_selector at_access at_addend at_argument at_comparison at_expression at_label at_multiplier at_simple at_term at_values
+
+  -- of the parts of expressions
+  abbrev pub simple_judged : Simple → Judged Typed
+  simple_judged = fold-Simple Result Skipped Result Selected Result Addition Given Relation Result Skipped Multiplication Result Result Skipped at_component_value at_element at_factor at_selector at_access at_addend at_argument at_comparison at_expression at_label at_multiplier at_simple at_term at_values
+
+  abbrev pub term_judged : Term → Judged Typed
+  term_judged = fold-Term Result Skipped Result Selected Result Addition Given Relation Result Skipped Multiplication Result Result Skipped at_component_value at_element at_factor at_selector at_access at_addend at_argument at_comparison at_expression at_label at_multiplier at_simple at_term at_values
+
+  abbrev pub factor_judged : Factor → Judged Typed
+  factor_judged = fold-Factor Result Skipped Result Selected Result Addition Given Relation Result Skipped Multiplication Result Result Skipped at_component_value at_element at_factor at_selector at_access at_addend at_argument at_comparison at_expression at_label at_multiplier at_simple at_term at_values
+
+  abbrev pub addend_judged : Addend → Operand AddingOperator
+  addend_judged = fold-Addend Result Skipped Result Selected Result Addition Given Relation Result Skipped Multiplication Result Result Skipped at_component_value at_element at_factor at_selector at_access at_addend at_argument at_comparison at_expression at_label at_multiplier at_simple at_term at_values
+
+  abbrev pub multiplier_judged : Multiplier → Operand MultiplyingOperator
+  multiplier_judged = fold-Multiplier Result Skipped Result Selected Result Addition Given Relation Result Skipped Multiplication Result Result Skipped at_component_value at_element at_factor at_selector at_access at_addend at_argument at_comparison at_expression at_label at_multiplier at_simple at_term at_values
+
+  abbrev pub comparison_judged : Comparison → Operand RelationalOperator
+  comparison_judged = fold-Comparison Result Skipped Result Selected Result Addition Given Relation Result Skipped Multiplication Result Result Skipped at_component_value at_element at_factor at_selector at_access at_addend at_argument at_comparison at_expression at_label at_multiplier at_simple at_term at_values
+
+  abbrev pub name_judged : Access → Judged Typed
+  name_judged = fold-Access Result Skipped Result Selected Result Addition Given Relation Result Skipped Multiplication Result Result Skipped at_component_value at_element at_factor at_selector at_access at_addend at_argument at_comparison at_expression at_label at_multiplier at_simple at_term at_values
+
+  abbrev pub selected : Selector → Selected
+  selected = fold-Selector Result Skipped Result Selected Result Addition Given Relation Result Skipped Multiplication Result Result Skipped at_component_value at_element at_factor at_selector at_access at_addend at_argument at_comparison at_expression at_label at_multiplier at_simple at_term at_values
+
+  -- of an argument of a call
+  abbrev pub given : Argument → Given
+  given = fold-Argument Result Skipped Result Selected Result Addition Given Relation Result Skipped Multiplication Result Result Skipped at_component_value at_element at_factor at_selector at_access at_addend at_argument at_comparison at_expression at_label at_multiplier at_simple at_term at_values
+
+  -- of the value of a definition or of an assignment
+  abbrev pub judged_value : ComponentValue → Judged Typed
+  judged_value = fold-ComponentValue Result Skipped Result Selected Result Addition Given Relation Result Skipped Multiplication Result Result Skipped at_component_value at_element at_factor at_selector at_access at_addend at_argument at_comparison at_expression at_label at_multiplier at_simple at_term at_values

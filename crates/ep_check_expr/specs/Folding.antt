@@ -1,0 +1,40 @@
+-- What is known of a typed form as a constant, by the operations that a run has (ISO 10206, 6.8.2).
+use Rattle.std.specs.Prelude.{◌≡◌, ℤ, Result, Ok, Err, if◌then◌else◌}
+use Rattle.ep_typed.specs.Operations.{Answer, Number, Fault, is_integer, unary_answer, binary_answer, step_answer}
+use Rattle.ep_typed.specs.Trees.{Expr, Constant, Text, Read, One, Two, Step}
+use Rattle.ep_check_expr.specs.declared.folding.Folded.{Folded}
+use Rattle.ep_check_expr.specs.declared.folding.Folded.TheVariants.{Known, Varies, Errs}
+
+-- the number; one that is no integer is none of any form that the rules accept
+abbrev pub answered : Answer → Folded
+answered (Number z) = if is_integer z then Known z else Errs
+answered (Fault error) = Errs
+
+abbrev pub one_folded : (ℤ → Answer) → Folded → Folded
+one_folded f (Known z) = answered (f z)
+one_folded f Varies = Varies
+one_folded f Errs = Errs
+
+-- where one of two parts varies, so does the whole
+abbrev pub two_folded : (ℤ → ℤ → Answer) → Folded → Folded → Folded
+two_folded f (Known y) (Known z) = answered (f y z)
+two_folded f (Known y) Varies = Varies
+two_folded f (Known y) Errs = Errs
+two_folded f Varies right = Varies
+two_folded f Errs (Known z) = Errs
+two_folded f Errs Varies = Varies
+two_folded f Errs Errs = Errs
+
+-- a number, or that a variable is read, or else that there would be an error
+abbrev pub folded : Expr → Folded
+folded (Constant z) = Known z
+folded (Text bytes) = Errs
+folded (Read place) = Varies
+folded (One operation x) = one_folded (unary_answer operation) (folded x)
+folded (Two operation x y) = two_folded (binary_answer operation) (folded x) (folded y)
+folded (Step down low high x count) = two_folded (step_answer down low high) (folded x) (folded count)
+
+-- two numbers, or what is known of a form of the two
+abbrev pub AnswersPair : Folded → Folded → Result (ℤ × ℤ) Folded → Type 0
+AnswersPair left right (Ok p) = (left ≡ Known p.0) × (right ≡ Known p.1)
+AnswersPair left right (Err other) = (f : ℤ → ℤ → Answer) → two_folded f left right ≡ other

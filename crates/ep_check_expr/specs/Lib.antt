@@ -1,0 +1,12 @@
+pub mod Agreement
+pub mod Answers
+pub mod Constants
+pub mod Expressions
+pub mod Folding
+pub mod Functions
+pub mod Hosts
+pub mod Judgements
+pub mod Names
+pub mod Operators
+pub mod Qualified
+pub mod Public

@@ -1,0 +1,102 @@
+-- What names stand for as values and as functions (ISO 10206, 6.7.1 and 6.8.1).
+use Rattle.std.specs.Prelude.{ℕ, pos, nat_eq, Bool, true, false, ◌||◌, List, [], ◌∷◌, ◌++◌, codes, Some, if◌then◌else◌}
+use Rattle.std.specs.List.{list_any}
+use Rattle.std.specs.Str.{bytes_eq}
+use Rattle.ep_typed.specs.Operations.{maxint, last_char}
+use Rattle.ep_typed.specs.Trees.{Expr, Constant, Text, Read, Variable, Standard}
+use Rattle.ep_typed.specs.declared.value.Value.{Value}
+use Rattle.ep_typed.specs.declared.value.Value.TheVariants as value
+use Rattle.ep_scope.specs.Scopes.{Region, Meant, Declares, Requires, Nothing, meant, meant_in}
+use Rattle.ep_scope.specs.Scopes as meaning
+use Rattle.ep_scope.specs.declared.kind.Kind.{Kind}
+use Rattle.ep_scope.specs.declared.kind.Kind.TheVariants as kind
+use Rattle.ep_scope.specs.declared.required.Required.{Required}
+use Rattle.ep_scope.specs.declared.required.Required.TheVariants as required
+use Rattle.ep_scope.specs.declared.required.RequiredConstant.{RequiredConstant}
+use Rattle.ep_scope.specs.declared.required.RequiredConstant.TheVariants as constant
+use Rattle.ep_scope.specs.declared.rule.TheConstants as rule
+use Rattle.ep_scope.specs.declared.thing.Declaration.{Declaration}
+use Rattle.ep_scope.specs.declared.thing.Declaration.TheVariants as declaration
+use Rattle.ep_check_expr.specs.Functions.{Given, all_faults, applied}
+use Rattle.ep_check_expr.specs.Judgements.{Judged, Accepts, Breaks, Typed}
+use Rattle.ep_check_expr.specs.Operators.{integer, character, boolean}
+
+-- a form without parts
+abbrev pub leaf : Expr → Kind → Judged Typed
+leaf form kind = Accepts (record { form = Some form; kind = kind; depth = 1 })
+
+-- the value of a constant
+abbrev pub value_form : Value → Expr
+value_form (value.Word z) = Constant z
+value_form (value.Text bytes) = Text bytes
+
+-- the value of a variable stands above its place
+abbrev pub reading : Expr → Kind → Judged Typed
+reading form kind = Accepts (record { form = Some form; kind = kind; depth = 2 })
+
+abbrev pub value_declared : List ℕ → ℕ → Declaration → Judged Typed
+value_declared unit number (declaration.Constant kind value) = leaf (value_form value) kind
+value_declared unit number (declaration.«Type» host) = Breaks (rule.OTHER_THING ∷ [])
+value_declared unit number (declaration.Variable kind) = reading (Read (Variable unit number)) kind
+
+-- the required constants (ISO 10206, 6.4.2.2)
+abbrev pub constant_required : RequiredConstant → Judged Typed
+constant_required constant.MaxInt = leaf (Constant (pos maxint)) integer
+constant_required constant.MaxChar = leaf (Constant (pos last_char)) character
+constant_required constant.True = leaf (Constant (pos 1)) boolean
+constant_required constant.False = leaf (Constant (pos 0)) boolean
+
+abbrev pub value_required : Required → Judged Typed
+value_required (required.Constant c) = constant_required c
+value_required (required.«Type» t) = Breaks (rule.OTHER_THING ∷ [])
+value_required (required.Function f) = Breaks (rule.ARGUMENTS ∷ [])
+value_required (required.Procedure p) = Breaks (rule.PROCEDURE ∷ rule.OTHER_THING ∷ [])
+
+-- the names of the standard files
+abbrev pub is_standard : List ℕ → Bool
+is_standard name = bytes_eq name (codes "input") || bytes_eq name (codes "output")
+
+-- the rules that fail where a name stands for nothing; `input` and `output` are then neither parameter nor imported
+abbrev pub undeclared : List ℕ → List ℕ
+undeclared name = if is_standard name then rule.STANDARD_FILE ∷ rule.UNDECLARED ∷ [] else rule.UNDECLARED ∷ []
+
+-- whether a rule is in a list
+abbrev pub is_one_of : ℕ → List ℕ → Bool
+is_one_of rule rules = list_any (nat_eq rule) rules
+
+-- a name as a value
+abbrev pub value_named : List ℕ → Meant → Judged Typed
+value_named name (Declares d) = value_declared d.unit d.number d.what
+value_named name (meaning.Standard file) = reading (Read (Standard file)) kind.File
+value_named name (Requires r) = value_required r
+value_named name Nothing = Breaks (undeclared name)
+
+-- what is no function has no arguments
+abbrev pub call_required : Required → List Given → Judged Typed
+call_required (required.Constant c) gs = Breaks (rule.OTHER_THING ∷ all_faults gs)
+call_required (required.«Type» t) gs = Breaks (rule.OTHER_THING ∷ all_faults gs)
+call_required (required.Function f) gs = applied f gs
+call_required (required.Procedure p) gs = Breaks (rule.PROCEDURE ∷ rule.OTHER_THING ∷ all_faults gs)
+
+-- a name with arguments
+abbrev pub call_named : List ℕ → Meant → List Given → Judged Typed
+call_named name (Declares d) gs = Breaks (rule.OTHER_THING ∷ all_faults gs)
+call_named name (meaning.Standard file) gs = Breaks (rule.OTHER_THING ∷ all_faults gs)
+call_named name (Requires r) gs = call_required r gs
+call_named name Nothing gs = Breaks (undeclared name ++ all_faults gs)
+
+-- what has no field: a name that stands for something, or for nothing
+abbrev pub no_field : List ℕ → Meant → Judged Typed
+no_field name Nothing = Breaks (undeclared name)
+no_field name _ = Breaks (rule.FIELD ∷ [])
+
+abbrev pub is_nothing : Meant → Bool
+is_nothing Nothing = true
+is_nothing _ = false
+
+abbrev pub constituent_value : List ℕ → List ℕ → Meant → Meant → Judged Typed
+constituent_value interface name alone within = if is_nothing within then no_field interface alone else value_named name within
+
+-- `i.a`, a name that an interface has (ISO 10206, 6.11.3)
+abbrev pub qualified_value : List Region → List ℕ → List ℕ → Judged Typed
+qualified_value scopes interface name = constituent_value interface name (meant scopes interface) (meant_in scopes interface name)

@@ -1,0 +1,31 @@
+-- Expressions that are a name after the name of an interface, `i.a`.
+use Rattle.std.specs.Prelude.{ℕ, Bool, ◌||◌, is_none, is_some, List, [], ◌∷◌, Option, Some, None}
+use Rattle.std.specs.Borrow.{Bor}
+use Rattle.ep_built.specs.Built.{expression_unbuilt}
+use Rattle.ep_tree.specs.Shapes.{bare, when_some, access_in, field_in}
+use Rattle.ep_tree.specs.declared.expression.Access.{Access, out-Access}
+use Rattle.ep_tree.specs.declared.expression.Expression.{Expression}
+use Rattle.ep_tree.specs.declared.expression.Factor.{out-Factor}
+use Rattle.ep_tree.specs.declared.expression.Selector.{Selector, out-Selector}
+
+-- the name of a field, where it is the only selector
+abbrev pub only_field : List Selector → Option (List ℕ)
+only_field [] = None
+only_field (s ∷ []) = field_in (out-Selector s)
+only_field (s ∷ u ∷ more) = None
+
+-- the two names of an access
+abbrev pub field_alone : Access → Option (List ℕ × List ℕ)
+field_alone a = when_some (only_field (out-Access a).selectors) (λ name. Some ((out-Access a).name, name))
+
+-- the two names of an expression
+abbrev pub qualified_name : Expression → Option (List ℕ × List ℕ)
+qualified_name e = when_some (bare e) (λ f. when_some (access_in (out-Factor f)) field_alone)
+
+-- the forms are all built, or the expression is `i.a`
+abbrev pub may_be_judged : Expression → Bool
+may_be_judged e = is_some (qualified_name e) || is_none (expression_unbuilt e)
+
+-- two names behind references
+abbrev pub names_of : Bor (List ℕ) × Bor (List ℕ) → List ℕ × List ℕ
+names_of p = (p.0.now, p.1.now)

@@ -1,0 +1,157 @@
+//! Constant expressions.
+
+ghost use Rattle.std.specs.Prelude.{◌≡◌, None, IfOk, false};
+ghost use Rattle.ep_built.specs.Built.{component_value_unbuilt, expression_unbuilt};
+ghost use Rattle.ep_check_expr.specs.Answers.{typed_of, AnswersJudged};
+ghost use Rattle.ep_check_expr.specs.Constants.{IsSoundConstant, as_constant, constant_judged, constant_expression, bound_judged, known, stand_in, varies};
+ghost use Rattle.ep_check_expr.specs.Judgements.{Accepts};
+
+use crate::expressions::typed_expression;
+use crate::folding::{Folded, folded_form};
+use crate::forms::{Refusal, Typed};
+use ep_base::Bytes;
+use ep_scope::{Kind, Scope, rule};
+use ep_tree::{ComponentValue, Expression};
+use ep_typed::{TypedExpr, Value};
+use std::alloc::Global;
+
+/// The value of a constant expression, its kind, and whether the expression is built. The value of one that is not built
+/// stands for none.
+pub struct ConstantForm {
+    /// The value.
+    pub value: Value,
+    /// The kind.
+    pub kind: Kind,
+    /// Whether it is built.
+    pub built: bool,
+}
+
+impl Drop for ConstantForm {
+    fn drop(self) {
+        let ConstantForm {
+            value: _,
+            kind: _,
+            built: _,
+        } = self;
+    }
+}
+
+impl ConstantForm {
+    /// The value alone.
+    pub fn into_value(self) -> Value
+        ensures { result ≡ self.value }
+    {
+        let ConstantForm {
+            value,
+            kind: _,
+            built: _,
+        } = self;
+        value
+    }
+}
+
+/// The value of a constant definition, or a rule that fails in it. The forms of the expression are all built.
+pub fn constant_value(
+    alloc: Global,
+    tree: &ComponentValue,
+    scopes: &[Scope],
+) -> Result<ConstantForm, Refusal>
+    requires { component_value_unbuilt tree.now ≡ None }
+    ensures form { AnswersJudged (λ c. c) result (constant_judged scopes.now tree.now) }
+    ensures sound { IfOk result (IsSoundConstant scopes.now) }
+{
+    match tree {
+        ComponentValue::Expression(e) => constant_expression_value(alloc, e.get(), scopes),
+        ComponentValue::Bracketed(_, _) => unreachable!(),
+    }
+}
+
+/// The value of a constant expression, alike.
+fn constant_expression_value(
+    alloc: Global,
+    tree: &Expression,
+    scopes: &[Scope],
+) -> Result<ConstantForm, Refusal>
+    requires { expression_unbuilt tree.now ≡ None }
+    ensures form { AnswersJudged (λ c. c) result (constant_expression scopes.now tree.now) }
+    ensures sound { IfOk result (IsSoundConstant scopes.now) }
+{
+    let typed = typed_expression(alloc, tree, scopes)?;
+    as_constant(alloc, &typed)
+}
+
+/// The value of a bound outside of a schema, alike.
+pub fn bound_value(
+    alloc: Global,
+    tree: &Expression,
+    scopes: &[Scope],
+) -> Result<ConstantForm, Refusal>
+    requires { expression_unbuilt tree.now ≡ None }
+    ensures form { AnswersJudged (λ c. c) result (bound_judged scopes.now tree.now) }
+    ensures sound { IfOk result (IsSoundConstant scopes.now) }
+{
+    let typed = typed_expression(alloc, tree, scopes)?;
+    if varies(&typed) {
+        return Err(Refusal::Rule(rule::BOUND_CONSTANT));
+    }
+    as_constant(alloc, &typed)
+}
+
+/// Whether a variable is read.
+fn varies(t: &Typed) -> bool
+    ensures { result ≡ varies (typed_of t.now) }
+{
+    match &t.form {
+        None => false,
+        Some(form) => match folded_form(form.get()) {
+            Folded::Varies => true,
+            _ => false,
+        },
+    }
+}
+
+/// What an expression that is accepted is as a constant.
+pub(crate) fn as_constant(alloc: Global, t: &Typed) -> Result<ConstantForm, Refusal>
+    ensures { AnswersJudged (λ c. c) result (as_constant (typed_of t.now)) }
+{
+    let Some(form) = &t.form else {
+        return Ok(stand_in(alloc, t.kind));
+    };
+    match form.get() {
+        TypedExpr::Text(bytes) => {
+            let copy = Bytes::from_slice(alloc, bytes.items())?;
+            Ok(known(t.kind, Value::Text(copy)))
+        }
+        other => match folded_form(other) {
+            Folded::Known(z) => Ok(known(t.kind, Value::Word(z))),
+            _ => Err(Refusal::Rule(rule::CONSTANT)),
+        },
+    }
+}
+
+/// A constant with its value.
+fn known(kind: Kind, value: Value) -> ConstantForm
+    ensures { known kind value ≡ Accepts result }
+{
+    ConstantForm {
+        value,
+        kind,
+        built: true,
+    }
+}
+
+/// What stands for the value of a form that is not built.
+fn stand_in(alloc: Global, kind: Kind) -> ConstantForm
+    ensures { result ≡ record { value = stand_in kind; kind = kind; built = false } }
+{
+    let value = match kind {
+        Kind::Ordinal(_) => Value::Word(0),
+        Kind::Text => Value::Text(Bytes::new(alloc)),
+        Kind::File => Value::Text(Bytes::new(alloc)),
+    };
+    ConstantForm {
+        value,
+        kind,
+        built: false,
+    }
+}

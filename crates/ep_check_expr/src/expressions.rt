@@ -1,0 +1,270 @@
+//! The walk over expressions: one function for each production, which takes its tree by reference.
+
+ghost use Rattle.std.specs.Prelude.{◌≡◌, ◌∷◌, [], List, true, None, map, IfOk};
+ghost use Rattle.ep_built.specs.Built.{component_value_unbuilt, expression_unbuilt, simple_unbuilt, term_unbuilt, factor_unbuilt, access_unbuilt, argument_unbuilt, addend_belonging, multiplier_belonging, selector_belonging, all_are_built, lines_in, first_in};
+ghost use Rattle.ep_scope.specs.Scopes.{Region, meant};
+ghost use Rattle.ep_check_expr.specs.Agreement.{IsSound};
+ghost use Rattle.ep_check_expr.specs.Answers.{typed_of, AnswersTyped, AnswersGiven};
+ghost use Rattle.ep_check_expr.specs.Expressions.{chained, judged, judged_value, addend_judged, multiplier_judged, simple_judged, term_judged, factor_judged, name_judged, access_judged, selected, given, string_judged};
+ghost use Rattle.ep_check_expr.specs.Functions.{applied};
+ghost use Rattle.ep_check_expr.specs.Judgements.{Accepts};
+ghost use Rattle.ep_check_expr.specs.Names.{call_named};
+ghost use Rattle.ep_check_expr.specs.Operators.{added, multiplied};
+
+use crate::forms::{Refusal, Typed};
+use crate::functions::{applied_to_one, applied_to_two, takes};
+use crate::names::{named, undeclared};
+use crate::operators::{added, compared, multiplied, negated, signed};
+use ep_base::Name;
+use ep_scope::{Function, Host, Kind, Meaning, Required, Scope, meaning_of, rule};
+use ep_tree::{
+    Access, Addend, Argument, ComponentValue, Expression, Factor, Multiplier, Selector, Simple,
+    Term,
+};
+use std::alloc::Global;
+
+/// The typed form of an expression, or a rule that fails in it. The forms of the expression are all built.
+///
+/// `expr = simple [ relational-operator simple ]`
+#[cycle(typed)]
+#[tactic(auto, using(crate::proofs::Sound::sound))]
+pub fn typed_expression(
+    alloc: Global,
+    tree: &Expression,
+    scopes: &[Scope],
+) -> Result<Typed, Refusal>
+    requires built { expression_unbuilt tree.now ≡ None }
+    ensures typed { AnswersTyped result (judged scopes.now tree.now) }
+    ensures sound { IfOk result (λ t. IsSound scopes.now (typed_of t)) }
+{
+    let left = simple(alloc, &tree.left, scopes)?;
+    match &tree.right {
+        None => Ok(left),
+        Some(comparison) => {
+            let right = simple(alloc, &comparison.get().right, scopes)?;
+            compared(alloc, comparison.get().operator, left, right)
+        }
+    }
+}
+
+/// The typed form of a value that is assigned or defined, or a rule that fails in it. The forms of the value are all built.
+///
+/// `cvalue = expr | "[" values "]"`
+pub fn typed_value(alloc: Global, tree: &ComponentValue, scopes: &[Scope]) -> Result<Typed, Refusal>
+    requires { component_value_unbuilt tree.now ≡ None }
+    ensures typed { AnswersTyped result (judged_value scopes.now tree.now) }
+    ensures sound { IfOk result (λ t. IsSound scopes.now (typed_of t)) }
+{
+    match tree {
+        ComponentValue::Expression(e) => typed_expression(alloc, e.get(), scopes),
+        ComponentValue::Bracketed(_, _) => unreachable!(),
+    }
+}
+
+/// `simple = [ sign ] term { adding-operator term }`
+#[cycle(typed)]
+#[tactic(auto, using(crate::proofs::Sound::sound))]
+fn simple(alloc: Global, s: &Simple, scopes: &[Scope]) -> Result<Typed, Refusal>
+    requires built { simple_unbuilt s.now ≡ None }
+    ensures typed { AnswersTyped result (simple_judged scopes.now s.now) }
+    ensures sound { IfOk result (λ t. IsSound scopes.now (typed_of t)) }
+{
+    let first = term(alloc, &s.first, scopes)?;
+    let sum = signed(alloc, s.sign, first)?;
+    addends(alloc, sum, s.more.items(), scopes)
+}
+
+/// `{ adding-operator term }`, after the terms before it
+#[cycle(typed)]
+#[tactic(auto, using(crate::proofs::Sound::sound))]
+fn addends(alloc: Global, first: Typed, all: &[Addend], scopes: &[Scope]) -> Result<Typed, Refusal>
+    requires operators { all_are_built (map addend_belonging all.now) ≡ true }
+    requires operands { lines_in (map addend_belonging all.now) ≡ None }
+    requires sound { IsSound scopes.now (typed_of first) }
+    ensures typed { AnswersTyped result (chained added (Accepts (typed_of first)) (map (addend_judged scopes.now) all.now)) }
+    ensures sound { IfOk result (λ t. IsSound scopes.now (typed_of t)) }
+{
+    let mut sum = first;
+    for addend in all {
+        let right = term(alloc, &addend.term, scopes)?;
+        sum = added(alloc, addend.operator, sum, right)?;
+    }
+    Ok(sum)
+}
+
+/// `term = factor { multiplying-operator factor }`
+#[cycle(typed)]
+#[tactic(auto, using(crate::proofs::Sound::sound))]
+fn term(alloc: Global, t: &Term, scopes: &[Scope]) -> Result<Typed, Refusal>
+    requires built { term_unbuilt t.now ≡ None }
+    ensures typed { AnswersTyped result (term_judged scopes.now t.now) }
+    ensures sound { IfOk result (λ t. IsSound scopes.now (typed_of t)) }
+{
+    let first = factor(alloc, t.first.get(), scopes)?;
+    multipliers(alloc, first, t.more.items(), scopes)
+}
+
+/// `{ multiplying-operator factor }`, after the factors before it
+#[cycle(typed)]
+#[tactic(auto, using(crate::proofs::Sound::sound))]
+fn multipliers(
+    alloc: Global,
+    first: Typed,
+    all: &[Multiplier],
+    scopes: &[Scope],
+) -> Result<Typed, Refusal>
+    requires operators { all_are_built (map multiplier_belonging all.now) ≡ true }
+    requires operands { lines_in (map multiplier_belonging all.now) ≡ None }
+    requires sound { IsSound scopes.now (typed_of first) }
+    ensures typed { AnswersTyped result (chained multiplied (Accepts (typed_of first)) (map (multiplier_judged scopes.now) all.now)) }
+    ensures sound { IfOk result (λ t. IsSound scopes.now (typed_of t)) }
+{
+    let mut product = first;
+    for multiplier in all {
+        let right = factor(alloc, multiplier.factor.get(), scopes)?;
+        product = multiplied(alloc, multiplier.operator, product, right)?;
+    }
+    Ok(product)
+}
+
+/// `factor`
+#[cycle(typed)]
+#[tactic(auto, using(crate::proofs::Sound::sound))]
+fn factor(alloc: Global, f: &Factor, scopes: &[Scope]) -> Result<Typed, Refusal>
+    requires built { factor_unbuilt f.now ≡ None }
+    ensures typed { AnswersTyped result (factor_judged scopes.now f.now) }
+    ensures sound { IfOk result (λ t. IsSound scopes.now (typed_of t)) }
+{
+    match f {
+        Factor::Access(a) => access(alloc, a, scopes),
+        Factor::Number(_, number) => {
+            Typed::constant(alloc, *number, Kind::Ordinal(Host::Integer))
+        }
+        Factor::Text(_, bytes) => string(alloc, bytes.items()),
+        Factor::Parenthesized(_, inner) => typed_expression(alloc, inner.get(), scopes),
+        Factor::Not(_, inner) => {
+            let operand = factor(alloc, inner.get(), scopes)?;
+            negated(alloc, operand)
+        }
+        Factor::Nil(_) => unreachable!(),
+        Factor::Set(_, _) => unreachable!(),
+        Factor::Structured(_, _, _) => unreachable!(),
+    }
+}
+
+/// A character string.
+pub(crate) fn string(alloc: Global, bytes: &[u8]) -> Result<Typed, Refusal>
+    ensures typed { AnswersTyped result (string_judged bytes.now) }
+    ensures sound { IfOk result (λ t. (scopes : List Region) → IsSound scopes (typed_of t)) }
+{
+    match bytes {
+        [byte] => Typed::constant(alloc, *byte as i64, Kind::Ordinal(Host::Char)),
+        _ => Typed::text(alloc, bytes, Kind::Text),
+    }
+}
+
+/// `access`, which is a name or a call
+#[cycle(typed)]
+#[tactic(auto, using(crate::proofs::Sound::sound))]
+fn access(alloc: Global, a: &Access, scopes: &[Scope]) -> Result<Typed, Refusal>
+    requires built { access_unbuilt a.now ≡ None }
+    ensures typed { AnswersTyped result (name_judged scopes.now a.now) }
+    ensures sound { IfOk result (λ t. IsSound scopes.now (typed_of t)) }
+{
+    match a.selectors.items() {
+        [] => named(alloc, &a.name, scopes),
+        [one] => selected(alloc, &a.name, one, scopes),
+        _ => unreachable!(),
+    }
+}
+
+/// What is selected of a name
+#[cycle(typed)]
+#[tactic(auto, using(crate::proofs::Sound::sound))]
+fn selected(
+    alloc: Global,
+    name: &Name,
+    selector: &Selector,
+    scopes: &[Scope],
+) -> Result<Typed, Refusal>
+    requires selector { (selector_belonging selector.now).0 ≡ true }
+    requires built { (selector_belonging selector.now).1 ≡ None }
+    ensures typed { AnswersTyped result (access_judged scopes.now name.now (selected scopes.now selector.now ∷ [])) }
+    ensures sound { IfOk result (λ t. IsSound scopes.now (typed_of t)) }
+{
+    match selector {
+        Selector::Arguments(_, arguments) => call(alloc, name, arguments.items(), scopes),
+        Selector::Field(_, _) => unreachable!(),
+        Selector::Index(_, _) => unreachable!(),
+        Selector::Dereference(_) => unreachable!(),
+    }
+}
+
+/// `id "(" arg { "," arg } ")"`
+#[cycle(typed)]
+#[tactic(auto, using(crate::proofs::Sound::sound))]
+fn call(
+    alloc: Global,
+    name: &Name,
+    arguments: &[Argument],
+    scopes: &[Scope],
+) -> Result<Typed, Refusal>
+    requires built { first_in (map argument_unbuilt arguments.now) ≡ None }
+    ensures typed { AnswersTyped result (call_named name.now (meant scopes.now name.now) (map (given scopes.now) arguments.now)) }
+    ensures sound { IfOk result (λ t. IsSound scopes.now (typed_of t)) }
+{
+    match meaning_of(scopes, name) {
+        Meaning::Required(Required::Function(function)) => {
+            application(alloc, function, arguments, scopes)
+        }
+        Meaning::Required(Required::Procedure(_)) => Err(Refusal::Rule(rule::PROCEDURE)),
+        Meaning::Required(_) => Err(Refusal::Rule(rule::OTHER_THING)),
+        Meaning::Declared(_) => Err(Refusal::Rule(rule::OTHER_THING)),
+        Meaning::Standard(_) => Err(Refusal::Rule(rule::OTHER_THING)),
+        Meaning::Nothing => Err(Refusal::Rule(undeclared(name))),
+    }
+}
+
+/// A call of a required function.
+#[cycle(typed)]
+#[tactic(auto, using(crate::proofs::Sound::sound))]
+fn application(
+    alloc: Global,
+    function: Function,
+    arguments: &[Argument],
+    scopes: &[Scope],
+) -> Result<Typed, Refusal>
+    requires built { first_in (map argument_unbuilt arguments.now) ≡ None }
+    ensures typed { AnswersTyped result (applied function (map (given scopes.now) arguments.now)) }
+    ensures sound { IfOk result (λ t. IsSound scopes.now (typed_of t)) }
+{
+    if !takes(function, arguments.len()) {
+        return Err(Refusal::Rule(rule::ARGUMENTS));
+    }
+    match arguments {
+        [one] => {
+            let x = argument(alloc, one, scopes)?;
+            applied_to_one(alloc, function, x)
+        }
+        [one, two] => {
+            let x = argument(alloc, one, scopes)?;
+            let y = argument(alloc, two, scopes)?;
+            applied_to_two(alloc, function, x, y)
+        }
+        _ => unreachable!(),
+    }
+}
+
+/// `arg`, of a function
+#[cycle(typed)]
+#[tactic(auto, using(crate::proofs::Sound::sound))]
+fn argument(alloc: Global, a: &Argument, scopes: &[Scope]) -> Result<Typed, Refusal>
+    requires built { argument_unbuilt a.now ≡ None }
+    ensures typed { AnswersGiven result (given scopes.now a.now) }
+    ensures sound { IfOk result (λ t. IsSound scopes.now (typed_of t)) }
+{
+    if a.width.is_some() {
+        return Err(Refusal::Rule(rule::WIDTH));
+    }
+    typed_expression(alloc, a.value.get(), scopes)
+}

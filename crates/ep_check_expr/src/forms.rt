@@ -1,0 +1,229 @@
+//! Typed forms under construction.
+
+ghost use Rattle.std.specs.Prelude.{◌≡◌, IfOk, Some};
+ghost use Rattle.ep_typed.specs.Trees.{Constant};
+ghost use Rattle.ep_check_expr.specs.Answers.{typed_of, AnswersTyped, AnswersDepth};
+ghost use Rattle.ep_check_expr.specs.Judgements.{Accepts};
+ghost use Rattle.ep_check_expr.specs.Operators.{unary_typed, binary_typed, unbuilt_typed};
+ghost use Rattle.ep_check_expr.specs.Functions.{step_typed};
+ghost use Rattle.ep_check_expr.specs.Names.{leaf, reading, value_form};
+ghost use Rattle.ep_check_expr.specs.Hosts.{typed_host};
+ghost use Rattle.ep_typed.specs.Hosts as hosts;
+ghost use Rattle.ep_check_expr.specs.declared.forms.Refusal.TheVariants.{NoMemory};
+ghost use Rattle.ep_typed.specs.Viewed.{place_of};
+ghost use Rattle.ep_typed.specs.Trees.{Read, Text};
+
+use ep_base::{Boxed, Bytes, NoMemory};
+use ep_scope::{Host, Kind, rule};
+use ep_typed::{Binary, TypedExpr, TypedPlace, Unary, Value};
+use std::alloc::{AllocError, Global};
+
+/// The greatest number of typed nodes of an expression that stand one below the other.
+pub const DEPTH: u32 = 1000;
+
+/// An expression that is accepted: its typed form, where it is built, its kind, and how many typed nodes of it stand one
+/// below the other.
+pub struct Typed {
+    /// The typed form.
+    pub form: Option<Boxed<TypedExpr>>,
+    /// The kind.
+    pub kind: Kind,
+    /// The depth.
+    pub depth: u32,
+}
+
+impl Drop for Typed {
+    fn drop(self) {
+        let Typed {
+            form: _,
+            kind: _,
+            depth: _,
+        } = self;
+    }
+}
+
+/// Why an expression is not accepted.
+#[derive(Clone, Copy, Drop)]
+pub enum Refusal {
+    /// The static rule of this number fails.
+    Rule(u32),
+    /// Memory is wanting.
+    NoMemory,
+}
+
+impl From<AllocError> for Refusal {
+    ghost from_gives = { λ _ e. e ≡ NoMemory };
+
+    fn from(_e: AllocError) -> Refusal {
+        Refusal::NoMemory
+    }
+}
+
+/// The depth of a form whose parts have this one.
+fn above(depth: u32) -> Result<u32, Refusal>
+    ensures { AnswersDepth depth result }
+{
+    if depth < DEPTH {
+        Ok(depth + 1)
+    } else {
+        Err(Refusal::Rule(rule::TOO_DEEP))
+    }
+}
+
+impl Typed {
+    /// The typed form alone.
+    pub fn into_form(self) -> Option<Boxed<TypedExpr>>
+        ensures { result ≡ self.form }
+    {
+        let Typed {
+            form,
+            kind: _,
+            depth: _,
+        } = self;
+        form
+    }
+
+    /// A constant of an ordinal type.
+    pub(crate) fn constant(alloc: Global, value: i64, kind: Kind) -> Result<Typed, Refusal>
+        ensures { AnswersTyped result (leaf (Constant value) kind) }
+    {
+        let form = Some(Boxed::new(alloc, TypedExpr::Constant(value))?);
+        Ok(Typed {
+            form,
+            kind,
+            depth: 1,
+        })
+    }
+
+    /// A text.
+    pub(crate) fn text(alloc: Global, bytes: &[u8], kind: Kind) -> Result<Typed, Refusal>
+        ensures { AnswersTyped result (leaf (Text bytes.now) kind) }
+    {
+        let copy = Bytes::from_slice(alloc, bytes)?;
+        let form = Some(Boxed::new(alloc, TypedExpr::Text(copy))?);
+        Ok(Typed {
+            form,
+            kind,
+            depth: 1,
+        })
+    }
+
+    /// The value of a constant.
+    pub(crate) fn value(alloc: Global, value: &Value, kind: Kind) -> Result<Typed, Refusal>
+        ensures { AnswersTyped result (leaf (value_form value.now) kind) }
+    {
+        match value {
+            Value::Word(word) => Typed::constant(alloc, *word, kind),
+            Value::Text(bytes) => Typed::text(alloc, bytes.items(), kind),
+        }
+    }
+
+    /// What is read of a place.
+    pub(crate) fn read(alloc: Global, place: TypedPlace, kind: Kind) -> Result<Typed, Refusal>
+        ensures { AnswersTyped result (reading (Read (place_of place)) kind) }
+    {
+        let form = Some(Boxed::new(alloc, TypedExpr::Read(place))?);
+        Ok(Typed {
+            form,
+            kind,
+            depth: 2,
+        })
+    }
+
+    /// An operation of one operand.
+    pub(crate) fn unary(
+        alloc: Global,
+        operation: Unary,
+        kind: Kind,
+        x: Typed,
+    ) -> Result<Typed, Refusal>
+        ensures { AnswersTyped result (unary_typed operation kind (typed_of x)) }
+    {
+        let depth = above(x.depth)?;
+        let form = match x.into_form() {
+            None => None,
+            Some(operand) => Some(Boxed::new(alloc, TypedExpr::Unary(operation, operand))?),
+        };
+        Ok(Typed { form, kind, depth })
+    }
+
+    /// An operation of two operands.
+    pub(crate) fn binary(
+        alloc: Global,
+        operation: Binary,
+        kind: Kind,
+        x: Typed,
+        y: Typed,
+    ) -> Result<Typed, Refusal>
+        ensures { AnswersTyped result (binary_typed operation kind (typed_of x) (typed_of y)) }
+    {
+        let depth = above(x.depth.max(y.depth))?;
+        let form = match (x.into_form(), y.into_form()) {
+            (Some(left), Some(right)) => {
+                Some(Boxed::new(alloc, TypedExpr::Binary(operation, left, right))?)
+            }
+            _ => None,
+        };
+        Ok(Typed { form, kind, depth })
+    }
+
+    /// A form of two operands that has no code yet.
+    pub(crate) fn unbuilt(kind: Kind, x: Typed, y: Typed) -> Result<Typed, Refusal>
+        ensures { AnswersTyped result (unbuilt_typed kind (typed_of x) (typed_of y)) }
+    {
+        let depth = above(x.depth.max(y.depth))?;
+        Ok(Typed {
+            form: None,
+            kind,
+            depth,
+        })
+    }
+
+    /// A step from a value by a count, within a host.
+    pub(crate) fn step(
+        alloc: Global,
+        down: bool,
+        host: Host,
+        x: Typed,
+        count: Typed,
+    ) -> Result<Typed, Refusal>
+        ensures { AnswersTyped result (step_typed down host (typed_of x) (typed_of count)) }
+    {
+        let depth = above(x.depth.max(count.depth))?;
+        let low = least(host);
+        let high = greatest(host);
+        let form = match (x.into_form(), count.into_form()) {
+            (Some(value), Some(by)) => {
+                Some(Boxed::new(alloc, TypedExpr::Step(down, low, high, value, by))?)
+            }
+            _ => None,
+        };
+        Ok(Typed {
+            form,
+            kind: Kind::Ordinal(host),
+            depth,
+        })
+    }
+}
+
+/// The least value of a host.
+fn least(host: Host) -> i64
+    ensures { result ≡ hosts.least (typed_host host) }
+{
+    match host {
+        Host::Integer => -i64::MAX,
+        _ => 0,
+    }
+}
+
+/// The greatest value of a host.
+fn greatest(host: Host) -> i64
+    ensures { result ≡ hosts.greatest (typed_host host) }
+{
+    match host {
+        Host::Integer => i64::MAX,
+        Host::Char => u8::MAX as i64,
+        Host::Boolean => 1,
+        Host::Enumeration(e) => e.last as i64,
+    }
+}

@@ -1,0 +1,139 @@
+//! Names as values.
+
+ghost use Rattle.std.specs.Prelude.{◌≡◌, IfOk, IsTrue};
+ghost use Rattle.ep_scope.specs.Meanings.{meant_by};
+ghost use Rattle.ep_scope.specs.Scopes.{meant, meant_in};
+ghost use Rattle.ep_check_expr.specs.Agreement.{IsSound};
+ghost use Rattle.ep_check_expr.specs.Answers.{typed_of, AnswersTyped};
+ghost use Rattle.ep_check_expr.specs.Judgements.{breaks};
+ghost use Rattle.ep_check_expr.specs.Names as spec;
+ghost use Rattle.ep_check_expr.specs.Names.{value_declared, value_required, constant_required, value_named, qualified_value, is_nothing, undeclared, is_one_of};
+
+use crate::forms::{Refusal, Typed};
+use ep_base::Name;
+use ep_scope::{
+    Declaration, Declared, Host, Kind, Meaning, Required, RequiredConstant, Scope, meaning_in,
+    meaning_of, rule,
+};
+use ep_typed::TypedPlace;
+use std::alloc::Global;
+
+/// Whether a name is that of a standard file.
+fn is_standard(name: &Name) -> bool
+    ensures { result ≡ spec.is_standard name.now }
+{
+    name.bytes() == b"input".as_slice() || name.bytes() == b"output".as_slice()
+}
+
+/// A rule that fails where a name stands for nothing.
+pub fn undeclared(name: &Name) -> u32
+    ensures { IsTrue (is_one_of result (undeclared name.now)) }
+{
+    if is_standard(name) {
+        rule::STANDARD_FILE
+    } else {
+        rule::UNDECLARED
+    }
+}
+
+/// A declared name as a value.
+fn declared_value(alloc: Global, d: &Declared) -> Result<Typed, Refusal>
+    ensures { AnswersTyped result (value_declared d.now.unit d.now.number d.now.what) }
+{
+    match &d.what {
+        Declaration::Constant(kind, value) => Typed::value(alloc, value, *kind),
+        Declaration::Type(_) => Err(Refusal::Rule(rule::OTHER_THING)),
+        Declaration::Variable(kind) => {
+            let unit = d.unit.copy(alloc)?;
+            Typed::read(alloc, TypedPlace::Variable(unit, d.number), *kind)
+        }
+    }
+}
+
+/// A required constant.
+fn required_constant(alloc: Global, constant: RequiredConstant) -> Result<Typed, Refusal>
+    ensures { AnswersTyped result (constant_required constant) }
+{
+    let boolean = Kind::Ordinal(Host::Boolean);
+    match constant {
+        RequiredConstant::MaxInt => {
+            Typed::constant(alloc, i64::MAX, Kind::Ordinal(Host::Integer))
+        }
+        RequiredConstant::MaxChar => {
+            Typed::constant(alloc, u8::MAX as i64, Kind::Ordinal(Host::Char))
+        }
+        RequiredConstant::True => Typed::constant(alloc, 1, boolean),
+        RequiredConstant::False => Typed::constant(alloc, 0, boolean),
+    }
+}
+
+/// A required name as a value.
+fn required_value(alloc: Global, required: Required) -> Result<Typed, Refusal>
+    ensures { AnswersTyped result (value_required required) }
+{
+    match required {
+        Required::Constant(constant) => required_constant(alloc, constant),
+        Required::Type(_) => Err(Refusal::Rule(rule::OTHER_THING)),
+        Required::Function(_) => Err(Refusal::Rule(rule::ARGUMENTS)),
+        Required::Procedure(_) => Err(Refusal::Rule(rule::PROCEDURE)),
+    }
+}
+
+/// A name of this meaning as a value.
+fn value_of(alloc: Global, name: &Name, meaning: Meaning<'_>) -> Result<Typed, Refusal>
+    ensures { AnswersTyped result (value_named name.now (meant_by meaning.entry)) }
+{
+    match meaning {
+        Meaning::Declared(d) => declared_value(alloc, d),
+        Meaning::Standard(file) => Typed::read(alloc, TypedPlace::Standard(file), Kind::File),
+        Meaning::Required(required) => required_value(alloc, required),
+        Meaning::Nothing => Err(Refusal::Rule(undeclared(name))),
+    }
+}
+
+/// A name as a value.
+#[tactic(auto, using(crate::proofs::Meant::named))]
+pub(crate) fn named(alloc: Global, name: &Name, scopes: &[Scope]) -> Result<Typed, Refusal>
+    ensures typed { AnswersTyped result (value_named name.now (meant scopes.now name.now)) }
+    ensures sound { IfOk result (λ t. IsSound scopes.now (typed_of t)) }
+{
+    value_of(alloc, name, meaning_of(scopes, name))
+}
+
+/// `i.a` as a value.
+pub(crate) fn qualified(
+    alloc: Global,
+    interface: &Name,
+    name: &Name,
+    scopes: &[Scope],
+) -> Result<Typed, Refusal>
+    ensures typed { AnswersTyped result (qualified_value scopes.now interface.now name.now) }
+    ensures sound { IfOk result (λ t. IsSound scopes.now (typed_of t)) }
+{
+    let within = meaning_in(scopes, interface, name);
+    if is_nothing(within) {
+        Err(Refusal::Rule(no_field(interface, scopes)))
+    } else {
+        value_of(alloc, name, within)
+    }
+}
+
+/// Whether a name stands for nothing.
+fn is_nothing(meaning: Meaning<'_>) -> bool
+    ensures { result ≡ is_nothing (meant_by meaning.entry) }
+{
+    match meaning {
+        Meaning::Nothing => true,
+        _ => false,
+    }
+}
+
+/// A rule that fails where a name has no field.
+fn no_field(name: &Name, scopes: &[Scope]) -> u32
+    ensures { IsTrue (breaks result (spec.no_field name.now (meant scopes.now name.now))) }
+{
+    match meaning_of(scopes, name) {
+        Meaning::Nothing => undeclared(name),
+        _ => rule::FIELD,
+    }
+}

@@ -1,0 +1,187 @@
+//! The rules of operators, on operands that are accepted.
+
+ghost use Rattle.std.specs.Prelude.{◌≡◌, true};
+ghost use Rattle.ep_built.specs.Built.{built_adding, built_multiplying, built_relation};
+ghost use Rattle.ep_check_expr.specs.Answers.{typed_of, AnswersTyped};
+ghost use Rattle.ep_check_expr.specs.Operators as spec;
+ghost use Rattle.ep_check_expr.specs.Operators.{signed, negated, arithmetic, logical, sum_typed, comparison, added, multiplied, compared, are_compatible};
+
+use crate::forms::{Refusal, Typed};
+use ep_scope::{Host, Kind, rule, same_host};
+use ep_tree::{AddingOperator, MultiplyingOperator, RelationalOperator, Sign};
+use ep_typed::{Binary, Unary};
+use std::alloc::Global;
+
+/// Whether a value is an integer.
+pub(crate) fn is_integer(kind: Kind) -> bool
+    ensures { result ≡ spec.is_integer kind }
+{
+    match kind {
+        Kind::Ordinal(Host::Integer) => true,
+        _ => false,
+    }
+}
+
+/// Whether a value is a Boolean.
+fn is_boolean(kind: Kind) -> bool
+    ensures { result ≡ spec.is_boolean kind }
+{
+    match kind {
+        Kind::Ordinal(Host::Boolean) => true,
+        _ => false,
+    }
+}
+
+/// Whether a value is of a string type.
+fn is_string(kind: Kind) -> bool
+    ensures { result ≡ spec.is_string kind }
+{
+    match kind {
+        Kind::Ordinal(Host::Char) => true,
+        Kind::Text => true,
+        _ => false,
+    }
+}
+
+/// Whether two values are of one ordinal type.
+fn are_compatible(x: Kind, y: Kind) -> bool
+    ensures { result ≡ are_compatible x y }
+{
+    match (x, y) {
+        (Kind::Ordinal(left), Kind::Ordinal(right)) => same_host(left, right),
+        _ => false,
+    }
+}
+
+/// `[ sign ] term`
+pub(crate) fn signed(alloc: Global, sign: Option<Sign>, x: Typed) -> Result<Typed, Refusal>
+    ensures { AnswersTyped result (signed sign (typed_of x)) }
+{
+    let Some(sign) = sign else {
+        return Ok(x);
+    };
+    if !is_integer(x.kind) {
+        return Err(Refusal::Rule(rule::OPERANDS));
+    }
+    let operation = match sign {
+        Sign::Plus => Unary::Same,
+        Sign::Minus => Unary::Negate,
+    };
+    Typed::unary(alloc, operation, Kind::Ordinal(Host::Integer), x)
+}
+
+/// `not factor`
+pub(crate) fn negated(alloc: Global, x: Typed) -> Result<Typed, Refusal>
+    ensures { AnswersTyped result (negated (typed_of x)) }
+{
+    if is_boolean(x.kind) {
+        Typed::unary(alloc, Unary::Not, Kind::Ordinal(Host::Boolean), x)
+    } else {
+        Err(Refusal::Rule(rule::OPERANDS))
+    }
+}
+
+/// An operation that takes and gives integers.
+fn arithmetic(alloc: Global, operation: Binary, x: Typed, y: Typed) -> Result<Typed, Refusal>
+    ensures { AnswersTyped result (arithmetic operation (typed_of x) (typed_of y)) }
+{
+    if is_integer(x.kind) && is_integer(y.kind) {
+        Typed::binary(alloc, operation, Kind::Ordinal(Host::Integer), x, y)
+    } else {
+        Err(Refusal::Rule(rule::OPERANDS))
+    }
+}
+
+/// An operation that takes and gives Booleans.
+fn logical(alloc: Global, operation: Binary, x: Typed, y: Typed) -> Result<Typed, Refusal>
+    ensures { AnswersTyped result (logical operation (typed_of x) (typed_of y)) }
+{
+    if is_boolean(x.kind) && is_boolean(y.kind) {
+        Typed::binary(alloc, operation, Kind::Ordinal(Host::Boolean), x, y)
+    } else {
+        Err(Refusal::Rule(rule::OPERANDS))
+    }
+}
+
+/// `+`, which besides joins strings.
+fn sum(alloc: Global, x: Typed, y: Typed) -> Result<Typed, Refusal>
+    ensures { AnswersTyped result (sum_typed (typed_of x) (typed_of y)) }
+{
+    if is_string(x.kind) && is_string(y.kind) {
+        Typed::unbuilt(Kind::Text, x, y)
+    } else {
+        arithmetic(alloc, Binary::Add, x, y)
+    }
+}
+
+/// A comparison of two values of one host, or of two strings.
+fn comparison(alloc: Global, operation: Binary, x: Typed, y: Typed) -> Result<Typed, Refusal>
+    ensures { AnswersTyped result (comparison operation (typed_of x) (typed_of y)) }
+{
+    if are_compatible(x.kind, y.kind) {
+        Typed::binary(alloc, operation, Kind::Ordinal(Host::Boolean), x, y)
+    } else if is_string(x.kind) && is_string(y.kind) {
+        Typed::unbuilt(Kind::Ordinal(Host::Boolean), x, y)
+    } else {
+        Err(Refusal::Rule(rule::OPERANDS))
+    }
+}
+
+/// `simple adding-operator term`
+pub(crate) fn added(
+    alloc: Global,
+    operator: AddingOperator,
+    x: Typed,
+    y: Typed,
+) -> Result<Typed, Refusal>
+    requires { built_adding operator ≡ true }
+    ensures { AnswersTyped result (added operator (typed_of x) (typed_of y)) }
+{
+    match operator {
+        AddingOperator::Plus => sum(alloc, x, y),
+        AddingOperator::Minus => arithmetic(alloc, Binary::Subtract, x, y),
+        AddingOperator::Or => logical(alloc, Binary::Or, x, y),
+        AddingOperator::SymmetricDifference => unreachable!(),
+        AddingOperator::OrElse => unreachable!(),
+    }
+}
+
+/// `term multiplying-operator factor`
+pub(crate) fn multiplied(
+    alloc: Global,
+    operator: MultiplyingOperator,
+    x: Typed,
+    y: Typed,
+) -> Result<Typed, Refusal>
+    requires { built_multiplying operator ≡ true }
+    ensures { AnswersTyped result (multiplied operator (typed_of x) (typed_of y)) }
+{
+    match operator {
+        MultiplyingOperator::Times => arithmetic(alloc, Binary::Multiply, x, y),
+        MultiplyingOperator::Div => arithmetic(alloc, Binary::Divide, x, y),
+        MultiplyingOperator::Mod => arithmetic(alloc, Binary::Modulo, x, y),
+        MultiplyingOperator::And => logical(alloc, Binary::And, x, y),
+        MultiplyingOperator::AndThen => unreachable!(),
+    }
+}
+
+/// `simple relational-operator simple`
+pub(crate) fn compared(
+    alloc: Global,
+    operator: RelationalOperator,
+    x: Typed,
+    y: Typed,
+) -> Result<Typed, Refusal>
+    requires { built_relation operator ≡ true }
+    ensures { AnswersTyped result (compared operator (typed_of x) (typed_of y)) }
+{
+    match operator {
+        RelationalOperator::Equal => comparison(alloc, Binary::Equal, x, y),
+        RelationalOperator::NotEqual => comparison(alloc, Binary::Unequal, x, y),
+        RelationalOperator::Less => comparison(alloc, Binary::Less, x, y),
+        RelationalOperator::Greater => comparison(alloc, Binary::Greater, x, y),
+        RelationalOperator::AtMost => comparison(alloc, Binary::AtMost, x, y),
+        RelationalOperator::AtLeast => comparison(alloc, Binary::AtLeast, x, y),
+        RelationalOperator::In => unreachable!(),
+    }
+}

@@ -1,0 +1,86 @@
+//! Expressions that are one factor and nothing more.
+
+ghost use Rattle.std.specs.Prelude.{◌≡◌, None, IfOk, IsTrue};
+ghost use Rattle.std.specs.Option.{option_copied, option_map};
+ghost use Rattle.ep_built.specs.Built.{written_value_unbuilt};
+ghost use Rattle.ep_tree.specs.Shapes.{bare};
+ghost use Rattle.ep_check_expr.specs.Agreement.{IsSound};
+ghost use Rattle.ep_check_expr.specs.Answers.{typed_of, AnswersTyped};
+ghost use Rattle.ep_check_expr.specs.Expressions.{judged};
+ghost use Rattle.ep_check_expr.specs.Qualified.{field_alone, qualified_name, may_be_judged, names_of};
+
+use crate::expressions::{string, typed_expression};
+use crate::forms::{Refusal, Typed};
+use crate::names::qualified;
+use ep_base::Name;
+use ep_scope::Scope;
+use ep_tree::{Access, Expression, Factor, Selector};
+use std::alloc::Global;
+
+/// The factor of an expression that is nothing more.
+fn bare(e: &Expression) -> Option<&Factor>
+    ensures { option_copied result ≡ bare e.now }
+{
+    if e.right.is_some() {
+        return None;
+    }
+    let simple = &e.left;
+    if simple.sign.is_some() || !simple.more.items().is_empty() {
+        return None;
+    }
+    let term = &simple.first;
+    if term.more.items().is_empty() {
+        Some(term.first.get())
+    } else {
+        None
+    }
+}
+
+/// The typed form of what `write` and `writeln` write, which may be a character string of any length, or a rule that fails
+/// in it. The forms of the expression are otherwise all built.
+pub fn written_expression(
+    alloc: Global,
+    tree: &Expression,
+    scopes: &[Scope],
+) -> Result<Typed, Refusal>
+    requires { written_value_unbuilt tree.now ≡ None }
+    ensures typed { AnswersTyped result (judged scopes.now tree.now) }
+    ensures sound { IfOk result (λ t. IsSound scopes.now (typed_of t)) }
+{
+    match bare(tree) {
+        Some(Factor::Text(_, bytes)) => string(alloc, bytes.items()),
+        _ => typed_expression(alloc, tree, scopes),
+    }
+}
+
+/// The two names of an access `i.a`.
+fn two_names(a: &Access) -> Option<(&Name, &Name)>
+    ensures { option_map names_of result ≡ field_alone a.now }
+{
+    match a.selectors.items() {
+        [Selector::Field(_, name)] => Some((&a.name, name)),
+        _ => None,
+    }
+}
+
+/// The two names of an expression that is `i.a`.
+fn qualified_name(e: &Expression) -> Option<(&Name, &Name)>
+    ensures { option_map names_of result ≡ qualified_name e.now }
+{
+    match bare(e) {
+        Some(Factor::Access(a)) => two_names(a),
+        _ => None,
+    }
+}
+
+/// The typed form of an expression whose forms are all built, or of `i.a`, or a rule that fails in it.
+pub(crate) fn any_form(alloc: Global, e: &Expression, scopes: &[Scope]) -> Result<Typed, Refusal>
+    requires { IsTrue (may_be_judged e.now) }
+    ensures typed { AnswersTyped result (judged scopes.now e.now) }
+    ensures sound { IfOk result (λ t. IsSound scopes.now (typed_of t)) }
+{
+    match qualified_name(e) {
+        Some((interface, name)) => qualified(alloc, interface, name, scopes),
+        None => typed_expression(alloc, e, scopes),
+    }
+}
