@@ -1,9 +1,12 @@
 -- Statements that are built and typed one after the other, and the typed statements that are valid.
 use Rattle.std.proofs.Common.{◌≡◌, ℕ, ◌+◌, ◌<◌, suc, true, List, [], ◌∷◌, ◌++◌, map, drop, length, get_or, Option, Some, None, refl, sym, ap, ◌∙◌, subst, add-one, drop-cons}
-use Rattle.ep_built.specs.Built.{first_of, first_in, statement_unbuilt}
+use Rattle.ep_first.specs.Built.{first_of, first_in, statement_unbuilt}
 use Rattle.ep_tree.specs.declared.statement.Statement.{Statement}
-use Rattle.ep_typed.specs.Trees.{Stmt, Compound, Write, stmts}
-use Rattle.ep_typed.specs.Valid.{AreStmts, Declarations, IsItem, IsStmt}
+use Rattle.std.specs.Prelude.{All}
+use Rattle.std.proofs.lemmas.List.Elements.{All-nil}
+use Rattle.ep_typed.specs.Trees.{Stmt, Empty, Compound, Write, stmts}
+use Rattle.ep_typed.specs.Valid.{AreStmts, Declarations, IsConstant, IsItem, IsStmt, IsType, IsValid, IsVariable, own}
+use Rattle.ep_typed.specs.declared.unit.Unit.{Unit as TypedUnit}
 use Rattle.ep_typed.specs.Viewed.{item_of, stmt_of, stmt_step}
 use Rattle.ep_typed.specs.declared.tree.TypedStmt.{TypedStmt}
 use Rattle.ep_typed.specs.declared.tree.TypedStmt.TheVariants as typed
@@ -49,3 +52,19 @@ one_more_valid d (s ∷ ss) t before here = (before.0, one_more_valid d ss t bef
 
 pub more_valid : (d : Declarations) (found new : List TypedStmt) (t : TypedStmt) → new ≡ found ++ t ∷ [] → AreStmts d (stmts (map stmt_of found)) → IsStmt d (stmt_of t) → AreStmts d (stmts (map stmt_of new))
 more_valid d found new t n before here = subst (λ w. AreStmts d (stmts (map stmt_of w))) (sym n) (one_more_valid d found t before here)
+
+-- the empty statement
+pub empty_is : stmt_of typed.Empty ≡ Empty
+empty_is = ap stmt_of (sym typed.rolls-Empty) ∙ fold-roll-TypedStmt Stmt stmt_step layer.Empty
+
+-- a program without declarations
+pub alone_valid : (u : TypedUnit) → u.interface ≡ None → u.types ≡ [] → u.constants ≡ [] → u.variables ≡ [] → u.routines ≡ [] → ((d : Declarations) → IsStmt d (stmt_of u.start)) → stmt_of u.stop ≡ Empty → IsValid u
+alone_valid u interface types constants variables routines start stop = record {
+  interface = interface;
+  types = subst (λ ts. All (IsType u.types) ts) (sym types) (All-nil (IsType u.types));
+  constants = subst (λ cs. All (IsConstant u.types) cs) (sym constants) (All-nil (IsConstant u.types));
+  variables = subst (λ vs. All (IsVariable u.types) vs) (sym variables) (All-nil (IsVariable u.types));
+  routines = routines;
+  start = start (own u);
+  stop = stop;
+}

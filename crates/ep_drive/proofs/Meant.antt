@@ -146,13 +146,13 @@ settled_status units ticks m l e s (Stopped end trace) (inr t) h room few = absu
 
 -- ---- texts and units
 
--- the meaning is that of the name, the variables and the statements
-same_meaning : (u v : TypedUnit) (m : ℕ) → u.name ≡ v.name → u.variables ≡ v.variables → stmt_of u.start ≡ stmt_of v.start → meaning (u ∷ []) m ≡ meaning (v ∷ []) m
-same_meaning u v m a b c = λ i. go_on (spend 1 (bind (make_all m (a i) 0 (b i)) (λ _. exec m (a i) (c i))) m first_state) (λ _. stop meant.Normal)
+-- the meaning is that of the name, the types, the variables and the statements
+same_meaning : (u v : TypedUnit) (m : ℕ) → u.name ≡ v.name → u.types ≡ v.types → u.variables ≡ v.variables → stmt_of u.start ≡ stmt_of v.start → meaning (u ∷ []) m ≡ meaning (v ∷ []) m
+same_meaning u v m a t b c = λ i. go_on (spend 1 (bind (make_all m (a i) (t i) 0 (b i)) (λ _. exec m (a i) (c i))) m first_state) (λ _. stop meant.Normal)
 
 -- a text has one meaning
 text_means : (text : List ℕ) (u v : TypedUnit) (m : ℕ) → IsProgramText text u → IsProgramText text v → meaning (u ∷ []) m ≡ meaning (v ∷ []) m
-text_means text u v m p q = let same = one_program text u v p q in same_meaning u v m same.names same.variables same.starts
+text_means text u v m p q = let same = one_program text u v p q in same_meaning u v m same.names same.types same.variables same.starts
 
 -- so have texts that join
 joins_mean : (texts : List (List ℕ)) (us vs : List TypedUnit) (m : ℕ) → Joins texts us → Joins texts vs → meaning us m ≡ meaning vs m

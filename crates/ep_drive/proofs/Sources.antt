@@ -4,7 +4,7 @@ use Rattle.std.specs.Prelude.{IsOkUnless, MatchResult}
 use Rattle.ep_token.proofs.TokenLaws.{tokens-one}
 use Rattle.ep_token.specs.Tokens.{AreInOrder}
 use Rattle.ep_token.specs.declared.token.Token.{Token}
-use Rattle.ep_built.specs.Built.{component_line, component_unbuilt, first_of}
+use Rattle.ep_first.specs.Built.{component_line, component_unbuilt, first_of}
 use Rattle.ep_tree.specs.declared.component.Component.{Component}
 use Rattle.ep_tree.specs.declared.component.Component.TheVariants as component_is
 use Rattle.ep_grammar.proofs.Refusal.{one_tree}
@@ -80,6 +80,7 @@ accepted text (Err stop.NoMemory) P h u p = refl
 -- what the meaning of a unit looks at
 pub record AreAlike (u v : TypedUnit) : Type 0 where
   pub names : u.name ≡ v.name
+  pub types : u.types ≡ v.types
   pub variables : u.variables ≡ v.variables
   pub starts : stmt_of u.start ≡ stmt_of v.start
 
@@ -95,6 +96,7 @@ same_items (x ∷ xs) (y ∷ ys) e =
 alike : (c : Component) (u v : TypedUnit) → IsTyped c u → IsTyped c v → AreAlike u v
 alike (component_is.Program x) u v p q = record {
   names = p.name ∙ sym q.name;
+  types = p.types ∙ sym q.types;
   variables = p.variables ∙ sym q.variables;
   starts = p.start.2 ∙ ap (λ ts. Compound (stmts ts)) (same_items p.start.0 q.start.0 (sym p.start.1 ∙ q.start.1)) ∙ sym q.start.2;
 }

@@ -11,7 +11,7 @@ use Rattle.ep_tree.specs.declared.statement.Compound.{out-Compound}
 use Rattle.ep_tree.specs.declared.component.Component.{Component}
 use Rattle.ep_tree.specs.declared.component.Component.TheVariants as component_is
 use Rattle.ep_tree.specs.declared.component.Program.{Program}
-use Rattle.ep_built.specs.Built.{is_writeln}
+use Rattle.ep_first.specs.Built.{is_writeln}
 use Rattle.ep_tree.specs.Shapes.{bare, plain_argument, when_some}
 use Rattle.ep_typed.specs.Trees as tree
 use Rattle.ep_typed.specs.Viewed.{stmt_of}
@@ -55,10 +55,10 @@ typed_statement s = typed_form (out-Statement s)
 abbrev pub AreTyped : List Statement → List tree.Stmt → Type 0
 AreTyped ss ts = map typed_statement ss ≡ map Some ts
 
--- the typed unit of a program without declarations: its block begins at `begin`
+-- the typed unit of a program without declarations
 pub record IsTypedProgram (p : Program) (u : TypedUnit) : Type 0 where
   pub name : u.name ≡ p.name
-  pub line : u.line ≡ (out-Compound p.body).line
+  pub types : u.types ≡ []
   pub variables : u.variables ≡ []
   pub start : (ts : List tree.Stmt) × AreTyped (out-Compound p.body).statements ts × (stmt_of u.start ≡ tree.Compound (tree.stmts ts))
 

@@ -1,8 +1,8 @@
 //! The typed program of a syntax tree all of whose nodes are built, as specs/Elaboration.antt says. What
-//! `unbuilt` of ep_built rules out does not come here.
+//! `unbuilt` of ep_first rules out does not come here.
 
 ghost use Rattle.std.specs.Prelude.{◌≡◌, true, Some, None, map, IfOk};
-ghost use Rattle.ep_built.specs.Built.{argument_unbuilt, built_factor, component_unbuilt, expression_unbuilt, first_in, statement_unbuilt};
+ghost use Rattle.ep_first.specs.Built.{argument_unbuilt, built_factor, component_unbuilt, expression_unbuilt, first_in, statement_unbuilt};
 ghost use Rattle.ep_tree.specs.Shapes.{bare};
 ghost use Rattle.ep_tree.specs.declared.expression.Factor.{out-Factor};
 ghost use Rattle.ep_tree.specs.declared.statement.Statement.{out-Statement};
@@ -11,7 +11,7 @@ ghost use Rattle.ep_typed.specs.Valid.{AreStmts, Declarations, IsItem, IsStmt, I
 ghost use Rattle.ep_typed.specs.Viewed.{item_of, stmt_of};
 ghost use Rattle.ep_drive.specs.Elaboration.{AreTyped, IsTyped, argument_item, factor_item, text_item, typed_statement};
 
-use ep_base::{Bytes, List, NoMemory};
+use ep_base::{Boxed, Bytes, List, NoMemory};
 use ep_tree::{Argument, Component, Expression, Factor, Selector, Statement};
 use ep_typed::{Print, TypedExpr, TypedStmt, Unit, WriteItem};
 use std::alloc::Global;
@@ -28,9 +28,15 @@ pub fn elaborate(alloc: Global, component: &Component) -> Result<Unit, NoMemory>
     let statements = typed_statements(alloc, program.body.statements.items())?;
     Ok(Unit {
         name: program.name.copy(alloc)?,
-        line: program.body.line,
+        program: true,
+        interface: None,
+        imports: List::new(alloc),
+        types: List::new(alloc),
+        constants: List::new(alloc),
         variables: List::new(alloc),
+        routines: List::new(alloc),
         start: TypedStmt::Compound(statements),
+        stop: TypedStmt::Empty,
     })
 }
 
@@ -95,7 +101,7 @@ fn typed_factor(alloc: Global, f: &Factor) -> Result<WriteItem, NoMemory>
     match f {
         Factor::Number(_, number) => Ok(WriteItem {
             print: Print::Integer,
-            value: TypedExpr::Constant(*number),
+            value: Boxed::new(alloc, TypedExpr::Constant(*number))?,
             width: None,
         }),
         Factor::Text(_, bytes) => typed_text(alloc, bytes.items()),
@@ -111,13 +117,14 @@ fn typed_text(alloc: Global, text: &[u8]) -> Result<WriteItem, NoMemory>
     if let [byte] = text {
         return Ok(WriteItem {
             print: Print::Char,
-            value: TypedExpr::Constant(i64::from(*byte)),
+            value: Boxed::new(alloc, TypedExpr::Constant(i64::from(*byte)))?,
             width: None,
         });
     }
+    let bytes = Bytes::from_slice(alloc, text)?;
     Ok(WriteItem {
         print: Print::Text,
-        value: TypedExpr::Text(Bytes::from_slice(alloc, text)?),
+        value: Boxed::new(alloc, TypedExpr::Text(bytes))?,
         width: None,
     })
 }

@@ -1,7 +1,7 @@
 //! The program of a source text, by its tokens and its syntax tree.
 
 ghost use Rattle.std.specs.Prelude.{◌≡◌, ◌≢◌, ◌≤◌, List, [], ℕ, None, length, IfOk, IfErr, IsOkUnless, MatchResult};
-ghost use Rattle.ep_built.specs.Built.{component_unbuilt};
+ghost use Rattle.ep_first.specs.Built.{component_unbuilt};
 ghost use Rattle.ep_typed.specs.Valid.{IsValid};
 ghost use Rattle.ep_typed.specs.declared.unit.Unit.{Unit as TypedUnit};
 ghost use Rattle.ep_drive.specs.ProgramTexts.{HasComponents, IsProgramText, components_unbuilt, second_line};
@@ -10,7 +10,7 @@ ghost use Rattle.ep_drive.specs.declared.source.SourceStop.TheVariants.{NoMemory
 
 use crate::elaboration::elaborate;
 use ep_base::Line;
-use ep_built::unbuilt;
+use ep_first::unbuilt;
 use ep_parse::{ParseRefusal, components};
 use ep_token::{MAX_SOURCE, TokenRefusal, tokens};
 use ep_tree::Component;

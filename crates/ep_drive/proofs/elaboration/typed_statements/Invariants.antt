@@ -1,5 +1,5 @@
 use Rattle.std.proofs.Common.{◌≡◌, ◌++◌, drop, map, None, Some}
-use Rattle.ep_built.specs.Built.{first_in, statement_unbuilt}
+use Rattle.ep_first.specs.Built.{first_in, statement_unbuilt}
 use Rattle.ep_typed.specs.Trees.{stmts}
 use Rattle.ep_typed.specs.Valid.{AreStmts, Declarations}
 use Rattle.ep_typed.specs.Viewed.{stmt_of}

@@ -1,0 +1,84 @@
+//! The first node of a component that is not built, as specs/Built.antt says. What is built is told by the
+//! table in built/forms.rt alone; the other functions go through the nodes in the order of the text.
+
+ghost use Rattle.std.specs.Prelude.{◌≡◌, map};
+ghost use Rattle.ep_first.specs.Built.{first_of, first_in, at_node, part_unbuilt, import_unbuilt, program_unbuilt, component_unbuilt};
+
+mod expressions;
+mod forms;
+mod statements;
+
+use ep_base::Line;
+use ep_tree::{Component, Import, Part, Program};
+
+/// The line of the first node in text order that is not built, the outer one first, or `None` exactly where
+/// every node is built. It takes no memory.
+pub fn unbuilt(c: &Component) -> Option<Line>
+    ensures { result ≡ component_unbuilt c.now }
+{
+    let built = forms::component_is_built(c);
+    match c {
+        Component::Program(p) => at_node(built, p.line, program(p)),
+        Component::Heading(h) => at_node(built, h.line, None),
+        Component::Block(b) => at_node(built, b.line, None),
+        Component::Module(m) => at_node(built, m.line, None),
+    }
+}
+
+/// The first line of two parts of a node.
+fn first_of(line: Option<Line>, other: Option<Line>) -> Option<Line>
+    ensures { result ≡ first_of line other }
+{
+    if line.is_some() { line } else { other }
+}
+
+/// The line of a node that is not built, or else the first line in its parts.
+fn at_node(built: bool, line: Line, inner: Option<Line>) -> Option<Line>
+    ensures { result ≡ at_node built line inner }
+{
+    if built { inner } else { Some(line) }
+}
+
+fn program(p: &Program) -> Option<Line>
+    ensures { result ≡ program_unbuilt p.now }
+{
+    let declared = first_of(imports(p.imports.items()), parts(p.parts.items()));
+    let inner = first_of(declared, statements::compound(&p.body));
+    at_node(forms::program_is_built(p), p.line, inner)
+}
+
+fn imports(all: &[Import]) -> Option<Line>
+    ensures { result ≡ first_in (map import_unbuilt all.now) }
+{
+    for i in all {
+        let line = at_node(forms::import_is_built(i), i.line, None);
+        if line.is_some() {
+            return line;
+        }
+    }
+    None
+}
+
+fn parts(all: &[Part]) -> Option<Line>
+    ensures { result ≡ first_in (map part_unbuilt all.now) }
+{
+    for p in all {
+        let line = part(p);
+        if line.is_some() {
+            return line;
+        }
+    }
+    None
+}
+
+fn part(p: &Part) -> Option<Line>
+    ensures { result ≡ part_unbuilt p.now }
+{
+    let built = forms::part_is_built(p);
+    match p {
+        Part::Constants(c) => at_node(built, c.line, None),
+        Part::Types(t) => at_node(built, t.line, None),
+        Part::Variables(v) => at_node(built, v.line, None),
+        Part::Routine(r) => at_node(built, r.line, None),
+    }
+}
