@@ -12,7 +12,6 @@ use std::alloc::Global;
 use std::marker::Model;
 
 /// The names of a scope or of an interface.
-#[derive(Drop)]
 pub(crate) struct Entries {
     things: IndexMap<Vec<u8>, Thing>,
 }
@@ -25,6 +24,12 @@ impl Model for Entries {
     ghost Value = { List (List ℕ × Thing) };
 
     ghost view = { λ e. by_bytes e.things.entries };
+}
+
+impl Drop for Entries {
+    fn drop(self) {
+        let Entries { things: _ } = self;
+    }
 }
 
 /// Why a name is not entered.

@@ -1,6 +1,7 @@
 //! The required identifiers (ISO 10206, 6.2.2.10).
 
 ghost use Rattle.std.specs.Prelude.{◌≡◌};
+ghost use Rattle.std.specs.Str.{bytes_eq};
 ghost use Rattle.ep_scope.specs.Required.{look_up, required_of, required_constants, required_types, required_functions, required_procedures};
 
 use ep_typed::RequiredType;
@@ -80,17 +81,24 @@ pub fn required_identifier(name: &[u8]) -> Option<Required>
     }
 }
 
+/// Whether a name is a word.
+fn is(name: &[u8], word: &[u8]) -> bool
+    ensures { result ≡ bytes_eq name.now word.now }
+{
+    name == word
+}
+
 /// The required constant of a name.
 fn required_constant(name: &[u8]) -> Option<RequiredConstant>
     ensures { result ≡ look_up required_constants name.now }
 {
-    if name == b"maxint".as_slice() {
+    if is(name, b"maxint".as_slice()) {
         Some(RequiredConstant::MaxInt)
-    } else if name == b"maxchar".as_slice() {
+    } else if is(name, b"maxchar".as_slice()) {
         Some(RequiredConstant::MaxChar)
-    } else if name == b"true".as_slice() {
+    } else if is(name, b"true".as_slice()) {
         Some(RequiredConstant::True)
-    } else if name == b"false".as_slice() {
+    } else if is(name, b"false".as_slice()) {
         Some(RequiredConstant::False)
     } else {
         None
@@ -101,11 +109,11 @@ fn required_constant(name: &[u8]) -> Option<RequiredConstant>
 fn required_type(name: &[u8]) -> Option<RequiredType>
     ensures { result ≡ look_up required_types name.now }
 {
-    if name == b"integer".as_slice() {
+    if is(name, b"integer".as_slice()) {
         Some(RequiredType::Integer)
-    } else if name == b"char".as_slice() {
+    } else if is(name, b"char".as_slice()) {
         Some(RequiredType::Char)
-    } else if name == b"boolean".as_slice() {
+    } else if is(name, b"boolean".as_slice()) {
         Some(RequiredType::Boolean)
     } else {
         None
@@ -116,19 +124,19 @@ fn required_type(name: &[u8]) -> Option<RequiredType>
 fn required_function(name: &[u8]) -> Option<Function>
     ensures { result ≡ look_up required_functions name.now }
 {
-    if name == b"abs".as_slice() {
+    if is(name, b"abs".as_slice()) {
         Some(Function::Absolute)
-    } else if name == b"sqr".as_slice() {
+    } else if is(name, b"sqr".as_slice()) {
         Some(Function::Square)
-    } else if name == b"odd".as_slice() {
+    } else if is(name, b"odd".as_slice()) {
         Some(Function::Odd)
-    } else if name == b"ord".as_slice() {
+    } else if is(name, b"ord".as_slice()) {
         Some(Function::Ordinal)
-    } else if name == b"chr".as_slice() {
+    } else if is(name, b"chr".as_slice()) {
         Some(Function::Character)
-    } else if name == b"succ".as_slice() {
+    } else if is(name, b"succ".as_slice()) {
         Some(Function::Successor)
-    } else if name == b"pred".as_slice() {
+    } else if is(name, b"pred".as_slice()) {
         Some(Function::Predecessor)
     } else {
         None
@@ -139,11 +147,11 @@ fn required_function(name: &[u8]) -> Option<Function>
 fn required_procedure(name: &[u8]) -> Option<Procedure>
     ensures { result ≡ look_up required_procedures name.now }
 {
-    if name == b"halt".as_slice() {
+    if is(name, b"halt".as_slice()) {
         Some(Procedure::Halt)
-    } else if name == b"write".as_slice() {
+    } else if is(name, b"write".as_slice()) {
         Some(Procedure::Write)
-    } else if name == b"writeln".as_slice() {
+    } else if is(name, b"writeln".as_slice()) {
         Some(Procedure::WriteLine)
     } else {
         None

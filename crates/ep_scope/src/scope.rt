@@ -15,7 +15,6 @@ use std::marker::Model;
 
 /// The names of a part of a text, in the order in which they were entered, and those that are reached by the name of an
 /// interface.
-#[derive(Drop)]
 pub struct Scope {
     alloc: Global,
     entries: Entries,
@@ -29,6 +28,16 @@ impl Model for Scope {
     ghost Value = { Region };
 
     ghost view = { λ s. record { entries = s.entries; qualified = by_bytes s.qualified.entries } };
+}
+
+impl Drop for Scope {
+    fn drop(self) {
+        let Scope {
+            alloc: _,
+            entries: _,
+            qualified: _,
+        } = self;
+    }
 }
 
 /// Why a name is not entered, or an import not opened.

@@ -1,4 +1,4 @@
-use Rattle.std.proofs.Common.{◌≡◌, None, ◌∙◌, ◌∷◌, [], ◌++◌, ap, refl, sym}
+use Rattle.std.proofs.Common.{◌≡◌, None, ◌∙◌, ◌∷◌, [], ◌++◌, ap, refl}
 use Rattle.ep_scope.proofs.Found.{entered}
 use Rattle.ep_scope.proofs.scope.Scope.open.Goals as goal
 use Rattle.ep_scope.specs.Keys.{by_bytes}
