@@ -15,10 +15,6 @@ module _ (n : ℕ) where
   abbrev pub IsIn : List ℕ → Type 0
   IsIn rules = list_any (nat_eq n) rules ≡ true
 
-  or-first : (a b : Bool) → a ≡ true → (a || b) ≡ true
-  or-first true b e = refl
-  or-first false b e = cc
-
   or-second : (a b : Bool) → b ≡ true → (a || b) ≡ true
   or-second true b e = refl
   or-second false b e = e

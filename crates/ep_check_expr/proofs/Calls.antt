@@ -1,6 +1,5 @@
 -- Calls of required functions.
-use Rattle.std.proofs.Common.{◌≡◌, ◌≢◌, ◌≤◌, ◌<◌, ℕ, ◌==◌, Bool, true, false, ◌||◌, ◌&&◌, List, [], ◌∷◌, ◌++◌, get_or, length, None, Result, Err, refl, sym, ap, ◌∙◌, arith}
-use Rattle.std.proofs.lemmas.Bool.Decides.{nat_tests}
+use Rattle.std.proofs.Common.{◌≡◌, ◌≤◌, ◌<◌, ℕ, true, false, List, [], ◌∷◌, ◌++◌, get_or, length, None, Result, Err, refl, sym, ap, ◌∙◌, arith}
 use Rattle.std.specs.Result.{IsErrAnd}
 use Rattle.std.proofs.lemmas.Result.{err_from_is_err_and}
 use Rattle.ep_scope.specs.declared.required.Function.{Function}
@@ -9,7 +8,7 @@ use Rattle.ep_check_expr.specs.Answers.{AnswersTyped, AnswersGiven}
 use Rattle.ep_check_expr.specs.declared.forms.Typed as code
 use Rattle.ep_check_expr.specs.declared.forms.Refusal.{Refusal}
 use Rattle.ep_check_expr.specs.declared.forms.Refusal.TheVariants.{Rule, NoMemory}
-use Rattle.ep_check_expr.specs.Functions.{Given, given_faults, all_faults, applied, applied_one, applied_two, unless_faults, number_faults, takes, takes_count, called, accepted}
+use Rattle.ep_check_expr.specs.Functions.{Given, given_faults, all_faults, applied, applied_one, applied_two, unless_faults, number_faults, takes, called, accepted}
 use Rattle.ep_check_expr.specs.Judgements.{Judged, Accepts, Typed, breaks}
 
 -- a list of one item, and of two
@@ -59,11 +58,3 @@ given-refused g K f NoMemory h = tt
 -- what a call hands on of a refusal in an argument
 pub fault-exit : (r : Result code.Typed Refusal) (e : Refusal) (g : Given) (K : Judged Typed) → IsErrAnd r (λ x. x ≡ e) → ((n : ℕ) → IsIn n (given_faults g) → breaks n K ≡ true) → AnswersGiven (Err e) g → AnswersTyped r K
 fault-exit r e g K is f h = let p = err_from_is_err_and r is in rw (p.1, p.2) (given-refused g K f e h)
-
--- no function takes another number of arguments
-pub takes-one_or_two : (f : Function) (n : ℕ) → takes f n ≡ true → n ≢ 1 → n ≢ 2 → ⊥
-takes-one_or_two f n h one two = by (takes_count f) h
-  where
-    by : (b : Bool) → (n == 1 || (b && n == 2)) ≡ true → ⊥
-    by true e = grind (arith, nat_tests)
-    by false e = grind (arith, nat_tests)

@@ -1,7 +1,7 @@
 -- What is known of a valid form as a constant is a value of its host.
-use Rattle.std.proofs.Common.{◌≡◌, ℕ, ℤ, pos, negsuc, zero, suc, ◌%◌, Bool, true, false, List, Option, Some, None, Result, Ok, Err, IsTrue, refl, sym, ap, ◌∙◌, subst, arith}
+use Rattle.std.proofs.Common.{◌≡◌, ℕ, ℤ, pos, negsuc, zero, suc, ◌%◌, Bool, true, false, Option, Some, None, IsTrue, refl, sym, ap, ◌∙◌, subst, arith}
 use Rattle.std.proofs.lemmas.Bool.Decides.{nat_tests}
-use Rattle.std.specs.Prelude.{⊤, IfOk, if◌then◌else◌, ◌-ℤ◌, unsigned_abs}
+use Rattle.std.specs.Prelude.{⊤, if◌then◌else◌, ◌-ℤ◌, unsigned_abs}
 use Rattle.ep_typed.specs.Hosts.{Host, least, greatest, is_of_host}
 use Rattle.ep_typed.specs.Hosts as host
 use Rattle.ep_typed.specs.Operations.{Answer, Number, Fault, is_integer, within, ordinal_of, unary_answer, binary_answer, step_answer}
@@ -13,18 +13,14 @@ use Rattle.ep_typed.specs.declared.operations.Unary.TheVariants as unary
 use Rattle.ep_typed.specs.declared.operations.Binary.{Binary}
 use Rattle.ep_typed.specs.declared.operations.Binary.TheVariants as binary
 use Rattle.ep_typed.specs.declared.run_error.TheConstants as run_error
-use Rattle.ep_scope.specs.Scopes.{Region}
 use Rattle.ep_scope.specs.declared.kind.Host as scope
 use Rattle.ep_scope.specs.declared.kind.Kind.TheVariants as kind
 use Rattle.ep_scope.specs.declared.kind.Kind.{Kind}
-use Rattle.ep_check_expr.specs.Agreement.{IsHost, IsConstantOf, IsFormOf, IsSound}
-use Rattle.ep_check_expr.specs.Answers.{AnswersJudged}
-use Rattle.ep_check_expr.specs.Constants.{IsSoundConstant, as_constant, constant_of, constant_folded}
+use Rattle.ep_check_expr.specs.Agreement.{IsHost, IsConstantOf, IsFormOf}
+use Rattle.ep_check_expr.specs.Constants.{constant_of, constant_folded}
 use Rattle.ep_check_expr.specs.Hosts.{typed_host}
-use Rattle.ep_check_expr.specs.Judgements.{Judged, Accepts, Breaks, Typed}
+use Rattle.ep_check_expr.specs.Judgements.{Judged, Accepts, Breaks}
 use Rattle.ep_check_expr.specs.declared.constants.ConstantForm.{ConstantForm}
-use Rattle.ep_check_expr.specs.declared.forms.Refusal.{Refusal}
-use Rattle.ep_check_expr.specs.declared.forms.Refusal.TheVariants.{Rule, NoMemory}
 use Rattle.ep_check_expr.specs.Folding.{answered, one_folded, two_folded, folded}
 use Rattle.ep_check_expr.specs.declared.folding.Folded.{Folded}
 use Rattle.ep_check_expr.specs.declared.folding.Folded.TheVariants.{Known, Varies, Errs}
@@ -186,7 +182,7 @@ binary-bytes binary.AtMost k l u = let e = u.1 in cc
 binary-bytes binary.AtLeast k l u = let e = u.1 in cc
 
 -- what is accepted is of its kind
-abbrev IsJudgedConstant : Judged ConstantForm → Type 0
+abbrev pub IsJudgedConstant : Judged ConstantForm → Type 0
 IsJudgedConstant (Accepts c) = IsConstantOf c.kind c.value
 IsJudgedConstant (Breaks rules) = ⊤
 
@@ -197,7 +193,7 @@ module _ (declared : Declarations) where
   folded-constant h x Errs e s v = tt
 
   -- a valid form is a constant of its kind, if it is one
-  constant-fits : (k : Kind) (form : Option Expr) → IsFormOf declared k form → IsJudgedConstant (constant_of k form)
+  pub constant-fits : (k : Kind) (form : Option Expr) → IsFormOf declared k form → IsJudgedConstant (constant_of k form)
   constant-fits (kind.Ordinal h) None s = (s, zero_of_host (typed_host h))
   constant-fits (kind.Ordinal h) (Some (Text bytes)) s = let e = s.1 in cc
   constant-fits (kind.Ordinal h) (Some (Constant z)) s = folded-constant h (Constant z) (Known z) refl s.0 s.1
@@ -219,13 +215,3 @@ module _ (declared : Declarations) where
   constant-fits kind.File (Some (One operation x)) s = absurd s
   constant-fits kind.File (Some (Two operation x y)) s = absurd s
   constant-fits kind.File (Some (Step down low high x y)) s = absurd s
-
--- the constant of a sound form is sound
-pub constant-sound : (scopes : List Region) (t : Typed) (c : ConstantForm) → IsSound scopes t → as_constant t ≡ Accepts c → IsSoundConstant scopes c
-constant-sound scopes t c s e = λ declared agrees. subst IsJudgedConstant e (constant-fits declared t.kind t.form (s declared agrees))
-
--- and so is the answer
-pub constant-answer : (scopes : List Region) (t : Typed) (result : Result ConstantForm Refusal) → IsSound scopes t → AnswersJudged (λ c. c) result (as_constant t) → IfOk result (IsSoundConstant scopes)
-constant-answer scopes t (Ok c) s a = constant-sound scopes t c s a
-constant-answer scopes t (Err (Rule rule)) s a = tt
-constant-answer scopes t (Err NoMemory) s a = tt

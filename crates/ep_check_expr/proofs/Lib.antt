@@ -1,9 +1,14 @@
+pub mod Accepted
 pub mod Breaking
 pub mod Calls
 pub mod Examples
 pub mod Folds
+pub mod Hosted
 pub mod Known
 pub mod Meant
 pub mod Nodes
+pub mod Parts
 pub mod Rows
 pub mod Sound
+pub mod Keeping
+pub mod Lawful

@@ -1,6 +1,6 @@
 -- What names stand for is valid under declarations that hold what the scopes declare.
-use Rattle.std.proofs.Common.{ℕ, Bool, true, false, List, [], ◌∷◌, Option, Some, None, Result, refl}
-use Rattle.std.specs.Prelude.{⊤, IfOk, if◌then◌else◌}
+use Rattle.std.proofs.Common.{ℕ, Bool, true, false, List, [], ◌∷◌, Option, Some, None, refl}
+use Rattle.std.specs.Prelude.{⊤, if◌then◌else◌}
 use Rattle.std.specs.Str.{bytes_eq}
 use Rattle.ep_typed.specs.Valid.{Declarations}
 use Rattle.ep_typed.specs.declared.value.Value.{Value}
@@ -19,13 +19,10 @@ use Rattle.ep_scope.specs.declared.thing.Declaration.{Declaration}
 use Rattle.ep_scope.specs.declared.thing.Declaration.TheVariants as declaration
 use Rattle.ep_scope.specs.declared.thing.Thing.{Thing}
 use Rattle.ep_scope.specs.declared.thing.Thing.TheVariants as thing
-use Rattle.ep_check_expr.specs.Agreement.{IsConstantOf, IsVariableOf, IsDeclaration, IsThing, AreThings, AreInterfaces, Agrees, IsFormOf, IsSound}
-use Rattle.ep_check_expr.specs.Answers.{AnswersTyped, typed_of}
+use Rattle.ep_check_expr.specs.Agreement.{IsConstantOf, IsVariableOf, IsDeclaration, IsThing, AreThings, AreInterfaces, Agrees, IsFormOf}
 use Rattle.ep_check_expr.specs.Hosts.{typed_host}
 use Rattle.ep_check_expr.specs.Names.{value_form, value_declared, value_required, value_named}
-use Rattle.ep_check_expr.specs.declared.forms.Typed as code
-use Rattle.ep_check_expr.specs.declared.forms.Refusal.{Refusal}
-use Rattle.ep_check_expr.proofs.Sound.{Fits, answer-sound}
+use Rattle.ep_check_expr.proofs.Sound.{Fits}
 
 module _ (declared : Declarations) where
   -- what is found is declared
@@ -34,7 +31,7 @@ module _ (declared : Declarations) where
   IsThingIf (Some t) = IsThing declared t
 
   -- what is meant is declared
-  abbrev IsMeant : Meant → Type 0
+  abbrev pub IsMeant : Meant → Type 0
   IsMeant (Declares d) = IsDeclaration declared d.unit d.number d.what
   IsMeant (meaning.Standard file) = ⊤
   IsMeant (Requires r) = ⊤
@@ -81,11 +78,11 @@ module _ (declared : Declarations) where
   unless_hidden-meant None m h = h
   unless_hidden-meant (Some t) m h = tt
 
-  meant-declared : (scopes : List Region) (name : List ℕ) → Agrees declared scopes → IsMeant (meant scopes name)
+  pub meant-declared : (scopes : List Region) (name : List ℕ) → Agrees declared scopes → IsMeant (meant scopes name)
   meant-declared [] name h = as_required-meant (required_of name)
   meant-declared (r ∷ rs) name h = or_outside-meant (look_up r.entries name) (meant rs name) (look_up-thing r.entries name h.0) (meant-declared rs name h.2)
 
-  meant_in-declared : (scopes : List Region) (interface name : List ℕ) → Agrees declared scopes → IsMeant (meant_in scopes interface name)
+  pub meant_in-declared : (scopes : List Region) (interface name : List ℕ) → Agrees declared scopes → IsMeant (meant_in scopes interface name)
   meant_in-declared [] interface name h = tt
   meant_in-declared (r ∷ rs) interface name h =
       unless_hidden-meant (look_up r.entries interface) (or_outside (look_up_in r interface name) (meant_in rs interface name))
@@ -117,22 +114,8 @@ module _ (declared : Declarations) where
   value_required-fits (required.Function f) = tt
   value_required-fits (required.Procedure p) = tt
 
-  value_named-fits : (name : List ℕ) (m : Meant) → IsMeant m → Fits declared (value_named name m)
+  pub value_named-fits : (name : List ℕ) (m : Meant) → IsMeant m → Fits declared (value_named name m)
   value_named-fits name (Declares d) s = value_declared-fits d.unit d.number d.what s
   value_named-fits name (meaning.Standard file) s = tt
   value_named-fits name (Requires r) s = value_required-fits r
   value_named-fits name Nothing s = tt
-
-module _ (scopes : List Region) (result : Result code.Typed Refusal) where
-  -- a name as a value
-  pub value_named-sound : (name : List ℕ) → AnswersTyped result (value_named name (meant scopes name)) → IfOk result (λ t. IsSound scopes (typed_of t))
-  value_named-sound name a =
-      answer-sound scopes result (value_named name (meant scopes name)) (λ declared agrees. value_named-fits declared name (meant scopes name) (meant-declared declared scopes name agrees)) a
-
-  -- the name of an interface's constituent as a value
-  pub value_within-sound : (interface name : List ℕ) → AnswersTyped result (value_named name (meant_in scopes interface name)) → IfOk result (λ t. IsSound scopes (typed_of t))
-  value_within-sound interface name a =
-      answer-sound scopes result (value_named name (meant_in scopes interface name))
-      (λ declared agrees. value_named-fits declared name (meant_in scopes interface name) (meant_in-declared declared scopes interface name agrees)) a
-
-pub ruleset named = (value_named-sound)

@@ -1,11 +1,11 @@
 -- What the rules say of the nodes of expressions by their parts: an equation for each node.
-use Rattle.std.proofs.Common.{◌≡◌, ℕ, ℤ, List, [], ◌∷◌, map, Option, Some, None, sym, ap, ◌∙◌}
-use Rattle.ep_scope.specs.Scopes.{Region, meant}
+use Rattle.std.proofs.Common.{◌≡◌, ℕ, ℤ, List, map, Option, Some, None, sym, ap, ◌∙◌}
+use Rattle.ep_scope.specs.Scopes.{Region}
 use Rattle.ep_tree.specs.Nodes.{expression_node, comparison_node, simple_node, addend_node, term_node, multiplier_node, access_node, argument_node}
 use Rattle.ep_tree.specs.declared.expression.ComponentValue.TheFolds.{fold-roll-Factor, fold-roll-Selector, fold-roll-Access, fold-roll-Addend, fold-roll-Argument, fold-roll-Comparison, fold-roll-Expression, fold-roll-Multiplier, fold-roll-Simple, fold-roll-Term}
-use Rattle.ep_tree.specs.declared.expression.Access.{Access}
 use Rattle.ep_tree.specs.declared.expression.Addend.{Addend}
 use Rattle.ep_tree.specs.declared.expression.Argument.{Argument}
+use Rattle.ep_tree.specs.declared.expression.Comparison.{Comparison}
 use Rattle.ep_tree.specs.declared.expression.Expression.{Expression}
 use Rattle.ep_tree.specs.declared.expression.Factor.{Factor}
 use Rattle.ep_tree.specs.declared.expression.Factor.TheVariants as factor
@@ -18,12 +18,10 @@ use Rattle.ep_tree.specs.declared.operator.AddingOperator.{AddingOperator}
 use Rattle.ep_tree.specs.declared.operator.MultiplyingOperator.{MultiplyingOperator}
 use Rattle.ep_tree.specs.declared.operator.RelationalOperator.{RelationalOperator}
 use Rattle.ep_tree.specs.declared.operator.Sign.{Sign}
-use Rattle.ep_typed.specs.Trees.{Constant}
-use Rattle.ep_check_expr.specs.Expressions.{Operand, Arguments, chained, string_judged, access_judged, judged, simple_judged, term_judged, factor_judged, name_judged, addend_judged, multiplier_judged, selected, given}
-use Rattle.ep_check_expr.specs.Functions.{Given}
+use Rattle.ep_scope.specs.declared.kind.Host.TheVariants as host
+use Rattle.ep_check_expr.specs.Expressions.{Arguments, chained, spelled, string_judged, access_judged, judged, simple_judged, term_judged, factor_judged, addend_judged, multiplier_judged, comparison_judged, name_judged, selected, given}
 use Rattle.ep_check_expr.specs.Judgements.{both, when_accepted}
-use Rattle.ep_check_expr.specs.Names.{leaf}
-use Rattle.ep_check_expr.specs.Operators.{integer, signed, added, multiplied, compared}
+use Rattle.ep_check_expr.specs.Operators.{signed, added, multiplied, compared}
 
 module _ (scopes : List Region) where
   pub expression-judged : (at : ℕ) (l : Simple) → judged scopes (expression_node at l None) ≡ simple_judged scopes l
@@ -31,6 +29,12 @@ module _ (scopes : List Region) where
 
   pub comparison-judged : (at : ℕ) (l r : Simple) (o : RelationalOperator) → judged scopes (expression_node at l (Some (comparison_node o r))) ≡ both (compared o) (simple_judged scopes l) (simple_judged scopes r)
   comparison-judged at l r o = simp (fold-roll-Expression, fold-roll-Comparison)
+
+  pub compared-judged : (at : ℕ) (l : Simple) (c : Comparison) → judged scopes (expression_node at l (Some c)) ≡ both (compared (comparison_judged scopes c).operator) (simple_judged scopes l) (comparison_judged scopes c).operand
+  compared-judged at l c = simp fold-roll-Expression
+
+  pub second-judged : (o : RelationalOperator) (s : Simple) → comparison_judged scopes (comparison_node o s) ≡ record { operator = o; operand = simple_judged scopes s }
+  second-judged o s = simp fold-roll-Comparison
 
   pub simple-judged : (at : ℕ) (o : Option Sign) (t : Term) (more : List Addend) → simple_judged scopes (simple_node at o t more) ≡ chained added (when_accepted (signed o) (term_judged scopes t)) (map (addend_judged scopes) more)
   simple-judged at o t more = simp fold-roll-Simple
@@ -44,6 +48,9 @@ module _ (scopes : List Region) where
   pub multiplier-judged : (o : MultiplyingOperator) (f : Factor) → multiplier_judged scopes (multiplier_node o f) ≡ record { operator = o; operand = factor_judged scopes f }
   multiplier-judged o f = simp fold-roll-Multiplier
 
+  pub access-judged : (at : ℕ) (name : List ℕ) (more : List Selector) → name_judged scopes (access_node at name more) ≡ access_judged scopes name (map (selected scopes) more)
+  access-judged at name more = simp fold-roll-Access
+
   pub name-judged : (at : ℕ) (name : List ℕ) (more : List Selector) → factor_judged scopes (factor.Access (access_node at name more)) ≡ access_judged scopes name (map (selected scopes) more)
   name-judged at name more = ap (factor_judged scopes) (sym (factor.rolls-Access (access_node at name more))) ∙ simp (fold-roll-Factor, fold-roll-Access)
 
@@ -56,7 +63,7 @@ module _ (scopes : List Region) where
   pub wide-judged : (at : ℕ) (e w : Expression) → given scopes (argument_node at e (Some w)) ≡ record { value = judged scopes e; width = Some (judged scopes w) }
   wide-judged at e w = simp fold-roll-Argument
 
-  pub number-judged : (at : ℕ) (n : ℤ) → factor_judged scopes (factor.Number at n) ≡ leaf (Constant n) integer
+  pub number-judged : (at : ℕ) (n : ℤ) → factor_judged scopes (factor.Number at n) ≡ spelled host.Integer n
   number-judged at n = ap (factor_judged scopes) (sym (factor.rolls-Number at n)) ∙ simp fold-roll-Factor
 
   pub string-judged : (at : ℕ) (b : List ℕ) → factor_judged scopes (factor.Text at b) ≡ string_judged b

@@ -1,6 +1,6 @@
 -- The rules give valid forms of valid parts.
-use Rattle.std.proofs.Common.{◌≡◌, ℕ, suc, max, Bool, true, false, ◌&&◌, nat_eq, nat_le, List, [], ◌∷◌, Option, Some, None, Result, Ok, Err, refl, subst, arith}
-use Rattle.std.specs.Prelude.{⊤, IfOk, if◌then◌else◌}
+use Rattle.std.proofs.Common.{◌≡◌, ℕ, suc, max, Bool, true, false, ◌&&◌, nat_eq, nat_le, [], ◌∷◌, Option, Some, None, refl, subst, arith}
+use Rattle.std.specs.Prelude.{if◌then◌else◌}
 use Rattle.std.specs.Option.{option_map}
 use Rattle.std.proofs.lemmas.Bool.Decides.{nat_tests}
 use Rattle.ep_tree.specs.declared.operator.Sign.{Sign}
@@ -19,7 +19,6 @@ use Rattle.ep_typed.specs.declared.operations.Unary.{Unary}
 use Rattle.ep_typed.specs.declared.operations.Unary.TheVariants as unary
 use Rattle.ep_typed.specs.declared.operations.Binary.{Binary}
 use Rattle.ep_typed.specs.declared.operations.Binary.TheVariants as binary
-use Rattle.ep_scope.specs.Scopes.{Region}
 use Rattle.ep_scope.specs.declared.kind.Enumeration.{Enumeration}
 use Rattle.ep_scope.specs.declared.kind.Host.{Host}
 use Rattle.ep_scope.specs.declared.kind.Host.TheVariants as host
@@ -27,16 +26,13 @@ use Rattle.ep_scope.specs.declared.kind.Kind.{Kind}
 use Rattle.ep_scope.specs.declared.kind.Kind.TheVariants as kind
 use Rattle.ep_scope.specs.declared.required.Function.{Function}
 use Rattle.ep_scope.specs.declared.required.Function.TheVariants as function
-use Rattle.ep_check_expr.specs.Agreement.{IsHost, IsFormOf, IsSound, Agrees}
-use Rattle.ep_check_expr.specs.Answers.{AnswersTyped, typed_of}
+use Rattle.ep_check_expr.specs.Agreement.{IsHost, IsFormOf}
 use Rattle.ep_check_expr.specs.Functions.{of_integer, ordinal_by, step_typed, stepped_by, one, applied_one, applied_two}
 use Rattle.ep_check_expr.specs.Hosts.{typed_host}
 use Rattle.ep_check_expr.specs.Judgements.{Judged, Accepts, Breaks, Typed}
 use Rattle.ep_check_expr.specs.Operators.{integer, boolean, is_integer, is_boolean, is_string, are_compatible, map_both, within_depth, unary_typed, binary_typed, unbuilt_typed, signed, negated, arithmetic, logical, added, multiplied, comparison, compared}
-use Rattle.ep_check_expr.specs.declared.forms.Typed as code
-use Rattle.ep_check_expr.specs.declared.forms.Refusal.{Refusal}
-use Rattle.ep_check_expr.specs.declared.forms.Refusal.TheVariants.{Rule, NoMemory}
 use Rattle.ep_check_expr.specs.declared.forms.TheConstants as limit
+use Rattle.ep_check_expr.proofs.Keeping.{Satisfies}
 
 -- the kind of a typed tree
 abbrev of_host : Host → valid.Kind
@@ -45,14 +41,13 @@ of_host h = valid.Ordinal (typed_host h)
 module _ (declared : Declarations) where
   -- what is accepted is valid
   abbrev pub Fits : Judged Typed → Type 0
-  Fits (Accepts t) = IsFormOf declared t.kind t.form
-  Fits (Breaks rules) = ⊤
+  Fits = Satisfies (λ t. IsFormOf declared t.kind t.form)
 
   within_depth-fits : (form : Option Expr) (k : Kind) (depth : ℕ) → IsFormOf declared k form → Fits (within_depth form k depth)
   within_depth-fits form k depth s =
       elim (nat_le depth limit.DEPTH) as (λ b. Fits (if b then Accepts (record { form = form; kind = k; depth = depth }) else Breaks (58 ∷ []))) [ true ↦ s | false ↦ tt ]
 
-  if-fits : (b : Bool) (J K : Judged Typed) → (b ≡ true → Fits J) → Fits K → Fits (if b then J else K)
+  pub if-fits : (b : Bool) (J K : Judged Typed) → (b ≡ true → Fits J) → Fits K → Fits (if b then J else K)
   if-fits true J K f s = f refl
   if-fits false J K f s = s
 
@@ -67,7 +62,7 @@ module _ (declared : Declarations) where
   two-form operation h k r u s (Some x) None f g = s
   two-form operation h k r u s (Some x) (Some y) f g = (s, (of_host h, of_host k, u, f.1, g.1))
 
-  pub as_integer : (k : Kind) (form : Option Expr) → is_integer k ≡ true → IsFormOf declared k form → IsFormOf declared integer form
+  as_integer : (k : Kind) (form : Option Expr) → is_integer k ≡ true → IsFormOf declared k form → IsFormOf declared integer form
   as_integer (kind.Ordinal host.Integer) form e f = f
   as_integer (kind.Ordinal host.Char) form e f = cc
   as_integer (kind.Ordinal host.Boolean) form e f = cc
@@ -99,7 +94,7 @@ module _ (declared : Declarations) where
   binary-fits operation h k r u s x y f g =
       within_depth-fits (map_both (Two operation) x.form y.form) (kind.Ordinal r) (suc (max x.depth y.depth)) (two-form operation h k r u s x.form y.form f g)
 
-  signed-fits : (s : Option Sign) (x : Typed) → IsFormOf declared x.kind x.form → Fits (signed s x)
+  pub signed-fits : (s : Option Sign) (x : Typed) → IsFormOf declared x.kind x.form → Fits (signed s x)
   signed-fits None x f = f
   signed-fits (Some sign.Plus) x f =
       if-fits (is_integer x.kind) (unary_typed unary.Same integer x) (Breaks (32 ∷ []))
@@ -126,7 +121,7 @@ module _ (declared : Declarations) where
   joined-fits : (x y : Typed) → Fits (unbuilt_typed kind.Text x y)
   joined-fits x y = within_depth-fits None kind.Text (suc (max x.depth y.depth)) tt
 
-  added-fits : (operator : AddingOperator) (x y : Typed) → IsFormOf declared x.kind x.form → IsFormOf declared y.kind y.form → Fits (added operator x y)
+  pub added-fits : (operator : AddingOperator) (x y : Typed) → IsFormOf declared x.kind x.form → IsFormOf declared y.kind y.form → Fits (added operator x y)
   added-fits adding.Plus x y f g =
       if-fits (is_string x.kind && is_string y.kind) (unbuilt_typed kind.Text x y) (arithmetic binary.Add x y) (λ e. joined-fits x y) (arithmetic-fits binary.Add (refl, refl, refl) x y f g)
   added-fits adding.Minus x y f g = arithmetic-fits binary.Subtract (refl, refl, refl) x y f g
@@ -134,7 +129,7 @@ module _ (declared : Declarations) where
   added-fits adding.SymmetricDifference x y f g = tt
   added-fits adding.OrElse x y f g = tt
 
-  multiplied-fits : (operator : MultiplyingOperator) (x y : Typed) → IsFormOf declared x.kind x.form → IsFormOf declared y.kind y.form → Fits (multiplied operator x y)
+  pub multiplied-fits : (operator : MultiplyingOperator) (x y : Typed) → IsFormOf declared x.kind x.form → IsFormOf declared y.kind y.form → Fits (multiplied operator x y)
   multiplied-fits multiplying.Times x y f g = arithmetic-fits binary.Multiply (refl, refl, refl) x y f g
   multiplied-fits multiplying.Div x y f g = arithmetic-fits binary.Divide (refl, refl, refl) x y f g
   multiplied-fits multiplying.Mod x y f g = arithmetic-fits binary.Modulo (refl, refl, refl) x y f g
@@ -191,7 +186,7 @@ module _ (declared : Declarations) where
       (λ e. let p = compatible-host x y x.kind y.kind e f g in binary-fits operation p.host p.host host.Boolean (u p.host) refl x y p.left p.right)
       (if-fits (is_string x.kind && is_string y.kind) (unbuilt_typed boolean x y) (Breaks (32 ∷ [])) (λ e. within_depth-fits None boolean (suc (max x.depth y.depth)) refl) tt)
 
-  compared-fits : (operator : RelationalOperator) (x y : Typed) → IsFormOf declared x.kind x.form → IsFormOf declared y.kind y.form → Fits (compared operator x y)
+  pub compared-fits : (operator : RelationalOperator) (x y : Typed) → IsFormOf declared x.kind x.form → IsFormOf declared y.kind y.form → Fits (compared operator x y)
   compared-fits relation.Equal x y f g = comparison-fits binary.Equal (λ h. ((typed_host h, refl, refl), refl)) x y f g
   compared-fits relation.NotEqual x y f g = comparison-fits binary.Unequal (λ h. ((typed_host h, refl, refl), refl)) x y f g
   compared-fits relation.Less x y f g = comparison-fits binary.Less (λ h. ((typed_host h, refl, refl), refl)) x y f g
@@ -232,7 +227,7 @@ module _ (declared : Declarations) where
   one-fits : IsFormOf declared one.kind one.form
   one-fits = (refl, (typed_host host.Integer, refl, refl))
 
-  applied_one-fits : (fn : Function) (x : Typed) → IsFormOf declared x.kind x.form → Fits (applied_one fn x)
+  pub applied_one-fits : (fn : Function) (x : Typed) → IsFormOf declared x.kind x.form → Fits (applied_one fn x)
   applied_one-fits function.Absolute x f = of_integer-fits unary.Absolute host.Integer (refl, refl) refl x f
   applied_one-fits function.Square x f = of_integer-fits unary.Square host.Integer (refl, refl) refl x f
   applied_one-fits function.Odd x f = of_integer-fits unary.Odd host.Boolean (refl, refl) refl x f
@@ -241,7 +236,7 @@ module _ (declared : Declarations) where
   applied_one-fits function.Successor x f = stepped_by-fits x.kind false x one f one-fits
   applied_one-fits function.Predecessor x f = stepped_by-fits x.kind true x one f one-fits
 
-  applied_two-fits : (fn : Function) (x y : Typed) → IsFormOf declared x.kind x.form → IsFormOf declared y.kind y.form → Fits (applied_two fn x y)
+  pub applied_two-fits : (fn : Function) (x y : Typed) → IsFormOf declared x.kind x.form → IsFormOf declared y.kind y.form → Fits (applied_two fn x y)
   applied_two-fits function.Successor x y f g = stepped_by-fits x.kind false x y f g
   applied_two-fits function.Predecessor x y f g = stepped_by-fits x.kind true x y f g
   applied_two-fits function.Absolute x y f g = tt
@@ -249,37 +244,3 @@ module _ (declared : Declarations) where
   applied_two-fits function.Odd x y f g = tt
   applied_two-fits function.Ordinal x y f g = tt
   applied_two-fits function.Character x y f g = tt
-
--- what is accepted is sound
-abbrev pub IsSoundJudged : List Region → Judged Typed → Type 0
-IsSoundJudged scopes J = (declared : Declarations) → Agrees declared scopes → Fits declared J
-
--- an answer of what is sound is
-pub answer-sound : (scopes : List Region) (result : Result code.Typed Refusal) (J : Judged Typed) → IsSoundJudged scopes J → AnswersTyped result J → IfOk result (λ t. IsSound scopes (typed_of t))
-answer-sound scopes (Ok t) J s a = λ declared agrees. subst (Fits declared) a (s declared agrees)
-answer-sound scopes (Err (Rule rule)) J s a = tt
-answer-sound scopes (Err NoMemory) J s a = tt
-
-module _ (scopes : List Region) (result : Result code.Typed Refusal) where
-  pub signed-sound : (s : Option Sign) (x : Typed) → AnswersTyped result (signed s x) → IsSound scopes x → IfOk result (λ t. IsSound scopes (typed_of t))
-  signed-sound s x a f = answer-sound scopes result (signed s x) (λ declared agrees. signed-fits declared s x (f declared agrees)) a
-
-  pub negated-sound : (x : Typed) → AnswersTyped result (negated x) → IsSound scopes x → IfOk result (λ t. IsSound scopes (typed_of t))
-  negated-sound x a f = answer-sound scopes result (negated x) (λ declared agrees. negated-fits declared x (f declared agrees)) a
-
-  pub added-sound : (operator : AddingOperator) (x y : Typed) → AnswersTyped result (added operator x y) → IsSound scopes x → IsSound scopes y → IfOk result (λ t. IsSound scopes (typed_of t))
-  added-sound operator x y a f g = answer-sound scopes result (added operator x y) (λ declared agrees. added-fits declared operator x y (f declared agrees) (g declared agrees)) a
-
-  pub multiplied-sound : (operator : MultiplyingOperator) (x y : Typed) → AnswersTyped result (multiplied operator x y) → IsSound scopes x → IsSound scopes y → IfOk result (λ t. IsSound scopes (typed_of t))
-  multiplied-sound operator x y a f g = answer-sound scopes result (multiplied operator x y) (λ declared agrees. multiplied-fits declared operator x y (f declared agrees) (g declared agrees)) a
-
-  pub compared-sound : (operator : RelationalOperator) (x y : Typed) → AnswersTyped result (compared operator x y) → IsSound scopes x → IsSound scopes y → IfOk result (λ t. IsSound scopes (typed_of t))
-  compared-sound operator x y a f g = answer-sound scopes result (compared operator x y) (λ declared agrees. compared-fits declared operator x y (f declared agrees) (g declared agrees)) a
-
-  pub applied_one-sound : (fn : Function) (x : Typed) → AnswersTyped result (applied_one fn x) → IsSound scopes x → IfOk result (λ t. IsSound scopes (typed_of t))
-  applied_one-sound fn x a f = answer-sound scopes result (applied_one fn x) (λ declared agrees. applied_one-fits declared fn x (f declared agrees)) a
-
-  pub applied_two-sound : (fn : Function) (x y : Typed) → AnswersTyped result (applied_two fn x y) → IsSound scopes x → IsSound scopes y → IfOk result (λ t. IsSound scopes (typed_of t))
-  applied_two-sound fn x y a f g = answer-sound scopes result (applied_two fn x y) (λ declared agrees. applied_two-fits declared fn x y (f declared agrees) (g declared agrees)) a
-
-pub ruleset sound = (signed-sound, negated-sound, added-sound, multiplied-sound, compared-sound, applied_one-sound, applied_two-sound)

@@ -1,5 +1,5 @@
 -- What the static rules say of each expression, by its parts: one clause for each production (ISO 10206, 6.8.1).
-use Rattle.std.specs.Prelude.{ℕ, pos, List, [], ◌∷◌, Option, Some, None}
+use Rattle.std.specs.Prelude.{ℕ, ℤ, pos, List, [], ◌∷◌, Option, Some, None, if◌then◌else◌}
 use Rattle.ep_tree.specs.declared.operator.RelationalOperator.{RelationalOperator}
 use Rattle.ep_tree.specs.declared.operator.AddingOperator.{AddingOperator}
 use Rattle.ep_tree.specs.declared.operator.MultiplyingOperator.{MultiplyingOperator}
@@ -15,13 +15,17 @@ use Rattle.ep_tree.specs.declared.expression.Expression.{Expression, fold-Expres
 use Rattle.ep_tree.specs.declared.expression.Multiplier.{Multiplier, fold-Multiplier}
 use Rattle.ep_tree.specs.declared.expression.Simple.{Simple, fold-Simple}
 use Rattle.ep_tree.specs.declared.expression.Term.{Term, fold-Term}
+use Rattle.ep_typed.specs.Hosts.{is_of_host}
 use Rattle.ep_typed.specs.Trees as tree
 use Rattle.ep_scope.specs.Scopes.{Region, meant}
+use Rattle.ep_scope.specs.declared.kind.Host.{Host}
+use Rattle.ep_scope.specs.declared.kind.Host.TheVariants as host
 use Rattle.ep_scope.specs.declared.kind.Kind.TheVariants as kind
 use Rattle.ep_check_expr.specs.Functions.{Given}
+use Rattle.ep_check_expr.specs.Hosts.{typed_host}
 use Rattle.ep_check_expr.specs.Judgements.{Judged, Typed, unbuilt, when_accepted, both}
 use Rattle.ep_check_expr.specs.Names.{leaf, value_named, call_named, qualified_value}
-use Rattle.ep_check_expr.specs.Operators.{integer, character, signed, negated, added, multiplied, compared}
+use Rattle.ep_check_expr.specs.Operators.{signed, negated, added, multiplied, compared}
 
 -- an operand with the operator before it
 pub record Operand (O : Type 0) : Type 0 where
@@ -56,9 +60,13 @@ pub data Selected : Type 0 where
   Arguments : (given : List Given) → Selected
   Other : Selected
 
+-- a number or a character as the text spells it, which is a value of its host: no text has a number above `maxint` (ISO 10206, 6.1.7 and 6.4.2.2)
+abbrev pub spelled : Host → ℤ → Judged Typed
+spelled h z = if is_of_host (typed_host h) z then leaf (tree.Constant z) (kind.Ordinal h) else unbuilt
+
 -- a character string of one byte is a char, and any other one a text (ISO 10206, 6.1.9)
 abbrev pub string_judged : List ℕ → Judged Typed
-string_judged (byte ∷ []) = leaf (tree.Constant (pos byte)) character
+string_judged (byte ∷ []) = spelled host.Char (pos byte)
 string_judged bytes = leaf (tree.Text bytes) kind.Text
 
 -- an expression, with the second half of a comparison where it has one
@@ -84,7 +92,7 @@ module _ (scopes : List Region) where
 
   abbrev pub at_factor : Factor-F Result Skipped Result Selected Result Addition Given Relation Result Skipped Multiplication Result Result Skipped → Judged Typed
   at_factor (Factor-F.Access access) = access
-  at_factor (Factor-F.Number line number) = leaf (tree.Constant number) integer
+  at_factor (Factor-F.Number line number) = spelled host.Integer number
   at_factor (Factor-F.Text line bytes) = string_judged bytes
   at_factor (Factor-F.Nil line) = unbuilt
   at_factor (Factor-F.Parenthesized line inner) = inner

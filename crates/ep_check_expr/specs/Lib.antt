@@ -6,7 +6,9 @@ pub mod Folding
 pub mod Functions
 pub mod Hosts
 pub mod Judgements
+pub mod Laws
 pub mod Names
 pub mod Operators
+pub mod Origins
 pub mod Qualified
 pub mod Public

@@ -1,9 +1,9 @@
 //! Constant expressions.
 
-ghost use Rattle.std.specs.Prelude.{◌≡◌, None, IfOk, false};
+ghost use Rattle.std.specs.Prelude.{◌≡◌, None, false};
 ghost use Rattle.ep_built.specs.Built.{component_value_unbuilt, expression_unbuilt};
 ghost use Rattle.ep_check_expr.specs.Answers.{typed_of, AnswersJudged};
-ghost use Rattle.ep_check_expr.specs.Constants.{IsSoundConstant, as_constant, constant_judged, constant_expression, bound_judged, known, stand_in, varies};
+ghost use Rattle.ep_check_expr.specs.Constants.{as_constant, constant_judged, constant_expression, bound_judged, known, stand_in, varies};
 ghost use Rattle.ep_check_expr.specs.Judgements.{Accepts};
 
 use crate::expressions::typed_expression;
@@ -58,7 +58,6 @@ pub fn constant_value(
 ) -> Result<ConstantForm, Refusal>
     requires { component_value_unbuilt tree.now ≡ None }
     ensures form { AnswersJudged (λ c. c) result (constant_judged scopes.now tree.now) }
-    ensures sound { IfOk result (IsSoundConstant scopes.now) }
 {
     match tree {
         ComponentValue::Expression(e) => constant_expression_value(alloc, e.get(), scopes),
@@ -74,7 +73,6 @@ fn constant_expression_value(
 ) -> Result<ConstantForm, Refusal>
     requires { expression_unbuilt tree.now ≡ None }
     ensures form { AnswersJudged (λ c. c) result (constant_expression scopes.now tree.now) }
-    ensures sound { IfOk result (IsSoundConstant scopes.now) }
 {
     let typed = typed_expression(alloc, tree, scopes)?;
     as_constant(alloc, &typed)
@@ -88,7 +86,6 @@ pub fn bound_value(
 ) -> Result<ConstantForm, Refusal>
     requires { expression_unbuilt tree.now ≡ None }
     ensures form { AnswersJudged (λ c. c) result (bound_judged scopes.now tree.now) }
-    ensures sound { IfOk result (IsSoundConstant scopes.now) }
 {
     let typed = typed_expression(alloc, tree, scopes)?;
     if varies(&typed) {

@@ -1,9 +1,8 @@
 //! The walk over expressions: one function for each production, which takes its tree by reference.
 
-ghost use Rattle.std.specs.Prelude.{◌≡◌, ◌∷◌, [], List, true, None, map, IfOk};
+ghost use Rattle.std.specs.Prelude.{◌≡◌, ◌∷◌, [], true, None, map};
 ghost use Rattle.ep_built.specs.Built.{component_value_unbuilt, expression_unbuilt, simple_unbuilt, term_unbuilt, factor_unbuilt, access_unbuilt, argument_unbuilt, addend_belonging, multiplier_belonging, selector_belonging, all_are_built, lines_in, first_in};
-ghost use Rattle.ep_scope.specs.Scopes.{Region, meant};
-ghost use Rattle.ep_check_expr.specs.Agreement.{IsSound};
+ghost use Rattle.ep_scope.specs.Scopes.{meant};
 ghost use Rattle.ep_check_expr.specs.Answers.{typed_of, AnswersTyped, AnswersGiven};
 ghost use Rattle.ep_check_expr.specs.Expressions.{chained, judged, judged_value, addend_judged, multiplier_judged, simple_judged, term_judged, factor_judged, name_judged, access_judged, selected, given, string_judged};
 ghost use Rattle.ep_check_expr.specs.Functions.{applied};
@@ -27,7 +26,6 @@ use std::alloc::Global;
 ///
 /// `expr = simple [ relational-operator simple ]`
 #[cycle(typed)]
-#[tactic(auto, using(crate::proofs::Sound::sound))]
 pub fn typed_expression(
     alloc: Global,
     tree: &Expression,
@@ -35,7 +33,6 @@ pub fn typed_expression(
 ) -> Result<Typed, Refusal>
     requires built { expression_unbuilt tree.now ≡ None }
     ensures typed { AnswersTyped result (judged scopes.now tree.now) }
-    ensures sound { IfOk result (λ t. IsSound scopes.now (typed_of t)) }
 {
     let left = simple(alloc, &tree.left, scopes)?;
     match &tree.right {
@@ -53,7 +50,6 @@ pub fn typed_expression(
 pub fn typed_value(alloc: Global, tree: &ComponentValue, scopes: &[Scope]) -> Result<Typed, Refusal>
     requires { component_value_unbuilt tree.now ≡ None }
     ensures typed { AnswersTyped result (judged_value scopes.now tree.now) }
-    ensures sound { IfOk result (λ t. IsSound scopes.now (typed_of t)) }
 {
     match tree {
         ComponentValue::Expression(e) => typed_expression(alloc, e.get(), scopes),
@@ -63,11 +59,9 @@ pub fn typed_value(alloc: Global, tree: &ComponentValue, scopes: &[Scope]) -> Re
 
 /// `simple = [ sign ] term { adding-operator term }`
 #[cycle(typed)]
-#[tactic(auto, using(crate::proofs::Sound::sound))]
 fn simple(alloc: Global, s: &Simple, scopes: &[Scope]) -> Result<Typed, Refusal>
     requires built { simple_unbuilt s.now ≡ None }
-    ensures typed { AnswersTyped result (simple_judged scopes.now s.now) }
-    ensures sound { IfOk result (λ t. IsSound scopes.now (typed_of t)) }
+    ensures { AnswersTyped result (simple_judged scopes.now s.now) }
 {
     let first = term(alloc, &s.first, scopes)?;
     let sum = signed(alloc, s.sign, first)?;
@@ -76,13 +70,10 @@ fn simple(alloc: Global, s: &Simple, scopes: &[Scope]) -> Result<Typed, Refusal>
 
 /// `{ adding-operator term }`, after the terms before it
 #[cycle(typed)]
-#[tactic(auto, using(crate::proofs::Sound::sound))]
 fn addends(alloc: Global, first: Typed, all: &[Addend], scopes: &[Scope]) -> Result<Typed, Refusal>
     requires operators { all_are_built (map addend_belonging all.now) ≡ true }
     requires operands { lines_in (map addend_belonging all.now) ≡ None }
-    requires sound { IsSound scopes.now (typed_of first) }
-    ensures typed { AnswersTyped result (chained added (Accepts (typed_of first)) (map (addend_judged scopes.now) all.now)) }
-    ensures sound { IfOk result (λ t. IsSound scopes.now (typed_of t)) }
+    ensures { AnswersTyped result (chained added (Accepts (typed_of first)) (map (addend_judged scopes.now) all.now)) }
 {
     let mut sum = first;
     for addend in all {
@@ -94,11 +85,9 @@ fn addends(alloc: Global, first: Typed, all: &[Addend], scopes: &[Scope]) -> Res
 
 /// `term = factor { multiplying-operator factor }`
 #[cycle(typed)]
-#[tactic(auto, using(crate::proofs::Sound::sound))]
 fn term(alloc: Global, t: &Term, scopes: &[Scope]) -> Result<Typed, Refusal>
     requires built { term_unbuilt t.now ≡ None }
-    ensures typed { AnswersTyped result (term_judged scopes.now t.now) }
-    ensures sound { IfOk result (λ t. IsSound scopes.now (typed_of t)) }
+    ensures { AnswersTyped result (term_judged scopes.now t.now) }
 {
     let first = factor(alloc, t.first.get(), scopes)?;
     multipliers(alloc, first, t.more.items(), scopes)
@@ -106,7 +95,6 @@ fn term(alloc: Global, t: &Term, scopes: &[Scope]) -> Result<Typed, Refusal>
 
 /// `{ multiplying-operator factor }`, after the factors before it
 #[cycle(typed)]
-#[tactic(auto, using(crate::proofs::Sound::sound))]
 fn multipliers(
     alloc: Global,
     first: Typed,
@@ -115,9 +103,7 @@ fn multipliers(
 ) -> Result<Typed, Refusal>
     requires operators { all_are_built (map multiplier_belonging all.now) ≡ true }
     requires operands { lines_in (map multiplier_belonging all.now) ≡ None }
-    requires sound { IsSound scopes.now (typed_of first) }
-    ensures typed { AnswersTyped result (chained multiplied (Accepts (typed_of first)) (map (multiplier_judged scopes.now) all.now)) }
-    ensures sound { IfOk result (λ t. IsSound scopes.now (typed_of t)) }
+    ensures { AnswersTyped result (chained multiplied (Accepts (typed_of first)) (map (multiplier_judged scopes.now) all.now)) }
 {
     let mut product = first;
     for multiplier in all {
@@ -129,17 +115,13 @@ fn multipliers(
 
 /// `factor`
 #[cycle(typed)]
-#[tactic(auto, using(crate::proofs::Sound::sound))]
 fn factor(alloc: Global, f: &Factor, scopes: &[Scope]) -> Result<Typed, Refusal>
     requires built { factor_unbuilt f.now ≡ None }
-    ensures typed { AnswersTyped result (factor_judged scopes.now f.now) }
-    ensures sound { IfOk result (λ t. IsSound scopes.now (typed_of t)) }
+    ensures { AnswersTyped result (factor_judged scopes.now f.now) }
 {
     match f {
         Factor::Access(a) => access(alloc, a, scopes),
-        Factor::Number(_, number) => {
-            Typed::constant(alloc, *number, Kind::Ordinal(Host::Integer))
-        }
+        Factor::Number(_, number) => Typed::spelled(alloc, *number, Host::Integer),
         Factor::Text(_, bytes) => string(alloc, bytes.items()),
         Factor::Parenthesized(_, inner) => typed_expression(alloc, inner.get(), scopes),
         Factor::Not(_, inner) => {
@@ -154,22 +136,19 @@ fn factor(alloc: Global, f: &Factor, scopes: &[Scope]) -> Result<Typed, Refusal>
 
 /// A character string.
 pub(crate) fn string(alloc: Global, bytes: &[u8]) -> Result<Typed, Refusal>
-    ensures typed { AnswersTyped result (string_judged bytes.now) }
-    ensures sound { IfOk result (λ t. (scopes : List Region) → IsSound scopes (typed_of t)) }
+    ensures { AnswersTyped result (string_judged bytes.now) }
 {
     match bytes {
-        [byte] => Typed::constant(alloc, *byte as i64, Kind::Ordinal(Host::Char)),
+        [byte] => Typed::spelled(alloc, *byte as i64, Host::Char),
         _ => Typed::text(alloc, bytes, Kind::Text),
     }
 }
 
 /// `access`, which is a name or a call
 #[cycle(typed)]
-#[tactic(auto, using(crate::proofs::Sound::sound))]
 fn access(alloc: Global, a: &Access, scopes: &[Scope]) -> Result<Typed, Refusal>
     requires built { access_unbuilt a.now ≡ None }
-    ensures typed { AnswersTyped result (name_judged scopes.now a.now) }
-    ensures sound { IfOk result (λ t. IsSound scopes.now (typed_of t)) }
+    ensures { AnswersTyped result (name_judged scopes.now a.now) }
 {
     match a.selectors.items() {
         [] => named(alloc, &a.name, scopes),
@@ -180,7 +159,6 @@ fn access(alloc: Global, a: &Access, scopes: &[Scope]) -> Result<Typed, Refusal>
 
 /// What is selected of a name
 #[cycle(typed)]
-#[tactic(auto, using(crate::proofs::Sound::sound))]
 fn selected(
     alloc: Global,
     name: &Name,
@@ -189,8 +167,7 @@ fn selected(
 ) -> Result<Typed, Refusal>
     requires selector { (selector_belonging selector.now).0 ≡ true }
     requires built { (selector_belonging selector.now).1 ≡ None }
-    ensures typed { AnswersTyped result (access_judged scopes.now name.now (selected scopes.now selector.now ∷ [])) }
-    ensures sound { IfOk result (λ t. IsSound scopes.now (typed_of t)) }
+    ensures { AnswersTyped result (access_judged scopes.now name.now (selected scopes.now selector.now ∷ [])) }
 {
     match selector {
         Selector::Arguments(_, arguments) => call(alloc, name, arguments.items(), scopes),
@@ -202,7 +179,6 @@ fn selected(
 
 /// `id "(" arg { "," arg } ")"`
 #[cycle(typed)]
-#[tactic(auto, using(crate::proofs::Sound::sound))]
 fn call(
     alloc: Global,
     name: &Name,
@@ -210,8 +186,7 @@ fn call(
     scopes: &[Scope],
 ) -> Result<Typed, Refusal>
     requires built { first_in (map argument_unbuilt arguments.now) ≡ None }
-    ensures typed { AnswersTyped result (call_named name.now (meant scopes.now name.now) (map (given scopes.now) arguments.now)) }
-    ensures sound { IfOk result (λ t. IsSound scopes.now (typed_of t)) }
+    ensures { AnswersTyped result (call_named name.now (meant scopes.now name.now) (map (given scopes.now) arguments.now)) }
 {
     match meaning_of(scopes, name) {
         Meaning::Required(Required::Function(function)) => {
@@ -227,7 +202,6 @@ fn call(
 
 /// A call of a required function.
 #[cycle(typed)]
-#[tactic(auto, using(crate::proofs::Sound::sound))]
 fn application(
     alloc: Global,
     function: Function,
@@ -235,8 +209,7 @@ fn application(
     scopes: &[Scope],
 ) -> Result<Typed, Refusal>
     requires built { first_in (map argument_unbuilt arguments.now) ≡ None }
-    ensures typed { AnswersTyped result (applied function (map (given scopes.now) arguments.now)) }
-    ensures sound { IfOk result (λ t. IsSound scopes.now (typed_of t)) }
+    ensures { AnswersTyped result (applied function (map (given scopes.now) arguments.now)) }
 {
     if !takes(function, arguments.len()) {
         return Err(Refusal::Rule(rule::ARGUMENTS));
@@ -257,11 +230,9 @@ fn application(
 
 /// `arg`, of a function
 #[cycle(typed)]
-#[tactic(auto, using(crate::proofs::Sound::sound))]
 fn argument(alloc: Global, a: &Argument, scopes: &[Scope]) -> Result<Typed, Refusal>
     requires built { argument_unbuilt a.now ≡ None }
-    ensures typed { AnswersGiven result (given scopes.now a.now) }
-    ensures sound { IfOk result (λ t. IsSound scopes.now (typed_of t)) }
+    ensures { AnswersGiven result (given scopes.now a.now) }
 {
     if a.width.is_some() {
         return Err(Refusal::Rule(rule::WIDTH));

@@ -1,9 +1,9 @@
 //! Typed forms under construction.
 
-ghost use Rattle.std.specs.Prelude.{◌≡◌, IfOk, Some};
+ghost use Rattle.std.specs.Prelude.{◌≡◌, IsTrue, Some};
 ghost use Rattle.ep_typed.specs.Trees.{Constant};
 ghost use Rattle.ep_check_expr.specs.Answers.{typed_of, AnswersTyped, AnswersDepth};
-ghost use Rattle.ep_check_expr.specs.Judgements.{Accepts};
+ghost use Rattle.ep_check_expr.specs.Expressions.{spelled};
 ghost use Rattle.ep_check_expr.specs.Operators.{unary_typed, binary_typed, unbuilt_typed};
 ghost use Rattle.ep_check_expr.specs.Functions.{step_typed};
 ghost use Rattle.ep_check_expr.specs.Names.{leaf, reading, value_form};
@@ -93,6 +93,14 @@ impl Typed {
             kind,
             depth: 1,
         })
+    }
+
+    /// A number or a character as the text spells it.
+    pub(crate) fn spelled(alloc: Global, value: i64, host: Host) -> Result<Typed, Refusal>
+        requires { IsTrue (hosts.is_of_host (typed_host host) value) }
+        ensures { AnswersTyped result (spelled host value) }
+    {
+        Typed::constant(alloc, value, Kind::Ordinal(host))
     }
 
     /// A text.

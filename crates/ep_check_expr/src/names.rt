@@ -1,10 +1,9 @@
 //! Names as values.
 
-ghost use Rattle.std.specs.Prelude.{◌≡◌, IfOk, IsTrue};
+ghost use Rattle.std.specs.Prelude.{◌≡◌, IsTrue};
 ghost use Rattle.ep_scope.specs.Meanings.{meant_by};
-ghost use Rattle.ep_scope.specs.Scopes.{meant, meant_in};
-ghost use Rattle.ep_check_expr.specs.Agreement.{IsSound};
-ghost use Rattle.ep_check_expr.specs.Answers.{typed_of, AnswersTyped};
+ghost use Rattle.ep_scope.specs.Scopes.{meant};
+ghost use Rattle.ep_check_expr.specs.Answers.{AnswersTyped};
 ghost use Rattle.ep_check_expr.specs.Judgements.{breaks};
 ghost use Rattle.ep_check_expr.specs.Names as spec;
 ghost use Rattle.ep_check_expr.specs.Names.{value_declared, value_required, constant_required, value_named, qualified_value, is_nothing, undeclared, is_one_of};
@@ -92,10 +91,8 @@ fn value_of(alloc: Global, name: &Name, meaning: Meaning<'_>) -> Result<Typed, R
 }
 
 /// A name as a value.
-#[tactic(auto, using(crate::proofs::Meant::named))]
 pub(crate) fn named(alloc: Global, name: &Name, scopes: &[Scope]) -> Result<Typed, Refusal>
-    ensures typed { AnswersTyped result (value_named name.now (meant scopes.now name.now)) }
-    ensures sound { IfOk result (λ t. IsSound scopes.now (typed_of t)) }
+    ensures { AnswersTyped result (value_named name.now (meant scopes.now name.now)) }
 {
     value_of(alloc, name, meaning_of(scopes, name))
 }
@@ -107,8 +104,7 @@ pub(crate) fn qualified(
     name: &Name,
     scopes: &[Scope],
 ) -> Result<Typed, Refusal>
-    ensures typed { AnswersTyped result (qualified_value scopes.now interface.now name.now) }
-    ensures sound { IfOk result (λ t. IsSound scopes.now (typed_of t)) }
+    ensures { AnswersTyped result (qualified_value scopes.now interface.now name.now) }
 {
     let within = meaning_in(scopes, interface, name);
     if is_nothing(within) {

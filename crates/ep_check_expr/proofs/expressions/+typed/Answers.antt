@@ -1,4 +1,4 @@
-use Rattle.std.proofs.Common.{[], ◌∷◌, ◌∙◌, map, sym, Ok, rules}
+use Rattle.std.proofs.Common.{[], ◌∷◌, ◌∙◌, map, sym, rules}
 use Rattle.std.proofs.lemmas.List.{length-map}
 use Rattle.ep_tree.specs.declared.expression.Simple.{out-Simple}
 use Rattle.ep_tree.specs.declared.expression.Term.{out-Term}
@@ -8,7 +8,6 @@ use Rattle.ep_check_expr.proofs.Breaking.{refused-exit, chained-first, when_acce
 use Rattle.ep_check_expr.proofs.Calls.{one-item, two-items, applied-one, applied-two, applied-fault, applied-number, fault-exit, first-fault, later-fault}
 use Rattle.ep_check_expr.proofs.Folds.{addend_judged-is, multiplier_judged-is, addend_belonging-is, multiplier_belonging-is, simple_judged-is, term_judged-is, simple_unbuilt-is, term_unbuilt-is}
 use Rattle.ep_check_expr.proofs.Rows.{chained-operand, chained-operator, chained-step, operands-built, operator-built, operators-built, at_node-built, at_node-inner, first_of-first, first_of-second}
-use Rattle.ep_check_expr.proofs.Sound.{added-sound, multiplied-sound, negated-sound, signed-sound, compared-sound, applied_one-sound, applied_two-sound}
 use Rattle.ep_check_expr.proofs.expressions.+typed.Goals as goal
 use Rattle.ep_check_expr.specs.Answers.{typed_of}
 use Rattle.ep_check_expr.specs.Expressions.{addend_judged, multiplier_judged, given}
@@ -17,23 +16,22 @@ use Rattle.ep_check_expr.specs.Operators.{added, multiplied}
 pub addends-added-requires : goal.addends-added-requires
 addends-added-requires t c = operator-built addend_belonging c.args.all.now c.loop-addend.addend-index c.addend-item.result c.loop-addend-test.true c.addend-item.is _ _ (addend_belonging-is c.addend-item.result) c.loop-addend.invariant.operators
 
-pub addends-returns-in_err-right-clause-typed : goal.addends-returns-in_err-right-clause-typed
-addends-returns-in_err-right-clause-typed t c =
+pub addends-returns-in_err-right : goal.addends-returns-in_err-right
+addends-returns-in_err-right t c =
     refused-exit c.from_residual.result c.in_err-right.field-0.0 _ _ c.from_residual.ensures.1
     (λ n h. rw (← c.loop-addend.invariant.judged) (chained-operand added (addend_judged c.args.scopes.now) c.args.all.now c.loop-addend.addend-index c.addend-item.result c.loop-addend-test.true c.addend-item.is _ _ (addend_judged-is c.args.scopes.now c.addend-item.result) (typed_of c.loop-addend.sum) n h))
-    c.in_err-right.ensures.typed
+    c.in_err-right.ensures
 
-pub addends-returns-in_err-sum-clause-typed : goal.addends-returns-in_err-sum-clause-typed
-addends-returns-in_err-sum-clause-typed t c =
+pub addends-returns-in_err-sum : goal.addends-returns-in_err-sum
+addends-returns-in_err-sum t c =
     refused-exit c.from_residual-in_err-sum.result c.in_err-sum.field-0.0 _ _ c.from_residual-in_err-sum.ensures.1
-    (λ n h. rw (← c.loop-addend.invariant.judged) (chained-operator added (addend_judged c.args.scopes.now) c.args.all.now c.loop-addend.addend-index c.addend-item.result c.loop-addend-test.true c.addend-item.is _ _ (addend_judged-is c.args.scopes.now c.addend-item.result) (typed_of c.loop-addend.sum) (typed_of c.in_ok-right.right) c.in_ok-right.ensures.typed n h))
+    (λ n h. rw (← c.loop-addend.invariant.judged) (chained-operator added (addend_judged c.args.scopes.now) c.args.all.now c.loop-addend.addend-index c.addend-item.result c.loop-addend-test.true c.addend-item.is _ _ (addend_judged-is c.args.scopes.now c.addend-item.result) (typed_of c.loop-addend.sum) (typed_of c.in_ok-right.right) c.in_ok-right.ensures n h))
     c.in_err-sum.ensures
 
 pub addends-loop-addend-preserved : goal.addends-loop-addend-preserved
 addends-loop-addend-preserved t c =
     record {
-      judged = chained-step added (addend_judged c.args.scopes.now) c.args.all.now c.loop-addend.addend-index c.addend-item.result c.loop-addend-test.true c.addend-item.is _ _ (addend_judged-is c.args.scopes.now c.addend-item.result) (typed_of c.loop-addend.sum) (typed_of c.in_ok-right.right) (typed_of c.in_ok-sum.sum) c.in_ok-right.ensures.typed c.in_ok-sum.ensures ∙ c.loop-addend.invariant.judged;
-      sound = added-sound c.args.scopes.now (Ok c.in_ok-sum.sum) _ (typed_of c.loop-addend.sum) (typed_of c.in_ok-right.right) c.in_ok-sum.ensures c.loop-addend.invariant.sound c.in_ok-right.ensures.sound;
+      judged = chained-step added (addend_judged c.args.scopes.now) c.args.all.now c.loop-addend.addend-index c.addend-item.result c.loop-addend-test.true c.addend-item.is _ _ (addend_judged-is c.args.scopes.now c.addend-item.result) (typed_of c.loop-addend.sum) (typed_of c.in_ok-right.right) (typed_of c.in_ok-sum.sum) c.in_ok-right.ensures c.in_ok-sum.ensures ∙ c.loop-addend.invariant.judged;
       operators = operators-built addend_belonging c.args.all.now c.loop-addend.addend-index c.addend-item.result c.loop-addend-test.true c.addend-item.is _ _ (addend_belonging-is c.addend-item.result) c.loop-addend.invariant.operators;
       operands = operands-built addend_belonging c.args.all.now c.loop-addend.addend-index c.addend-item.result c.loop-addend-test.true c.addend-item.is _ _ (addend_belonging-is c.addend-item.result) c.loop-addend.invariant.operands;
     }
@@ -41,99 +39,85 @@ addends-loop-addend-preserved t c =
 pub multipliers-multiplied-requires : goal.multipliers-multiplied-requires
 multipliers-multiplied-requires t c = operator-built multiplier_belonging c.args.all.now c.loop-multiplier.multiplier-index c.multiplier-item.result c.loop-multiplier-test.true c.multiplier-item.is _ _ (multiplier_belonging-is c.multiplier-item.result) c.loop-multiplier.invariant.operators
 
-pub multipliers-returns-in_err-right-clause-typed : goal.multipliers-returns-in_err-right-clause-typed
-multipliers-returns-in_err-right-clause-typed t c =
+pub multipliers-returns-in_err-right : goal.multipliers-returns-in_err-right
+multipliers-returns-in_err-right t c =
     refused-exit c.from_residual.result c.in_err-right.field-0.0 _ _ c.from_residual.ensures.1
     (λ n h. rw (← c.loop-multiplier.invariant.judged) (chained-operand multiplied (multiplier_judged c.args.scopes.now) c.args.all.now c.loop-multiplier.multiplier-index c.multiplier-item.result c.loop-multiplier-test.true c.multiplier-item.is _ _ (multiplier_judged-is c.args.scopes.now c.multiplier-item.result) (typed_of c.loop-multiplier.product) n h))
-    (rw c.get.ensures at c.in_err-right.ensures.typed)
+    (rw c.get.ensures at c.in_err-right.ensures)
 
-pub multipliers-returns-in_err-product-clause-typed : goal.multipliers-returns-in_err-product-clause-typed
-multipliers-returns-in_err-product-clause-typed t c =
+pub multipliers-returns-in_err-product : goal.multipliers-returns-in_err-product
+multipliers-returns-in_err-product t c =
     refused-exit c.from_residual-in_err-product.result c.in_err-product.field-0.0 _ _ c.from_residual-in_err-product.ensures.1
-    (λ n h. rw (← c.loop-multiplier.invariant.judged) (chained-operator multiplied (multiplier_judged c.args.scopes.now) c.args.all.now c.loop-multiplier.multiplier-index c.multiplier-item.result c.loop-multiplier-test.true c.multiplier-item.is _ _ (multiplier_judged-is c.args.scopes.now c.multiplier-item.result) (typed_of c.loop-multiplier.product) (typed_of c.in_ok-right.right) (rw c.get.ensures at c.in_ok-right.ensures.typed) n h))
+    (λ n h. rw (← c.loop-multiplier.invariant.judged) (chained-operator multiplied (multiplier_judged c.args.scopes.now) c.args.all.now c.loop-multiplier.multiplier-index c.multiplier-item.result c.loop-multiplier-test.true c.multiplier-item.is _ _ (multiplier_judged-is c.args.scopes.now c.multiplier-item.result) (typed_of c.loop-multiplier.product) (typed_of c.in_ok-right.right) (rw c.get.ensures at c.in_ok-right.ensures) n h))
     c.in_err-product.ensures
 
 pub multipliers-loop-multiplier-preserved : goal.multipliers-loop-multiplier-preserved
 multipliers-loop-multiplier-preserved t c =
     record {
-      judged = chained-step multiplied (multiplier_judged c.args.scopes.now) c.args.all.now c.loop-multiplier.multiplier-index c.multiplier-item.result c.loop-multiplier-test.true c.multiplier-item.is _ _ (multiplier_judged-is c.args.scopes.now c.multiplier-item.result) (typed_of c.loop-multiplier.product) (typed_of c.in_ok-right.right) (typed_of c.in_ok-product.product) (rw c.get.ensures at c.in_ok-right.ensures.typed) c.in_ok-product.ensures ∙ c.loop-multiplier.invariant.judged;
-      sound = multiplied-sound c.args.scopes.now (Ok c.in_ok-product.product) _ (typed_of c.loop-multiplier.product) (typed_of c.in_ok-right.right) c.in_ok-product.ensures c.loop-multiplier.invariant.sound c.in_ok-right.ensures.sound;
+      judged = chained-step multiplied (multiplier_judged c.args.scopes.now) c.args.all.now c.loop-multiplier.multiplier-index c.multiplier-item.result c.loop-multiplier-test.true c.multiplier-item.is _ _ (multiplier_judged-is c.args.scopes.now c.multiplier-item.result) (typed_of c.loop-multiplier.product) (typed_of c.in_ok-right.right) (typed_of c.in_ok-product.product) (rw c.get.ensures at c.in_ok-right.ensures) c.in_ok-product.ensures ∙ c.loop-multiplier.invariant.judged;
       operators = operators-built multiplier_belonging c.args.all.now c.loop-multiplier.multiplier-index c.multiplier-item.result c.loop-multiplier-test.true c.multiplier-item.is _ _ (multiplier_belonging-is c.multiplier-item.result) c.loop-multiplier.invariant.operators;
       operands = operands-built multiplier_belonging c.args.all.now c.loop-multiplier.multiplier-index c.multiplier-item.result c.loop-multiplier-test.true c.multiplier-item.is _ _ (multiplier_belonging-is c.multiplier-item.result) c.loop-multiplier.invariant.operands;
     }
 
-pub factor-returns-in_ok-operand-in-Not-clause-sound : goal.factor-returns-in_ok-operand-in-Not-clause-sound
-factor-returns-in_ok-operand-in-Not-clause-sound t c = negated-sound c.args.scopes.now c.negated.result (typed_of c.in_ok-operand-in-Not.operand) c.negated.ensures c.in_ok-operand-in-Not.ensures.sound
-
-pub typed_expression-returns-in_ok-right-in-Some-clause-sound : goal.typed_expression-returns-in_ok-right-in-Some-clause-sound
-typed_expression-returns-in_ok-right-in-Some-clause-sound t c =
-    compared-sound c.args.scopes.now c.compared.result _ (typed_of c.in_ok-left.left) (typed_of c.in_ok-right-in-Some.right) c.compared.ensures c.in_ok-left.ensures.sound c.in_ok-right-in-Some.ensures.sound
-
-pub simple-returns-in_err-first-clause-typed : goal.simple-returns-in_err-first-clause-typed
-simple-returns-in_err-first-clause-typed t c =
+pub simple-returns-in_err-first : goal.simple-returns-in_err-first
+simple-returns-in_err-first t c =
     refused-exit c.from_residual.result c.in_err-first.field-0.0 _ _ c.from_residual.ensures.1
     (λ n h. rw (simple_judged-is c.args.scopes.now c.args.s.now) (chained-first n added _ (map (addend_judged c.args.scopes.now) (out-Simple c.args.s.now).more) (when_accepted-part n _ _ h)))
-    c.in_err-first.ensures.typed
+    c.in_err-first.ensures
 
-pub simple-returns-in_err-sum-clause-typed : goal.simple-returns-in_err-sum-clause-typed
-simple-returns-in_err-sum-clause-typed t c =
+pub simple-returns-in_err-sum : goal.simple-returns-in_err-sum
+simple-returns-in_err-sum t c =
     refused-exit c.from_residual-in_err-sum.result c.in_err-sum.field-0.0 _ _ c.from_residual-in_err-sum.ensures.1
-    (λ n h. rw (simple_judged-is c.args.scopes.now c.args.s.now, c.in_ok-first.ensures.typed) (chained-first n added _ (map (addend_judged c.args.scopes.now) (out-Simple c.args.s.now).more) h))
+    (λ n h. rw (simple_judged-is c.args.scopes.now c.args.s.now, c.in_ok-first.ensures) (chained-first n added _ (map (addend_judged c.args.scopes.now) (out-Simple c.args.s.now).more) h))
     c.in_err-sum.ensures
 
 pub simple-addends-requires : goal.simple-addends-requires
 simple-addends-requires t c =
     let built = sym (simple_unbuilt-is c.args.s.now) ∙ c.requires.built in
-    (search (rules, the_lemmas), (rw c.items.ensures (at_node-built _ _ _ built), (rw c.items.ensures (first_of-second _ _ (at_node-inner _ _ _ built)), signed-sound c.args.scopes.now (Ok c.in_ok-sum.sum) _ (typed_of c.in_ok-first.first) c.in_ok-sum.ensures c.in_ok-first.ensures.sound)))
+    (search (rules, the_lemmas), (rw c.items.ensures (at_node-built _ _ _ built), rw c.items.ensures (first_of-second _ _ (at_node-inner _ _ _ built))))
 
-pub term-returns-in_err-first-clause-typed : goal.term-returns-in_err-first-clause-typed
-term-returns-in_err-first-clause-typed t c =
+pub term-returns-in_err-first : goal.term-returns-in_err-first
+term-returns-in_err-first t c =
     refused-exit c.from_residual.result c.in_err-first.field-0.0 _ _ c.from_residual.ensures.1
     (λ n h. rw (term_judged-is c.args.scopes.now c.args.t.now) (chained-first n multiplied _ (map (multiplier_judged c.args.scopes.now) (out-Term c.args.t.now).more) h))
-    (rw c.get.ensures at c.in_err-first.ensures.typed)
+    (rw c.get.ensures at c.in_err-first.ensures)
 
 pub term-multipliers-requires : goal.term-multipliers-requires
 term-multipliers-requires t c =
     let built = sym (term_unbuilt-is c.args.t.now) ∙ c.requires.built in
-    (search (rules, the_lemmas), (rw c.items.ensures (at_node-built _ _ _ built), (rw c.items.ensures (first_of-second _ _ (at_node-inner _ _ _ built)), c.in_ok-first.ensures.sound)))
+    (search (rules, the_lemmas), (rw c.items.ensures (at_node-built _ _ _ built), rw c.items.ensures (first_of-second _ _ (at_node-inner _ _ _ built))))
 
-pub application-returns-in_err-x-in-len1-clause-typed : goal.application-returns-in_err-x-in-len1-clause-typed
-application-returns-in_err-x-in-len1-clause-typed t c =
+pub application-returns-in_err-x-in-len1 : goal.application-returns-in_err-x-in-len1
+application-returns-in_err-x-in-len1 t c =
     let all = one-item c.args.arguments.now c.one-item.result c.in-len1.len_at_least c.in-len1.len_below c.one-item.is in
-    rw all (fault-exit c.from_residual.result c.in_err-x-in-len1.field-0.0 (given c.args.scopes.now c.one-item.result) _ c.from_residual.ensures.1 (λ n h. applied-fault n c.args.function (given c.args.scopes.now c.one-item.result ∷ []) (first-fault n (given c.args.scopes.now c.one-item.result) [] h)) c.in_err-x-in-len1.ensures.typed)
+    rw all (fault-exit c.from_residual.result c.in_err-x-in-len1.field-0.0 (given c.args.scopes.now c.one-item.result) _ c.from_residual.ensures.1 (λ n h. applied-fault n c.args.function (given c.args.scopes.now c.one-item.result ∷ []) (first-fault n (given c.args.scopes.now c.one-item.result) [] h)) c.in_err-x-in-len1.ensures)
 
-pub application-returns-in_ok-x-in-len1-clause-typed : goal.application-returns-in_ok-x-in-len1-clause-typed
-application-returns-in_ok-x-in-len1-clause-typed t c =
+pub application-returns-in_ok-x-in-len1 : goal.application-returns-in_ok-x-in-len1
+application-returns-in_ok-x-in-len1 t c =
     let all = one-item c.args.arguments.now c.one-item.result c.in-len1.len_at_least c.in-len1.len_below c.one-item.is in
-    let x = c.in_ok-x-in-len1.ensures.typed in
+    let x = c.in_ok-x-in-len1.ensures in
     rw (all, applied-one c.args.function (given c.args.scopes.now c.one-item.result) (typed_of c.in_ok-x-in-len1.x) x.0 x.1) c.applied_to_one.ensures
 
-pub application-returns-in_ok-x-in-len1-clause-sound : goal.application-returns-in_ok-x-in-len1-clause-sound
-application-returns-in_ok-x-in-len1-clause-sound t c = applied_one-sound c.args.scopes.now c.applied_to_one.result c.args.function (typed_of c.in_ok-x-in-len1.x) c.applied_to_one.ensures c.in_ok-x-in-len1.ensures.sound
-
-pub application-returns-in_err-x-in-len2-clause-typed : goal.application-returns-in_err-x-in-len2-clause-typed
-application-returns-in_err-x-in-len2-clause-typed t c =
+pub application-returns-in_err-x-in-len2 : goal.application-returns-in_err-x-in-len2
+application-returns-in_err-x-in-len2 t c =
     let all = two-items c.args.arguments.now c.one-item-then-arguments-lt3.result c.two-item.result c.in-len2.len_at_least c.in-len2.len_below c.one-item-then-arguments-lt3.is c.two-item.is in
-    rw all (fault-exit c.from_residual-in_err-x-in-len2.result c.in_err-x-in-len2.field-0.0 (given c.args.scopes.now c.one-item-then-arguments-lt3.result) _ c.from_residual-in_err-x-in-len2.ensures.1 (λ n h. applied-fault n c.args.function (given c.args.scopes.now c.one-item-then-arguments-lt3.result ∷ given c.args.scopes.now c.two-item.result ∷ []) (first-fault n (given c.args.scopes.now c.one-item-then-arguments-lt3.result) (given c.args.scopes.now c.two-item.result ∷ []) h)) c.in_err-x-in-len2.ensures.typed)
+    rw all (fault-exit c.from_residual-in_err-x-in-len2.result c.in_err-x-in-len2.field-0.0 (given c.args.scopes.now c.one-item-then-arguments-lt3.result) _ c.from_residual-in_err-x-in-len2.ensures.1 (λ n h. applied-fault n c.args.function (given c.args.scopes.now c.one-item-then-arguments-lt3.result ∷ given c.args.scopes.now c.two-item.result ∷ []) (first-fault n (given c.args.scopes.now c.one-item-then-arguments-lt3.result) (given c.args.scopes.now c.two-item.result ∷ []) h)) c.in_err-x-in-len2.ensures)
 
-pub application-returns-in_err-y-in-len2-clause-typed : goal.application-returns-in_err-y-in-len2-clause-typed
-application-returns-in_err-y-in-len2-clause-typed t c =
+pub application-returns-in_err-y-in-len2 : goal.application-returns-in_err-y-in-len2
+application-returns-in_err-y-in-len2 t c =
     let all = two-items c.args.arguments.now c.one-item-then-arguments-lt3.result c.two-item.result c.in-len2.len_at_least c.in-len2.len_below c.one-item-then-arguments-lt3.is c.two-item.is in
-    rw all (fault-exit c.from_residual-in_err-y-in-len2.result c.in_err-y-in-len2.field-0.0 (given c.args.scopes.now c.two-item.result) _ c.from_residual-in_err-y-in-len2.ensures.1 (λ n h. applied-fault n c.args.function (given c.args.scopes.now c.one-item-then-arguments-lt3.result ∷ given c.args.scopes.now c.two-item.result ∷ []) (later-fault n (given c.args.scopes.now c.one-item-then-arguments-lt3.result) (given c.args.scopes.now c.two-item.result ∷ []) (first-fault n (given c.args.scopes.now c.two-item.result) [] h))) c.in_err-y-in-len2.ensures.typed)
+    rw all (fault-exit c.from_residual-in_err-y-in-len2.result c.in_err-y-in-len2.field-0.0 (given c.args.scopes.now c.two-item.result) _ c.from_residual-in_err-y-in-len2.ensures.1 (λ n h. applied-fault n c.args.function (given c.args.scopes.now c.one-item-then-arguments-lt3.result ∷ given c.args.scopes.now c.two-item.result ∷ []) (later-fault n (given c.args.scopes.now c.one-item-then-arguments-lt3.result) (given c.args.scopes.now c.two-item.result ∷ []) (first-fault n (given c.args.scopes.now c.two-item.result) [] h))) c.in_err-y-in-len2.ensures)
 
-pub application-returns-in_ok-y-in-len2-clause-typed : goal.application-returns-in_ok-y-in-len2-clause-typed
-application-returns-in_ok-y-in-len2-clause-typed t c =
+pub application-returns-in_ok-y-in-len2 : goal.application-returns-in_ok-y-in-len2
+application-returns-in_ok-y-in-len2 t c =
     let all = two-items c.args.arguments.now c.one-item-then-arguments-lt3.result c.two-item.result c.in-len2.len_at_least c.in-len2.len_below c.one-item-then-arguments-lt3.is c.two-item.is in
-    let x = c.in_ok-x-in-len2.ensures.typed in
-    let y = c.in_ok-y-in-len2.ensures.typed in
+    let x = c.in_ok-x-in-len2.ensures in
+    let y = c.in_ok-y-in-len2.ensures in
     let number = rw all at (sym c.takes.ensures ∙ c.if-not-takes.false) in
     rw (all, applied-two c.args.function (given c.args.scopes.now c.one-item-then-arguments-lt3.result) (given c.args.scopes.now c.two-item.result) (typed_of c.in_ok-x-in-len2.x) (typed_of c.in_ok-y-in-len2.y) number x.0 x.1 y.0 y.1) c.applied_to_two.ensures
 
-pub application-returns-in_ok-y-in-len2-clause-sound : goal.application-returns-in_ok-y-in-len2-clause-sound
-application-returns-in_ok-y-in-len2-clause-sound t c = applied_two-sound c.args.scopes.now c.applied_to_two.result c.args.function (typed_of c.in_ok-x-in-len2.x) (typed_of c.in_ok-y-in-len2.y) c.applied_to_two.ensures c.in_ok-x-in-len2.ensures.sound c.in_ok-y-in-len2.ensures.sound
-
-pub application-returns-then-not-takes-clause-typed : goal.application-returns-then-not-takes-clause-typed
-application-returns-then-not-takes-clause-typed t c =
+pub application-returns-then-not-takes : goal.application-returns-then-not-takes
+application-returns-then-not-takes t c =
     applied-number c.args.function (map (given c.args.scopes.now) c.args.arguments.now) (rw length-map (sym c.takes.ensures ∙ c.if-not-takes.true))
 
 pub application-argument-requires-in-len2-2 : goal.application-argument-requires-in-len2-2

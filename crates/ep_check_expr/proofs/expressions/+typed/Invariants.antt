@@ -1,7 +1,6 @@
 use Rattle.std.proofs.Common.{◌≡◌, true, None, drop, map}
 use Rattle.ep_built.specs.Built.{addend_belonging, all_are_built, lines_in, multiplier_belonging}
 use Rattle.ep_check_expr.proofs.expressions.+typed.Given as goal
-use Rattle.ep_check_expr.specs.Agreement.{IsSound}
 use Rattle.ep_check_expr.specs.Answers.{typed_of}
 use Rattle.ep_check_expr.specs.Expressions.{addend_judged, chained, multiplier_judged}
 use Rattle.ep_check_expr.specs.Judgements.{Accepts}
@@ -11,7 +10,6 @@ abbrev pub invariant-addends-loop-addend : goal.invariant-addends-loop-addend
 invariant-addends-loop-addend l =
     record {
       judged : chained added (Accepts (typed_of l.sum)) (map (addend_judged l.scopes) (drop l.addend-index l.all)) ≡ chained added (Accepts (typed_of l.fn.first)) (map (addend_judged l.scopes) l.all);
-      sound : IsSound l.scopes (typed_of l.sum);
       operators : all_are_built (map addend_belonging (drop l.addend-index l.all)) ≡ true;
       operands : lines_in (map addend_belonging (drop l.addend-index l.all)) ≡ None;
     }
@@ -20,7 +18,6 @@ abbrev pub invariant-multipliers-loop-multiplier : goal.invariant-multipliers-lo
 invariant-multipliers-loop-multiplier l =
     record {
       judged : chained multiplied (Accepts (typed_of l.product)) (map (multiplier_judged l.scopes) (drop l.multiplier-index l.all)) ≡ chained multiplied (Accepts (typed_of l.fn.first)) (map (multiplier_judged l.scopes) l.all);
-      sound : IsSound l.scopes (typed_of l.product);
       operators : all_are_built (map multiplier_belonging (drop l.multiplier-index l.all)) ≡ true;
       operands : lines_in (map multiplier_belonging (drop l.multiplier-index l.all)) ≡ None;
     }

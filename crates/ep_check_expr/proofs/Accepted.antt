@@ -1,0 +1,214 @@
+-- What the rules accept of a tree has every property that they keep: an induction over its nodes.
+use Rattle.std.proofs.Common.{ℕ, List, [], ◌∷◌, map, Option, Some, None, sym, subst}
+use Rattle.std.specs.Prelude.{⊤}
+use Rattle.ep_tree.specs.Nodes.{comparison_node, simple_node, addend_node, term_node, multiplier_node, access_node, argument_node}
+use Rattle.ep_tree.specs.declared.expression.ComponentValue.TheFolds.{fold-roll-ComponentValue, fold-roll-Factor, fold-roll-Selector, ind-Expression}
+use Rattle.ep_tree.specs.declared.expression.ComponentValue.TheOpen.{ComponentValue-F, Expression-F, Factor-F, Selector-F}
+use Rattle.ep_tree.specs.declared.expression.ComponentValue.{ComponentValue, out-ComponentValue, roll-ComponentValue, roll-out-ComponentValue}
+use Rattle.ep_tree.specs.declared.expression.Access.{Access, roll-Access}
+use Rattle.ep_tree.specs.declared.expression.Addend.{Addend, roll-Addend}
+use Rattle.ep_tree.specs.declared.expression.Argument.{Argument, roll-Argument}
+use Rattle.ep_tree.specs.declared.expression.Comparison.{Comparison, roll-Comparison}
+use Rattle.ep_tree.specs.declared.expression.Element.{Element}
+use Rattle.ep_tree.specs.declared.expression.Expression.{Expression, map-Expression, roll-Expression}
+use Rattle.ep_tree.specs.declared.expression.Factor.{Factor, map-Factor, roll-Factor}
+use Rattle.ep_tree.specs.declared.expression.Label.{Label}
+use Rattle.ep_tree.specs.declared.expression.Multiplier.{Multiplier, roll-Multiplier}
+use Rattle.ep_tree.specs.declared.expression.Selector.{Selector, map-Selector, roll-Selector}
+use Rattle.ep_tree.specs.declared.expression.Simple.{Simple, roll-Simple}
+use Rattle.ep_tree.specs.declared.expression.Term.{Term, roll-Term}
+use Rattle.ep_tree.specs.declared.expression.Values.{Values}
+use Rattle.ep_tree.specs.declared.operator.AddingOperator.{AddingOperator}
+use Rattle.ep_tree.specs.declared.operator.MultiplyingOperator.{MultiplyingOperator}
+use Rattle.ep_tree.specs.declared.operator.RelationalOperator.{RelationalOperator}
+use Rattle.ep_tree.specs.declared.operator.Sign.{Sign}
+use Rattle.ep_scope.specs.Scopes.{Region}
+use Rattle.ep_check_expr.specs.Expressions.{judged, judged_value, simple_judged, term_judged, factor_judged, addend_judged, multiplier_judged, comparison_judged, name_judged, selected, given}
+use Rattle.ep_check_expr.specs.Judgements.{Typed, when_accepted}
+use Rattle.ep_check_expr.specs.Operators.{signed, negated, added, multiplied}
+use Rattle.ep_check_expr.proofs.Nodes.{expression-judged, compared-judged, second-judged, access-judged, simple-judged, addend-judged, term-judged, multiplier-judged, argument-judged, wide-judged}
+use Rattle.ep_check_expr.proofs.Parts.{AreOperands, AreGiven, IsSelected, AreSelected, when_accepted-fits, chained-fits, comparison_of-fits, string_judged-fits, access_judged-fits}
+use Rattle.ep_check_expr.proofs.Keeping.{IsKept, Satisfies}
+
+module _ (Q : Typed → Type 0) (scopes : List Region) (kept : IsKept Q scopes) where
+  -- what is accepted of a node has the property
+  abbrev IsFactor : Factor → Type 0
+  IsFactor f = Satisfies Q (factor_judged scopes f)
+
+  abbrev HasArguments : Selector → Type 0
+  HasArguments s = IsSelected Q (selected scopes s)
+
+  abbrev IsAccess : Access → Type 0
+  IsAccess a = Satisfies Q (name_judged scopes a)
+
+  abbrev IsAddend : Addend → Type 0
+  IsAddend a = Satisfies Q (addend_judged scopes a).operand
+
+  abbrev IsArgument : Argument → Type 0
+  IsArgument a = Satisfies Q (given scopes a).value
+
+  abbrev IsComparison : Comparison → Type 0
+  IsComparison c = Satisfies Q (comparison_judged scopes c).operand
+
+  abbrev IsExpression : Expression → Type 0
+  IsExpression e = Satisfies Q (judged scopes e)
+
+  abbrev IsMultiplier : Multiplier → Type 0
+  IsMultiplier m = Satisfies Q (multiplier_judged scopes m).operand
+
+  abbrev IsSimple : Simple → Type 0
+  IsSimple s = Satisfies Q (simple_judged scopes s)
+
+  abbrev IsTerm : Term → Type 0
+  IsTerm t = Satisfies Q (term_judged scopes t)
+
+  -- no built form has such a node
+  abbrev Any : {A : Type 0} → A → Type 0
+  Any x = ⊤
+
+  -- nodes of which this holds
+  abbrev AnyValue : Type 0
+  AnyValue = (v : ComponentValue) × Any v
+
+  abbrev AnyElement : Type 0
+  AnyElement = (e : Element) × Any e
+
+  abbrev ValidFactor : Type 0
+  ValidFactor = (f : Factor) × IsFactor f
+
+  abbrev ValidSelector : Type 0
+  ValidSelector = (s : Selector) × HasArguments s
+
+  abbrev ValidAccess : Type 0
+  ValidAccess = (a : Access) × IsAccess a
+
+  abbrev ValidAddend : Type 0
+  ValidAddend = (a : Addend) × IsAddend a
+
+  abbrev ValidArgument : Type 0
+  ValidArgument = (a : Argument) × IsArgument a
+
+  abbrev ValidComparison : Type 0
+  ValidComparison = (c : Comparison) × IsComparison c
+
+  abbrev ValidExpression : Type 0
+  ValidExpression = (e : Expression) × IsExpression e
+
+  abbrev AnyLabel : Type 0
+  AnyLabel = (l : Label) × Any l
+
+  abbrev ValidMultiplier : Type 0
+  ValidMultiplier = (m : Multiplier) × IsMultiplier m
+
+  abbrev ValidSimple : Type 0
+  ValidSimple = (s : Simple) × IsSimple s
+
+  abbrev ValidTerm : Type 0
+  ValidTerm = (t : Term) × IsTerm t
+
+  abbrev AnyValues : Type 0
+  AnyValues = (v : Values) × Any v
+
+  -- layers of such nodes, without what holds of them
+  abbrev factor_layer : Factor-F AnyValue AnyElement ValidFactor ValidSelector ValidAccess ValidAddend ValidArgument ValidComparison ValidExpression AnyLabel ValidMultiplier ValidSimple ValidTerm AnyValues → Factor-F ComponentValue Element Factor Selector Access Addend Argument Comparison Expression Label Multiplier Simple Term Values
+  factor_layer = map-Factor AnyValue AnyElement ValidFactor ValidSelector ValidAccess ValidAddend ValidArgument ValidComparison ValidExpression AnyLabel ValidMultiplier ValidSimple ValidTerm AnyValues ComponentValue Element Factor Selector Access Addend Argument Comparison Expression Label Multiplier Simple Term Values (λ e. e.0) (λ e. e.0) (λ e. e.0) (λ e. e.0) (λ e. e.0) (λ e. e.0) (λ e. e.0) (λ e. e.0) (λ e. e.0) (λ e. e.0) (λ e. e.0) (λ e. e.0) (λ e. e.0) (λ e. e.0)
+
+  abbrev selector_layer : Selector-F AnyValue AnyElement ValidFactor ValidSelector ValidAccess ValidAddend ValidArgument ValidComparison ValidExpression AnyLabel ValidMultiplier ValidSimple ValidTerm AnyValues → Selector-F ComponentValue Element Factor Selector Access Addend Argument Comparison Expression Label Multiplier Simple Term Values
+  selector_layer = map-Selector AnyValue AnyElement ValidFactor ValidSelector ValidAccess ValidAddend ValidArgument ValidComparison ValidExpression AnyLabel ValidMultiplier ValidSimple ValidTerm AnyValues ComponentValue Element Factor Selector Access Addend Argument Comparison Expression Label Multiplier Simple Term Values (λ e. e.0) (λ e. e.0) (λ e. e.0) (λ e. e.0) (λ e. e.0) (λ e. e.0) (λ e. e.0) (λ e. e.0) (λ e. e.0) (λ e. e.0) (λ e. e.0) (λ e. e.0) (λ e. e.0) (λ e. e.0)
+
+  abbrev expression_layer : Expression-F AnyValue AnyElement ValidFactor ValidSelector ValidAccess ValidAddend ValidArgument ValidComparison ValidExpression AnyLabel ValidMultiplier ValidSimple ValidTerm AnyValues → Expression-F ComponentValue Element Factor Selector Access Addend Argument Comparison Expression Label Multiplier Simple Term Values
+  expression_layer = map-Expression AnyValue AnyElement ValidFactor ValidSelector ValidAccess ValidAddend ValidArgument ValidComparison ValidExpression AnyLabel ValidMultiplier ValidSimple ValidTerm AnyValues ComponentValue Element Factor Selector Access Addend Argument Comparison Expression Label Multiplier Simple Term Values (λ e. e.0) (λ e. e.0) (λ e. e.0) (λ e. e.0) (λ e. e.0) (λ e. e.0) (λ e. e.0) (λ e. e.0) (λ e. e.0) (λ e. e.0) (λ e. e.0) (λ e. e.0) (λ e. e.0) (λ e. e.0)
+
+  -- rows of such nodes
+  addends-fit : (more : List ValidAddend) → AreOperands Q (map (addend_judged scopes) (map (λ e. e.0) more))
+  addends-fit [] = tt
+  addends-fit (a ∷ more) = (a.1, addends-fit more)
+
+  multipliers-fit : (more : List ValidMultiplier) → AreOperands Q (map (multiplier_judged scopes) (map (λ e. e.0) more))
+  multipliers-fit [] = tt
+  multipliers-fit (m ∷ more) = (m.1, multipliers-fit more)
+
+  arguments-fit : (more : List ValidArgument) → AreGiven Q (map (given scopes) (map (λ e. e.0) more))
+  arguments-fit [] = tt
+  arguments-fit (a ∷ more) = (a.1, arguments-fit more)
+
+  selectors-fit : (more : List ValidSelector) → AreSelected Q (map (selected scopes) (map (λ e. e.0) more))
+  selectors-fit [] = tt
+  selectors-fit (s ∷ more) = (s.1, selectors-fit more)
+
+  -- each node, where its parts have it
+  factor-fits : (f : Factor-F AnyValue AnyElement ValidFactor ValidSelector ValidAccess ValidAddend ValidArgument ValidComparison ValidExpression AnyLabel ValidMultiplier ValidSimple ValidTerm AnyValues) → IsFactor (roll-Factor (factor_layer f))
+  factor-fits (Factor-F.Access a) = rw fold-roll-Factor a.1
+  factor-fits (Factor-F.Number at n) = rw fold-roll-Factor (kept.number n)
+  factor-fits (Factor-F.Text at bytes) = rw fold-roll-Factor (string_judged-fits Q scopes kept bytes)
+  factor-fits (Factor-F.Nil at) = rw fold-roll-Factor tt
+  factor-fits (Factor-F.Parenthesized at e) = rw fold-roll-Factor e.1
+  factor-fits (Factor-F.Not at f) = rw fold-roll-Factor (when_accepted-fits Q negated kept.negates (factor_judged scopes f.0) f.1)
+  factor-fits (Factor-F.Set at labels) = rw fold-roll-Factor tt
+  factor-fits (Factor-F.Structured at name values) = rw fold-roll-Factor tt
+
+  selector-fits : (s : Selector-F AnyValue AnyElement ValidFactor ValidSelector ValidAccess ValidAddend ValidArgument ValidComparison ValidExpression AnyLabel ValidMultiplier ValidSimple ValidTerm AnyValues) → HasArguments (roll-Selector (selector_layer s))
+  selector-fits (Selector-F.Field at name) = rw fold-roll-Selector tt
+  selector-fits (Selector-F.Index at indexes) = rw fold-roll-Selector tt
+  selector-fits (Selector-F.Dereference at) = rw fold-roll-Selector tt
+  selector-fits (Selector-F.Arguments at arguments) = rw fold-roll-Selector (arguments-fit arguments)
+
+  expression-fits : (at : ℕ) (l : ValidSimple) (r : Option ValidComparison) → IsExpression (roll-Expression (expression_layer (record { line = at; left = l; right = r })))
+  expression-fits at l None = subst (Satisfies Q) (sym (expression-judged scopes at l.0)) l.1
+  expression-fits at l (Some c) =
+      subst (Satisfies Q) (sym (compared-judged scopes at l.0 c.0))
+      (comparison_of-fits Q scopes kept (comparison_judged scopes c.0).operator (simple_judged scopes l.0) (comparison_judged scopes c.0).operand l.1 c.1)
+
+  comparison-fits : (o : RelationalOperator) (s : ValidSimple) → IsComparison (comparison_node o s.0)
+  comparison-fits o s = subst (λ z. Satisfies Q z.operand) (sym (second-judged scopes o s.0)) s.1
+
+  simple-fits : (at : ℕ) (o : Option Sign) (t : ValidTerm) (more : List ValidAddend) → IsSimple (simple_node at o t.0 (map (λ e. e.0) more))
+  simple-fits at o t more =
+      subst (Satisfies Q) (sym (simple-judged scopes at o t.0 (map (λ e. e.0) more)))
+      (chained-fits Q added kept.adds (when_accepted (signed o) (term_judged scopes t.0)) (map (addend_judged scopes) (map (λ e. e.0) more))
+      (when_accepted-fits Q (signed o) (kept.signs o) (term_judged scopes t.0) t.1) (addends-fit more))
+
+  addend-fits : (o : AddingOperator) (t : ValidTerm) → IsAddend (addend_node o t.0)
+  addend-fits o t = subst (λ z. Satisfies Q z.operand) (sym (addend-judged scopes o t.0)) t.1
+
+  term-fits : (at : ℕ) (f : ValidFactor) (more : List ValidMultiplier) → IsTerm (term_node at f.0 (map (λ e. e.0) more))
+  term-fits at f more =
+      subst (Satisfies Q) (sym (term-judged scopes at f.0 (map (λ e. e.0) more)))
+      (chained-fits Q multiplied kept.multiplies (factor_judged scopes f.0) (map (multiplier_judged scopes) (map (λ e. e.0) more)) f.1 (multipliers-fit more))
+
+  multiplier-fits : (o : MultiplyingOperator) (f : ValidFactor) → IsMultiplier (multiplier_node o f.0)
+  multiplier-fits o f = subst (λ z. Satisfies Q z.operand) (sym (multiplier-judged scopes o f.0)) f.1
+
+  argument-fits : (at : ℕ) (e : ValidExpression) (w : Option Expression) → IsArgument (argument_node at e.0 w)
+  argument-fits at e None = subst (λ z. Satisfies Q z.value) (sym (argument-judged scopes at e.0)) e.1
+  argument-fits at e (Some w) = subst (λ z. Satisfies Q z.value) (sym (wide-judged scopes at e.0 w)) e.1
+
+  access-fits : (at : ℕ) (name : List ℕ) (more : List ValidSelector) → IsAccess (access_node at name (map (λ e. e.0) more))
+  access-fits at name more =
+      subst (Satisfies Q) (sym (access-judged scopes at name (map (λ e. e.0) more))) (access_judged-fits Q scopes kept name (map (selected scopes) (map (λ e. e.0) more)) (selectors-fit more))
+
+  -- so every expression that is accepted has it
+  pub expressions-fit : (e : Expression) → Satisfies Q (judged scopes e)
+  expressions-fit = ind-Expression Any Any IsFactor HasArguments IsAccess IsAddend IsArgument IsComparison IsExpression Any IsMultiplier IsSimple IsTerm Any
+      (λ x y is. tt)
+      (λ x y is. tt)
+      (λ x y is. subst (λ z. IsFactor (roll-Factor z)) is (factor-fits y))
+      (λ x y is. subst (λ z. HasArguments (roll-Selector z)) is (selector-fits y))
+      (λ x y is. subst (λ z. IsAccess (roll-Access z)) is (access-fits y.line y.name y.selectors))
+      (λ x y is. subst (λ z. IsAddend (roll-Addend z)) is (addend-fits y.operator y.term))
+      (λ x y is. subst (λ z. IsArgument (roll-Argument z)) is (argument-fits y.line y.value _))
+      (λ x y is. subst (λ z. IsComparison (roll-Comparison z)) is (comparison-fits y.operator y.right))
+      (λ x y is. subst (λ z. IsExpression (roll-Expression z)) is (expression-fits y.line y.left y.right))
+      (λ x y is. tt)
+      (λ x y is. subst (λ z. IsMultiplier (roll-Multiplier z)) is (multiplier-fits y.operator y.factor))
+      (λ x y is. subst (λ z. IsSimple (roll-Simple z)) is (simple-fits y.line y.sign y.first y.more))
+      (λ x y is. subst (λ z. IsTerm (roll-Term z)) is (term-fits y.line y.first y.more))
+      (λ x y is. tt)
+
+  value_of : (v : ComponentValue-F ComponentValue Element Factor Selector Access Addend Argument Comparison Expression Label Multiplier Simple Term Values) → Satisfies Q (judged_value scopes (roll-ComponentValue v))
+  value_of (ComponentValue-F.Expression e) = rw fold-roll-ComponentValue (expressions-fit e)
+  value_of (ComponentValue-F.Bracketed at values) = rw fold-roll-ComponentValue tt
+
+  -- and every value of a definition or of an assignment
+  pub values-fit : (v : ComponentValue) → Satisfies Q (judged_value scopes v)
+  values-fit v = subst (λ z. Satisfies Q (judged_value scopes z)) (roll-out-ComponentValue v) (value_of (out-ComponentValue v))

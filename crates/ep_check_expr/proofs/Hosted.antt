@@ -1,0 +1,244 @@
+-- The host of what the rules accept is a required type, or that of something that the scopes declare.
+use Rattle.std.proofs.Common.{ℕ, ℤ, Bool, true, false, ◌&&◌, nat_le, List, [], ◌∷◌, Option, Some, None, inl, inr, refl}
+use Rattle.std.specs.Prelude.{⊤, if◌then◌else◌}
+use Rattle.std.specs.Str.{bytes_eq}
+use Rattle.ep_tree.specs.declared.operator.AddingOperator.{AddingOperator}
+use Rattle.ep_tree.specs.declared.operator.AddingOperator.TheVariants as adding
+use Rattle.ep_tree.specs.declared.operator.MultiplyingOperator.{MultiplyingOperator}
+use Rattle.ep_tree.specs.declared.operator.MultiplyingOperator.TheVariants as multiplying
+use Rattle.ep_tree.specs.declared.operator.RelationalOperator.{RelationalOperator}
+use Rattle.ep_tree.specs.declared.operator.RelationalOperator.TheVariants as relation
+use Rattle.ep_tree.specs.declared.operator.Sign.{Sign}
+use Rattle.ep_typed.specs.Hosts.{is_of_host}
+use Rattle.ep_typed.specs.Trees.{Expr, Constant}
+use Rattle.ep_typed.specs.declared.operations.Unary.{Unary}
+use Rattle.ep_typed.specs.declared.operations.Binary.{Binary}
+use Rattle.ep_scope.specs.Required.{look_up, required_of}
+use Rattle.ep_scope.specs.Scopes.{Entries, Region, Meant, Declares, Requires, Nothing, as_required, as_thing, look_up_if, look_up_in, meant, meant_in, or_outside, unless_hidden}
+use Rattle.ep_scope.specs.Scopes as meaning
+use Rattle.ep_scope.specs.declared.kind.Host.{Host}
+use Rattle.ep_scope.specs.declared.kind.Host.TheVariants as host
+use Rattle.ep_scope.specs.declared.kind.Kind.{Kind}
+use Rattle.ep_scope.specs.declared.kind.Kind.TheVariants as kind
+use Rattle.ep_scope.specs.declared.required.Function.{Function}
+use Rattle.ep_scope.specs.declared.required.Function.TheVariants as function
+use Rattle.ep_scope.specs.declared.required.Required.{Required}
+use Rattle.ep_scope.specs.declared.required.Required.TheVariants as required
+use Rattle.ep_scope.specs.declared.required.RequiredConstant.TheVariants as constant
+use Rattle.ep_scope.specs.declared.thing.Declaration.{Declaration}
+use Rattle.ep_scope.specs.declared.thing.Declaration.TheVariants as declaration
+use Rattle.ep_scope.specs.declared.thing.Thing.{Thing}
+use Rattle.ep_scope.specs.declared.thing.Thing.TheVariants as thing
+use Rattle.ep_scope.specs.declared.rule.TheConstants as rule
+use Rattle.ep_check_expr.specs.Expressions.{spelled}
+use Rattle.ep_check_expr.specs.Functions.{applied_one, applied_two, ordinal_by, other_argument, step_typed, stepped_by, one}
+use Rattle.ep_check_expr.specs.Hosts.{typed_host}
+use Rattle.ep_check_expr.specs.Judgements.{Judged, Accepts, Breaks, Typed, unbuilt}
+use Rattle.ep_check_expr.specs.Names.{leaf, value_declared, value_named, value_required}
+use Rattle.ep_check_expr.specs.Operators.{added, are_compatible, arithmetic, binary_typed, boolean, compared, comparison, integer, is_boolean, is_integer, is_string, logical, misfit, multiplied, sign_of, signed, unary_typed, unbuilt_typed, within_depth}
+use Rattle.ep_check_expr.specs.Origins.{DeclaresHost, EntriesHaveHost, HasHost, InterfacesHaveHost, IsKnownHost, IsKnownKind, ScopesHaveHost, ThingHasHost}
+use Rattle.ep_check_expr.proofs.Keeping.{IsKept, Satisfies, if-satisfies}
+
+-- ---- names
+
+-- each host of what a name may stand for is one of these
+abbrev ThingComes : (Host → Type 0) → Option Thing → Type 0
+ThingComes P None = ⊤
+ThingComes P (Some t) = (h : Host) → ThingHasHost t h → P h
+
+abbrev MeantComes : (Host → Type 0) → Meant → Type 0
+MeantComes P (Declares d) = (h : Host) → DeclaresHost d.what h → P h
+MeantComes P (meaning.Standard file) = ⊤
+MeantComes P (Requires r) = ⊤
+MeantComes P Nothing = ⊤
+
+thing_wider : (P Q : Host → Type 0) (o : Option Thing) → ((h : Host) → P h → Q h) → ThingComes P o → ThingComes Q o
+thing_wider P Q None f c = tt
+thing_wider P Q (Some t) f c = λ h e. f h (c h e)
+
+meant_wider : (P Q : Host → Type 0) (m : Meant) → ((h : Host) → P h → Q h) → MeantComes P m → MeantComes Q m
+meant_wider P Q (Declares d) f c = λ h e. f h (c h e)
+meant_wider P Q (meaning.Standard file) f c = tt
+meant_wider P Q (Requires r) f c = tt
+meant_wider P Q Nothing f c = tt
+
+found_comes : (P : Host → Type 0) (b : Bool) (t : Thing) (o : Option Thing) → ((h : Host) → ThingHasHost t h → P h) → ThingComes P o → ThingComes P (if b then Some t else o)
+found_comes P true t o f c = f
+found_comes P false t o f c = c
+
+entry_comes : (es : Entries) (name : List ℕ) → ThingComes (EntriesHaveHost es) (look_up es name)
+entry_comes [] name = tt
+entry_comes (e ∷ es) name =
+    found_comes (EntriesHaveHost (e ∷ es)) (bytes_eq name e.0) e.1 (look_up es name) (λ h p. inl p) (thing_wider (EntriesHaveHost es) (EntriesHaveHost (e ∷ es)) (look_up es name) (λ h p. inr p) (entry_comes es name))
+
+interface_comes : (is : List (List ℕ × Entries)) (interface name : List ℕ) → ThingComes (InterfacesHaveHost is) (look_up_if (look_up is interface) name)
+interface_comes [] interface name = tt
+interface_comes (e ∷ es) interface name = chosen (bytes_eq interface e.0) (interface_comes es interface name)
+  where
+    chosen : (b : Bool) → ThingComes (InterfacesHaveHost es) (look_up_if (look_up es interface) name) → ThingComes (InterfacesHaveHost (e ∷ es)) (look_up_if (if b then Some e.1 else look_up es interface) name)
+    chosen true c = thing_wider (EntriesHaveHost e.1) (InterfacesHaveHost (e ∷ es)) (look_up e.1 name) (λ h p. inl p) (entry_comes e.1 name)
+    chosen false c = thing_wider (InterfacesHaveHost es) (InterfacesHaveHost (e ∷ es)) (look_up_if (look_up es interface) name) (λ h p. inr p) c
+
+thing_meant : (P : Host → Type 0) (t : Thing) → ThingComes P (Some t) → MeantComes P (as_thing t)
+thing_meant P (thing.Declared d) c = c
+thing_meant P (thing.Standard file) c = tt
+
+outside_comes : (P : Host → Type 0) (o : Option Thing) (m : Meant) → ThingComes P o → MeantComes P m → MeantComes P (or_outside o m)
+outside_comes P None m c d = d
+outside_comes P (Some t) m c d = thing_meant P t c
+
+required_comes : (P : Host → Type 0) (o : Option Required) → MeantComes P (as_required o)
+required_comes P None = tt
+required_comes P (Some r) = tt
+
+hidden_comes : (P : Host → Type 0) (o : Option Thing) (m : Meant) → MeantComes P m → MeantComes P (unless_hidden o m)
+hidden_comes P None m c = c
+hidden_comes P (Some t) m c = tt
+
+meant_comes : (scopes : List Region) (name : List ℕ) → MeantComes (ScopesHaveHost scopes) (meant scopes name)
+meant_comes [] name = required_comes (ScopesHaveHost []) (required_of name)
+meant_comes (r ∷ rs) name =
+    outside_comes (ScopesHaveHost (r ∷ rs)) (look_up r.entries name) (meant rs name)
+    (thing_wider (EntriesHaveHost r.entries) (ScopesHaveHost (r ∷ rs)) (look_up r.entries name) (λ h p. inl p) (entry_comes r.entries name))
+    (meant_wider (ScopesHaveHost rs) (ScopesHaveHost (r ∷ rs)) (meant rs name) (λ h p. inr (inr p)) (meant_comes rs name))
+
+meant_in_comes : (scopes : List Region) (interface name : List ℕ) → MeantComes (ScopesHaveHost scopes) (meant_in scopes interface name)
+meant_in_comes [] interface name = tt
+meant_in_comes (r ∷ rs) interface name =
+    hidden_comes (ScopesHaveHost (r ∷ rs)) (look_up r.entries interface) (or_outside (look_up_in r interface name) (meant_in rs interface name))
+    (outside_comes (ScopesHaveHost (r ∷ rs)) (look_up_in r interface name) (meant_in rs interface name)
+    (thing_wider (InterfacesHaveHost r.qualified) (ScopesHaveHost (r ∷ rs)) (look_up_in r interface name) (λ h p. inr (inl p)) (interface_comes r.qualified interface name))
+    (meant_wider (ScopesHaveHost rs) (ScopesHaveHost (r ∷ rs)) (meant_in rs interface name) (λ h p. inr (inr p)) (meant_in_comes rs interface name)))
+
+-- ---- rules
+
+module _ (scopes : List Region) where
+  -- the kind's host is known
+  abbrev pub IsKnown : Typed → Type 0
+  IsKnown t = IsKnownKind scopes t.kind
+
+  abbrev Comes : Judged Typed → Type 0
+  Comes = Satisfies IsKnown
+
+  kind_comes : (k : Kind) → ((h : Host) → HasHost k h → ScopesHaveHost scopes h) → IsKnownKind scopes k
+  kind_comes (kind.Ordinal h) f = inr (f h refl)
+  kind_comes kind.Text f = tt
+  kind_comes kind.File f = tt
+
+  declared_comes : (unit : List ℕ) (number : ℕ) (d : Declaration) → ((h : Host) → DeclaresHost d h → ScopesHaveHost scopes h) → Comes (value_declared unit number d)
+  declared_comes unit number (declaration.Constant k v) f = kind_comes k f
+  declared_comes unit number (declaration.«Type» h) f = tt
+  declared_comes unit number (declaration.Variable k) f = kind_comes k f
+
+  value_comes : (r : Required) → Comes (value_required r)
+  value_comes (required.Constant constant.MaxInt) = inl tt
+  value_comes (required.Constant constant.MaxChar) = inl tt
+  value_comes (required.Constant constant.True) = inl tt
+  value_comes (required.Constant constant.False) = inl tt
+  value_comes (required.«Type» t) = tt
+  value_comes (required.Function f) = tt
+  value_comes (required.Procedure p) = tt
+
+  named_comes : (name : List ℕ) (m : Meant) → MeantComes (ScopesHaveHost scopes) m → Comes (value_named name m)
+  named_comes name (Declares d) c = declared_comes d.unit d.number d.what c
+  named_comes name (meaning.Standard file) c = tt
+  named_comes name (Requires r) c = value_comes r
+  named_comes name Nothing c = tt
+
+  depth_comes : (form : Option Expr) (k : Kind) (depth : ℕ) → IsKnownKind scopes k → Comes (within_depth form k depth)
+  depth_comes form k depth p = if-satisfies IsKnown (nat_le depth 1000) (Accepts (record { form = form; kind = k; depth = depth })) (Breaks (rule.TOO_DEEP ∷ [])) (λ e. p) tt
+
+  unary_comes : (b : Bool) (operation : Unary) (k : Kind) (x : Typed) (other : Judged Typed) → IsKnownKind scopes k → Comes other → Comes (if b then unary_typed operation k x else other)
+  unary_comes b operation k x other p q = if-satisfies IsKnown b (unary_typed operation k x) other (λ e. depth_comes _ k _ p) q
+
+  binary_comes : (b : Bool) (operation : Binary) (k : Kind) (x y : Typed) (other : Judged Typed) → IsKnownKind scopes k → Comes other → Comes (if b then binary_typed operation k x y else other)
+  binary_comes b operation k x y other p q = if-satisfies IsKnown b (binary_typed operation k x y) other (λ e. depth_comes _ k _ p) q
+
+  unbuilt_comes : (b : Bool) (k : Kind) (x y : Typed) (other : Judged Typed) → IsKnownKind scopes k → Comes other → Comes (if b then unbuilt_typed k x y else other)
+  unbuilt_comes b k x y other p q = if-satisfies IsKnown b (unbuilt_typed k x y) other (λ e. depth_comes _ k _ p) q
+
+  spelled_comes : (h : Host) (z : ℤ) → IsKnownHost scopes h → Comes (spelled h z)
+  spelled_comes h z p = if-satisfies IsKnown (is_of_host (typed_host h) z) (leaf (Constant z) (kind.Ordinal h)) unbuilt (λ e. p) tt
+
+  signed_comes : (o : Option Sign) (x : Typed) → IsKnown x → Comes (signed o x)
+  signed_comes None x p = p
+  signed_comes (Some s) x p = unary_comes (is_integer x.kind) (sign_of s) integer x misfit (inl tt) tt
+
+  arithmetic_comes : (operation : Binary) (x y : Typed) → Comes (arithmetic operation x y)
+  arithmetic_comes operation x y = binary_comes (is_integer x.kind && is_integer y.kind) operation integer x y misfit (inl tt) tt
+
+  logical_comes : (operation : Binary) (x y : Typed) → Comes (logical operation x y)
+  logical_comes operation x y = binary_comes (is_boolean x.kind && is_boolean y.kind) operation boolean x y misfit (inl tt) tt
+
+  added_comes : (o : AddingOperator) (x y : Typed) → Comes (added o x y)
+  added_comes adding.Plus x y = unbuilt_comes (is_string x.kind && is_string y.kind) kind.Text x y (arithmetic _ x y) tt (arithmetic_comes _ x y)
+  added_comes adding.Minus x y = arithmetic_comes _ x y
+  added_comes adding.Or x y = logical_comes _ x y
+  added_comes adding.SymmetricDifference x y = tt
+  added_comes adding.OrElse x y = tt
+
+  multiplied_comes : (o : MultiplyingOperator) (x y : Typed) → Comes (multiplied o x y)
+  multiplied_comes multiplying.Times x y = arithmetic_comes _ x y
+  multiplied_comes multiplying.Div x y = arithmetic_comes _ x y
+  multiplied_comes multiplying.Mod x y = arithmetic_comes _ x y
+  multiplied_comes multiplying.And x y = logical_comes _ x y
+  multiplied_comes multiplying.AndThen x y = tt
+
+  comparison_comes : (operation : Binary) (x y : Typed) → Comes (comparison operation x y)
+  comparison_comes operation x y =
+      binary_comes (are_compatible x.kind y.kind) operation boolean x y (if is_string x.kind && is_string y.kind then unbuilt_typed boolean x y else misfit) (inl tt)
+      (unbuilt_comes (is_string x.kind && is_string y.kind) boolean x y misfit (inl tt) tt)
+
+  compared_comes : (o : RelationalOperator) (x y : Typed) → Comes (compared o x y)
+  compared_comes relation.Equal x y = comparison_comes _ x y
+  compared_comes relation.NotEqual x y = comparison_comes _ x y
+  compared_comes relation.Less x y = comparison_comes _ x y
+  compared_comes relation.Greater x y = comparison_comes _ x y
+  compared_comes relation.AtMost x y = comparison_comes _ x y
+  compared_comes relation.AtLeast x y = comparison_comes _ x y
+  compared_comes relation.In x y = tt
+
+  ordinal_comes : (k : Kind) (x : Typed) → Comes (ordinal_by k x)
+  ordinal_comes (kind.Ordinal h) x = depth_comes _ integer _ (inl tt)
+  ordinal_comes kind.Text x = tt
+  ordinal_comes kind.File x = tt
+
+  stepped_comes : (k : Kind) (down : Bool) (x count : Typed) → IsKnownKind scopes k → Comes (stepped_by k down x count)
+  stepped_comes (kind.Ordinal h) down x count p = if-satisfies IsKnown (is_integer count.kind) (step_typed down h x count) other_argument (λ e. depth_comes _ (kind.Ordinal h) _ p) tt
+  stepped_comes kind.Text down x count p = tt
+  stepped_comes kind.File down x count p = tt
+
+  one_comes : (f : Function) (x : Typed) → IsKnown x → Comes (applied_one f x)
+  one_comes function.Absolute x p = unary_comes (is_integer x.kind) _ integer x other_argument (inl tt) tt
+  one_comes function.Square x p = unary_comes (is_integer x.kind) _ integer x other_argument (inl tt) tt
+  one_comes function.Odd x p = unary_comes (is_integer x.kind) _ boolean x other_argument (inl tt) tt
+  one_comes function.Ordinal x p = ordinal_comes x.kind x
+  one_comes function.Character x p = unary_comes (is_integer x.kind) _ (kind.Ordinal host.Char) x other_argument (inl tt) tt
+  one_comes function.Successor x p = stepped_comes x.kind false x one p
+  one_comes function.Predecessor x p = stepped_comes x.kind true x one p
+
+  two_comes : (f : Function) (x y : Typed) → IsKnown x → Comes (applied_two f x y)
+  two_comes function.Successor x y p = stepped_comes x.kind false x y p
+  two_comes function.Predecessor x y p = stepped_comes x.kind true x y p
+  two_comes function.Absolute x y p = tt
+  two_comes function.Square x y p = tt
+  two_comes function.Odd x y p = tt
+  two_comes function.Ordinal x y p = tt
+  two_comes function.Character x y p = tt
+
+  -- each rule gives a known host for known ones
+  pub knowledge_is_kept : IsKept IsKnown scopes
+  knowledge_is_kept = record {
+    number = λ z. spelled_comes host.Integer z (inl tt);
+    character = λ z. spelled_comes host.Char z (inl tt);
+    text = λ bytes. tt;
+    named = λ name. named_comes name (meant scopes name) (meant_comes scopes name);
+    within = λ interface name. named_comes name (meant_in scopes interface name) (meant_in_comes scopes interface name);
+    signs = signed_comes;
+    negates = λ x p. unary_comes (is_boolean x.kind) _ boolean x misfit (inl tt) tt;
+    adds = λ o x y p q. added_comes o x y;
+    multiplies = λ o x y p q. multiplied_comes o x y;
+    compares = λ o x y p q. compared_comes o x y;
+    applies_one = one_comes;
+    applies_two = λ f x y p q. two_comes f x y p;
+  }

@@ -1,0 +1,132 @@
+-- The laws of typed forms.
+use Rattle.std.proofs.Common.{◌≡◌, ℕ, ℤ, Bool, true, false, List, ◌∷◌, [], Option, Some, None, refl, ap, subst}
+use Rattle.std.specs.Prelude.{if◌then◌else◌}
+use Rattle.ep_typed.specs.Hosts.{is_of_host}
+use Rattle.ep_typed.specs.Trees.{Expr, Constant, Text, Read, One, Two, Step}
+use Rattle.ep_typed.specs.Valid.{Declarations}
+use Rattle.ep_typed.specs.declared.value.Value.TheVariants as value
+use Rattle.ep_tree.specs.declared.expression.Expression.{Expression}
+use Rattle.ep_scope.specs.Scopes.{Region, meant, meant_in}
+use Rattle.ep_scope.specs.declared.kind.Host.{Host}
+use Rattle.ep_scope.specs.declared.kind.Host.TheVariants as host
+use Rattle.ep_scope.specs.declared.kind.Kind.{Kind}
+use Rattle.ep_scope.specs.declared.kind.Kind.TheVariants as kind
+use Rattle.ep_scope.specs.declared.rule.TheConstants as rule
+use Rattle.ep_check_expr.specs.Agreement.{Agrees, IsFormOf, IsHost}
+use Rattle.ep_check_expr.specs.Constants.{IsSoundConstant, as_constant, as_bound, constant_expression, constant_folded, constant_of, stand_in, varies}
+use Rattle.ep_check_expr.specs.Expressions.{judged, judged_value, spelled}
+use Rattle.ep_check_expr.specs.Hosts.{typed_host}
+use Rattle.ep_check_expr.specs.Judgements.{Judged, Accepts, Breaks, Typed, unbuilt, when_accepted}
+use Rattle.ep_check_expr.specs.Laws.{ExpressionsAreSound, ValuesAreSound, ConstantsAreSound, BoundsAreSound, ExpressionsAreKnown, ConstantsAreKnown, BoundsAreKnown}
+use Rattle.ep_check_expr.specs.Origins.{IsKnownKind}
+use Rattle.ep_check_expr.specs.Folding.{folded}
+use Rattle.ep_check_expr.specs.declared.folding.Folded.{Folded}
+use Rattle.ep_check_expr.specs.declared.folding.Folded.TheVariants.{Known, Varies, Errs}
+use Rattle.ep_check_expr.specs.Names.{leaf}
+use Rattle.ep_check_expr.specs.declared.constants.ConstantForm.{ConstantForm}
+use Rattle.ep_check_expr.proofs.Accepted.{expressions-fit, values-fit}
+use Rattle.ep_check_expr.proofs.Hosted.{IsKnown, knowledge_is_kept}
+use Rattle.ep_check_expr.proofs.Keeping.{IsKept, Satisfies, if-satisfies}
+use Rattle.ep_check_expr.proofs.Known.{IsJudgedConstant, constant-fits}
+use Rattle.ep_check_expr.proofs.Meant.{meant-declared, meant_in-declared, value_named-fits}
+use Rattle.ep_check_expr.proofs.Sound.{Fits, signed-fits, negated-fits, added-fits, multiplied-fits, compared-fits, applied_one-fits, applied_two-fits}
+
+-- a valid form of its kind
+abbrev IsForm : Declarations → Typed → Type 0
+IsForm declared t = IsFormOf declared t.kind t.form
+
+-- a number or a character of the text
+spelled-fits : (declared : Declarations) (h : Host) → IsHost h → (z : ℤ) → Fits declared (spelled h z)
+spelled-fits declared h s z = if-satisfies (IsForm declared) (is_of_host (typed_host h) z) (leaf (Constant z) (kind.Ordinal h)) unbuilt (λ e. (s, (typed_host h, refl, e))) tt
+
+text-fits : (declared : Declarations) (bytes : List ℕ) → Fits declared (leaf (Text bytes) kind.Text)
+text-fits declared bytes = refl
+
+-- each rule gives valid forms of valid ones
+validity_is_kept : (declared : Declarations) (scopes : List Region) → Agrees declared scopes → IsKept (IsForm declared) scopes
+validity_is_kept declared scopes agrees = record {
+  number = spelled-fits declared host.Integer refl;
+  character = spelled-fits declared host.Char refl;
+  text = text-fits declared;
+  named = λ name. value_named-fits declared name (meant scopes name) (meant-declared declared scopes name agrees);
+  within = λ interface name. value_named-fits declared name (meant_in scopes interface name) (meant_in-declared declared scopes interface name agrees);
+  signs = signed-fits declared;
+  negates = negated-fits declared;
+  adds = added-fits declared;
+  multiplies = multiplied-fits declared;
+  compares = compared-fits declared;
+  applies_one = applied_one-fits declared;
+  applies_two = applied_two-fits declared;
+}
+
+pub expressions_are_sound : ExpressionsAreSound
+expressions_are_sound scopes e t accepted declared agrees = subst (Fits declared) accepted (expressions-fit (IsForm declared) scopes (validity_is_kept declared scopes agrees) e)
+
+pub values_are_sound : ValuesAreSound
+values_are_sound scopes v t accepted declared agrees = subst (Fits declared) accepted (values-fit (IsForm declared) scopes (validity_is_kept declared scopes agrees) v)
+
+-- a constant of a valid form is of its kind
+as_constant-fits : (declared : Declarations) (J : Judged Typed) → Fits declared J → IsJudgedConstant (when_accepted as_constant J)
+as_constant-fits declared (Accepts t) p = constant-fits declared t.kind t.form p
+as_constant-fits declared (Breaks rules) p = tt
+
+-- so is a bound
+as_bound-fits : (declared : Declarations) (J : Judged Typed) → Fits declared J → IsJudgedConstant (when_accepted as_bound J)
+as_bound-fits declared (Accepts t) p = bound-fits (varies t) (as_constant t) (constant-fits declared t.kind t.form p)
+  where
+    bound-fits : (b : Bool) (C : Judged ConstantForm) → IsJudgedConstant C → IsJudgedConstant (if b then Breaks (rule.BOUND_CONSTANT ∷ rule.CONSTANT ∷ []) else C)
+    bound-fits true C q = tt
+    bound-fits false C q = q
+as_bound-fits declared (Breaks rules) p = tt
+
+pub constants_are_sound : ConstantsAreSound
+constants_are_sound scopes v c accepted declared agrees = subst IsJudgedConstant accepted (as_constant-fits declared (judged_value scopes v) (values-fit (IsForm declared) scopes (validity_is_kept declared scopes agrees) v))
+
+-- so is a constant expression
+pub constant_expressions_are_sound : (scopes : List Region) (e : Expression) (c : ConstantForm) → constant_expression scopes e ≡ Accepts c → IsSoundConstant scopes c
+constant_expressions_are_sound scopes e c accepted declared agrees = subst IsJudgedConstant accepted (as_constant-fits declared (judged scopes e) (expressions-fit (IsForm declared) scopes (validity_is_kept declared scopes agrees) e))
+
+pub bounds_are_sound : BoundsAreSound
+bounds_are_sound scopes e c accepted declared agrees = subst IsJudgedConstant accepted (as_bound-fits declared (judged scopes e) (expressions-fit (IsForm declared) scopes (validity_is_kept declared scopes agrees) e))
+
+-- ---- hosts
+
+folded_kind : (k : Kind) (f : Folded) (c : ConstantForm) → constant_folded k f ≡ Accepts c → k ≡ c.kind
+folded_kind k (Known z) c e = let is : record { value = value.Word z; kind = k; built = true } ≡ c = cc in ap (λ x. x.kind) is
+folded_kind k Varies c e = cc
+folded_kind k Errs c e = cc
+
+same_kind : (k : Kind) (form : Option Expr) (c : ConstantForm) → constant_of k form ≡ Accepts c → k ≡ c.kind
+same_kind k None c e = let is : record { value = stand_in k; kind = k; built = false } ≡ c = cc in ap (λ x. x.kind) is
+same_kind k (Some (Text bytes)) c e = let is : record { value = value.Text bytes; kind = k; built = true } ≡ c = cc in ap (λ x. x.kind) is
+same_kind k (Some (Constant z)) c e = folded_kind k (folded (Constant z)) c e
+same_kind k (Some (Read place)) c e = folded_kind k (folded (Read place)) c e
+same_kind k (Some (One operation x)) c e = folded_kind k (folded (One operation x)) c e
+same_kind k (Some (Two operation x y)) c e = folded_kind k (folded (Two operation x y)) c e
+same_kind k (Some (Step down low high x y)) c e = folded_kind k (folded (Step down low high x y)) c e
+
+-- a constant has the kind of its expression
+known_constant : (scopes : List Region) (kind : Kind) (form : Option Expr) → IsKnownKind scopes kind → (c : ConstantForm) → constant_of kind form ≡ Accepts c → IsKnownKind scopes c.kind
+known_constant scopes k form p c e = subst (IsKnownKind scopes) (same_kind k form c e) p
+
+pub expressions_are_known : ExpressionsAreKnown
+expressions_are_known scopes e t accepted = subst (Satisfies (IsKnown scopes)) accepted (expressions-fit (IsKnown scopes) scopes (knowledge_is_kept scopes) e)
+
+-- of a judgement whose kind is known, the constant's is
+constant_known : (scopes : List Region) (J : Judged Typed) (c : ConstantForm) → Satisfies (IsKnown scopes) J → when_accepted as_constant J ≡ Accepts c → IsKnownKind scopes c.kind
+constant_known scopes (Accepts t) c p e = known_constant scopes t.kind t.form p c e
+constant_known scopes (Breaks rules) c p e = cc
+
+bound_known : (scopes : List Region) (J : Judged Typed) (c : ConstantForm) → Satisfies (IsKnown scopes) J → when_accepted as_bound J ≡ Accepts c → IsKnownKind scopes c.kind
+bound_known scopes (Accepts t) c p e = go (varies t) e
+  where
+    go : (b : Bool) → (if b then Breaks (rule.BOUND_CONSTANT ∷ rule.CONSTANT ∷ []) else as_constant t) ≡ Accepts c → IsKnownKind scopes c.kind
+    go true e = cc
+    go false e = known_constant scopes t.kind t.form p c e
+bound_known scopes (Breaks rules) c p e = cc
+
+pub constants_are_known : ConstantsAreKnown
+constants_are_known scopes v c accepted = constant_known scopes (judged_value scopes v) c (values-fit (IsKnown scopes) scopes (knowledge_is_kept scopes) v) accepted
+
+pub bounds_are_known : BoundsAreKnown
+bounds_are_known scopes e c accepted = bound_known scopes (judged scopes e) c (expressions-fit (IsKnown scopes) scopes (knowledge_is_kept scopes) e) accepted

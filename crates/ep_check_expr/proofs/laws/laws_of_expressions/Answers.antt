@@ -1,0 +1,23 @@
+use Rattle.ep_check_expr.proofs.Lawful.{expressions_are_sound, values_are_sound, constants_are_sound, bounds_are_sound, expressions_are_known, constants_are_known, bounds_are_known}
+use Rattle.ep_check_expr.proofs.laws.laws_of_expressions.Goals as goal
+
+pub returns-clause-expressions : goal.returns-clause-expressions
+returns-clause-expressions c = expressions_are_sound
+
+pub returns-clause-values : goal.returns-clause-values
+returns-clause-values c = values_are_sound
+
+pub returns-clause-constants : goal.returns-clause-constants
+returns-clause-constants c = constants_are_sound
+
+pub returns-clause-bounds : goal.returns-clause-bounds
+returns-clause-bounds c = bounds_are_sound
+
+pub returns-clause-hosts : goal.returns-clause-hosts
+returns-clause-hosts c = expressions_are_known
+
+pub returns-clause-constant_hosts : goal.returns-clause-constant_hosts
+returns-clause-constant_hosts c = constants_are_known
+
+pub returns-clause-bound_hosts : goal.returns-clause-bound_hosts
+returns-clause-bound_hosts c = bounds_are_known

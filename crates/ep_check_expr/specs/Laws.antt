@@ -1,0 +1,39 @@
+-- The laws of typed forms: what the rules accept is valid wherever the declarations hold what the scopes declare, and of a host that is known.
+use Rattle.std.specs.Prelude.{◌≡◌, List}
+use Rattle.ep_tree.specs.declared.expression.ComponentValue.{ComponentValue}
+use Rattle.ep_tree.specs.declared.expression.Expression.{Expression}
+use Rattle.ep_scope.specs.Scopes.{Region}
+use Rattle.ep_check_expr.specs.Agreement.{IsSound}
+use Rattle.ep_check_expr.specs.Constants.{IsSoundConstant, constant_judged, bound_judged}
+use Rattle.ep_check_expr.specs.Expressions.{judged, judged_value}
+use Rattle.ep_check_expr.specs.Judgements.{Accepts, Typed}
+use Rattle.ep_check_expr.specs.Origins.{IsKnownKind}
+use Rattle.ep_check_expr.specs.declared.constants.ConstantForm.{ConstantForm}
+
+-- an expression that is accepted has a valid form
+abbrev pub ExpressionsAreSound : Type 0
+ExpressionsAreSound = (scopes : List Region) (e : Expression) (t : Typed) → judged scopes e ≡ Accepts t → IsSound scopes t
+
+-- so has the value of a definition or of an assignment
+abbrev pub ValuesAreSound : Type 0
+ValuesAreSound = (scopes : List Region) (v : ComponentValue) (t : Typed) → judged_value scopes v ≡ Accepts t → IsSound scopes t
+
+-- a constant that is accepted is of its kind
+abbrev pub ConstantsAreSound : Type 0
+ConstantsAreSound = (scopes : List Region) (v : ComponentValue) (c : ConstantForm) → constant_judged scopes v ≡ Accepts c → IsSoundConstant scopes c
+
+-- so is a bound
+abbrev pub BoundsAreSound : Type 0
+BoundsAreSound = (scopes : List Region) (e : Expression) (c : ConstantForm) → bound_judged scopes e ≡ Accepts c → IsSoundConstant scopes c
+
+-- the host of an expression that is accepted is required or declared
+abbrev pub ExpressionsAreKnown : Type 0
+ExpressionsAreKnown = (scopes : List Region) (e : Expression) (t : Typed) → judged scopes e ≡ Accepts t → IsKnownKind scopes t.kind
+
+-- so is that of a constant
+abbrev pub ConstantsAreKnown : Type 0
+ConstantsAreKnown = (scopes : List Region) (v : ComponentValue) (c : ConstantForm) → constant_judged scopes v ≡ Accepts c → IsKnownKind scopes c.kind
+
+-- and that of a bound
+abbrev pub BoundsAreKnown : Type 0
+BoundsAreKnown = (scopes : List Region) (e : Expression) (c : ConstantForm) → bound_judged scopes e ≡ Accepts c → IsKnownKind scopes c.kind
