@@ -1,0 +1,186 @@
+-- A block stays that of its unit.
+use Rattle.std.proofs.Common.{◌≡◌, ℕ, pos, suc, Bool, true, false, ◌&&◌, List, [], ◌∷◌, length, Option, Some, None, subst}
+use Rattle.std.specs.Prelude.{⊤}
+use Rattle.ep_tree.specs.declared.declaration.ConstantDefinition.{ConstantDefinition}
+use Rattle.ep_tree.specs.declared.declaration.TypeDefinition.{TypeDefinition}
+use Rattle.ep_tree.specs.declared.declaration.VariableDeclaration.{VariableDeclaration}
+use Rattle.ep_tree.specs.declared.routine.Part.TheOpen.{Part-F}
+use Rattle.ep_tree.specs.declared.routine.Part.{Part, out-Part}
+use Rattle.ep_tree.specs.declared.types.Core.TheOpen.{Core-F}
+use Rattle.ep_tree.specs.declared.types.Core.{out-Core}
+use Rattle.ep_typed.specs.declared.denoter.Denoter.{Denoter}
+use Rattle.ep_typed.specs.declared.tree.StandardFile.{StandardFile}
+use Rattle.ep_typed.specs.declared.value.Value.{Value}
+use Rattle.ep_typed.specs.declared.value.Value.TheVariants as value
+use Rattle.ep_scope.specs.Scopes.{Meant, Declares, Standard, Requires, Nothing, meant, meant_in}
+use Rattle.ep_scope.specs.declared.kind.Host.{Host}
+use Rattle.ep_scope.specs.declared.kind.Kind.{Kind}
+use Rattle.ep_scope.specs.declared.kind.Kind.TheVariants as kind
+use Rattle.ep_scope.specs.declared.required.Required.TheVariants as required
+use Rattle.ep_scope.specs.declared.rule.TheConstants as rule
+use Rattle.ep_scope.specs.declared.thing.Declaration.{Declaration}
+use Rattle.ep_scope.specs.declared.thing.Declaration.TheVariants as declaration
+use Rattle.ep_scope.specs.declared.thing.Declared.{Declared}
+use Rattle.ep_scope.specs.declared.thing.Thing.{Thing}
+use Rattle.ep_scope.specs.declared.thing.Thing.TheVariants as thing
+use Rattle.ep_check_expr.specs.Judgements.{Judged, Accepts, Breaks}
+use Rattle.ep_check_expr.specs.Constants.{constant_judged, bound_judged}
+use Rattle.ep_check_expr.specs.Names.{undeclared}
+use Rattle.ep_check_expr.specs.declared.constants.ConstantForm.{ConstantForm}
+use Rattle.ep_check_unit.specs.Declarations.{all_variables_declared, and_then, at_line, common_host, constant_definition, constant_entered, constants_declared, core_of, core_written, declaration_ended, declared_type, entered, enumerated, enumeration, next_enumeration, noted, ordered, part_declared, parts_declared, range, scopes_of, settled, settled_type, Standing, Stands, Falls, subrange, type_definition, type_definitions, type_entered, type_meant, type_named, type_written, unused, variable_declaration, variable_entered, variables_declared, variables_entered, with_constant, with_name, with_type, with_variable, own_thing, Written}
+use Rattle.ep_check_unit.specs.Units.{parameter_entered, parameters_entered, standard_file}
+use Rattle.ep_check_unit.specs.declared.block.Block.{Block}
+use Rattle.ep_check_unit.proofs.Fits.{Any, Fits, fits_then, fits_both, fits_any}
+
+module _ (n : List ℕ) where
+  abbrev pub IsOf : Block → Type 0
+  IsOf b = b.unit ≡ n
+
+  abbrev IsIn : Written → Type 0
+  IsIn w = w.block.unit ≡ n
+
+  entered-kept : (name : List ℕ) (t : Thing) (b : Block) → IsOf b → Fits IsOf (entered name t b)
+  entered-kept name t b h = fits_then Any IsOf (λ _. Accepts (with_name name t b)) (unused name b) (fits_any (unused name b)) (λ a i. h)
+
+  noted-kept : (built : Bool) (line : ℕ) (b : Block) → IsOf b → IsOf (noted built line b)
+  noted-kept true line b h = h
+  noted-kept false line b h = h
+
+  with_constant-kept : (name : List ℕ) (k : Kind) (v : Value) (b : Block) → IsOf b → IsOf (with_constant name k v b)
+  with_constant-kept name (kind.Ordinal h) v b i = i
+  with_constant-kept name kind.Text v b i = i
+  with_constant-kept name kind.File v b i = i
+
+  constant_entered-kept : (name : List ℕ) (k : Kind) (v : Value) (b : Block) → IsOf b → Fits IsOf (constant_entered name k v b)
+  constant_entered-kept name k v b h = fits_then Any IsOf (λ _. Accepts (with_constant name k v b)) (unused name b) (fits_any (unused name b)) (λ a i. with_constant-kept name k v b h)
+
+  -- ---- types
+
+  declared_type-kept : (d : Declared) (what : Declaration) (b : Block) → IsOf b → Fits IsIn (declared_type d what b)
+  declared_type-kept d (declaration.«Type» h) b i = i
+  declared_type-kept d (declaration.Constant k v) b i = tt
+  declared_type-kept d (declaration.Variable k) b i = tt
+
+  type_meant-kept : (missing : List ℕ) (m : Meant) (b : Block) → IsOf b → Fits IsIn (type_meant missing m b)
+  type_meant-kept missing (Declares d) b h = declared_type-kept d d.what b h
+  type_meant-kept missing (Standard f) b h = tt
+  type_meant-kept missing (Requires (required.Constant c)) b h = tt
+  type_meant-kept missing (Requires (required.«Type» t)) b h = h
+  type_meant-kept missing (Requires (required.Function f)) b h = tt
+  type_meant-kept missing (Requires (required.Procedure p)) b h = tt
+  type_meant-kept missing Nothing b h = tt
+
+  type_named-kept : (first : List ℕ) (second : Option (List ℕ)) (b : Block) → IsOf b → Fits IsIn (type_named first second b)
+  type_named-kept first None b h = type_meant-kept (undeclared first) (meant (scopes_of b) first) b h
+  type_named-kept first (Some name) b h = type_meant-kept (rule.UNDECLARED ∷ []) (meant_in (scopes_of b) first name) b h
+
+  range-kept : (line : ℕ) (b : Block) (low high : ConstantForm) → IsOf b → Fits IsIn (range line b low high)
+  range-kept line b low high i =
+      fits_then Any IsIn _ (common_host low.kind high.kind) (fits_any (common_host low.kind high.kind))
+      (λ h j. fits_then Any IsIn (λ _. Accepts (subrange line h low high b)) (ordered low high) (fits_any (ordered low high)) (λ a k. noted-kept (low.built && high.built) line b i))
+
+  enumerated-kept : (h : Host) (ordinal : ℕ) (names : List (List ℕ)) (b : Block) → IsOf b → Fits IsOf (enumerated h ordinal names b)
+  enumerated-kept h ordinal [] b i = i
+  enumerated-kept h ordinal (name ∷ names) b i =
+      fits_then IsOf IsOf (enumerated h (suc ordinal) names) (constant_entered name (kind.Ordinal h) (value.Word (pos ordinal)) b) (constant_entered-kept name (kind.Ordinal h) (value.Word (pos ordinal)) b i)
+      (λ c j. enumerated-kept h (suc ordinal) names c j)
+
+  enumeration-kept : (names : List (List ℕ)) (b : Block) → IsOf b → Fits IsIn (enumeration names b)
+  enumeration-kept [] b i = tt
+  enumeration-kept (first ∷ others) b i =
+      fits_then IsOf IsIn _ (enumerated (next_enumeration (length others) b) 0 (first ∷ others) b) (enumerated-kept (next_enumeration (length others) b) 0 (first ∷ others) b i) (λ c j. j)
+
+  core_written-kept : {A B C D E F G H : Type 0} (line : ℕ) (core : Core-F A B C D E F G H) (b : Block) → IsOf b → Fits IsIn (core_written line core b)
+  core_written-kept line (Core-F.Named at name tuple) b i = type_named-kept name.first name.second b i
+  core_written-kept line (Core-F.Range at low high) b i =
+      fits_both Any Any IsIn (range line b) (bound_judged (scopes_of b) low) (bound_judged (scopes_of b) high) (fits_any (bound_judged (scopes_of b) low)) (fits_any (bound_judged (scopes_of b) high))
+      (λ x y j k. range-kept line b x y i)
+  core_written-kept line (Core-F.Enumeration at names) b i = enumeration-kept names b i
+  core_written-kept line (Core-F.Pointer at name) b i = tt
+  core_written-kept line (Core-F.Structured at packed structure) b i = tt
+  core_written-kept line (Core-F.Restricted at name) b i = tt
+  core_written-kept line (Core-F.TypeOf at name) b i = tt
+
+  -- ---- items
+
+  constant_definition-kept : (d : ConstantDefinition) (b : Block) → IsOf b → Fits IsOf (constant_definition d b)
+  constant_definition-kept d b i =
+      fits_both Any Any IsOf _ (constant_judged (scopes_of b) d.value) (unused d.name b) (fits_any (constant_judged (scopes_of b) d.value)) (fits_any (unused d.name b))
+      (λ form new j k. noted-kept form.built d.line (with_constant d.name form.kind form.value b) (with_constant-kept d.name form.kind form.value b i))
+
+  type_definition-kept : (line : ℕ) (d : TypeDefinition) (b : Block) → IsOf b → Fits IsOf (type_definition line d b)
+  type_definition-kept line d b i =
+      fits_then IsIn IsOf (type_entered d) (type_written line d.of b) (core_written-kept line (out-Core (core_of d.of)) b i)
+      (λ w j. entered-kept d.name (own_thing w.block (length w.block.types) (declaration.«Type» w.host)) (with_type (Some d.name) d.line w.denoter w.block) j)
+
+  type_definitions-kept : (line : ℕ) (ds : List TypeDefinition) (b : Block) → IsOf b → Fits IsOf (type_definitions line ds b)
+  type_definitions-kept line [] b i = i
+  type_definitions-kept line (d ∷ ds) b i = fits_then IsOf IsOf (type_definitions line ds) (type_definition line d b) (type_definition-kept line d b i) (λ c j. type_definitions-kept line ds c j)
+
+  settled-kept : {A B C D E F G H : Type 0} (line : ℕ) (core : Core-F A B C D E F G H) (w : Written) → IsIn w → IsIn (settled line core w)
+  settled-kept line (Core-F.Named at name tuple) w i = i
+  settled-kept line (Core-F.Range at low high) w i = i
+  settled-kept line (Core-F.Enumeration at names) w i = i
+  settled-kept line (Core-F.Pointer at name) w i = i
+  settled-kept line (Core-F.Structured at packed structure) w i = i
+  settled-kept line (Core-F.Restricted at name) w i = i
+  settled-kept line (Core-F.TypeOf at name) w i = i
+
+  variables_entered-kept : (line : ℕ) (d : Denoter) (h : Host) (names : List (List ℕ)) (b : Block) → IsOf b → Fits IsOf (variables_entered line d h names b)
+  variables_entered-kept line d h [] b i = i
+  variables_entered-kept line d h (name ∷ names) b i =
+      fits_then IsOf IsOf (variables_entered line d h names) (variable_entered line d h name b)
+      (fits_then Any IsOf (λ _. Accepts (with_variable line d h name b)) (unused name b) (fits_any (unused name b)) (λ a j. i)) (λ c j. variables_entered-kept line d h names c j)
+
+  variable_declaration-kept : (d : VariableDeclaration) (b : Block) → IsOf b → Fits IsOf (variable_declaration d b)
+  variable_declaration-kept d b i =
+      fits_then IsIn IsOf (variables_declared d) (settled_type d.line (out-Core (core_of d.of)) b)
+      (fits_then IsIn IsIn (λ w. Accepts (settled d.line (out-Core (core_of d.of)) w)) (core_written d.line (out-Core (core_of d.of)) b) (core_written-kept d.line (out-Core (core_of d.of)) b i) (λ w j. settled-kept d.line (out-Core (core_of d.of)) w j))
+      (λ w j. fits_then IsOf IsOf (λ c. Accepts (declaration_ended c)) (variables_entered d.line w.denoter w.host d.names w.block) (variables_entered-kept d.line w.denoter w.host d.names w.block j) (λ c k. k))
+
+  -- ---- parts
+
+  abbrev pub Remains : Standing → Type 0
+  Remains (Stands b) = IsOf b
+  Remains (Falls line rules) = ⊤
+
+  line-kept : (line : ℕ) (j : Judged Block) → Fits IsOf j → Remains (at_line line j)
+  line-kept line (Accepts b) h = h
+  line-kept line (Breaks rules) h = tt
+
+  then-kept : (more : Block → Standing) (s : Standing) → Remains s → ((b : Block) → IsOf b → Remains (more b)) → Remains (and_then more s)
+  then-kept more (Stands b) h g = g b h
+  then-kept more (Falls line rules) h g = tt
+
+  constants-kept : (ds : List ConstantDefinition) (b : Block) → IsOf b → Remains (constants_declared ds b)
+  constants-kept [] b i = i
+  constants-kept (d ∷ ds) b i = then-kept (constants_declared ds) (at_line d.line (constant_definition d b)) (line-kept d.line (constant_definition d b) (constant_definition-kept d b i)) (λ c j. constants-kept ds c j)
+
+  variables-kept : (ds : List VariableDeclaration) (b : Block) → IsOf b → Remains (all_variables_declared ds b)
+  variables-kept [] b i = i
+  variables-kept (d ∷ ds) b i = then-kept (all_variables_declared ds) (at_line d.line (variable_declaration d b)) (line-kept d.line (variable_declaration d b) (variable_declaration-kept d b i)) (λ c j. variables-kept ds c j)
+
+  part-kept : {A B C : Type 0} (p : Part-F A B C) (b : Block) → IsOf b → Remains (part_declared p b)
+  part-kept (Part-F.Constants c) b i = constants-kept c.definitions b i
+  part-kept (Part-F.Types t) b i = line-kept t.line (type_definitions t.line t.definitions b) (type_definitions-kept t.line t.definitions b i)
+  part-kept (Part-F.Variables v) b i = variables-kept v.declarations b i
+  part-kept (Part-F.Routine r) b i = tt
+
+  parts-kept : (ps : List Part) (b : Block) → IsOf b → Remains (parts_declared ps b)
+  parts-kept [] b i = i
+  parts-kept (p ∷ ps) b i = then-kept (parts_declared ps) (part_declared (out-Part p) b) (part-kept (out-Part p) b i) (λ c j. parts-kept ps c j)
+
+  -- the block after parts that stand is one of the same unit
+  pub parts-unit : (ps : List Part) (b c : Block) → parts_declared ps b ≡ Stands c → b.unit ≡ n → c.unit ≡ n
+  parts-unit ps b c e i = subst Remains e (parts-kept ps b i)
+
+  parameter-kept : (name : List ℕ) (f : Option StandardFile) (b : Block) → IsOf b → Fits IsOf (parameter_entered name f b)
+  parameter-kept name None b i = tt
+  parameter-kept name (Some f) b i = entered-kept name (thing.Standard f) b i
+
+  parameters-kept : (names : List (List ℕ)) (b : Block) → IsOf b → Fits IsOf (parameters_entered names b)
+  parameters-kept [] b i = i
+  parameters-kept (name ∷ names) b i = fits_then IsOf IsOf (parameters_entered names) (parameter_entered name (standard_file name) b) (parameter-kept name (standard_file name) b i) (λ c j. parameters-kept names c j)
+
+  pub parameters-unit : (names : List (List ℕ)) (b c : Block) → parameters_entered names b ≡ Accepts c → b.unit ≡ n → c.unit ≡ n
+  parameters-unit names b c e i = subst (Fits IsOf) e (parameters-kept names b i)

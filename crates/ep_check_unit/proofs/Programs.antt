@@ -1,0 +1,89 @@
+-- Programs by their parts.
+use Rattle.std.proofs.Common.{◌≡◌, ℕ, List, map, Option, Some, None, Ok, Err, refl, sym, ap, ◌∙◌}
+use Rattle.ep_tree.specs.declared.component.Program.{Program}
+use Rattle.ep_typed.specs.Trees.{Stmt, Stmts, Compound, Empty, stmts}
+use Rattle.ep_typed.specs.Viewed.{stmt_of, stmt_step}
+use Rattle.ep_typed.specs.declared.tree.TypedStmt.{TypedStmt}
+use Rattle.ep_typed.specs.declared.tree.TypedStmt.TheVariants as typed
+use Rattle.ep_typed.specs.declared.tree.TypedStmt.TheOpen as layer
+use Rattle.ep_typed.specs.declared.tree.TypedStmt.TheFolds.{fold-roll-TypedStmt}
+use Rattle.ep_typed.specs.declared.unit.Unit.{Unit as TypedUnit}
+use Rattle.ep_check_expr.specs.Judgements.{Accepts}
+use Rattle.ep_check_unit.specs.Answers.{RefusesRow, passed, stmts_of}
+use Rattle.ep_check_unit.specs.Checks.{AnswersBuilt, IsRefusalOf, IsUnitWith}
+use Rattle.ep_check_unit.specs.Declarations.{Stands, at_line, parts_declared}
+use Rattle.ep_check_unit.specs.Statements.{Judgement, Passes, Waits, Fails, after, compound_judged}
+use Rattle.ep_check_unit.specs.Units.{IsTypedProgram, body_judged, context_of, declarations_wait, first_block, imports_of, parameters_entered, program_form, program_judged}
+use Rattle.ep_check_unit.specs.declared.block.Block.{Block}
+use Rattle.ep_check_unit.specs.declared.outcome.CheckRefusal.{CheckRefusal}
+use Rattle.ep_check_unit.specs.declared.outcome.CheckRefusal.TheVariants as refusal
+use Rattle.ep_check_unit.specs.declared.outcome.Outcome.{Outcome}
+use Rattle.ep_check_unit.specs.declared.outcome.Outcome.TheVariants as outcome
+use Rattle.ep_check_unit.proofs.Kept.{parameters-unit, parts-unit}
+use Rattle.ep_check_unit.proofs.Refusing.{then_stands}
+
+-- a program by the block that its declarations make
+pub program_is : (p : Program) (first second : Block) → parameters_entered p.parameters (first_block p.name) ≡ Accepts first → parts_declared p.parts first ≡ Stands second → program_judged p ≡ body_judged p (Stands second)
+program_is p first second e f =
+    ap (body_judged p) (then_stands (parts_declared p.parts) (at_line p.line (parameters_entered p.parameters (first_block p.name))) first (ap (at_line p.line) e) ∙ f)
+
+-- statements that are refused
+row_refused : (b : Block) (waits : Option ℕ) (row : Judgement Stmts) (r : CheckRefusal) → RefusesRow r row → IsRefusalOf (after program_form (declarations_wait b waits) row) r
+row_refused b waits row refusal.NoMemory h = tt
+row_refused b waits row (refusal.NotBuilt line) h = absurd h
+row_refused b waits (Passes ss) (refusal.Broken c) h = cc
+row_refused b waits (Waits line) (refusal.Broken c) h = cc
+row_refused b None (Fails line rules) (refusal.Broken c) h = h
+row_refused b (Some other) (Fails line rules) (refusal.Broken c) h = h
+
+pub statements_refused : (p : Program) (first second : Block) (r : CheckRefusal) → parameters_entered p.parameters (first_block p.name) ≡ Accepts first → parts_declared p.parts first ≡ Stands second
+    → RefusesRow r (compound_judged (context_of p second) p.body) → IsRefusalOf (program_judged p) r
+statements_refused p first second r e f h = rw (program_is p first second e f) (row_refused second second.waits (compound_judged (context_of p second) p.body) r h)
+
+-- statements that wait, or declarations that do
+waits_first : (b : Block) (waits : Option ℕ) (found : Outcome (List TypedStmt)) (r : CheckRefusal) → AnswersBuilt waits found (Err r) → IsRefusalOf (after program_form (declarations_wait b waits) (passed stmts_of found)) r
+waits_first b None (outcome.Passes ss) r h = cc
+waits_first b None (outcome.Waits line) r h = let e : r ≡ refusal.NotBuilt line = cc in rw e refl
+waits_first b (Some line) (outcome.Passes ss) r h = let e : r ≡ refusal.NotBuilt line = cc in rw e refl
+waits_first b (Some line) (outcome.Waits other) r h = let e : r ≡ refusal.NotBuilt line = cc in rw e refl
+
+pub waits_refused : (p : Program) (first second : Block) (found : Outcome (List TypedStmt)) (r : CheckRefusal) → parameters_entered p.parameters (first_block p.name) ≡ Accepts first → parts_declared p.parts first ≡ Stands second
+    → compound_judged (context_of p second) p.body ≡ passed stmts_of found → AnswersBuilt second.waits found (Err r) → IsRefusalOf (program_judged p) r
+waits_refused p first second found r e f g h = rw (program_is p first second e f, g) (waits_first second second.waits found r h)
+
+-- a program that is accepted
+all_pass : (b : Block) (waits : Option ℕ) (found : Outcome (List TypedStmt)) (ss : List TypedStmt) → AnswersBuilt waits found (Ok ss) → after program_form (declarations_wait b waits) (passed stmts_of found) ≡ Passes (program_form b (stmts_of ss))
+all_pass b None (outcome.Passes all) ss h = let e : ss ≡ all = cc in rw e refl
+all_pass b None (outcome.Waits line) ss h = cc
+all_pass b (Some line) (outcome.Passes all) ss h = cc
+all_pass b (Some line) (outcome.Waits other) ss h = cc
+
+pub program_passes : (p : Program) (first second : Block) (found : Outcome (List TypedStmt)) (ss : List TypedStmt) → parameters_entered p.parameters (first_block p.name) ≡ Accepts first → parts_declared p.parts first ≡ Stands second
+    → compound_judged (context_of p second) p.body ≡ passed stmts_of found → AnswersBuilt second.waits found (Ok ss) → program_judged p ≡ Passes (program_form second (stmts_of ss))
+program_passes p first second found ss e f g h = rw (program_is p first second e f, g) (all_pass second second.waits found ss h)
+
+compound_is : (ss : List TypedStmt) → stmt_of (typed.Compound ss) ≡ Compound (stmts (map stmt_of ss))
+compound_is ss = ap stmt_of (sym (typed.rolls-Compound ss)) ∙ fold-roll-TypedStmt Stmt stmt_step (layer.Compound ss)
+
+empty_is : stmt_of typed.Empty ≡ Empty
+empty_is = ap stmt_of (sym typed.rolls-Empty) ∙ fold-roll-TypedStmt Stmt stmt_step layer.Empty
+
+-- its unit
+pub program_typed : (p : Program) (first second : Block) (found : Outcome (List TypedStmt)) (ss : List TypedStmt) (u : TypedUnit) → parameters_entered p.parameters (first_block p.name) ≡ Accepts first → parts_declared p.parts first ≡ Stands second
+    → compound_judged (context_of p second) p.body ≡ passed stmts_of found → AnswersBuilt second.waits found (Ok ss) → IsUnitWith second (imports_of p.parameters) ss u → IsTypedProgram p u
+program_typed p first second found ss u e f g h w = record {
+  form = program_form second (stmts_of ss);
+  passes = program_passes p first second found ss e f g h;
+  unit = record {
+    name = w.name ∙ parts-unit p.name p.parts first second f (parameters-unit p.name p.parameters (first_block p.name) first e refl);
+    program = w.program;
+    interface = w.interface;
+    imports = w.imports_are;
+    types = w.types;
+    constants = w.constants;
+    variables = w.variables;
+    routines = w.routines;
+    start = ap stmt_of w.start ∙ compound_is ss;
+    stop = ap stmt_of w.stop ∙ empty_is;
+  };
+}

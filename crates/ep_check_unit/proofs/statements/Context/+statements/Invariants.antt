@@ -1,0 +1,13 @@
+use Rattle.std.proofs.Common.{◌≡◌, None, map, drop}
+use Rattle.ep_built.specs.Built.{first_in, statement_unbuilt}
+use Rattle.ep_typed.specs.Viewed.{stmt_of}
+use Rattle.ep_check_unit.specs.Answers.{context_of}
+use Rattle.ep_check_unit.specs.Statements.{in_order, statement_judged}
+use Rattle.ep_check_unit.proofs.Rows.{together}
+use Rattle.ep_check_unit.proofs.statements.Context.+statements.Given as goal
+
+abbrev pub invariant-statements-loop-s : goal.invariant-statements-loop-s
+invariant-statements-loop-s l = record {
+  built : first_in (map statement_unbuilt (drop l.s-index l.all)) ≡ None;
+  same : together (map stmt_of l.found) l.waits (in_order (map (statement_judged (context_of l.self)) (drop l.s-index l.all))) ≡ in_order (map (statement_judged (context_of l.self)) l.all);
+}

@@ -1,0 +1,152 @@
+-- How a declaration leads from one block to the next: the lists grow, and where the unit has what is in the later block, it holds the later block if it holds the earlier one.
+use Rattle.std.proofs.Common.{◌≡◌, ℕ, suc, ◌≤◌, Bool, true, false, List, [], ◌∷◌, ◌++◌, length, Option, Some, None, slice_get, refl, sym, ap, ◌∙◌, arith, append_assoc}
+use Rattle.std.proofs.lemmas.List.{length-append}
+use Rattle.ep_outside.specs.Known.{IsPrefix}
+use Rattle.ep_built.specs.Built.{first_of}
+use Rattle.ep_typed.specs.declared.unit.Unit.{Unit as TypedUnit}
+use Rattle.ep_scope.specs.declared.thing.Thing.{Thing}
+use Rattle.ep_check_expr.specs.Judgements.{Judged, Accepts, Breaks, when_accepted}
+use Rattle.ep_check_unit.specs.Declarations.{entered, noted, unused, with_name}
+use Rattle.ep_check_unit.specs.declared.block.Block.{Block}
+use Rattle.ep_check_unit.proofs.Fits.{Any, Fits, fits_any, fits_then}
+use Rattle.ep_check_unit.proofs.valid.Holds.{Holds, HoldsThing, things_push}
+
+-- ---- lists that grow
+
+append_nil : {A : Type 0} (xs : List A) → xs ++ [] ≡ xs
+append_nil [] = refl
+append_nil (x ∷ xs) = ap (λ ys. x ∷ ys) (append_nil xs)
+
+pub prefix_refl : {A : Type 0} (xs : List A) → IsPrefix xs xs
+prefix_refl xs = record { rest = []; is = sym (append_nil xs) }
+
+pub prefix_more : {A : Type 0} (xs ys : List A) → IsPrefix xs (xs ++ ys)
+prefix_more xs ys = record { rest = ys; is = refl }
+
+pub prefix_trans : {A : Type 0} (xs ys zs : List A) → IsPrefix xs ys → IsPrefix ys zs → IsPrefix xs zs
+prefix_trans xs ys zs p q = record { rest = p.rest ++ q.rest; is = q.is ∙ (ap (λ l. l ++ q.rest) p.is ∙ append_assoc xs p.rest q.rest) }
+
+pub prefix_length : {A : Type 0} (xs ys : List A) → IsPrefix xs ys → length xs ≤ length ys
+prefix_length xs ys p = omega (arith, ap length p.is, length-append xs p.rest)
+
+seam : {A : Type 0} (xs : List A) (y : A) (rest : List A) → slice_get ((xs ++ y ∷ []) ++ rest) (length xs) ≡ Some y
+seam [] y rest = refl
+seam (x ∷ xs) y rest = seam xs y rest
+
+-- what was added last is there, by its place
+pub prefix_last : {A : Type 0} (xs : List A) (y : A) (zs : List A) → IsPrefix (xs ++ y ∷ []) zs → slice_get zs (length xs) ≡ Some y
+prefix_last xs y zs p = ap (λ l. slice_get l (length xs)) p.is ∙ seam xs y p.rest
+
+pub length_push : {A : Type 0} (xs : List A) (y : A) → length (xs ++ y ∷ []) ≡ suc (length xs)
+length_push xs y = omega (arith, length-append xs (y ∷ []))
+
+-- the block's lists have grown, and an item that waited waits
+pub record Grows (b c : Block) : Type 0 where
+  pub types : IsPrefix b.types c.types
+  pub constants : IsPrefix b.constants c.constants
+  pub variables : IsPrefix b.variables c.variables
+  pub waits : c.waits ≡ None → b.waits ≡ None
+
+pub grows_refl : (b : Block) → Grows b b
+grows_refl b = record { types = prefix_refl b.types; constants = prefix_refl b.constants; variables = prefix_refl b.variables; waits = λ w. w }
+
+pub grows_trans : (b c d : Block) → Grows b c → Grows c d → Grows b d
+grows_trans b c d p q = record {
+  types = prefix_trans b.types c.types d.types p.types q.types;
+  constants = prefix_trans b.constants c.constants d.constants p.constants q.constants;
+  variables = prefix_trans b.variables c.variables d.variables p.variables q.variables;
+  waits = λ w. p.waits (q.waits w);
+}
+
+-- what is accepted, is
+pub fits_is : {A : Type 0} (j : Judged A) → Fits (λ a. j ≡ Accepts a) j
+fits_is (Accepts a) = refl
+fits_is (Breaks rules) = tt
+
+-- an item that is not built makes the block wait
+pub waits_some : (o : Option ℕ) (line : ℕ) → first_of o (Some line) ≡ None → ⊥
+waits_some None line e = cc
+waits_some (Some other) line e = cc
+
+module _ (u : TypedUnit) where
+  -- the unit has what is in the block's lists
+  pub record Extends (c : Block) : Type 0 where
+    pub types : IsPrefix c.types u.types
+    pub constants : IsPrefix c.constants u.constants
+    pub variables : IsPrefix c.variables u.variables
+
+  -- so it has what was in them before
+  pub extends_before : (b c : Block) → Grows b c → Extends c → Extends b
+  extends_before b c g e = record {
+    types = prefix_trans b.types c.types u.types g.types e.types;
+    constants = prefix_trans b.constants c.constants u.constants g.constants e.constants;
+    variables = prefix_trans b.variables c.variables u.variables g.variables e.variables;
+  }
+
+  -- ---- whole declarations
+
+  pub record Leads (b c : Block) : Type 0 where
+    pub grows : Grows b c
+    pub holds : Extends c → c.waits ≡ None → Holds u (length b.types) b → Holds u (length c.types) c
+
+  pub leads_refl : (b : Block) → Leads b b
+  leads_refl b = record { grows = grows_refl b; holds = λ e w h. h }
+
+  pub leads_trans : (b c d : Block) → Leads b c → Leads c d → Leads b d
+  leads_trans b c d p q = record {
+    grows = grows_trans b c d p.grows q.grows;
+    holds = λ e w h. q.holds e w (p.holds (extends_before c d q.grows e) (q.grows.waits w) h);
+  }
+
+  leads_on : (b c : Block) (j : Judged Block) → Leads b c → Fits (Leads c) j → Fits (Leads b) j
+  leads_on b c (Accepts d) p q = leads_trans b c d p q
+  leads_on b c (Breaks rules) p q = tt
+
+  -- one after another
+  pub leads_then : (b : Block) (f : Block → Judged Block) (j : Judged Block) → Fits (Leads b) j → ((c : Block) → Fits (Leads c) (f c)) → Fits (Leads b) (when_accepted f j)
+  leads_then b f j h g = fits_then (Leads b) (Leads b) f j h (λ c p. leads_on b c (f c) p (g c))
+
+  -- an item that may not be built
+  pub noted_leads : (built : Bool) (line : ℕ) (b c : Block) → (built ≡ true → Leads b c) → Grows b c → Leads b (noted built line c)
+  noted_leads true line b c h g = h refl
+  noted_leads false line b c h g = record {
+    grows = record { types = g.types; constants = g.constants; variables = g.variables; waits = λ w. absurd (waits_some c.waits line w) };
+    holds = λ e w x. absurd (waits_some c.waits line w);
+  }
+
+  named_grows : (name : List ℕ) (t : Thing) (b : Block) → Grows b (with_name name t b)
+  named_grows name t b = record { types = prefix_refl b.types; constants = prefix_refl b.constants; variables = prefix_refl b.variables; waits = λ w. w }
+
+  -- a name for something that the unit holds
+  pub named_holds : (i : ℕ) (name : List ℕ) (t : Thing) (b : Block) → HoldsThing u i t → Holds u i b → Holds u i (with_name name t b)
+  named_holds i name t b h x = record { unit = x.unit; things = things_push u i b.scope.entries name t x.things h; plain = x.plain; types = x.types; constants = x.constants; variables = x.variables }
+
+  pub entered_leads : (name : List ℕ) (t : Thing) (b : Block) → (Extends b → Holds u (length b.types) b → HoldsThing u (length b.types) t) → Fits (Leads b) (entered name t b)
+  entered_leads name t b h =
+      fits_then Any (Leads b) (λ _. Accepts (with_name name t b)) (unused name b) (fits_any (unused name b))
+      (λ a i. record { grows = named_grows name t b; holds = λ e w x. named_holds (length b.types) name t b (h (extends_before b (with_name name t b) (named_grows name t b) e) x) x })
+
+  -- ---- declarations that leave the types as they are
+
+  -- The first i types of the unit are there throughout, and P holds of them.
+  pub record Enters (P : Type 0) (i : ℕ) (b c : Block) : Type 0 where
+    pub grows : Grows b c
+    pub same : c.types ≡ b.types
+    pub holds : P → Extends c → Holds u i b → Holds u i c
+
+  pub enters_refl : (P : Type 0) (i : ℕ) (b : Block) → Enters P i b b
+  enters_refl P i b = record { grows = grows_refl b; same = refl; holds = λ p e x. x }
+
+  pub enters_trans : (P : Type 0) (i : ℕ) (b c d : Block) → Enters P i b c → Enters P i c d → Enters P i b d
+  enters_trans P i b c d p q = record {
+    grows = grows_trans b c d p.grows q.grows;
+    same = q.same ∙ p.same;
+    holds = λ h e x. q.holds h e (p.holds h (extends_before c d q.grows e) x);
+  }
+
+  enters_on : (P : Type 0) (i : ℕ) (b c : Block) (j : Judged Block) → Enters P i b c → Fits (Enters P i c) j → Fits (Enters P i b) j
+  enters_on P i b c (Accepts d) p q = enters_trans P i b c d p q
+  enters_on P i b c (Breaks rules) p q = tt
+
+  pub enters_then : (P : Type 0) (i : ℕ) (b : Block) (f : Block → Judged Block) (j : Judged Block) → Fits (Enters P i b) j → ((c : Block) → Fits (Enters P i c) (f c)) → Fits (Enters P i b) (when_accepted f j)
+  enters_then P i b f j h g = fits_then (Enters P i b) (Enters P i b) f j h (λ c p. enters_on P i b c (f c) p (g c))

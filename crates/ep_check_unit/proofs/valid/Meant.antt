@@ -1,0 +1,59 @@
+-- What a name of a block means is held by the unit.
+use Rattle.std.proofs.Common.{◌≡◌, ℕ, Bool, true, false, List, [], ◌∷◌, Option, Some, None, sym, subst}
+use Rattle.std.specs.Prelude.{⊤, if◌then◌else◌}
+use Rattle.std.specs.Str.{bytes_eq}
+use Rattle.ep_typed.specs.declared.unit.Unit.{Unit as TypedUnit}
+use Rattle.ep_scope.specs.Required.{look_up, required_of}
+use Rattle.ep_scope.specs.Scopes.{Entries, Meant, Declares, Standard, Requires, Nothing, as_required, as_thing, look_up_if, meant, meant_in, or_outside, unless_hidden}
+use Rattle.ep_scope.specs.declared.required.Required.{Required}
+use Rattle.ep_scope.specs.declared.thing.Thing.{Thing}
+use Rattle.ep_scope.specs.declared.thing.Thing.TheVariants as thing
+use Rattle.ep_check_unit.specs.Declarations.{scopes_of}
+use Rattle.ep_check_unit.specs.declared.block.Block.{Block}
+use Rattle.ep_check_unit.proofs.valid.Holds.{Holds, HoldsDeclaration, HoldsThing, HoldsThings}
+
+module _ (u : TypedUnit) (i : ℕ) where
+  -- what is meant is held
+  abbrev pub HoldsMeant : Meant → Type 0
+  HoldsMeant (Declares d) = (d.unit ≡ u.name) × HoldsDeclaration u i d.number d.what
+  HoldsMeant (Standard file) = ⊤
+  HoldsMeant (Requires r) = ⊤
+  HoldsMeant Nothing = ⊤
+
+  abbrev HoldsIf : Option Thing → Type 0
+  HoldsIf None = ⊤
+  HoldsIf (Some t) = HoldsThing u i t
+
+  found_holds : (b : Bool) (t : Thing) (o : Option Thing) → HoldsThing u i t → HoldsIf o → HoldsIf (if b then Some t else o)
+  found_holds true t o h g = h
+  found_holds false t o h g = g
+
+  look_up_holds : (es : Entries) (name : List ℕ) → HoldsThings u i es → HoldsIf (look_up es name)
+  look_up_holds [] name h = tt
+  look_up_holds (e ∷ es) name h = found_holds (bytes_eq name e.0) e.1 (look_up es name) h.0 (look_up_holds es name h.1)
+
+  thing_meant : (t : Thing) → HoldsThing u i t → HoldsMeant (as_thing t)
+  thing_meant (thing.Declared d) h = h
+  thing_meant (thing.Standard file) h = tt
+
+  required_meant : (o : Option Required) → HoldsMeant (as_required o)
+  required_meant None = tt
+  required_meant (Some r) = tt
+
+  outside_meant : (o : Option Thing) (m : Meant) → HoldsIf o → HoldsMeant m → HoldsMeant (or_outside o m)
+  outside_meant None m h g = g
+  outside_meant (Some t) m h g = thing_meant t h
+
+  -- a name of the block
+  pub meant_holds : (b : Block) (name : List ℕ) → Holds u i b → HoldsMeant (meant (scopes_of b) name)
+  meant_holds b name x = outside_meant (look_up b.scope.entries name) (as_required (required_of name)) (look_up_holds b.scope.entries name x.things) (required_meant (required_of name))
+
+  hidden_meant : (o : Option Thing) (m : Meant) → HoldsMeant m → HoldsMeant (unless_hidden o m)
+  hidden_meant None m h = h
+  hidden_meant (Some t) m h = tt
+
+  -- a block has no interface
+  pub meant_in_holds : (b : Block) (interface name : List ℕ) → Holds u i b → HoldsMeant (meant_in (scopes_of b) interface name)
+  meant_in_holds b interface name x =
+      hidden_meant (look_up b.scope.entries interface) (or_outside (look_up_if (look_up b.scope.qualified interface) name) Nothing)
+      (subst (λ q. HoldsMeant (or_outside (look_up_if (look_up q interface) name) Nothing)) (sym x.plain) tt)

@@ -1,0 +1,410 @@
+-- Statements that the rules accept are valid in a unit that holds the block in which they stand.
+use Rattle.std.proofs.Common.{◌≡◌, ℕ, Bool, true, false, List, [], ◌∷◌, map, Option, Some, None, refl, sym, ap, ◌∙◌, subst}
+use Rattle.std.specs.Prelude.{⊤, ◌≤◌, length, if◌then◌else◌}
+use Rattle.std.specs.Option.{option_map}
+use Rattle.ep_tree.specs.Nodes.{argument_node}
+use Rattle.ep_tree.specs.declared.expression.Access.{out-Access}
+use Rattle.ep_tree.specs.declared.expression.Argument.{Argument, out-Argument, roll-out-Argument}
+use Rattle.ep_tree.specs.declared.expression.ComponentValue.{ComponentValue}
+use Rattle.ep_tree.specs.declared.expression.ComponentValue.TheFolds.{fold-roll-Argument}
+use Rattle.ep_tree.specs.declared.expression.Expression.{Expression}
+use Rattle.ep_tree.specs.declared.expression.Selector.{Selector}
+use Rattle.ep_tree.specs.declared.statement.Arm.{Arm}
+use Rattle.ep_tree.specs.declared.statement.Compound.{Compound, map-Compound, roll-Compound}
+use Rattle.ep_tree.specs.declared.statement.Otherwise.{Otherwise}
+use Rattle.ep_tree.specs.declared.statement.Statement.{Statement, map-Statement, roll-Statement}
+use Rattle.ep_tree.specs.declared.statement.Statement.TheFolds.{fold-roll-Statement, fold-roll-Compound, ind-Compound}
+use Rattle.ep_tree.specs.declared.statement.Statement.TheOpen.{Statement-F, Compound-F}
+use Rattle.ep_typed.specs.Hosts as typed
+use Rattle.ep_typed.specs.Trees as tree
+use Rattle.ep_typed.specs.Trees.{Place, Expr, Item, Stmt, Stmts}
+use Rattle.ep_typed.specs.Valid as valid
+use Rattle.ep_typed.specs.Valid.{AreItems, AreStmts, IsExpr, IsItem, IsPlace, IsStmt, WritesSomething, own, printed_kind}
+use Rattle.ep_typed.specs.declared.operations.Print.{Print}
+use Rattle.ep_typed.specs.declared.tree.StandardFile.{StandardFile}
+use Rattle.ep_typed.specs.declared.tree.StandardFile.TheVariants as file
+use Rattle.ep_typed.specs.declared.unit.Unit.{Unit as TypedUnit}
+use Rattle.ep_scope.specs.Kinds.{same_host}
+use Rattle.ep_scope.specs.Scopes.{Region, Meant, Declares, Standard, Requires, Nothing, meant}
+use Rattle.ep_scope.specs.declared.kind.Host.{Host}
+use Rattle.ep_scope.specs.declared.kind.Host.TheVariants as host
+use Rattle.ep_scope.specs.declared.kind.Kind.{Kind}
+use Rattle.ep_scope.specs.declared.kind.Kind.TheVariants as kind
+use Rattle.ep_scope.specs.declared.required.Procedure.{Procedure}
+use Rattle.ep_scope.specs.declared.required.Procedure.TheVariants as procedure
+use Rattle.ep_scope.specs.declared.required.Required.{Required}
+use Rattle.ep_scope.specs.declared.required.Required.TheVariants as required
+use Rattle.ep_scope.specs.declared.rule.TheConstants as rule
+use Rattle.ep_scope.specs.declared.thing.Declaration.{Declaration}
+use Rattle.ep_scope.specs.declared.thing.Declaration.TheVariants as declaration
+use Rattle.ep_scope.specs.declared.thing.Declared.{Declared}
+use Rattle.ep_check_expr.specs.Agreement.{IsFormOf}
+use Rattle.ep_check_expr.specs.Expressions.{given, judged, judged_value}
+use Rattle.ep_check_expr.specs.Functions.{Given}
+use Rattle.ep_check_expr.specs.Hosts.{typed_host}
+use Rattle.ep_check_expr.specs.Judgements.{Judged, Accepts, Breaks, Typed, both}
+use Rattle.ep_check_expr.specs.Laws.{ExpressionsAreSound, ValuesAreSound}
+use Rattle.ep_check_unit.specs.Declarations.{scopes_of}
+use Rattle.ep_check_unit.specs.Statements.{Context, Judgement, Passes, Waits, Fails, Shown, after, assigned, at_arm, at_compound, at_item, at_otherwise, at_statement, available, call_arguments, call_judged, compound_judged, condition, condition_judged, declared_target, file_given, formed, given_to, if_judged, in_order, item_form, item_judged, items_judged, measured, name_called, one_more, place_named, procedure_called, required_called, shown, something, statement_judged, target_judged, tested, to_file, usually_written, waiting, width_judged, write_judged, written, written_or}
+use Rattle.ep_check_unit.specs.declared.block.Block.{Block}
+use Rattle.ep_check_unit.proofs.Fits.{Any, Fits, fits_any, fits_both, fits_then}
+use Rattle.ep_check_unit.proofs.valid.Holds.{Holds, HoldsDeclaration, holds_agrees, variable_place}
+use Rattle.ep_check_unit.proofs.valid.Leading.{fits_is}
+use Rattle.ep_check_unit.proofs.valid.Meant.{HoldsMeant, meant_holds}
+use Rattle.ep_check_unit.proofs.valid.Types.{host_same}
+
+-- ---- rows of items
+
+-- what passes has the property
+abbrev pub FitsRow : {A : Type 0} → (A → Type 0) → Judgement A → Type 0
+FitsRow P (Passes a) = P a
+FitsRow P (Waits line) = ⊤
+FitsRow P (Fails line rules) = ⊤
+
+-- a form has it, where it is there
+abbrev pub IfForm : {A : Type 0} → (A → Type 0) → Option A → Type 0
+IfForm P None = ⊤
+IfForm P (Some a) = P a
+
+item_fits : {A : Type 0} (P : A → Type 0) (line : ℕ) (j : Judged (Option A)) → Fits (IfForm P) j → FitsRow P (at_item line j)
+item_fits P line (Accepts None) h = tt
+item_fits P line (Accepts (Some a)) h = h
+item_fits P line (Breaks rules) h = tt
+
+formed_fits : {A B : Type 0} (P : A → Type 0) (Q : B → Type 0) (f : A → B) (x : Judgement A) → FitsRow P x → ((a : A) → P a → Q (f a)) → FitsRow Q (formed f x)
+formed_fits P Q f (Passes a) h g = g a h
+formed_fits P Q f (Waits line) h g = tt
+formed_fits P Q f (Fails line rules) h g = tt
+
+waiting_fits : {A B : Type 0} (Q : B → Type 0) (line : ℕ) (x : Judgement A) → FitsRow Q (waiting line x)
+waiting_fits Q line (Passes a) = tt
+waiting_fits Q line (Waits other) = tt
+waiting_fits Q line (Fails other rules) = tt
+
+after_fits : {A B C : Type 0} (P : A → Type 0) (Q : B → Type 0) (R : C → Type 0) (f : A → B → C) (x : Judgement A) (y : Judgement B) → FitsRow P x → FitsRow Q y → ((a : A) (b : B) → P a → Q b → R (f a b)) → FitsRow R (after f x y)
+after_fits P Q R f (Passes a) y h k g = formed_fits Q R (f a) y k (λ b q. g a b h q)
+after_fits P Q R f (Waits line) y h k g = waiting_fits R line y
+after_fits P Q R f (Fails line rules) y h k g = tt
+
+-- the two parts of an argument of a call
+node_is : (scopes : List Region) (line : ℕ) (e : Expression) (w : Option Expression) → given scopes (argument_node line e w) ≡ record { value = judged scopes e; width = option_map (judged scopes) w }
+node_is scopes line e None = simp fold-roll-Argument
+node_is scopes line e (Some w) = simp fold-roll-Argument
+
+argument_is : (scopes : List Region) (a : Argument) → given scopes a ≡ record { value = judged scopes (out-Argument a).value; width = option_map (judged scopes) (out-Argument a).width }
+argument_is scopes a = ap (given scopes) (sym (roll-out-Argument a)) ∙ node_is scopes (out-Argument a).line (out-Argument a).value (out-Argument a).width
+
+module _ (u : TypedUnit) (expressions : ExpressionsAreSound) (values : ValuesAreSound) (i : ℕ) (b : Block) (le : i ≤ length u.types) (holds : Holds u i b) where
+  -- a typed form of the block is valid
+  abbrev IsSoundForm : Typed → Type 0
+  IsSoundForm t = IsFormOf (own u) t.kind t.form
+
+  expression_fits : (e : Expression) → Fits IsSoundForm (judged (scopes_of b) e)
+  expression_fits e = go (judged (scopes_of b) e) refl
+    where
+      go : (j : Judged Typed) → judged (scopes_of b) e ≡ j → Fits IsSoundForm j
+      go (Accepts t) is = expressions (scopes_of b) e t is (own u) (holds_agrees u i b le holds)
+      go (Breaks rules) is = tt
+
+  value_fits : (v : ComponentValue) → Fits IsSoundForm (judged_value (scopes_of b) v)
+  value_fits v = go (judged_value (scopes_of b) v) refl
+    where
+      go : (j : Judged Typed) → judged_value (scopes_of b) v ≡ j → Fits IsSoundForm j
+      go (Accepts t) is = values (scopes_of b) v t is (own u) (holds_agrees u i b le holds)
+      go (Breaks rules) is = tt
+
+  -- ---- conditions
+
+  tested_fits : (k : Kind) (form : Option Expr) → IsFormOf (own u) k form → Fits (IfForm (IsExpr (own u) (valid.Ordinal typed.Boolean))) (tested k form)
+  tested_fits (kind.Ordinal host.Boolean) None h = tt
+  tested_fits (kind.Ordinal host.Boolean) (Some x) h = h.1
+  tested_fits (kind.Ordinal host.Integer) form h = tt
+  tested_fits (kind.Ordinal host.Char) form h = tt
+  tested_fits (kind.Ordinal (host.Enumeration e)) form h = tt
+  tested_fits kind.Text form h = tt
+  tested_fits kind.File form h = tt
+
+  condition_fits : (c : Context) → c.scopes ≡ scopes_of b → (line : ℕ) (e : Expression) → FitsRow (IsExpr (own u) (valid.Ordinal typed.Boolean)) (condition_judged c line e)
+  condition_fits c is line e =
+      subst (λ s. FitsRow (IsExpr (own u) (valid.Ordinal typed.Boolean)) (at_item line (condition (judged s e)))) (sym is)
+      (item_fits (IsExpr (own u) (valid.Ordinal typed.Boolean)) line (condition (judged (scopes_of b) e))
+      (fits_then IsSoundForm (IfForm (IsExpr (own u) (valid.Ordinal typed.Boolean))) (λ v. tested v.kind v.form) (judged (scopes_of b) e) (expression_fits e) (λ t h. tested_fits t.kind t.form h)))
+
+  -- ---- assignments
+
+  -- a variable of an ordinal type is a place; to no other one is anything given
+  abbrev IsTarget : Kind → Place → Type 0
+  IsTarget (kind.Ordinal h) place = IsPlace (own u) (typed_host h) place
+  IsTarget kind.Text place = ⊥
+  IsTarget kind.File place = ⊤
+
+  declared_fits : (d : Declared) (what : Declaration) → d.unit ≡ u.name → HoldsDeclaration u i d.number what → Fits (λ t. IsTarget t.kind t.place) (declared_target d what)
+  declared_fits d (declaration.Variable (kind.Ordinal h)) e x = variable_place u i d.number d.unit h le e x
+  declared_fits d (declaration.Variable kind.Text) e x = absurd x
+  declared_fits d (declaration.Variable kind.File) e x = absurd x
+  declared_fits d (declaration.Constant k v) e x = tt
+  declared_fits d (declaration.«Type» h) e x = tt
+
+  place_fits : (name : List ℕ) (m : Meant) → HoldsMeant u i m → Fits (λ t. IsTarget t.kind t.place) (place_named name m)
+  place_fits name (Declares d) x = declared_fits d d.what x.0 x.1
+  place_fits name (Standard f) x = tt
+  place_fits name (Requires r) x = tt
+  place_fits name Nothing x = tt
+
+  target_fits : (c : Context) → c.scopes ≡ scopes_of b → (name : List ℕ) (selectors : List Selector) → Fits (λ t. IsTarget t.kind t.place) (target_judged c name selectors)
+  target_fits c is name [] = subst (λ s. Fits (λ t. IsTarget t.kind t.place) (place_named name (meant s name))) (sym is) (place_fits name (meant (scopes_of b) name) (meant_holds u i b name holds))
+  target_fits c is name (s ∷ ss) = tt
+
+  assign_form : (h g : Host) (line : ℕ) (place : Place) (form : Option Expr) → same_host h g ≡ true → IsPlace (own u) (typed_host h) place → IsFormOf (own u) (kind.Ordinal g) form
+      → IfForm (IsStmt (own u)) (option_map (tree.Assign line place) form)
+  assign_form h g line place None s p f = tt
+  assign_form h g line place (Some x) s p f = (typed_host h, p, subst (λ k. IsExpr (own u) (valid.Ordinal k) x) (host_same u h g s) f.1)
+
+  given_if : (same : Bool) (h g : Host) (line : ℕ) (place : Place) (form : Option Expr) → same_host h g ≡ same → IsPlace (own u) (typed_host h) place → IsFormOf (own u) (kind.Ordinal g) form
+      → Fits (IfForm (IsStmt (own u))) (if same then Accepts (option_map (tree.Assign line place) form) else Breaks (rule.ASSIGNMENT ∷ []))
+  given_if true h g line place form s p f = assign_form h g line place form s p f
+  given_if false h g line place form s p f = tt
+
+  given_fits : (to from : Kind) (line : ℕ) (place : Place) (form : Option Expr) → IsTarget to place → IsFormOf (own u) from form → Fits (IfForm (IsStmt (own u))) (given_to to from line place form)
+  given_fits (kind.Ordinal h) (kind.Ordinal g) line place form p f = given_if (same_host h g) h g line place form refl p f
+  given_fits (kind.Ordinal host.Char) kind.Text line place form p f = tt
+  given_fits (kind.Ordinal host.Integer) kind.Text line place form p f = tt
+  given_fits (kind.Ordinal host.Boolean) kind.Text line place form p f = tt
+  given_fits (kind.Ordinal (host.Enumeration e)) kind.Text line place form p f = tt
+  given_fits (kind.Ordinal host.Char) kind.File line place form p f = tt
+  given_fits (kind.Ordinal host.Integer) kind.File line place form p f = tt
+  given_fits (kind.Ordinal host.Boolean) kind.File line place form p f = tt
+  given_fits (kind.Ordinal (host.Enumeration e)) kind.File line place form p f = tt
+  given_fits kind.Text from line place form p f = absurd p
+  given_fits kind.File (kind.Ordinal g) line place form p f = tt
+  given_fits kind.File kind.Text line place form p f = tt
+  given_fits kind.File kind.File line place form p f = tt
+
+  assignment_fits : (c : Context) → c.scopes ≡ scopes_of b → (line : ℕ) (name : List ℕ) (selectors : List Selector) (v : ComponentValue)
+      → FitsRow (IsStmt (own u)) (at_item line (both (assigned line) (target_judged c name selectors) (judged_value c.scopes v)))
+  assignment_fits c is line name selectors v =
+      item_fits (IsStmt (own u)) line _
+      (fits_both (λ t. IsTarget t.kind t.place) IsSoundForm (IfForm (IsStmt (own u))) (assigned line) (target_judged c name selectors) (judged_value c.scopes v) (target_fits c is name selectors)
+      (subst (λ s. Fits IsSoundForm (judged_value s v)) (sym is) (value_fits v)) (λ t x p f. given_fits t.kind x.kind line t.place x.form p f))
+
+  -- ---- `write` and `writeln`
+
+  -- the form is of the kind that is printed so
+  abbrev IsShown : Shown → Type 0
+  IsShown s = IfForm (IsExpr (own u) (printed_kind s.print)) s.form
+
+  ordinal_form : (h : Host) (form : Option Expr) → IsFormOf (own u) (kind.Ordinal h) form → IfForm (IsExpr (own u) (valid.Ordinal (typed_host h))) form
+  ordinal_form h None f = tt
+  ordinal_form h (Some x) f = f.1
+
+  text_form : (form : Option Expr) → IsFormOf (own u) kind.Text form → IfForm (IsExpr (own u) valid.Bytes) form
+  text_form None f = tt
+  text_form (Some x) f = f
+
+  shown_by : (k : Kind) (form : Option Expr) (t : Typed) → t.form ≡ form → t.kind ≡ k → IsFormOf (own u) k form → Fits IsShown (shown t)
+  shown_by (kind.Ordinal host.Integer) form t e g f = rw (e, g) (ordinal_form host.Integer form f)
+  shown_by (kind.Ordinal host.Char) form t e g f = rw (e, g) (ordinal_form host.Char form f)
+  shown_by (kind.Ordinal host.Boolean) form t e g f = rw (e, g) (ordinal_form host.Boolean form f)
+  shown_by (kind.Ordinal (host.Enumeration n)) form t e g f = rw (e, g) tt
+  shown_by kind.Text form t e g f = rw (e, g) (text_form form f)
+  shown_by kind.File form t e g f = rw (e, g) tt
+
+  -- a width is an integer, where it is there
+  abbrev IsWidth : Option (Option Expr) → Type 0
+  IsWidth None = ⊤
+  IsWidth (Some form) = IfForm (IsExpr (own u) (valid.Ordinal typed.Integer)) form
+
+  measured_fits : (k : Kind) (form : Option Expr) → IsFormOf (own u) k form → Fits (IfForm (IsExpr (own u) (valid.Ordinal typed.Integer))) (measured k form)
+  measured_fits (kind.Ordinal host.Integer) form f = ordinal_form host.Integer form f
+  measured_fits (kind.Ordinal host.Char) form f = tt
+  measured_fits (kind.Ordinal host.Boolean) form f = tt
+  measured_fits (kind.Ordinal (host.Enumeration n)) form f = tt
+  measured_fits kind.Text form f = tt
+  measured_fits kind.File form f = tt
+
+  width_fits : (w : Option Expression) → Fits IsWidth (width_judged (option_map (judged (scopes_of b)) w))
+  width_fits None = tt
+  width_fits (Some e) =
+      fits_then IsSoundForm IsWidth _ (judged (scopes_of b) e) (expression_fits e)
+      (λ t h. fits_then (IfForm (IsExpr (own u) (valid.Ordinal typed.Integer))) IsWidth (λ form. Accepts (Some form)) (measured t.kind t.form) (measured_fits t.kind t.form h) (λ form p. p))
+
+  item_form_fits : (how : Print) (form : Option Expr) (width : Option (Option Expr)) → IfForm (IsExpr (own u) (printed_kind how)) form → IsWidth width → IfForm (IsItem (own u)) (item_form how form width)
+  item_form_fits how None width f w = tt
+  item_form_fits how (Some x) None f w = f
+  item_form_fits how (Some x) (Some None) f w = tt
+  item_form_fits how (Some x) (Some (Some y)) f w = (f, w)
+
+  item_judged_fits : (a : Argument) → Fits (IfForm (IsItem (own u))) (item_judged (given (scopes_of b) a))
+  item_judged_fits a =
+      subst (λ g. Fits (IfForm (IsItem (own u))) (item_judged g)) (sym (argument_is (scopes_of b) a))
+      (fits_both IsShown IsWidth (IfForm (IsItem (own u))) (λ value width. Accepts (item_form value.print value.form width)) _ _
+      (fits_then IsSoundForm IsShown shown (judged (scopes_of b) (out-Argument a).value) (expression_fits (out-Argument a).value) (λ t h. shown_by t.kind t.form t refl refl h))
+      (width_fits (out-Argument a).width)
+      (λ s w f g. item_form_fits s.print s.form w f g))
+
+  more_fits : (x : Option Item) (xs : Option (List Item)) → IfForm (IsItem (own u)) x → IfForm (AreItems (own u)) xs → IfForm (AreItems (own u)) (one_more x xs)
+  more_fits None xs f g = tt
+  more_fits (Some x) None f g = tt
+  more_fits (Some x) (Some xs) f g = (f, g)
+
+  items_fit : (arguments : List Argument) → Fits (IfForm (AreItems (own u))) (items_judged (map (given (scopes_of b)) arguments))
+  items_fit [] = tt
+  items_fit (a ∷ arguments) = fits_both (IfForm (IsItem (own u))) (IfForm (AreItems (own u))) (IfForm (AreItems (own u))) _ _ _ (item_judged_fits a) (items_fit arguments) (λ x xs f g. more_fits x xs f g)
+
+  -- arguments many items arguments parameters, where they are built
+  abbrev IsAsLong : List Given → Option (List Item) → Type 0
+  IsAsLong [] (Some (x ∷ xs)) = ⊥
+  IsAsLong (g ∷ gs) (Some []) = ⊥
+  IsAsLong gs items = ⊤
+
+  as_long : (x : Option Item) (xs : Option (List Item)) (g : Given) (gs : List Given) → IsAsLong (g ∷ gs) (one_more x xs)
+  as_long None xs g gs = tt
+  as_long (Some x) None g gs = tt
+  as_long (Some x) (Some xs) g gs = tt
+
+  items_long : (gs : List Given) → Fits (IsAsLong gs) (items_judged gs)
+  items_long [] = tt
+  items_long (g ∷ gs) = fits_both Any Any (IsAsLong (g ∷ gs)) _ (item_judged g) (items_judged gs) (fits_any (item_judged g)) (fits_any (items_judged gs)) (λ x xs p q. as_long x xs g gs)
+
+  something_written : (ends_line : Bool) (gs : List Given) (items : List Item) (a : Unit {0}) → something ends_line gs ≡ Accepts a → IsAsLong gs (Some items) → WritesSomething (own u) items ends_line
+  something_written true gs [] a e l = tt
+  something_written true gs (x ∷ xs) a e l = tt
+  something_written false [] [] a e l = cc
+  something_written false [] (x ∷ xs) a e l = absurd l
+  something_written false (g ∷ gs) [] a e l = absurd l
+  something_written false (g ∷ gs) (x ∷ xs) a e l = tt
+
+  file_fits : (f : StandardFile) (line : ℕ) (ends_line : Bool) (gs : List Given) (a : Unit {0}) (items : Option (List Item)) → something ends_line gs ≡ Accepts a → IfForm (AreItems (own u)) items → IsAsLong gs items
+      → IfForm (IsStmt (own u)) (to_file f (option_map (λ is. tree.Write line is ends_line) items))
+  file_fits file.Input line ends_line gs a items e f l = tt
+  file_fits file.Output line ends_line gs a None e f l = tt
+  file_fits file.Output line ends_line gs a (Some items) e f l = (f, something_written ends_line gs items a e l)
+
+  pair_fits : {A : Type 0} (P Q : A → Type 0) (j : Judged A) → Fits P j → Fits Q j → Fits (λ x. P x × Q x) j
+  pair_fits P Q (Accepts a) p q = (p, q)
+  pair_fits P Q (Breaks rules) p q = tt
+
+  written_fits : (f : StandardFile) (line : ℕ) (ends_line : Bool) (arguments : List Argument) → Fits (IfForm (IsStmt (own u))) (written f line ends_line (map (given (scopes_of b)) arguments))
+  written_fits f line ends_line arguments =
+      let gs = map (given (scopes_of b)) arguments in
+      fits_both (λ a. something ends_line gs ≡ Accepts a) (λ items. IfForm (AreItems (own u)) items × IsAsLong gs items) (IfForm (IsStmt (own u))) _ (something ends_line gs) (items_judged gs)
+      (fits_is (something ends_line gs))
+      (pair_fits (IfForm (AreItems (own u))) (IsAsLong gs) (items_judged gs) (items_fit arguments) (items_long gs))
+      (λ a items e p. file_fits f line ends_line gs a items e p.0 p.1)
+
+  usually_fits : (c : Context) → c.scopes ≡ scopes_of b → (line : ℕ) (ends_line : Bool) (arguments : List Argument) → Fits (IfForm (IsStmt (own u))) (usually_written c line ends_line arguments)
+  usually_fits c is line ends_line arguments =
+      fits_both (IfForm (IsStmt (own u))) Any (IfForm (IsStmt (own u))) (λ form there. Accepts form) _ (available c.output)
+      (subst (λ s. Fits (IfForm (IsStmt (own u))) (written file.Output line ends_line (map (given s) arguments))) (sym is) (written_fits file.Output line ends_line arguments)) (fits_any (available c.output)) (λ form there p q. p)
+
+  written_or_fits : (c : Context) → c.scopes ≡ scopes_of b → (f : Option StandardFile) (line : ℕ) (ends_line : Bool) (first : Argument) (more : List Argument) → Fits (IfForm (IsStmt (own u))) (written_or c f line ends_line first more)
+  written_or_fits c is (Some f) line ends_line first more = subst (λ s. Fits (IfForm (IsStmt (own u))) (written f line ends_line (map (given s) more))) (sym is) (written_fits f line ends_line more)
+  written_or_fits c is None line ends_line first more = usually_fits c is line ends_line (first ∷ more)
+
+  write_fits : (c : Context) → c.scopes ≡ scopes_of b → (line : ℕ) (ends_line : Bool) (arguments : List Argument) → Fits (IfForm (IsStmt (own u))) (write_judged c line ends_line arguments)
+  write_fits c is line ends_line [] = usually_fits c is line ends_line []
+  write_fits c is line ends_line (first ∷ more) = written_or_fits c is (file_given c first) line ends_line first more
+
+  -- ---- calls
+
+  procedure_fits : (c : Context) → c.scopes ≡ scopes_of b → (line : ℕ) (p : Procedure) (arguments : List Argument) → Fits (IfForm (IsStmt (own u))) (procedure_called c line p arguments)
+  procedure_fits c is line procedure.Halt [] = tt
+  procedure_fits c is line procedure.Halt (a ∷ arguments) = tt
+  procedure_fits c is line procedure.Write arguments = write_fits c is line false arguments
+  procedure_fits c is line procedure.WriteLine arguments = write_fits c is line true arguments
+
+  required_fits : (c : Context) → c.scopes ≡ scopes_of b → (line : ℕ) (r : Required) (arguments : List Argument) → Fits (IfForm (IsStmt (own u))) (required_called c line r arguments)
+  required_fits c is line (required.Constant k) arguments = tt
+  required_fits c is line (required.«Type» t) arguments = tt
+  required_fits c is line (required.Function f) arguments = tt
+  required_fits c is line (required.Procedure p) arguments = procedure_fits c is line p arguments
+
+  call_fits : (c : Context) → c.scopes ≡ scopes_of b → (line : ℕ) (name : List ℕ) (m : Meant) (arguments : List Argument) → Fits (IfForm (IsStmt (own u))) (call_judged c line name m arguments)
+  call_fits c is line name (Declares d) arguments = tt
+  call_fits c is line name (Standard f) arguments = tt
+  call_fits c is line name (Requires r) arguments = required_fits c is line r arguments
+  call_fits c is line name Nothing arguments = tt
+
+  called_fits : (c : Context) → c.scopes ≡ scopes_of b → (line : ℕ) (name : List ℕ) (arguments : Option (List Argument)) → Fits (IfForm (IsStmt (own u))) (name_called c line name arguments)
+  called_fits c is line name None = tt
+  called_fits c is line name (Some arguments) = call_fits c is line name (meant c.scopes name) arguments
+
+  -- ---- statements
+
+  module _ (c : Context) (is : c.scopes ≡ scopes_of b) where
+    abbrev IsStatement : Statement → Type 0
+    IsStatement s = FitsRow (IsStmt (own u)) (statement_judged c s)
+
+    abbrev IsCompound : Compound → Type 0
+    IsCompound s = FitsRow (AreStmts (own u)) (compound_judged c s)
+
+    abbrev AnyArm : Arm → Type 0
+    AnyArm a = ⊤
+
+    abbrev AnyOtherwise : Otherwise → Type 0
+    AnyOtherwise o = ⊤
+
+    abbrev ValidStatement : Type 0
+    ValidStatement = (s : Statement) × IsStatement s
+
+    abbrev ValidArm : Type 0
+    ValidArm = (a : Arm) × AnyArm a
+
+    abbrev ValidCompound : Type 0
+    ValidCompound = (s : Compound) × IsCompound s
+
+    abbrev ValidOtherwise : Type 0
+    ValidOtherwise = (o : Otherwise) × AnyOtherwise o
+
+    -- layers of such statements, without what holds of them
+    abbrev statement_layer : Statement-F ValidStatement ValidArm ValidCompound ValidOtherwise → Statement-F Statement Arm Compound Otherwise
+    statement_layer = map-Statement ValidStatement ValidArm ValidCompound ValidOtherwise Statement Arm Compound Otherwise (λ s. s.0) (λ a. a.0) (λ s. s.0) (λ o. o.0)
+
+    abbrev compound_layer : Compound-F ValidStatement ValidArm ValidCompound ValidOtherwise → Compound-F Statement Arm Compound Otherwise
+    compound_layer = map-Compound ValidStatement ValidArm ValidCompound ValidOtherwise Statement Arm Compound Otherwise (λ s. s.0) (λ a. a.0) (λ s. s.0) (λ o. o.0)
+
+    rolled : (x : Statement-F Statement Arm Compound Otherwise) → FitsRow (IsStmt (own u)) (at_statement c (map-Statement Statement Arm Compound Otherwise (Judgement Stmt) (Unit {0}) (Judgement Stmts) (Unit {0}) (statement_judged c) (λ a. tt) (compound_judged c) (λ o. tt) x)) → IsStatement (roll-Statement x)
+    rolled x h = subst (FitsRow (IsStmt (own u))) (sym (fold-roll-Statement (Judgement Stmt) (Unit {0}) (Judgement Stmts) (Unit {0}) (at_statement c) (at_arm c) (at_compound c) (at_otherwise c) x)) h
+
+    rolled_compound : (x : Compound-F Statement Arm Compound Otherwise) → FitsRow (AreStmts (own u)) (in_order (map (statement_judged c) x.statements)) → IsCompound (roll-Compound x)
+    rolled_compound x h = subst (FitsRow (AreStmts (own u))) (sym (fold-roll-Compound (Judgement Stmt) (Unit {0}) (Judgement Stmts) (Unit {0}) (at_statement c) (at_arm c) (at_compound c) (at_otherwise c) x)) h
+
+    row_fits : (ss : List ValidStatement) → FitsRow (AreStmts (own u)) (in_order (map (statement_judged c) (map (λ s. s.0) ss)))
+    row_fits [] = tt
+    row_fits (s ∷ ss) = after_fits (IsStmt (own u)) (AreStmts (own u)) (AreStmts (own u)) tree.next (statement_judged c s.0) (in_order (map (statement_judged c) (map (λ s. s.0) ss))) s.1 (row_fits ss) (λ x xs p q. (p, q))
+
+    if_fits : (line : ℕ) (x : Judgement Expr) (y z : Judgement Stmt) → FitsRow (IsExpr (own u) (valid.Ordinal typed.Boolean)) x → FitsRow (IsStmt (own u)) y → FitsRow (IsStmt (own u)) z → FitsRow (IsStmt (own u)) (if_judged line x y z)
+    if_fits line x y z h k l =
+        after_fits (IsExpr (own u) (valid.Ordinal typed.Boolean)) (λ p. IsStmt (own u) p.0 × IsStmt (own u) p.1) (IsStmt (own u)) _ x (after (λ a b. (a, b)) y z) h
+        (after_fits (IsStmt (own u)) (IsStmt (own u)) (λ p. IsStmt (own u) p.0 × IsStmt (own u) p.1) (λ a b. (a, b)) y z k l (λ a b p q. (p, q)))
+        (λ e p f g. (f, g.0, g.1))
+
+    -- each statement, where those in it are valid
+    statement_step : (y : Statement-F ValidStatement ValidArm ValidCompound ValidOtherwise) → IsStatement (roll-Statement (statement_layer y))
+    statement_step (Statement-F.Empty line) = rolled (Statement-F.Empty line) tt
+    statement_step (Statement-F.Assignment line access v) = rolled (Statement-F.Assignment line access v) (assignment_fits c is line (out-Access access).name (out-Access access).selectors v)
+    statement_step (Statement-F.Call line access) =
+        rolled (Statement-F.Call line access)
+        (item_fits (IsStmt (own u)) line (name_called c line (out-Access access).name (call_arguments (out-Access access).selectors)) (called_fits c is line (out-Access access).name (call_arguments (out-Access access).selectors)))
+    statement_step (Statement-F.Compound s) = rolled (Statement-F.Compound s.0) (formed_fits (AreStmts (own u)) (IsStmt (own u)) tree.Compound (compound_judged c s.0) s.1 (λ ss p. p))
+    statement_step (Statement-F.If line e then_part None) =
+        rolled (statement_layer (Statement-F.If line e then_part None)) (if_fits line (condition_judged c line e) (statement_judged c then_part.0) (Passes tree.Empty) (condition_fits c is line e) then_part.1 tt)
+    statement_step (Statement-F.If line e then_part (Some other)) =
+        rolled (statement_layer (Statement-F.If line e then_part (Some other))) (if_fits line (condition_judged c line e) (statement_judged c then_part.0) (statement_judged c other.0) (condition_fits c is line e) then_part.1 other.1)
+    statement_step (Statement-F.While line e body) =
+        rolled (Statement-F.While line e body.0)
+        (after_fits (IsExpr (own u) (valid.Ordinal typed.Boolean)) (IsStmt (own u)) (IsStmt (own u)) (tree.While line) (condition_judged c line e) (statement_judged c body.0) (condition_fits c is line e) body.1 (λ x s p q. (p, q)))
+    statement_step (Statement-F.Case line e arms other) = rolled (statement_layer (Statement-F.Case line e arms other)) tt
+    statement_step (Statement-F.Repeat line statements e) = rolled (statement_layer (Statement-F.Repeat line statements e)) tt
+    statement_step (Statement-F.For line variable start direction end body) = rolled (statement_layer (Statement-F.For line variable start direction end body)) tt
+    statement_step (Statement-F.ForIn line variable members body) = rolled (statement_layer (Statement-F.ForIn line variable members body)) tt
+    statement_step (Statement-F.With line accesses body) = rolled (statement_layer (Statement-F.With line accesses body)) tt
+
+    -- the statements of a compound statement that pass are valid
+    pub compound_fits : (s : Compound) → FitsRow (AreStmts (own u)) (compound_judged c s)
+    compound_fits =
+        ind-Compound IsStatement AnyArm IsCompound AnyOtherwise
+        (λ x y e. subst (λ z. IsStatement (roll-Statement z)) e (statement_step y))
+        (λ x y e. tt)
+        (λ x y e. subst (λ z. IsCompound (roll-Compound z)) e (rolled_compound (compound_layer y) (row_fits y.statements)))
+        (λ x y e. tt)

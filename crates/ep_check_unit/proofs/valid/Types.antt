@@ -1,0 +1,289 @@
+-- Types that are written in a block have denoters that are valid in the unit that has its lists.
+use Rattle.std.proofs.Common.{◌≡◌, ℕ, suc, ◌≤◌, ◌+◌, Bool, true, false, ◌&&◌, List, [], ◌∷◌, length, Option, Some, None, slice_get, IsTrue, refl, sym, ap, ◌∙◌, subst, arith}
+use Rattle.std.proofs.lemmas.Bool.Decides.{nat_tests}
+use Rattle.std.proofs.lemmas.Option.{slice_get_within}
+use Rattle.std.specs.Prelude.{int_le, if◌then◌else◌}
+use Rattle.ep_tree.specs.declared.expression.Expression.{Expression}
+use Rattle.ep_tree.specs.declared.types.Core.TheOpen.{Core-F}
+use Rattle.ep_typed.specs.Denoters.{definition_of}
+use Rattle.ep_typed.specs.Hosts as typed
+use Rattle.ep_typed.specs.Hosts.{is_of_host}
+use Rattle.ep_typed.specs.Operations.{maxint}
+use Rattle.ep_typed.specs.Trees as tree
+use Rattle.ep_typed.specs.Valid.{own}
+use Rattle.ep_typed.specs.Viewed.{denoter_of}
+use Rattle.ep_typed.specs.declared.denoter.Bound.TheVariants.{Constant as Fixed}
+use Rattle.ep_typed.specs.declared.denoter.Denoter.TheVariants as denoter
+use Rattle.ep_typed.specs.declared.denoter.RequiredType.{RequiredType}
+use Rattle.ep_typed.specs.declared.denoter.RequiredType.TheVariants as simple
+use Rattle.ep_typed.specs.declared.unit.Unit.{Unit as TypedUnit}
+use Rattle.ep_typed.specs.declared.unit.UnitType.{UnitType}
+use Rattle.ep_typed.specs.declared.value.TypeValue.TheVariants.{Ordinal as Range}
+use Rattle.ep_typed.specs.declared.value.Value.{Value}
+use Rattle.ep_typed.specs.declared.value.Value.TheVariants as value
+use Rattle.ep_scope.specs.Kinds.{same_host}
+use Rattle.ep_scope.specs.Scopes.{Meant, Declares, Standard, Requires, Nothing, meant, meant_in}
+use Rattle.ep_scope.specs.declared.kind.Enumeration.{Enumeration}
+use Rattle.ep_scope.specs.declared.kind.Host.{Host}
+use Rattle.ep_scope.specs.declared.kind.Host.TheVariants as host
+use Rattle.ep_scope.specs.declared.kind.Kind.{Kind}
+use Rattle.ep_scope.specs.declared.kind.Kind.TheVariants as kind
+use Rattle.ep_scope.specs.declared.required.Required.TheVariants as required
+use Rattle.ep_scope.specs.declared.rule.TheConstants as rule
+use Rattle.ep_scope.specs.declared.thing.Declaration.{Declaration}
+use Rattle.ep_scope.specs.declared.thing.Declaration.TheVariants as declaration
+use Rattle.ep_scope.specs.declared.thing.Declared.{Declared}
+use Rattle.ep_check_expr.specs.Agreement.{IsConstantOf}
+use Rattle.ep_check_expr.specs.Constants.{bound_judged}
+use Rattle.ep_check_expr.specs.Hosts.{typed_host}
+use Rattle.ep_check_expr.specs.Judgements.{Accepts, Breaks}
+use Rattle.ep_check_expr.specs.Laws.{BoundsAreSound, BoundsAreKnown}
+use Rattle.ep_check_expr.specs.Names.{undeclared}
+use Rattle.ep_check_expr.specs.declared.constants.ConstantForm.{ConstantForm}
+use Rattle.ep_check_unit.specs.Declarations.{Written, common_host, core_written, declared_type, enumerated, enumeration, host_denoter, next_enumeration, noted, number_in, ordered, range, required_host, scopes_of, subrange, subrange_denoter, type_meant, type_named}
+use Rattle.ep_check_unit.specs.declared.block.Block.{Block}
+use Rattle.ep_check_unit.proofs.Fits.{Fits, fits_both, fits_pair, fits_then, fits_weaker}
+use Rattle.ep_check_unit.proofs.valid.Constants.{ListsWithin, enumerated_counts, enumerated_enters}
+use Rattle.ep_check_unit.proofs.valid.Denoting.{Denotes, IsSmall, denotes_enumeration, denotes_more, denotes_required, denotes_subrange, full_type}
+use Rattle.ep_check_unit.proofs.valid.Holds.{HasHostHere, Holds, HoldsDeclaration, Lists, ListsEnumeration, ListsKind, enumeration_is, holds_agrees, holds_more, host_denotes, known_listed, lists_more, lists_small, named_is, required_lists, subrange_is}
+use Rattle.ep_check_unit.proofs.valid.Leading.{Extends, Enters, Grows, fits_is, grows_refl, prefix_length, prefix_refl, waits_some}
+use Rattle.ep_check_unit.proofs.valid.Meant.{HoldsMeant, meant_holds, meant_in_holds}
+
+module _ (u : TypedUnit) where
+  -- ---- types by their names
+
+  -- The type has a name that is there already, and nothing is declared with it.
+  pub record Names (b : Block) (w : Written) : Type 0 where
+    pub same : w.block ≡ b
+    pub holds : (i : ℕ) → Holds u i b → HasHostHere u i (denoter_of w.denoter) w.host × Lists u i w.host
+
+  required_names : (i : ℕ) (r : RequiredType) → HasHostHere u i (denoter_of (denoter.Required r)) (required_host r) × Lists u i (required_host r)
+  required_names i simple.Integer = ((full_type typed.Integer, required_lists u i simple.Integer typed.Integer (denotes_required u.types simple.Integer)), tt)
+  required_names i simple.Char = ((full_type typed.Char, required_lists u i simple.Char typed.Char (denotes_required u.types simple.Char)), tt)
+  required_names i simple.Boolean = ((full_type typed.Boolean, required_lists u i simple.Boolean typed.Boolean (denotes_required u.types simple.Boolean)), tt)
+
+  -- what is meant is held wherever the block is
+  abbrev HeldThroughout : Block → Meant → Type 0
+  HeldThroughout b m = (i : ℕ) → Holds u i b → HoldsMeant u i m
+
+  declared_names : (d : Declared) (what : Declaration) (b : Block) → ((i : ℕ) → Holds u i b → HoldsDeclaration u i d.number what) → Fits (Names b) (declared_type d what b)
+  declared_names d (declaration.«Type» h) b held = record {
+    same = refl;
+    holds = λ i x.
+        let t = held i x in
+        ((t.denotes.0, subst (λ n. Denotes u.types i n (typed_host h) t.denotes.0) (sym (named_is d.number [])) t.denotes.1), t.lists);
+  }
+  declared_names d (declaration.Constant k v) b held = tt
+  declared_names d (declaration.Variable k) b held = tt
+
+  meant_names : (missing : List ℕ) (m : Meant) (b : Block) → HeldThroughout b m → Fits (Names b) (type_meant missing m b)
+  meant_names missing (Declares d) b held = declared_names d d.what b (λ i x. (held i x).1)
+  meant_names missing (Standard file) b held = tt
+  meant_names missing (Requires (required.Constant c)) b held = tt
+  meant_names missing (Requires (required.«Type» r)) b held = record { same = refl; holds = λ i x. required_names i r }
+  meant_names missing (Requires (required.Function f)) b held = tt
+  meant_names missing (Requires (required.Procedure p)) b held = tt
+  meant_names missing Nothing b held = tt
+
+  pub type_named-names : (name : List ℕ) (second : Option (List ℕ)) (b : Block) → Fits (Names b) (type_named name second b)
+  type_named-names name None b = meant_names (undeclared name) (meant (scopes_of b) name) b (λ i x. meant_holds u i b name x)
+  type_named-names interface (Some name) b = meant_names (rule.UNDECLARED ∷ []) (meant_in (scopes_of b) interface name) b (λ i x. meant_in_holds u i b interface name x)
+
+  -- ---- types that are written
+
+  -- the unit has the denoter as the type after those of the block
+  pub record IsNext (b : Block) (d : tree.Denoter) : Type 0 where
+    pub entry : UnitType
+    pub at : slice_get u.types (length b.types) ≡ Some entry
+    pub definition : definition_of entry ≡ d
+
+  -- what the unit holds then
+  pub record Wrote (i : ℕ) (w : Written) : Type 0 where
+    pub block : Holds u (suc i) w.block
+    pub denotes : HasHostHere u i (denoter_of w.denoter) w.host
+    pub lists : Lists u (suc i) w.host
+
+  -- The type is written, and becomes an entry.
+  pub record Writes (b : Block) (w : Written) : Type 0 where
+    pub grows : Grows b w.block
+    pub same : w.block.types ≡ b.types
+    pub holds : Extends u w.block → w.block.waits ≡ None → IsNext b (denoter_of w.denoter) → Holds u (length b.types) b → Wrote (length b.types) w
+
+  named_writes : (b : Block) (w : Written) → Names b w → Writes b w
+  named_writes b w n = record {
+    grows = subst (Grows b) (sym n.same) (grows_refl b);
+    same = ap (λ c. c.types) n.same;
+    holds = λ e free next x.
+        let i : ℕ = length b.types in
+        let y = n.holds i x in
+        record {
+          block = subst (Holds u (suc i)) (sym n.same) (holds_more u i (suc i) b (omega arith) x);
+          denotes = y.0;
+          lists = lists_more u i (suc i) w.host (omega arith) y.1;
+        };
+  }
+
+  -- ---- subranges
+
+  -- two bounds of one host
+  record OneHost (k l : Kind) (h : Host) : Type 0 where
+    left : k ≡ kind.Ordinal h
+    other : Host
+    right : l ≡ kind.Ordinal other
+    alike : same_host h other ≡ true
+
+  one_host-if : (b : Bool) (g k h : Host) → same_host g k ≡ b → (if b then Accepts g else Breaks (rule.HOSTS ∷ [])) ≡ Accepts h → OneHost (kind.Ordinal g) (kind.Ordinal k) h
+  one_host-if true g k h e f =
+      let is : g ≡ h = cc in
+      record { left = ap kind.Ordinal is; other = k; right = refl; alike = subst (λ x. same_host x k ≡ true) is e }
+  one_host-if false g k h e f = cc
+
+  one_host : (k l : Kind) (h : Host) → common_host k l ≡ Accepts h → OneHost k l h
+  one_host (kind.Ordinal g) (kind.Ordinal k) h e = one_host-if (same_host g k) g k h refl e
+  one_host (kind.Ordinal g) kind.Text h e = cc
+  one_host (kind.Ordinal g) kind.File h e = cc
+  one_host kind.Text l h e = cc
+  one_host kind.File l h e = cc
+
+  last_same : (e g : Enumeration) → same_host (host.Enumeration e) (host.Enumeration g) ≡ true → g.last ≡ e.last
+  last_same e g s = grind (arith, nat_tests)
+
+  -- the same host has the same values
+  pub host_same : (h g : Host) → same_host h g ≡ true → typed_host g ≡ typed_host h
+  host_same host.Integer host.Integer e = refl
+  host_same host.Char host.Char e = refl
+  host_same host.Boolean host.Boolean e = refl
+  host_same (host.Enumeration e) (host.Enumeration g) s = ap typed.Enumeration (last_same e g s)
+  host_same host.Integer host.Char e = cc
+  host_same host.Integer host.Boolean e = cc
+  host_same host.Integer (host.Enumeration g) e = cc
+  host_same host.Char host.Integer e = cc
+  host_same host.Char host.Boolean e = cc
+  host_same host.Char (host.Enumeration g) e = cc
+  host_same host.Boolean host.Integer e = cc
+  host_same host.Boolean host.Char e = cc
+  host_same host.Boolean (host.Enumeration g) e = cc
+  host_same (host.Enumeration f) host.Integer e = cc
+  host_same (host.Enumeration f) host.Char e = cc
+  host_same (host.Enumeration f) host.Boolean e = cc
+
+  -- a bound is of its host
+  bound_of_host : (h : Host) (v : Value) → IsConstantOf (kind.Ordinal h) v → IsTrue (is_of_host (typed_host h) (number_in v))
+  bound_of_host h (value.Word z) s = s.1
+  bound_of_host h (value.Text bytes) s = absurd s
+
+  ordered_if : (b : Bool) (a : Unit {0}) → (if b then Accepts tt else Breaks (rule.EMPTY_RANGE ∷ [])) ≡ Accepts a → b ≡ true
+  ordered_if true a e = refl
+  ordered_if false a e = cc
+
+  in_order : (built : Bool) (low high : ConstantForm) → built ≡ true → (if built then int_le (number_in low.value) (number_in high.value) else true) ≡ true → IsTrue (int_le (number_in low.value) (number_in high.value))
+  in_order true low high e f = f
+  in_order false low high e f = cc
+
+  -- what is known of the bounds
+  record AreBounds (b : Block) (h : Host) (low high : ConstantForm) : Type 0 where
+    hosts : OneHost low.kind high.kind h
+    order : (built : Bool) → (low.built && high.built) ≡ built → built ≡ true → IsTrue (int_le (number_in low.value) (number_in high.value))
+    lists : (i : ℕ) → Holds u i b → Lists u i h
+    low_is : (i : ℕ) → i ≤ length u.types → Holds u i b → IsTrue (is_of_host (typed_host h) (number_in low.value))
+    high_is : (i : ℕ) → i ≤ length u.types → Holds u i b → IsTrue (is_of_host (typed_host h) (number_in high.value))
+
+  range_denotes : (i : ℕ) (h : Host) (low high : ConstantForm) → Lists u i h → IsTrue (int_le (number_in low.value) (number_in high.value)) → IsTrue (is_of_host (typed_host h) (number_in low.value)) → IsTrue (is_of_host (typed_host h) (number_in high.value))
+      → HasHostHere u i (denoter_of (subrange_denoter h low high)) h
+  range_denotes i h low high l order lo hi = (
+    Range (number_in low.value) (number_in high.value),
+    subst (λ d. Denotes u.types i d (typed_host h) (Range (number_in low.value) (number_in high.value))) (sym (subrange_is (host_denoter h) (Fixed (number_in low.value)) (Fixed (number_in high.value))))
+        (denotes_subrange u.types i (denoter_of (host_denoter h)) (typed_host h) (full_type (typed_host h)) (number_in low.value) (number_in high.value) (host_denotes u i h l) (lists_small u i h l) order lo hi),
+  )
+
+  subrange_writes : (built : Bool) (line : ℕ) (h : Host) (low high : ConstantForm) (b : Block) → (low.built && high.built) ≡ built → AreBounds b h low high → Writes b (record { denoter = subrange_denoter h low high; host = h; block = noted built line b })
+  subrange_writes true line h low high b e k = record {
+    grows = grows_refl b;
+    same = refl;
+    holds = λ ext free next x.
+        let i : ℕ = length b.types in
+        let le : i ≤ length u.types = prefix_length b.types u.types ext.types in
+        record {
+          block = holds_more u i (suc i) b (omega arith) x;
+          denotes = range_denotes i h low high (k.lists i x) (k.order true e refl) (k.low_is i le x) (k.high_is i le x);
+          lists = lists_more u i (suc i) h (omega arith) (k.lists i x);
+        };
+  }
+  subrange_writes false line h low high b e k = record {
+    grows = record { types = prefix_refl b.types; constants = prefix_refl b.constants; variables = prefix_refl b.variables; waits = λ w. absurd (waits_some b.waits line w) };
+    same = refl;
+    holds = λ ext free next x. absurd (waits_some b.waits line free);
+  }
+
+  ordinal_constant : (k : Kind) (h : Host) (v : Value) → k ≡ kind.Ordinal h → IsConstantOf k v → IsConstantOf (kind.Ordinal h) v
+  ordinal_constant k h v e s = subst (λ x. IsConstantOf x v) e s
+
+  range_bounds : BoundsAreSound → BoundsAreKnown → (b : Block) (first second : Expression) (low high : ConstantForm) (h : Host) (a : Unit {0}) → bound_judged (scopes_of b) first ≡ Accepts low → bound_judged (scopes_of b) second ≡ Accepts high
+      → common_host low.kind high.kind ≡ Accepts h → ordered low high ≡ Accepts a → AreBounds b h low high
+  range_bounds sound known b first second low high h a e f c o =
+      let hosts = one_host low.kind high.kind h c in
+      record {
+        hosts = hosts;
+        order = λ built is yes. in_order built low high yes (subst (λ x. (if x then int_le (number_in low.value) (number_in high.value) else true) ≡ true) is (ordered_if _ a o));
+        lists = λ i x. subst (ListsKind u i) hosts.left (known_listed u i b low.kind x (known (scopes_of b) first low e));
+        low_is = λ i le x. bound_of_host h low.value (ordinal_constant low.kind h low.value hosts.left (sound (scopes_of b) first low e (own u) (holds_agrees u i b le x)));
+        high_is = λ i le x.
+            subst (λ g. IsTrue (is_of_host g (number_in high.value))) (host_same h hosts.other hosts.alike)
+            (bound_of_host hosts.other high.value (ordinal_constant high.kind hosts.other high.value hosts.right (sound (scopes_of b) second high f (own u) (holds_agrees u i b le x))));
+      }
+
+  range_writes : BoundsAreSound → BoundsAreKnown → (line : ℕ) (b : Block) (first second : Expression) (low high : ConstantForm) → bound_judged (scopes_of b) first ≡ Accepts low → bound_judged (scopes_of b) second ≡ Accepts high → Fits (Writes b) (range line b low high)
+  range_writes sound known line b first second low high e f =
+      fits_then (λ h. common_host low.kind high.kind ≡ Accepts h) (Writes b) _ (common_host low.kind high.kind) (fits_is (common_host low.kind high.kind))
+      (λ h c. fits_then (λ a. ordered low high ≡ Accepts a) (Writes b) (λ _. Accepts (subrange line h low high b)) (ordered low high) (fits_is (ordered low high))
+      (λ a o. subrange_writes (low.built && high.built) line h low high b refl (range_bounds sound known b first second low high h a e f c o)))
+
+  -- ---- enumerations
+
+  few_constants : (n m k last : ℕ) → n ≡ m + suc last → n ≤ k → k ≤ maxint → IsSmall (typed.Enumeration last)
+  few_constants n m k last e le few = grind (arith, nat_tests)
+
+  enumeration_writes : length u.constants ≤ maxint → (first : List ℕ) (others : List (List ℕ)) (b c : Block)
+      → Enters u (ListsWithin u (suc (length b.types)) (record { number = length b.types; last = length others })) (suc (length b.types)) b c → length c.constants ≡ length b.constants + suc (length others)
+      → Writes b (record { denoter = denoter.Enumeration (first ∷ others); host = next_enumeration (length others) b; block = c })
+  enumeration_writes few first others b c enters counts = record {
+    grows = enters.grows;
+    same = enters.same;
+    holds = λ ext free next x.
+        let i : ℕ = length b.types in
+        let small = few_constants (length c.constants) (length b.constants) (length u.constants) (length others) counts (prefix_length c.constants u.constants ext.constants) few in
+        let le : suc i ≤ length u.types = omega (arith, slice_get_within u.types i next.entry next.at) in
+        let listed : ListsEnumeration u (suc i) (record { number = i; last = length others }) =
+        record { before = omega arith; entry = next.entry; at = next.at; first = first; others = others; names = next.definition ∙ enumeration_is (first ∷ others); last = refl; small = small } in
+        record {
+          block = enters.holds (le, listed) ext (holds_more u i (suc i) b (omega arith) x);
+          denotes = (
+            full_type (typed.Enumeration (length others)),
+            subst (λ d. Denotes u.types i d (typed.Enumeration (length others)) (full_type (typed.Enumeration (length others)))) (sym (enumeration_is (first ∷ others)))
+                (denotes_more u.types 0 i (tree.Enumeration (first ∷ others)) (typed.Enumeration (length others)) (full_type (typed.Enumeration (length others))) (omega arith) (denotes_enumeration u.types first others small)),
+          );
+          lists = listed;
+        };
+  }
+
+  pub enumeration-writes : length u.constants ≤ maxint → (names : List (List ℕ)) (b : Block) → Fits (Writes b) (enumeration names b)
+  enumeration-writes few [] b = tt
+  enumeration-writes few (first ∷ others) b =
+      let e : Enumeration = record { number = length b.types; last = length others } in
+      let entered = enumerated (host.Enumeration e) 0 (first ∷ others) b in
+      fits_then (λ c. Enters u (ListsWithin u (suc (length b.types)) e) (suc (length b.types)) b c × (length c.constants ≡ length b.constants + suc (length others))) (Writes b) _ entered
+      (fits_pair (Enters u (ListsWithin u (suc (length b.types)) e) (suc (length b.types)) b) (λ c. length c.constants ≡ length b.constants + suc (length others)) entered (enumerated_enters u (suc (length b.types)) e 0 (first ∷ others) b (omega arith)) (enumerated_counts e 0 (first ∷ others) b))
+      (λ c p. enumeration_writes few first others b c p.0 p.1)
+
+  -- ---- denoters
+
+  pub core_written-writes : {A B C D E F G H : Type 0} → length u.constants ≤ maxint → BoundsAreSound → BoundsAreKnown → (line : ℕ) (core : Core-F A B C D E F G H) (b : Block) → Fits (Writes b) (core_written line core b)
+  core_written-writes few sound known line (Core-F.Named at name tuple) b = fits_weaker (Names b) (Writes b) (type_named name.first name.second b) (λ w n. named_writes b w n) (type_named-names name.first name.second b)
+  core_written-writes few sound known line (Core-F.Range at low high) b =
+      fits_both (λ x. bound_judged (scopes_of b) low ≡ Accepts x) (λ y. bound_judged (scopes_of b) high ≡ Accepts y) (Writes b) (range line b) (bound_judged (scopes_of b) low) (bound_judged (scopes_of b) high) (fits_is (bound_judged (scopes_of b) low)) (fits_is (bound_judged (scopes_of b) high))
+      (λ x y e f. range_writes sound known line b low high x y e f)
+  core_written-writes few sound known line (Core-F.Enumeration at names) b = enumeration-writes few names b
+  core_written-writes few sound known line (Core-F.Pointer at name) b = tt
+  core_written-writes few sound known line (Core-F.Structured at packed structure) b = tt
+  core_written-writes few sound known line (Core-F.Restricted at name) b = tt
+  core_written-writes few sound known line (Core-F.TypeOf at name) b = tt

@@ -1,0 +1,118 @@
+-- What the functions answer of what is judged: the form, or a rule that fails first; want of memory is free.
+use Rattle.std.specs.Prelude.{◌≡◌, ℕ, nat_eq, Bool, List, [], ◌∷◌, ◌++◌, length, map, Option, Result, Ok, Err, IsTrue, ⊤}
+use Rattle.std.specs.List.{list_any}
+use Rattle.ep_typed.specs.Trees.{Item, Stmts, stmts}
+use Rattle.ep_typed.specs.Viewed.{item_of, place_of, stmt_of}
+use Rattle.ep_typed.specs.declared.denoter.Denoter.{Denoter}
+use Rattle.ep_typed.specs.declared.denoter.Denoter.TheVariants as denoter
+use Rattle.ep_typed.specs.declared.value.Value.{Value}
+use Rattle.ep_scope.specs.declared.kind.Host.{Host}
+use Rattle.ep_typed.specs.declared.tree.TypedStmt.{TypedStmt}
+use Rattle.ep_typed.specs.declared.tree.WriteItem.{WriteItem}
+use Rattle.ep_check_expr.specs.Judgements.{Judged, Accepts, breaks}
+use Rattle.ep_check_expr.specs.declared.forms.Refusal.{Refusal}
+use Rattle.ep_check_expr.specs.declared.forms.Refusal.TheVariants.{Rule, NoMemory}
+use Rattle.ep_check_unit.specs.Declarations as spec
+use Rattle.ep_check_unit.specs.Declarations.{Standing, Stands, falls_at}
+use Rattle.ep_check_unit.specs.Statements.{Judgement, Passes, Waits, fails_at}
+use Rattle.ep_check_unit.specs.Statements as rows
+use Rattle.ep_check_unit.specs.declared.block.Block.{Block}
+use Rattle.ep_check_unit.specs.declared.outcome.CheckRefusal.{CheckRefusal}
+use Rattle.ep_check_unit.specs.declared.outcome.CheckRefusal.TheVariants as refusal
+use Rattle.ep_check_unit.specs.declared.outcome.Outcome.{Outcome}
+use Rattle.ep_check_unit.specs.declared.outcome.Outcome.TheVariants as outcome
+use Rattle.ep_check_unit.specs.declared.statements.Context.{Context}
+use Rattle.ep_check_unit.specs.declared.statements.Target.{Target}
+use Rattle.ep_check_unit.specs.declared.types.NamedType.{NamedType}
+use Rattle.ep_check_unit.specs.declared.types.TypeName.{TypeName}
+use Rattle.ep_check_unit.specs.declared.types.TypeName.TheVariants as type_name
+use Rattle.ep_check_unit.specs.declared.types.Written.{Written}
+
+-- a count as a number of 32 bits, where it is one
+abbrev pub AnswersNumber : ℕ → Result ℕ Refusal → Type 0
+AnswersNumber count (Ok n) = n ≡ count
+AnswersNumber count (Err (Rule rule)) = ⊥
+AnswersNumber count (Err NoMemory) = ⊤
+
+-- whether the rule is one of these
+abbrev pub fails_among : ℕ → List ℕ → Bool
+fails_among rule rules = list_any (nat_eq rule) rules
+
+-- a rule that fails in what is judged, or want of memory
+abbrev pub Refuses : {A : Type 0} → Refusal → Judged A → Type 0
+Refuses (Rule rule) judged = IsTrue (breaks rule judged)
+Refuses NoMemory judged = ⊤
+
+-- the form exactly where it is accepted, or a refusal
+abbrev pub AnswersForm : {T A : Type 0} → (T → A) → Result T Refusal → Judged A → Type 0
+AnswersForm view (Ok t) judged = judged ≡ Accepts (view t)
+AnswersForm view (Err refusal) judged = Refuses refusal judged
+
+-- the block after what is judged, exactly where it is accepted, or a refusal
+abbrev pub AnswersBlock : Result (Unit {0}) Refusal → Block → Judged Block → Type 0
+AnswersBlock (Ok done) new judged = judged ≡ Accepts new
+AnswersBlock (Err refusal) new judged = Refuses refusal judged
+
+-- a rule that fails at the first item that breaks one, or want of memory
+abbrev pub RefusesItems : CheckRefusal → Standing → Type 0
+RefusesItems (refusal.Broken b) standing = IsTrue (falls_at b.rule b.line standing)
+RefusesItems (refusal.NotBuilt line) standing = ⊥
+RefusesItems refusal.NoMemory standing = ⊤
+
+-- the block after some items, exactly where they break no rule, or a refusal
+abbrev pub AnswersStanding : Result (Unit {0}) CheckRefusal → Block → Standing → Type 0
+AnswersStanding (Ok done) new standing = standing ≡ Stands new
+AnswersStanding (Err r) new standing = RefusesItems r standing
+
+-- what items come to that break no rule
+abbrev pub passed : {T A : Type 0} → (T → A) → Outcome T → Judgement A
+passed view (outcome.Passes t) = Passes (view t)
+passed view (outcome.Waits line) = Waits line
+
+-- a rule that fails at the first item of a row that breaks one, or want of memory
+abbrev pub RefusesRow : {A : Type 0} → CheckRefusal → Judgement A → Type 0
+RefusesRow (refusal.Broken b) row = IsTrue (fails_at b.rule b.line row)
+RefusesRow (refusal.NotBuilt line) row = ⊥
+RefusesRow refusal.NoMemory row = ⊤
+
+-- what a row of items comes to, exactly where it breaks no rule, or a refusal
+abbrev pub AnswersRow : {T A : Type 0} → (T → A) → Result (Outcome T) CheckRefusal → Judgement A → Type 0
+AnswersRow view (Ok found) row = row ≡ passed view found
+AnswersRow view (Err r) row = RefusesRow r row
+
+-- the name of a type as a denoter
+abbrev pub denoter_named : TypeName → Denoter
+denoter_named (type_name.Required r) = denoter.Required r
+denoter_named (type_name.Entry number) = denoter.Named number []
+
+-- types that are written, in a block
+abbrev pub named_in : Block → NamedType → spec.Written
+named_in b t = record { denoter = denoter_named t.name; host = t.host; block = b }
+
+abbrev pub written_in : Block → Written → spec.Written
+written_in b w = record { denoter = w.denoter; host = w.host; block = b }
+
+-- what the statements of a block know
+abbrev pub context_of : Context → rows.Context
+context_of c = record { scopes = c.scopes.now; output = c.output }
+
+-- what is assigned to
+abbrev pub target_of : Target → rows.Target
+target_of t = record { place = place_of t.place; kind = t.kind }
+
+-- statements and written items, as plain data
+abbrev pub stmts_of : List TypedStmt → Stmts
+stmts_of ts = stmts (map stmt_of ts)
+
+abbrev pub items_of : List WriteItem → List Item
+items_of is = map item_of is
+
+-- a constant's entry more
+abbrev pub with_constant_entry : List ℕ → Host → Value → Block → Block
+with_constant_entry name h v b = record b { constants = b.constants ++ record { name = name; denoter = spec.host_denoter h; value = v } ∷ [] }
+
+-- a type more, by its number
+abbrev pub AnswersType : Option (List ℕ) → ℕ → Denoter → Block → Result ℕ Refusal → Block → Type 0
+AnswersType name line d old (Ok number) new = (number ≡ length old.types) × (new ≡ spec.with_type name line d old)
+AnswersType name line d old (Err (Rule rule)) new = ⊥
+AnswersType name line d old (Err NoMemory) new = ⊤

@@ -1,0 +1,303 @@
+-- What the static rules say of declarations, item by item: what has been declared so far, or the first item that breaks a rule.
+--
+-- Items are taken in the order of the text. A constant definition and a variable declaration are items, on the line of their first token, and a type part is one, on the line of the word `type`. A name means what is declared before its use, or outside of the block: a later declaration of it plays no part (own).
+use Rattle.std.specs.List.{list_any}
+use Rattle.std.specs.Prelude.{ℕ, nat_eq, ◌==◌, ℤ, pos, suc, int_le, Bool, true, false, ◌&&◌, List, [], ◌∷◌, ◌++◌, length, Option, Some, None, if◌then◌else◌}
+use Rattle.ep_tree.specs.declared.types.Core.TheOpen.{Core-F}
+use Rattle.ep_tree.specs.declared.types.Core.{Core, out-Core}
+use Rattle.ep_tree.specs.declared.types.Plain.{out-Plain}
+use Rattle.ep_tree.specs.declared.types.TypeDenoter.{TypeDenoter, out-TypeDenoter}
+use Rattle.ep_tree.specs.declared.declaration.ConstantDefinition.{ConstantDefinition}
+use Rattle.ep_tree.specs.declared.declaration.TypeDefinition.{TypeDefinition}
+use Rattle.ep_tree.specs.declared.declaration.VariableDeclaration.{VariableDeclaration}
+use Rattle.ep_tree.specs.declared.routine.Part.TheOpen.{Part-F}
+use Rattle.ep_tree.specs.declared.routine.Part.{Part, out-Part}
+use Rattle.ep_built.specs.Built.{first_of}
+use Rattle.ep_typed.specs.declared.denoter.Bound.TheVariants.{Constant as Fixed}
+use Rattle.ep_typed.specs.declared.denoter.Denoter.{Denoter}
+use Rattle.ep_typed.specs.declared.denoter.Denoter.TheVariants as denoter
+use Rattle.ep_typed.specs.declared.denoter.RequiredType.{RequiredType}
+use Rattle.ep_typed.specs.declared.denoter.RequiredType.TheVariants as simple
+use Rattle.ep_typed.specs.declared.value.Value.{Value}
+use Rattle.ep_typed.specs.declared.value.Value.TheVariants as value
+use Rattle.ep_scope.specs.Kinds.{same_host}
+use Rattle.ep_scope.specs.Required.{look_up}
+use Rattle.ep_scope.specs.Scopes.{Region, with_entry, Meant, Declares, Standard, Requires, Nothing, meant, meant_in}
+use Rattle.ep_scope.specs.declared.kind.Host.{Host}
+use Rattle.ep_scope.specs.declared.kind.Host.TheVariants as host
+use Rattle.ep_scope.specs.declared.kind.Kind.{Kind}
+use Rattle.ep_scope.specs.declared.kind.Kind.TheVariants as kind
+use Rattle.ep_scope.specs.declared.required.Required.TheVariants as required
+use Rattle.ep_scope.specs.declared.rule.TheConstants as rule
+use Rattle.ep_scope.specs.declared.thing.Declaration.{Declaration}
+use Rattle.ep_scope.specs.declared.thing.Declaration.TheVariants as declaration
+use Rattle.ep_scope.specs.declared.thing.Declared.{Declared}
+use Rattle.ep_scope.specs.declared.thing.Thing.{Thing}
+use Rattle.ep_scope.specs.declared.thing.Thing.TheVariants as thing
+use Rattle.ep_check_expr.specs.Judgements.{Judged, Accepts, Breaks, unbuilt, when_accepted, both}
+use Rattle.ep_check_expr.specs.Constants.{constant_judged, bound_judged}
+use Rattle.ep_check_expr.specs.declared.constants.ConstantForm.{ConstantForm}
+use Rattle.ep_check_expr.specs.Names.{undeclared}
+use Rattle.ep_check_unit.specs.declared.block.Block.{Block}
+
+-- ---- names
+
+-- the scopes in view, the innermost first
+abbrev pub scopes_of : Block → List Region
+scopes_of b = b.scope ∷ []
+
+-- no name is declared twice in one scope (ISO 10206, 6.2.2.7)
+abbrev pub unless_there : Option Thing → Judged (Unit {0})
+unless_there None = Accepts tt
+unless_there (Some other) = Breaks (rule.TWICE ∷ [])
+
+abbrev pub unused : List ℕ → Block → Judged (Unit {0})
+unused name b = unless_there (look_up b.scope.entries name)
+
+-- what a declaration of this unit is, by its number
+abbrev pub own_thing : Block → ℕ → Declaration → Thing
+own_thing b number what = thing.Declared (record { unit = b.unit; number = number; what = what })
+
+-- one name more
+abbrev pub with_name : List ℕ → Thing → Block → Block
+with_name name t b = record b { scope = with_entry b.scope name t }
+
+-- a name is entered, where it is not there
+abbrev pub entered : List ℕ → Thing → Block → Judged Block
+entered name t b = when_accepted (λ _. Accepts (with_name name t b)) (unused name b)
+
+-- an item on this line that is accepted, and maybe not built
+abbrev pub noted : Bool → ℕ → Block → Block
+noted true line b = b
+noted false line b = record b { waits = first_of b.waits (Some line) }
+
+-- ---- types
+
+-- the denoter of the type that is a host: a required type, or the enumeration's entry in the list of types
+abbrev pub host_denoter : Host → Denoter
+host_denoter host.Integer = denoter.Required simple.Integer
+host_denoter host.Char = denoter.Required simple.Char
+host_denoter host.Boolean = denoter.Required simple.Boolean
+host_denoter (host.Enumeration e) = denoter.Named e.number []
+
+-- the host of a required type (ISO 10206, 6.4.2.2)
+abbrev pub required_host : RequiredType → Host
+required_host simple.Integer = host.Integer
+required_host simple.Char = host.Char
+required_host simple.Boolean = host.Boolean
+
+-- A constant is entered, with an entry in the list of constants where its type is ordinal. No other constant is built.
+abbrev pub with_constant : List ℕ → Kind → Value → Block → Block
+with_constant name (kind.Ordinal h) v b =
+    with_name name (own_thing b (length b.constants) (declaration.Constant (kind.Ordinal h) v))
+    (record b { constants = b.constants ++ record { name = name; denoter = host_denoter h; value = v } ∷ [] })
+with_constant name k v b = with_name name (own_thing b (length b.constants) (declaration.Constant k v)) b
+
+-- a constant whose name is not there yet
+abbrev pub constant_entered : List ℕ → Kind → Value → Block → Judged Block
+constant_entered name k v b = when_accepted (λ _. Accepts (with_constant name k v b)) (unused name b)
+
+-- a type that is written: its denoter and its host, and what has been declared with it
+pub record Written : Type 0 where
+  pub denoter : Denoter
+  pub host : Host
+  pub block : Block
+
+abbrev pub misnamed : Judged Written
+misnamed = Breaks (rule.OTHER_THING ∷ [])
+
+-- a type by a name of the unit, which is its entry in the list of types
+abbrev pub declared_type : Declared → Declaration → Block → Judged Written
+declared_type d (declaration.«Type» h) b = Accepts (record { denoter = denoter.Named d.number []; host = h; block = b })
+declared_type d _ b = misnamed
+
+-- a type by a name that means this (ISO 10206, 6.4.1), or else these rules fail
+abbrev pub type_meant : List ℕ → Meant → Block → Judged Written
+type_meant missing (Declares d) b = declared_type d d.what b
+type_meant missing (Standard file) b = misnamed
+type_meant missing (Requires (required.«Type» r)) b = Accepts (record { denoter = denoter.Required r; host = required_host r; block = b })
+type_meant missing (Requires _) b = misnamed
+type_meant missing Nothing b = Breaks missing
+
+-- a type by its name, or by the name of an interface and that of its constituent
+abbrev pub type_named : List ℕ → Option (List ℕ) → Block → Judged Written
+type_named name None b = type_meant (undeclared name) (meant (scopes_of b) name) b
+type_named interface (Some name) b = type_meant (rule.UNDECLARED ∷ []) (meant_in (scopes_of b) interface name) b
+
+-- the number of a value
+abbrev pub number_in : Value → ℤ
+number_in (value.Word z) = z
+number_in (value.Text bytes) = pos 0
+
+-- the denoter of a subrange of a host
+abbrev pub subrange_denoter : Host → ConstantForm → ConstantForm → Denoter
+subrange_denoter h low high = denoter.Subrange (host_denoter h) (Fixed (number_in low.value)) (Fixed (number_in high.value))
+
+-- a subrange of a host
+abbrev pub subrange : ℕ → Host → ConstantForm → ConstantForm → Block → Written
+subrange line h low high b =
+    record {
+      denoter = subrange_denoter h low high;
+      host = h;
+      block = noted (low.built && high.built) line b;
+    }
+
+-- the host of two values (ISO 10206, 6.4.2.4)
+abbrev pub common_host : Kind → Kind → Judged Host
+common_host (kind.Ordinal h) (kind.Ordinal g) = if same_host h g then Accepts h else Breaks (rule.HOSTS ∷ [])
+common_host _ _ = Breaks (rule.HOSTS ∷ [])
+
+-- the bounds are in order; of one that is not built it is not known yet
+abbrev pub are_ordered : ConstantForm → ConstantForm → Bool
+are_ordered low high = if low.built && high.built then int_le (number_in low.value) (number_in high.value) else true
+
+abbrev pub ordered : ConstantForm → ConstantForm → Judged (Unit {0})
+ordered low high = if are_ordered low high then Accepts tt else Breaks (rule.EMPTY_RANGE ∷ [])
+
+-- two bounds of one host, in order
+abbrev pub range : ℕ → Block → ConstantForm → ConstantForm → Judged Written
+range line b low high = when_accepted (λ h. when_accepted (λ _. Accepts (subrange line h low high b)) (ordered low high)) (common_host low.kind high.kind)
+
+-- an enumeration whose entry in the list of types is the next one, by the ordinal number of its last constant
+abbrev pub next_enumeration : ℕ → Block → Host
+next_enumeration last b = host.Enumeration (record { number = length b.types; last = last })
+
+-- its constants from this number on, in order
+abbrev pub enumerated : Host → ℕ → List (List ℕ) → Block → Judged Block
+enumerated h ordinal [] b = Accepts b
+enumerated h ordinal (name ∷ names) b = when_accepted (enumerated h (suc ordinal) names) (constant_entered name (kind.Ordinal h) (value.Word (pos ordinal)) b)
+
+-- an enumeration (ISO 10206, 6.4.2.3); no text has one without constants, which would be an empty range
+abbrev pub enumeration_of : Host → List (List ℕ) → Block → Judged Written
+enumeration_of h names b = when_accepted (λ c. Accepts (record { denoter = denoter.Enumeration names; host = h; block = c })) (enumerated h 0 names b)
+
+abbrev pub enumeration : List (List ℕ) → Block → Judged Written
+enumeration [] b = Breaks (rule.EMPTY_RANGE ∷ [])
+enumeration (first ∷ others) b = enumeration_of (next_enumeration (length others) b) (first ∷ others) b
+
+-- a type denoter of an item on this line
+abbrev pub core_written : {A B C D E F G H : Type 0} → ℕ → Core-F A B C D E F G H → Block → Judged Written
+core_written line (Core-F.Named at name tuple) b = type_named name.first name.second b
+core_written line (Core-F.Range at low high) b = both (range line b) (bound_judged (scopes_of b) low) (bound_judged (scopes_of b) high)
+core_written line (Core-F.Enumeration at names) b = enumeration names b
+core_written line _ b = unbuilt
+
+abbrev pub core_of : TypeDenoter → Core
+core_of t = (out-Plain (out-TypeDenoter t).plain).core
+
+abbrev pub type_written : ℕ → TypeDenoter → Block → Judged Written
+type_written line t b = core_written line (out-Core (core_of t)) b
+
+-- one entry more of the list of types, of this name and line
+abbrev pub with_type : Option (List ℕ) → ℕ → Denoter → Block → Block
+with_type name line d b =
+    record b {
+      types =
+          b.types
+          ++ record {
+            entry = record { «module» = b.unit; number = length b.types; name = name; formals = []; denoter = d };
+            line = Some line;
+          } ∷ [];
+    }
+
+-- ---- constant definitions (ISO 10206, 6.3.1)
+
+abbrev pub constant_definition : ConstantDefinition → Block → Judged Block
+constant_definition d b =
+    both (λ form new. Accepts (noted form.built d.line (with_constant d.name form.kind form.value b))) (constant_judged (scopes_of b) d.value) (unused d.name b)
+
+-- ---- type parts (ISO 10206, 6.4.1)
+
+-- the entry of a definition, and then its name
+abbrev pub type_entered : TypeDefinition → Written → Judged Block
+type_entered d w =
+    entered d.name (own_thing w.block (length w.block.types) (declaration.«Type» w.host)) (with_type (Some d.name) d.line w.denoter w.block)
+
+-- a definition in a type part on this line
+abbrev pub type_definition : ℕ → TypeDefinition → Block → Judged Block
+type_definition line d b = when_accepted (type_entered d) (type_written line d.of b)
+
+abbrev pub type_definitions : ℕ → List TypeDefinition → Block → Judged Block
+type_definitions line [] b = Accepts b
+type_definitions line (d ∷ ds) b = when_accepted (type_definitions line ds) (type_definition line d b)
+
+-- ---- variable declarations (ISO 10206, 6.5.1)
+
+-- A denoter that is no name becomes an entry without a name, which the variables then name (own).
+abbrev pub settled : {A B C D E F G H : Type 0} → ℕ → Core-F A B C D E F G H → Written → Written
+settled line (Core-F.Named at name tuple) w = w
+settled line _ w =
+    record {
+      denoter = denoter.Named (length w.block.types) [];
+      host = w.host;
+      block = with_type None line w.denoter w.block;
+    }
+
+abbrev pub settled_type : {A B C D E F G H : Type 0} → ℕ → Core-F A B C D E F G H → Block → Judged Written
+settled_type line core b = when_accepted (λ w. Accepts (settled line core w)) (core_written line core b)
+
+-- a variable of the declaration that is under way
+abbrev pub with_variable : ℕ → Denoter → Host → List ℕ → Block → Block
+with_variable line d h name b =
+    with_name name (own_thing b (length b.variables) (declaration.Variable (kind.Ordinal h)))
+    (record b {
+      variables =
+          b.variables ++ record { name = name; line = line; declaration = b.declarations; denoter = d; tuple = []; parameter = false } ∷ [];
+    })
+
+abbrev pub variable_entered : ℕ → Denoter → Host → List ℕ → Block → Judged Block
+variable_entered line d h name b = when_accepted (λ _. Accepts (with_variable line d h name b)) (unused name b)
+
+abbrev pub variables_entered : ℕ → Denoter → Host → List (List ℕ) → Block → Judged Block
+variables_entered line d h [] b = Accepts b
+variables_entered line d h (name ∷ names) b = when_accepted (variables_entered line d h names) (variable_entered line d h name b)
+
+-- one declaration more
+abbrev pub declaration_ended : Block → Block
+declaration_ended b = record b { declarations = suc b.declarations }
+
+abbrev pub variables_declared : VariableDeclaration → Written → Judged Block
+variables_declared d w = when_accepted (λ b. Accepts (declaration_ended b)) (variables_entered d.line w.denoter w.host d.names w.block)
+
+abbrev pub variable_declaration : VariableDeclaration → Block → Judged Block
+variable_declaration d b = when_accepted (variables_declared d) (settled_type d.line (out-Core (core_of d.of)) b)
+
+-- ---- parts of a block (ISO 10206, 6.2.1)
+
+-- what stands after some items, or the line of the first one that breaks a rule, with the rules that fail there
+pub data Standing : Type 0 where
+  Stands : (block : Block) → Standing
+  Falls : (line : ℕ) (rules : List ℕ) → Standing
+
+-- whether the first item that breaks a rule begins on this line, and this rule fails there
+abbrev pub falls_at : ℕ → ℕ → Standing → Bool
+falls_at rule line (Stands b) = false
+falls_at rule line (Falls first rules) = line == first && list_any (nat_eq rule) rules
+
+-- an item on this line
+abbrev pub at_line : ℕ → Judged Block → Standing
+at_line line (Accepts b) = Stands b
+at_line line (Breaks rules) = Falls line rules
+
+-- and then more
+abbrev pub and_then : (Block → Standing) → Standing → Standing
+and_then more (Stands b) = more b
+and_then more (Falls line rules) = Falls line rules
+
+abbrev pub constants_declared : List ConstantDefinition → Block → Standing
+constants_declared [] b = Stands b
+constants_declared (d ∷ ds) b = and_then (constants_declared ds) (at_line d.line (constant_definition d b))
+
+abbrev pub all_variables_declared : List VariableDeclaration → Block → Standing
+all_variables_declared [] b = Stands b
+all_variables_declared (d ∷ ds) b = and_then (all_variables_declared ds) (at_line d.line (variable_declaration d b))
+
+abbrev pub part_declared : {A B C : Type 0} → Part-F A B C → Block → Standing
+part_declared (Part-F.Constants c) b = constants_declared c.definitions b
+part_declared (Part-F.Types t) b = at_line t.line (type_definitions t.line t.definitions b)
+part_declared (Part-F.Variables v) b = all_variables_declared v.declarations b
+part_declared (Part-F.Routine r) b = Falls 0 []
+
+abbrev pub parts_declared : List Part → Block → Standing
+parts_declared [] b = Stands b
+parts_declared (p ∷ ps) b = and_then (parts_declared ps) (part_declared (out-Part p) b)

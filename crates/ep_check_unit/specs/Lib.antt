@@ -1,0 +1,7 @@
+pub mod Answers
+pub mod Checks
+pub mod Declarations
+pub mod Laws
+pub mod Outcomes
+pub mod Statements
+pub mod Units

@@ -1,0 +1,126 @@
+-- Which typed unit a program is, or where it first breaks a rule.
+use Rattle.std.specs.Prelude.{◌≡◌, ℕ, Bool, true, false, List, [], ◌∷◌, ◌++◌, codes, Option, Some, None, IsTrue, if◌then◌else◌}
+use Rattle.std.specs.List.{list_any}
+use Rattle.std.specs.Str.{bytes_eq}
+use Rattle.ep_tree.specs.declared.component.Component.{Component}
+use Rattle.ep_tree.specs.declared.component.Component.TheVariants as component_is
+use Rattle.ep_tree.specs.declared.component.Program.{Program}
+use Rattle.ep_typed.specs.Trees.{Empty, Compound, Stmts}
+use Rattle.ep_typed.specs.Viewed.{stmt_of}
+use Rattle.ep_typed.specs.declared.interface.ImportSpec.{ImportSpec}
+use Rattle.ep_typed.specs.declared.tree.StandardFile.{StandardFile}
+use Rattle.ep_typed.specs.declared.tree.StandardFile.TheVariants as file
+use Rattle.ep_typed.specs.declared.unit.Unit.{Unit as TypedUnit}
+use Rattle.ep_scope.specs.Scopes.{empty_region}
+use Rattle.ep_scope.specs.declared.thing.Thing.TheVariants as thing
+use Rattle.ep_check_expr.specs.Judgements.{Judged, Accepts, unbuilt, when_accepted}
+use Rattle.ep_check_unit.specs.Declarations.{Standing, Stands, Falls, at_line, and_then, entered, parts_declared, scopes_of}
+use Rattle.ep_check_unit.specs.Statements.{Context, Judgement, Passes, Waits, Fails, fails_at, after, compound_judged}
+use Rattle.ep_check_unit.specs.declared.block.Block.{Block}
+
+-- ---- the first words (ISO 10206, 6.12), an item on the line of the word `program`
+
+-- the standard file of a program parameter
+abbrev pub standard_file : List ℕ → Option StandardFile
+standard_file name = if bytes_eq name (codes "input") then Some file.Input else (if bytes_eq name (codes "output") then Some file.Output else None)
+
+-- a parameter is entered in the scope of the block, to which the block's declarations belong too
+abbrev pub parameter_entered : List ℕ → Option StandardFile → Block → Judged Block
+parameter_entered name None b = unbuilt
+parameter_entered name (Some f) b = entered name (thing.Standard f) b
+
+abbrev pub parameters_entered : List (List ℕ) → Block → Judged Block
+parameters_entered [] b = Accepts b
+parameters_entered (name ∷ names) b = when_accepted (parameters_entered names) (parameter_entered name (standard_file name) b)
+
+-- nothing is declared yet
+abbrev pub first_block : List ℕ → Block
+first_block name = record { unit = name; scope = empty_region; types = []; constants = []; variables = []; declarations = 0; waits = None }
+
+-- ---- programs
+
+-- a program that is accepted: what its block declares, and its statements
+pub record ProgramForm : Type 0 where
+  pub block : Block
+  pub statements : Stmts
+
+-- whether the list has the name
+abbrev pub has_name : List ℕ → List (List ℕ) → Bool
+has_name name names = list_any (λ other. bytes_eq other name) names
+
+-- what the statements of a program know
+abbrev pub context_of : Program → Block → Context
+context_of p b = record { scopes = scopes_of b; output = has_name (codes "output") p.parameters }
+
+-- declarations that break no rule
+abbrev pub declarations_wait : Block → Option ℕ → Judgement Block
+declarations_wait b None = Passes b
+declarations_wait b (Some line) = Waits line
+
+abbrev pub program_form : Block → Stmts → ProgramForm
+program_form b ss = record { block = b; statements = ss }
+
+-- the declarations, and then the statements
+abbrev pub body_judged : Program → Standing → Judgement ProgramForm
+body_judged p (Stands b) = after program_form (declarations_wait b b.waits) (compound_judged (context_of p b) p.body)
+body_judged p (Falls line rules) = Fails line rules
+
+abbrev pub program_judged : Program → Judgement ProgramForm
+program_judged p = body_judged p (and_then (parts_declared p.parts) (at_line p.line (parameters_entered p.parameters (first_block p.name))))
+
+-- no module is built
+abbrev pub component_judged : Component → Judgement ProgramForm
+component_judged (component_is.Program p) = program_judged p
+component_judged _ = Fails 0 []
+
+-- ---- typed units
+
+-- the interface of a standard file
+abbrev pub standard_interface : StandardFile → List ℕ
+standard_interface file.Input = codes "standardinput"
+standard_interface file.Output = codes "standardoutput"
+
+-- its import
+abbrev pub standard_import : List ℕ → ImportSpec
+standard_import interface = record { interface = interface; qualified = false; only = false; pairs = [] }
+
+abbrev pub import_if : Bool → List ℕ → List ImportSpec
+import_if true interface = standard_import interface ∷ []
+import_if false interface = []
+
+-- in this order, whatever the order of the parameters
+abbrev pub imports_of : List (List ℕ) → List ImportSpec
+imports_of names =
+    import_if (has_name (codes "input") names) (standard_interface file.Input) ++ import_if (has_name (codes "output") names) (standard_interface file.Output)
+
+-- the typed unit of a program of this form
+pub record IsUnitOf (p : Program) (form : ProgramForm) (u : TypedUnit) : Type 0 where
+  pub name : u.name ≡ p.name
+  pub program : u.program ≡ true
+  pub interface : u.interface ≡ None
+  pub imports : u.imports ≡ imports_of p.parameters
+  pub types : u.types ≡ form.block.types
+  pub constants : u.constants ≡ form.block.constants
+  pub variables : u.variables ≡ form.block.variables
+  pub routines : u.routines ≡ []
+  pub start : stmt_of u.start ≡ Compound form.statements
+  pub stop : stmt_of u.stop ≡ Empty
+
+-- the typed unit of a program
+pub record IsTypedProgram (p : Program) (u : TypedUnit) : Type 0 where
+  pub form : ProgramForm
+  pub passes : program_judged p ≡ Passes form
+  pub unit : IsUnitOf p form u
+
+-- the typed unit of a component
+abbrev pub IsTyped : Component → TypedUnit → Type 0
+IsTyped (component_is.Program p) u = IsTypedProgram p u
+IsTyped _ u = ⊥
+
+-- the first item that breaks a rule begins on this line, and the rule fails there
+abbrev pub BreaksAt : Component → ℕ → ℕ → Type 0
+BreaksAt c rule line = IsTrue (fails_at rule line (component_judged c))
+
+-- no rule is broken, and the first item that is not built begins on this line
+abbrev pub WaitsAt : Component → ℕ → Type 0
+WaitsAt c line = component_judged c ≡ Waits line

@@ -1,0 +1,219 @@
+//! What has been declared in a block.
+
+ghost use Rattle.std.specs.Prelude.{◌≡◌, IfOk, OnOk};
+ghost use Rattle.std.specs.Option.{option_map};
+ghost use Rattle.ep_check_unit.specs.Answers.{AnswersBlock, AnswersNumber, AnswersType, with_constant_entry};
+ghost use Rattle.ep_check_unit.specs.Declarations.{constant_entered, entered, noted, own_thing, with_type};
+ghost use Rattle.ep_check_unit.specs.Checks.{IsUnitWith};
+ghost use Rattle.ep_check_unit.specs.Units.{first_block};
+
+use crate::types::host_type;
+use ep_base::{Line, List, Name, NoMemory};
+use ep_check_expr::Refusal;
+use ep_scope::{Declaration, Declared, Host, Kind, Scope, ScopeRefusal, Thing, rule};
+use ep_typed::{
+    ConstantEntries, ConstantEntry, Denoter, ImportSpecs, TypeEntry, TypedStmt, TypedStmts, Unit,
+    UnitType, UnitTypes, UnitVariables, Value,
+};
+use std::alloc::Global;
+
+/// What has been declared so far in the block of a unit.
+pub(crate) struct Block {
+    /// The unit.
+    pub(crate) unit: Name,
+    /// The names that are declared, and what they stand for.
+    pub(crate) scope: Scope,
+    /// The types.
+    pub(crate) types: UnitTypes,
+    /// The constants.
+    pub(crate) constants: ConstantEntries,
+    /// The variables.
+    pub(crate) variables: UnitVariables,
+    /// How many variable declarations there were.
+    pub(crate) declarations: u32,
+    /// The line of the first item that is accepted and not built.
+    pub(crate) waits: Option<Line>,
+}
+
+impl Drop for Block {
+    fn drop(self) {
+        let Block {
+            unit: _,
+            scope: _,
+            types: _,
+            constants: _,
+            variables: _,
+            declarations: _,
+            waits: _,
+        } = self;
+    }
+}
+
+/// A count as a number of a unit, which has 32 bits.
+pub(crate) fn number(count: usize) -> Result<u32, Refusal>
+    ensures { AnswersNumber count result }
+{
+    match u32::try_from(count) {
+        Ok(number) => Ok(number),
+        Err(_) => Err(Refusal::NoMemory),
+    }
+}
+
+impl Block {
+    /// A block in which nothing is declared yet.
+    pub(crate) fn new(alloc: Global, unit: Name) -> Block
+        ensures { result ≡ first_block unit }
+    {
+        Block {
+            unit,
+            scope: Scope::new(alloc),
+            types: List::new(alloc),
+            constants: List::new(alloc),
+            variables: List::new(alloc),
+            declarations: 0,
+            waits: None,
+        }
+    }
+
+    /// The unit of a program with these statements.
+    pub(crate) fn into_unit(
+        self,
+        alloc: Global,
+        imports: ImportSpecs,
+        statements: TypedStmts,
+    ) -> Unit
+        ensures { IsUnitWith self imports statements result }
+    {
+        let Block {
+            unit,
+            scope: _,
+            types,
+            constants,
+            variables,
+            declarations: _,
+            waits: _,
+        } = self;
+        Unit {
+            name: unit,
+            program: true,
+            interface: None,
+            imports,
+            types,
+            constants,
+            variables,
+            routines: List::new(alloc),
+            start: TypedStmt::Compound(statements),
+            stop: TypedStmt::Empty,
+        }
+    }
+
+    /// An item on this line is accepted, and maybe not built.
+    pub(crate) fn note(&mut self, built: bool, line: Line)
+        ensures { self.new ≡ noted built line self.old }
+    {
+        if !built && self.waits.is_none() {
+            self.waits = Some(line);
+        }
+    }
+
+    /// A declaration of this unit.
+    pub(crate) fn own_thing(
+        &self,
+        alloc: Global,
+        number: u32,
+        what: Declaration,
+    ) -> Result<Thing, NoMemory>
+        ensures { IfOk result (λ thing. thing ≡ own_thing self.now number what) }
+    {
+        let unit = self.unit.copy(alloc)?;
+        Ok(Thing::Declared(Declared { unit, number, what }))
+    }
+
+    /// A name is entered, where it is not there.
+    pub(crate) fn enter(&mut self, alloc: Global, name: &Name, thing: Thing) -> Result<(), Refusal>
+        ensures { AnswersBlock result self.new (entered name.now thing self.old) }
+    {
+        let copy = name.copy(alloc)?;
+        match self.scope.enter(copy, thing) {
+            Ok(()) => Ok(()),
+            Err(ScopeRefusal::Twice(..)) => Err(Refusal::Rule(rule::TWICE)),
+            Err(ScopeRefusal::NoMemory { .. }) => Err(Refusal::NoMemory),
+            Err(ScopeRefusal::NoInterface(..)) => unreachable!(),
+            Err(ScopeRefusal::NoConstituent(..)) => unreachable!(),
+        }
+    }
+
+    /// A constant is entered, with its entry where its type is ordinal.
+    pub(crate) fn add_constant(
+        &mut self,
+        alloc: Global,
+        name: &Name,
+        kind: Kind,
+        value: &Value,
+    ) -> Result<(), Refusal>
+        ensures { AnswersBlock result self.new (constant_entered name.now kind value.now self.old) }
+    {
+        let number = number(self.constants.items().len())?;
+        if let Kind::Ordinal(host) = kind {
+            self.add_entry(alloc, name, host, value)?;
+        }
+        let copy = copied(alloc, value)?;
+        let thing = self.own_thing(alloc, number, Declaration::Constant(kind, copy))?;
+        self.enter(alloc, name, thing)
+    }
+
+    /// The entry of a constant of an ordinal type.
+    fn add_entry(
+        &mut self,
+        alloc: Global,
+        name: &Name,
+        host: Host,
+        value: &Value,
+    ) -> Result<(), NoMemory>
+        ensures { OnOk result (self.new ≡ with_constant_entry name.now host value.now self.old) }
+    {
+        let entry = ConstantEntry {
+            name: name.copy(alloc)?,
+            denoter: host_type(host).denoter(alloc),
+            value: copied(alloc, value)?,
+        };
+        self.constants.push(entry)
+    }
+
+    /// An entry more of the list of types, and its number.
+    pub(crate) fn add_type(
+        &mut self,
+        alloc: Global,
+        name: Option<&Name>,
+        line: Line,
+        denoter: Denoter,
+    ) -> Result<u32, Refusal>
+        ensures { AnswersType (option_map (λ n. n.now) name.entry) line denoter self.old result self.new }
+    {
+        let number = number(self.types.items().len())?;
+        let name = match name {
+            None => None,
+            Some(name) => Some(name.copy(alloc)?),
+        };
+        let entry = TypeEntry {
+            module: self.unit.copy(alloc)?,
+            number,
+            name,
+            formals: List::new(alloc),
+            denoter,
+        };
+        let line = Some(line);
+        self.types.push(UnitType { entry, line })?;
+        Ok(number)
+    }
+}
+
+/// An equal value.
+fn copied(alloc: Global, value: &Value) -> Result<Value, NoMemory>
+    ensures { IfOk result (λ copy. copy ≡ value.now) }
+{
+    match value {
+        Value::Word(word) => Ok(Value::Word(*word)),
+        Value::Text(bytes) => Ok(Value::Text(List::from_slice(alloc, bytes.items())?)),
+    }
+}

@@ -1,0 +1,196 @@
+//! The static rules of a whole component.
+
+ghost use Rattle.std.specs.Prelude.{◌≡◌, ◌≤◌, None, true, length, IfOk};
+ghost use Rattle.std.specs.List.{list_all};
+ghost use Rattle.std.specs.Result.{IfErr};
+ghost use Rattle.ep_built.specs.Built.{component_unbuilt, is_among, program_parameters, program_unbuilt};
+ghost use Rattle.ep_check_unit.specs.Answers.{AnswersBlock};
+ghost use Rattle.ep_check_unit.specs.Checks.{AnswersBuilt, HasValidUnit, IsChecked, IsRefusal, IsRefusalOf, unit_in};
+ghost use Rattle.ep_typed.specs.Operations.{maxint};
+ghost use Rattle.ep_check_unit.specs.Units.{IsTypedProgram, has_name, imports_of, parameters_entered, program_judged, standard_file, standard_import, standard_interface};
+
+use crate::block::Block;
+use crate::laws::laws_of_typed_units;
+pub use crate::outcome::CheckRefusal;
+use crate::outcome::{Outcome, refused_at};
+use crate::statements::Context;
+use ep_base::{Line, List, Name, NameRefusal, NoMemory};
+use ep_check_expr::Refusal;
+use ep_scope::Thing;
+use ep_tree::{Component, Program};
+use ep_typed::{ConstantEntry, ImportSpec, ImportSpecs, Interface, StandardFile, TypedStmts, Unit};
+use std::alloc::{AllocError, Global};
+use std::slice;
+
+/// What a component is that breaks no rule.
+pub enum Checked {
+    /// The heading of a module.
+    Heading(Interface),
+    /// A program, or the block of a module.
+    Block(Unit),
+    /// A module's heading and block together.
+    Both(Interface, Unit),
+}
+
+impl Drop for Checked {
+    fn drop(self) {
+        match self {
+            Checked::Heading(_) => {}
+            Checked::Block(_) => {}
+            Checked::Both(_, _) => {}
+        }
+    }
+}
+
+impl Checked {
+    /// The typed unit, where there is one.
+    pub fn into_unit(self) -> Option<Unit>
+        ensures { result ≡ unit_in self }
+    {
+        match self {
+            Checked::Heading(_) => None,
+            Checked::Block(unit) => Some(unit),
+            Checked::Both(_, unit) => Some(unit),
+        }
+    }
+}
+
+/// The typed unit of a component, under the interfaces that are given. Of a component that breaks a rule the first item
+/// that does is named, in the order of the text, and a rule that fails there. No form asks for an interface so far, so
+/// those that are given play no part.
+pub fn check(
+    alloc: Global,
+    component: &Component,
+    _given: &[Interface],
+) -> Result<Checked, CheckRefusal>
+    requires { component_unbuilt component.now ≡ None }
+    ensures typed { IfOk result (λ checked. IsChecked component.now checked) }
+    ensures refused { IfErr result (λ refusal. IsRefusal component.now refusal) }
+    ensures valid { IfOk result (λ checked. HasValidUnit checked) }
+{
+    let Component::Program(program) = component else {
+        unreachable!()
+    };
+    let unit = check_program(alloc, program)?;
+    laws_of_typed_units();
+    few_constants(unit.constants.items());
+    Ok(Checked::Block(unit))
+}
+
+/// Does nothing: a list in memory has no more constants than there are integers to number them.
+fn few_constants(constants: &[ConstantEntry])
+    ensures { length constants.now ≤ maxint }
+{}
+
+/// The typed unit of a program.
+fn check_program(alloc: Global, p: &Program) -> Result<Unit, CheckRefusal>
+    requires { program_unbuilt p.now ≡ None }
+    ensures typed { IfOk result (λ u. IsTypedProgram p.now u) }
+    ensures refused { IfErr result (λ refusal. IsRefusalOf (program_judged p.now) refusal) }
+{
+    let mut block = Block::new(alloc, p.name.copy(alloc)?);
+    if let Err(refusal) = block.enter_parameters(alloc, p.parameters.items()) {
+        return Err(refused_at(p.line, refusal));
+    }
+    block.declare(alloc, p.parts.items())?;
+    let context = Context {
+        alloc,
+        scopes: slice::from_ref(&block.scope),
+        output: has_name(p.parameters.items(), b"output"),
+    };
+    let found = context.compound(&p.body)?;
+    let statements = all_built(block.waits, found)?;
+    let imports = imports(alloc, p.parameters.items())?;
+    Ok(block.into_unit(alloc, imports, statements))
+}
+
+/// The statements of a block, where these and its declarations are built.
+fn all_built(
+    waits: Option<Line>,
+    statements: Outcome<TypedStmts>,
+) -> Result<TypedStmts, CheckRefusal>
+    ensures { AnswersBuilt waits statements result }
+{
+    match (waits, statements) {
+        (Some(line), _) => Err(CheckRefusal::NotBuilt(line)),
+        (None, Outcome::Waits(line)) => Err(CheckRefusal::NotBuilt(line)),
+        (None, Outcome::Passes(statements)) => Ok(statements),
+    }
+}
+
+/// Whether a list has a name.
+fn has_name(names: &[Name], name: &[u8]) -> bool
+    ensures { result ≡ has_name name.now names.now }
+{
+    names.iter().any(|other| other.bytes() == name)
+}
+
+/// The standard file of a program parameter.
+fn standard_file(name: &Name) -> Option<StandardFile>
+    ensures { result ≡ standard_file name.now }
+{
+    if name.bytes() == b"input".as_slice() {
+        Some(StandardFile::Input)
+    } else if name.bytes() == b"output".as_slice() {
+        Some(StandardFile::Output)
+    } else {
+        None
+    }
+}
+
+/// The imports of a program with these parameters.
+fn imports(alloc: Global, parameters: &[Name]) -> Result<ImportSpecs, NoMemory>
+    ensures { IfOk result (λ all. all ≡ imports_of parameters.now) }
+{
+    let mut all = List::new(alloc);
+    if has_name(parameters, b"input") {
+        all.push(standard_import(alloc, StandardFile::Input)?)?;
+    }
+    if has_name(parameters, b"output") {
+        all.push(standard_import(alloc, StandardFile::Output)?)?;
+    }
+    Ok(all)
+}
+
+/// The import of the interface of a standard file.
+fn standard_import(alloc: Global, file: StandardFile) -> Result<ImportSpec, NoMemory>
+    ensures { IfOk result (λ import. import ≡ standard_import (standard_interface file)) }
+{
+    Ok(ImportSpec {
+        interface: standard_interface(alloc, file)?,
+        qualified: false,
+        only: false,
+        pairs: List::new(alloc),
+    })
+}
+
+/// The name of the interface of a standard file.
+fn standard_interface(alloc: Global, file: StandardFile) -> Result<Name, NoMemory>
+    ensures { IfOk result (λ name. name ≡ standard_interface file) }
+{
+    let bytes = match file {
+        StandardFile::Input => b"standardinput".as_slice(),
+        StandardFile::Output => b"standardoutput".as_slice(),
+    };
+    match Name::from_bytes(alloc, bytes) {
+        Ok(name) => Ok(name),
+        Err(NameRefusal::NoMemory) => Err(AllocError),
+        Err(_) => unreachable!(),
+    }
+}
+
+impl Block {
+    /// The parameters of a program are entered, in order.
+    fn enter_parameters(&mut self, alloc: Global, names: &[Name]) -> Result<(), Refusal>
+        requires { list_all (is_among program_parameters) names.now ≡ true }
+        ensures { AnswersBlock result self.new (parameters_entered names.now self.old) }
+    {
+        for name in names {
+            match standard_file(name) {
+                Some(file) => self.enter(alloc, name, Thing::Standard(file))?,
+                None => unreachable!(),
+            }
+        }
+        Ok(())
+    }
+}

@@ -1,0 +1,197 @@
+//! Declarations, item by item.
+
+ghost use Rattle.std.specs.Prelude.{◌≡◌, None, map};
+ghost use Rattle.ep_built.specs.Built.{component_value_unbuilt, constant_unbuilt, core_unbuilt, first_in, part_unbuilt, type_denoter_unbuilt, type_unbuilt, variable_unbuilt};
+ghost use Rattle.ep_tree.specs.declared.routine.Part.{out-Part};
+ghost use Rattle.ep_tree.specs.declared.types.Core.{out-Core};
+ghost use Rattle.ep_check_expr.specs.Judgements.{when_accepted};
+ghost use Rattle.ep_check_unit.specs.Answers.{AnswersBlock, AnswersForm, AnswersStanding, denoter_named, named_in};
+ghost use Rattle.ep_check_unit.specs.Declarations as spec;
+ghost use Rattle.ep_check_unit.specs.Declarations.{all_variables_declared, constant_definition, constants_declared, part_declared, parts_declared, settled_type, type_definition, type_definitions, variable_declaration, variable_entered, variables_entered};
+
+use crate::block::{Block, number};
+use crate::outcome::{CheckRefusal, refused_at};
+use crate::types::{NamedType, TypeName};
+use ep_base::{Line, List, Name};
+use ep_check_expr::{Refusal, constant_value};
+use ep_scope::{Declaration, Kind};
+use ep_tree::{ConstantDefinition, Core, Part, TypeDefinition, VariableDeclaration};
+use ep_typed::UnitVariable;
+use std::alloc::Global;
+use std::slice;
+
+impl Block {
+    /// The parts of a block, in order.
+    pub(crate) fn declare(&mut self, alloc: Global, parts: &[Part]) -> Result<(), CheckRefusal>
+        requires { first_in (map part_unbuilt parts.now) ≡ None }
+        ensures { AnswersStanding result self.new (parts_declared parts.now self.old) }
+    {
+        for part in parts {
+            self.declare_part(alloc, part)?;
+        }
+        Ok(())
+    }
+
+    fn declare_part(&mut self, alloc: Global, part: &Part) -> Result<(), CheckRefusal>
+        requires { part_unbuilt part.now ≡ None }
+        ensures { AnswersStanding result self.new (part_declared (out-Part part.now) self.old) }
+    {
+        match part {
+            Part::Constants(c) => self.define_constants(alloc, c.definitions.items()),
+            Part::Types(t) => match self.define_types(alloc, t.line, t.definitions.items()) {
+                Ok(()) => Ok(()),
+                Err(refusal) => Err(refused_at(t.line, refusal)),
+            },
+            Part::Variables(v) => self.declare_all(alloc, v.declarations.items()),
+            Part::Routine(_) => unreachable!(),
+        }
+    }
+
+    /// Constant definitions, each an item.
+    fn define_constants(
+        &mut self,
+        alloc: Global,
+        definitions: &[ConstantDefinition],
+    ) -> Result<(), CheckRefusal>
+        requires { first_in (map constant_unbuilt definitions.now) ≡ None }
+        ensures { AnswersStanding result self.new (constants_declared definitions.now self.old) }
+    {
+        for definition in definitions {
+            if let Err(refusal) = self.define_constant(alloc, definition) {
+                return Err(refused_at(definition.line, refusal));
+            }
+        }
+        Ok(())
+    }
+
+    /// `id "=" cvalue`
+    fn define_constant(
+        &mut self,
+        alloc: Global,
+        definition: &ConstantDefinition,
+    ) -> Result<(), Refusal>
+        requires { component_value_unbuilt definition.now.value ≡ None }
+        ensures { AnswersBlock result self.new (constant_definition definition.now self.old) }
+    {
+        let form = constant_value(alloc, &definition.value, slice::from_ref(&self.scope))?;
+        self.add_constant(alloc, &definition.name, form.kind, &form.value)?;
+        self.note(form.built, definition.line);
+        Ok(())
+    }
+
+    /// The definitions of a type part on this line, which is one item.
+    fn define_types(
+        &mut self,
+        alloc: Global,
+        line: Line,
+        definitions: &[TypeDefinition],
+    ) -> Result<(), Refusal>
+        requires { first_in (map type_unbuilt definitions.now) ≡ None }
+        ensures { AnswersBlock result self.new (type_definitions line definitions.now self.old) }
+    {
+        for definition in definitions {
+            self.define_type(alloc, line, definition)?;
+        }
+        Ok(())
+    }
+
+    /// `id "=" type`
+    fn define_type(
+        &mut self,
+        alloc: Global,
+        line: Line,
+        definition: &TypeDefinition,
+    ) -> Result<(), Refusal>
+        requires { type_unbuilt definition.now ≡ None }
+        ensures { AnswersBlock result self.new (type_definition line definition.now self.old) }
+    {
+        let core = &definition.of.plain.get().core;
+        let written = self.written_type(alloc, line, core)?;
+        let host = written.host;
+        let denoter = written.into_denoter();
+        let number = self.add_type(alloc, Some(&definition.name), definition.line, denoter)?;
+        let thing = self.own_thing(alloc, number, Declaration::Type(host))?;
+        self.enter(alloc, &definition.name, thing)
+    }
+
+    /// Variable declarations, each an item.
+    fn declare_all(
+        &mut self,
+        alloc: Global,
+        declarations: &[VariableDeclaration],
+    ) -> Result<(), CheckRefusal>
+        requires { first_in (map variable_unbuilt declarations.now) ≡ None }
+        ensures { AnswersStanding result self.new (all_variables_declared declarations.now self.old) }
+    {
+        for declaration in declarations {
+            if let Err(refusal) = self.declare_variables(alloc, declaration) {
+                return Err(refused_at(declaration.line, refusal));
+            }
+        }
+        Ok(())
+    }
+
+    /// `ids ":" type`
+    fn declare_variables(
+        &mut self,
+        alloc: Global,
+        declaration: &VariableDeclaration,
+    ) -> Result<(), Refusal>
+        requires { variable_unbuilt declaration.now ≡ None }
+        ensures { AnswersBlock result self.new (variable_declaration declaration.now self.old) }
+    {
+        let core = &declaration.of.plain.get().core;
+        let named = self.settled_type(alloc, declaration.line, core)?;
+        for name in declaration.names.items() {
+            self.declare_variable(alloc, declaration.line, named, name)?;
+        }
+        match self.declarations.checked_add(1) {
+            None => Err(Refusal::NoMemory),
+            Some(declarations) => {
+                self.declarations = declarations;
+                Ok(())
+            }
+        }
+    }
+
+    /// The type of a declaration on this line by its name, for which a type that has none gets an entry.
+    fn settled_type(&mut self, alloc: Global, line: Line, core: &Core) -> Result<NamedType, Refusal>
+        requires { core_unbuilt core.now ≡ None }
+        ensures { AnswersForm (named_in self.new) result (settled_type line (out-Core core.now) self.old) }
+    {
+        if let Core::Named(_, name, _) = core {
+            return self.named_type(name);
+        }
+        let written = self.written_type(alloc, line, core)?;
+        let host = written.host;
+        let number = self.add_type(alloc, None, line, written.into_denoter())?;
+        let name = TypeName::Entry(number);
+        Ok(NamedType { name, host })
+    }
+
+    /// A variable of a declaration on this line.
+    fn declare_variable(
+        &mut self,
+        alloc: Global,
+        line: Line,
+        named: NamedType,
+        name: &Name,
+    ) -> Result<(), Refusal>
+        ensures { AnswersBlock result self.new (variable_entered line (denoter_named named.name) named.host name.now self.old) }
+    {
+        let number = number(self.variables.items().len())?;
+        let kind = Kind::Ordinal(named.host);
+        let thing = self.own_thing(alloc, number, Declaration::Variable(kind))?;
+        self.enter(alloc, name, thing)?;
+        let variable = UnitVariable {
+            name: name.copy(alloc)?,
+            line,
+            declaration: self.declarations,
+            denoter: named.name.denoter(alloc),
+            tuple: List::new(alloc),
+            parameter: false,
+        };
+        self.variables.push(variable)?;
+        Ok(())
+    }
+}

@@ -1,0 +1,281 @@
+//! Types as an item writes them.
+
+ghost use Rattle.std.specs.Prelude.{◌≡◌, ◌&&◌, ℕ, List, None, IfOk, IsTrue};
+ghost use Rattle.ep_built.specs.Built.{core_unbuilt, expression_unbuilt};
+ghost use Rattle.ep_scope.specs.Meanings.{meant_by};
+ghost use Rattle.ep_tree.specs.declared.types.Core.{out-Core};
+ghost use Rattle.ep_check_expr.specs.Constants.{bound_judged};
+ghost use Rattle.ep_check_expr.specs.Judgements.{both};
+ghost use Rattle.ep_check_unit.specs.Answers.{AnswersBlock, AnswersForm, denoter_named, fails_among, named_in, written_in};
+ghost use Rattle.ep_check_unit.specs.Declarations as spec;
+ghost use Rattle.ep_check_unit.specs.declared.block.Block.{Block as BlockNow};
+ghost use Rattle.ep_check_unit.specs.Declarations.{common_host, core_written, enumerated, enumeration, host_denoter, number_in, ordered, range, required_host, scopes_of, subrange_denoter, type_meant};
+
+use crate::block::{Block, number};
+use ep_base::{Boxed, Line, List, Name, Names, NoMemory};
+use ep_check_expr::{ConstantForm, Refusal, bound_value, undeclared};
+use ep_scope::{
+    Declaration, Enumeration, Host, Kind, Meaning, Required, meaning_in, meaning_of, rule,
+    same_host,
+};
+use ep_tree::{Core, Expression, QualifiedName};
+use ep_typed::{Bound, Denoter, RequiredType, Value};
+use std::alloc::Global;
+use std::slice;
+
+/// A type by its name.
+#[derive(Clone, Copy, Drop)]
+pub(crate) enum TypeName {
+    /// A required type.
+    Required(RequiredType),
+    /// The type of this number of the unit.
+    Entry(u32),
+}
+
+/// A type by its name, and its host.
+#[derive(Clone, Copy, Drop)]
+pub(crate) struct NamedType {
+    /// The name.
+    pub(crate) name: TypeName,
+    /// The host.
+    pub(crate) host: Host,
+}
+
+/// A type that is written, and its host.
+pub(crate) struct Written {
+    /// The denoter.
+    pub(crate) denoter: Denoter,
+    /// The host.
+    pub(crate) host: Host,
+}
+
+impl Drop for Written {
+    fn drop(self) {
+        let Written {
+            denoter: _,
+            host: _,
+        } = self;
+    }
+}
+
+impl Written {
+    /// The denoter alone.
+    pub(crate) fn into_denoter(self) -> Denoter
+        ensures { result ≡ self.denoter }
+    {
+        let Written { denoter, host: _ } = self;
+        denoter
+    }
+}
+
+impl TypeName {
+    /// The name as a denoter. It takes no memory.
+    pub(crate) fn denoter(self, alloc: Global) -> Denoter
+        ensures { result ≡ denoter_named self }
+    {
+        match self {
+            TypeName::Required(required) => Denoter::Required(required),
+            TypeName::Entry(number) => Denoter::Named(number, List::new(alloc)),
+        }
+    }
+}
+
+/// The type that is a host.
+pub(crate) fn host_type(host: Host) -> TypeName
+    ensures { denoter_named result ≡ host_denoter host }
+{
+    match host {
+        Host::Integer => TypeName::Required(RequiredType::Integer),
+        Host::Char => TypeName::Required(RequiredType::Char),
+        Host::Boolean => TypeName::Required(RequiredType::Boolean),
+        Host::Enumeration(e) => TypeName::Entry(e.number),
+    }
+}
+
+/// The host of a required type.
+fn required_host(required: RequiredType) -> Host
+    ensures { result ≡ required_host required }
+{
+    match required {
+        RequiredType::Integer => Host::Integer,
+        RequiredType::Char => Host::Char,
+        RequiredType::Boolean => Host::Boolean,
+    }
+}
+
+/// The type that a name means, where one of the rules of a name that means nothing is `missing`.
+fn type_meant(meaning: &Meaning<'_>, missing: u32) -> Result<NamedType, Refusal>
+    ensures { (rules : List ℕ) (b : BlockNow) → IsTrue (fails_among missing rules)
+        → AnswersForm (named_in b) result (type_meant rules (meant_by meaning.now) b) }
+{
+    match meaning {
+        Meaning::Declared(declared) => match &declared.what {
+            Declaration::Type(host) => Ok(NamedType {
+                name: TypeName::Entry(declared.number),
+                host: *host,
+            }),
+            _ => Err(Refusal::Rule(rule::OTHER_THING)),
+        },
+        Meaning::Required(Required::Type(required)) => Ok(NamedType {
+            name: TypeName::Required(*required),
+            host: required_host(*required),
+        }),
+        Meaning::Nothing => Err(Refusal::Rule(missing)),
+        _ => Err(Refusal::Rule(rule::OTHER_THING)),
+    }
+}
+
+/// The host of two bounds.
+fn common_host(low: Kind, high: Kind) -> Result<Host, Refusal>
+    ensures { AnswersForm (λ h. h) result (common_host low high) }
+{
+    match (low, high) {
+        (Kind::Ordinal(left), Kind::Ordinal(right)) if same_host(left, right) => Ok(left),
+        _ => Err(Refusal::Rule(rule::HOSTS)),
+    }
+}
+
+/// The number of a value.
+fn number_in(value: &Value) -> i64
+    ensures { result ≡ number_in value.now }
+{
+    match value {
+        Value::Word(word) => *word,
+        Value::Text(_) => 0,
+    }
+}
+
+/// Whether two bounds are built.
+fn are_built(low: &ConstantForm, high: &ConstantForm) -> bool
+    ensures { result ≡ (low.now.built && high.now.built) }
+{
+    low.built && high.built
+}
+
+/// Two bounds are in order.
+fn ordered(low: &ConstantForm, high: &ConstantForm) -> Result<(), Refusal>
+    ensures { AnswersForm (λ done. done) result (ordered low.now high.now) }
+{
+    if are_built(low, high) && number_in(&low.value) > number_in(&high.value) {
+        Err(Refusal::Rule(rule::EMPTY_RANGE))
+    } else {
+        Ok(())
+    }
+}
+
+/// The denoter of a subrange of this host.
+fn subrange(
+    alloc: Global,
+    host: Host,
+    low: &ConstantForm,
+    high: &ConstantForm,
+) -> Result<Denoter, NoMemory>
+    ensures { IfOk result (λ d. d ≡ subrange_denoter host low.now high.now) }
+{
+    let of = Boxed::new(alloc, host_type(host).denoter(alloc))?;
+    let least = Bound::Constant(number_in(&low.value));
+    let greatest = Bound::Constant(number_in(&high.value));
+    Ok(Denoter::Subrange(of, least, greatest))
+}
+
+/// Equal names.
+fn copied(alloc: Global, names: &[Name]) -> Result<Names, NoMemory>
+    ensures { IfOk result (λ copy. copy ≡ names.now) }
+{
+    let mut copy = List::new(alloc);
+    for name in names {
+        copy.push(name.copy(alloc)?)?;
+    }
+    Ok(copy)
+}
+
+impl Block {
+    /// A type by its name, or by the name of an interface and that of its constituent.
+    pub(crate) fn named_type(&self, name: &QualifiedName) -> Result<NamedType, Refusal>
+        ensures { AnswersForm (named_in self.now) result (spec.type_named name.now.first name.now.second self.now) }
+    {
+        let scopes = slice::from_ref(&self.scope);
+        match &name.second {
+            None => {
+                let meaning = meaning_of(scopes, &name.first);
+                type_meant(&meaning, undeclared(&name.first))
+            }
+            Some(constituent) => {
+                let meaning = meaning_in(scopes, &name.first, constituent);
+                type_meant(&meaning, rule::UNDECLARED)
+            }
+        }
+    }
+
+    /// `expr ".." expr` in an item on this line.
+    fn range(
+        &mut self,
+        alloc: Global,
+        line: Line,
+        low: &Expression,
+        high: &Expression,
+    ) -> Result<Written, Refusal>
+        requires low { expression_unbuilt low.now ≡ None }
+        requires high { expression_unbuilt high.now ≡ None }
+        ensures { AnswersForm (written_in self.new) result (both (range line self.old) (bound_judged (scopes_of self.old) low.now) (bound_judged (scopes_of self.old) high.now)) }
+    {
+        let least = bound_value(alloc, low, slice::from_ref(&self.scope))?;
+        let greatest = bound_value(alloc, high, slice::from_ref(&self.scope))?;
+        let host = common_host(least.kind, greatest.kind)?;
+        ordered(&least, &greatest)?;
+        self.note(are_built(&least, &greatest), line);
+        let denoter = subrange(alloc, host, &least, &greatest)?;
+        Ok(Written { denoter, host })
+    }
+
+    /// The constants of an enumeration are entered, in order.
+    fn enumerate(&mut self, alloc: Global, host: Host, names: &[Name]) -> Result<(), Refusal>
+        ensures { AnswersBlock result self.new (enumerated host 0 names.now self.old) }
+    {
+        for (place, name) in names.iter().enumerate() {
+            let ordinal = Value::Word(i64::from(number(place)?));
+            self.add_constant(alloc, name, Kind::Ordinal(host), &ordinal)?;
+        }
+        Ok(())
+    }
+
+    /// `"(" ids ")"`
+    fn enumeration(&mut self, alloc: Global, names: &[Name]) -> Result<Written, Refusal>
+        ensures { AnswersForm (written_in self.new) result (enumeration names.now self.old) }
+    {
+        let Some((_, others)) = names.split_first() else {
+            return Err(Refusal::Rule(rule::EMPTY_RANGE));
+        };
+        let host = Host::Enumeration(Enumeration {
+            number: number(self.types.items().len())?,
+            last: number(others.len())?,
+        });
+        self.enumerate(alloc, host, names)?;
+        let denoter = Denoter::Enumeration(copied(alloc, names)?);
+        Ok(Written { denoter, host })
+    }
+
+    /// `core` in an item on this line.
+    pub(crate) fn written_type(
+        &mut self,
+        alloc: Global,
+        line: Line,
+        core: &Core,
+    ) -> Result<Written, Refusal>
+        requires { core_unbuilt core.now ≡ None }
+        ensures { AnswersForm (written_in self.new) result (core_written line (out-Core core.now) self.old) }
+    {
+        match core {
+            Core::Named(_, name, _) => {
+                let named = self.named_type(name)?;
+                Ok(Written {
+                    denoter: named.name.denoter(alloc),
+                    host: named.host,
+                })
+            }
+            Core::Range(_, low, high) => self.range(alloc, line, low.get(), high.get()),
+            Core::Enumeration(_, names) => self.enumeration(alloc, names.items()),
+            _ => unreachable!(),
+        }
+    }
+}
