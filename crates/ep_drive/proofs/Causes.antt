@@ -96,6 +96,8 @@ sorted text (source.Parse (parse.Nested place line)) c =
       },
     )
 sorted text (source.NotBuilt line) c = absurd c
+sorted text (source.Broken b) c = absurd c
+sorted text (source.TooLarge name nodes) c = absurd c
 
 -- ---- one refusal
 

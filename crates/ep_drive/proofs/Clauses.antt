@@ -1,14 +1,35 @@
 -- The clauses of the top call, from what its answer says by its kind: once for all commands.
-use Rattle.std.proofs.Common.{◌≡◌, ℕ, List, ◌⊎◌, inl, inr, refl, subst}
+use Rattle.std.proofs.Common.{◌≡◌, ℕ, List, ◌⊎◌, inl, inr, refl, ap, ◌∙◌, subst}
 use Rattle.ep_drive.specs.Calls.{Answers, AnswersAs, Refuses, Begins, IsRefusedSo, IsStoppedAs, ComesOf, IsCall}
 use Rattle.ep_drive.specs.Jobs.{Finishes, Means, Settles}
+use Rattle.ep_drive.specs.Refusals.{Refusal, Usage, Missing, TooLong, InSource, source_status, AreAlike}
 use Rattle.ep_drive.specs.Seen.{Seen, Untouched, Unread, NoneFell}
 use Rattle.ep_drive.specs.Statuses.{Kind, Finished, Refused, Faulted, Starved, kind_of, IsStop, Rose}
-use Rattle.ep_drive.specs.Verdicts.{Job, Verdict, Refuse, Begin, HasVerdict, MustHaveVerdict}
+use Rattle.ep_drive.specs.Verdicts.{Job, Verdict, Refuse, Begin, IsSameVerdict, HasVerdict, MustHaveVerdict}
+use Rattle.ep_drive.specs.declared.source.SourceRefusal.{SourceRefusal}
+use Rattle.ep_drive.specs.declared.source.SourceRefusal.TheVariants as source
 use Rattle.ep_drive.specs.declared.status.Status.{Status}
 use Rattle.ep_drive.specs.declared.status.Status.TheVariants as status
 use Rattle.ep_drive.proofs.Jobs.{IsQuiet, job_means, job_settled, finish_unread, part_unread, front_unread, part_quiet, front_quiet}
 use Rattle.ep_drive.proofs.Verdicts.{one_verdict}
+
+-- ---- verdicts that are the same
+
+alike_status : (why other : SourceRefusal) → AreAlike why other → source_status why ≡ source_status other
+alike_status (source.Broken b) (source.Broken c) e = refl
+alike_status why other e = ap source_status e
+
+-- they ask for the same
+comes : (answer : Status) (v w : Verdict) → IsSameVerdict v w → ComesOf v answer → ComesOf w answer
+comes answer (Refuse (InSource file why)) (Refuse (InSource other because)) e h = h ∙ alike_status why because e.1
+comes answer v w e h = subst (λ x. ComesOf x answer) e h
+
+-- and no refusal is a job
+no_job : (r : Refusal) (job : Job) → IsSameVerdict (Refuse r) (Begin job) → ⊥
+no_job Usage job e = cc
+no_job (Missing file) job e = cc
+no_job (TooLong file bytes) job e = cc
+no_job (InSource file why) job e = cc
 
 -- ---- by kinds
 
@@ -42,18 +63,18 @@ module _ (answer : Status) (words : List (List ℕ)) (before after : Seen) where
     of Starved e = h (inr e)
 
   -- what must be the verdict is the verdict
-  same_verdict : (verdict other : Verdict) → MustHaveVerdict words before.files verdict → HasVerdict words before.files other → other ≡ verdict
+  same_verdict : (verdict other : Verdict) → MustHaveVerdict words before.files verdict → HasVerdict words before.files other → IsSameVerdict other verdict
   same_verdict verdict other must has = one_verdict words has.directory other verdict has.is (must has.directory has.told)
 
   certain : Answers answer words before after → (verdict : Verdict) → MustHaveVerdict words before.files verdict → ComesOf verdict answer ⊎ IsStop answer
   certain a verdict must =
-      by_kind (λ e. let r = refused e a in let so = r.holds in inl (subst (λ v. ComesOf v answer) (same_verdict verdict (Refuse r.refusal) must r.verdict) so.answers))
-      (λ e. let b = finished e a in inl (subst (λ v. ComesOf v answer) (same_verdict verdict (Begin b.job) must b.verdict) e)) (λ s. inr s)
+      by_kind (λ e. let r = refused e a in let so = r.holds in inl (comes answer (Refuse r.refusal) verdict (same_verdict verdict (Refuse r.refusal) must r.verdict) so.answers))
+      (λ e. let b = finished e a in inl (comes answer (Begin b.job) verdict (same_verdict verdict (Begin b.job) must b.verdict) e)) (λ s. inr s)
 
   enough : Answers answer words before after → (job : Job) (settled : Status) → MustHaveVerdict words before.files (Begin job) → Settles job settled → (answer ≡ settled) ⊎ IsStop answer
   enough a job settled must has =
       by_kind
-      (λ e. let r = refused e a in let no : Refuse r.refusal ≡ Begin job = same_verdict (Begin job) (Refuse r.refusal) must r.verdict in absurd cc)
+      (λ e. let r = refused e a in absurd (no_job r.refusal job (same_verdict (Begin job) (Refuse r.refusal) must r.verdict)))
       (λ e.
       let b = finished e a in
       let same : Begin b.job ≡ Begin job = same_verdict (Begin job) (Begin b.job) must b.verdict in

@@ -1,14 +1,15 @@
 pub mod Causes
 pub mod Clauses
-pub mod Elaborated
 pub mod Executing
 pub mod Going
 pub mod Jobs
+pub mod Lines
 pub mod Loaded
 pub mod Meant
 pub mod Numbers
 pub mod Placed
 pub mod Refused
+pub mod Ruled
 pub mod Runs
 pub mod Sources
 pub mod Verdicts

@@ -18,6 +18,8 @@ source_kind : (why : SourceRefusal) → kind_of (source_status why) ≡ Refused
 source_kind (source.NotBuilt line) = refl
 source_kind (source.Token refusal) = refl
 source_kind (source.Parse refusal) = refl
+source_kind (source.Broken b) = refl
+source_kind (source.TooLarge name nodes) = refl
 
 refusal_kind : (refusal : Refusal) → kind_of (status_of refusal) ≡ Refused
 refusal_kind Usage = refl

@@ -8,14 +8,15 @@ use Rattle.ep_outside.specs.Known.{Directory, HasFile, HasLength}
 use Rattle.ep_typed.specs.declared.unit.Unit.{Unit as TypedUnit}
 use Rattle.ep_drive.specs.Commands.{Command, WordsOf}
 use Rattle.ep_drive.specs.Commands as commands
-use Rattle.ep_drive.specs.ProgramTexts.{HasUnbuilt, HasTree, IsBuilt, Joins}
-use Rattle.ep_drive.specs.Refusals.{Usage, Missing, TooLong, InSource, source_limit, IsOutside, IsRefusedText}
-use Rattle.ep_drive.specs.Verdicts.{Job, Go, Verdict, Refuse, Begin, IsFirst, HasText, IsLoaded, AreTexts, OfSources, missing, too_long, outside, not_built, begin, OfCommand, IsVerdict, usage, asked, IsTold, HasVerdict}
+use Rattle.ep_drive.specs.ProgramTexts.{HasUnbuilt, HasTree, IsBuilt, IsSound, Joins}
+use Rattle.ep_drive.specs.Refusals.{Refusal, Usage, Missing, TooLong, InSource, source_limit, IsOutside, IsRuledOut, IsRefusedText, AreAlike}
+use Rattle.ep_drive.specs.Verdicts.{Job, Go, Verdict, Refuse, Begin, IsSameVerdict, IsFirst, HasText, IsLoaded, AreTexts, OfSources, missing, too_long, outside, not_built, ruled_out, begin, OfCommand, IsVerdict, usage, asked, IsTold, HasVerdict}
 use Rattle.ep_drive.specs.declared.source.SourceRefusal.{SourceRefusal}
 use Rattle.ep_drive.specs.declared.source.SourceRefusal.TheVariants as source
 use Rattle.ep_drive.proofs.Causes.{one_refusal, no_tree, one_unbuilt}
 use Rattle.ep_drive.proofs.Loaded.{weaker, text-loaded, both_texts, not_missing, not_long}
-use Rattle.ep_drive.proofs.Sources.{program_built}
+use Rattle.ep_drive.proofs.Ruled.{one_ruled, ruled_unsound}
+use Rattle.ep_drive.proofs.Sources.{has_built, sound_built}
 use Rattle.ep_drive.proofs.WordRows.{words-one}
 
 -- ---- the first that does not pass
@@ -39,6 +40,28 @@ module _ {A : Type 0} (P : A → Type 0) where
   first_same : (x y : A) (xs : List A) → IsFirst P x xs → (P x → ⊥) → IsFirst P y xs → (P y → ⊥) → x ≡ y
   first_same x y xs f nx g ny = firsts f.before f.after g.before g.after x y (sym f.is ∙ g.is) f.passed g.passed nx ny
 
+-- ---- the same verdict
+
+alike_itself : (why : SourceRefusal) → AreAlike why why
+alike_itself (source.Broken b) = refl
+alike_itself (source.Token refusal) = refl
+alike_itself (source.Parse refusal) = refl
+alike_itself (source.NotBuilt line) = refl
+alike_itself (source.TooLarge name nodes) = refl
+
+refused_itself : (r : Refusal) → IsSameVerdict (Refuse r) (Refuse r)
+refused_itself Usage = refl
+refused_itself (Missing file) = refl
+refused_itself (TooLong file bytes) = refl
+refused_itself (InSource file why) = (refl, alike_itself why)
+
+itself : (v : Verdict) → IsSameVerdict v v
+itself (Refuse r) = refused_itself r
+itself (Begin job) = refl
+
+same : (v w : Verdict) → v ≡ w → IsSameVerdict v w
+same v w e = subst (IsSameVerdict v) e (itself v)
+
 -- ---- the verdict on sources
 
 module _ (d : Directory) (sources : List (List ℕ)) (job : List (List ℕ) → Job) where
@@ -55,12 +78,12 @@ module _ (d : Directory) (sources : List (List ℕ)) (job : List (List ℕ) → 
 
   -- at most one verdict holds
   abbrev IsOne : (Verdict → Type 0) → Type 0
-  IsOne P = (v w : Verdict) → P v → P w → v ≡ w
+  IsOne P = (v w : Verdict) → P v → P w → IsSameVerdict v w
 
   tested_one : (Passes : List ℕ → Type 0) (Gives : List ℕ → Verdict → Type 0) (More : Verdict → Type 0) → ((file : List ℕ) → IsOne (Gives file)) → IsOne More → IsOne (Tested Passes Gives More)
   tested_one Passes Gives More one more v w (inl a) (inl b) =
-      let same : b.file ≡ a.file = first_same Passes b.file a.file sources b.first b.stops a.first a.stops in
-      one a.file v w a.gives (subst (λ file. Gives file w) same b.gives)
+      let files : b.file ≡ a.file = first_same Passes b.file a.file sources b.first b.stops a.first a.stops in
+      one a.file v w a.gives (subst (λ file. Gives file w) files b.gives)
   tested_one Passes Gives More one more v w (inl a) (inr b) = absurd (first_fails Passes a.file sources a.first a.stops b.0)
   tested_one Passes Gives More one more v w (inr a) (inl b) = absurd (first_fails Passes b.file sources b.first b.stops a.0)
   tested_one Passes Gives More one more v w (inr a) (inr b) = more v w a.1 b.1
@@ -74,26 +97,34 @@ module _ (d : Directory) (sources : List (List ℕ)) (job : List (List ℕ) → 
   abbrev GivesUnbuilt : List ℕ → Verdict → Type 0
   GivesUnbuilt file v = (line : ℕ) × HasText d (λ text. HasUnbuilt text (Some line)) file × (v ≡ Refuse (InSource file (source.NotBuilt line)))
 
+  abbrev GivesRuled : List ℕ → Verdict → Type 0
+  GivesRuled file v = (why : SourceRefusal) × HasText d (λ text. IsRuledOut text why) file × (v ≡ Refuse (InSource file why))
+
   abbrev GivesJob : Verdict → Type 0
   GivesJob v = (texts : List (List ℕ)) × AreTexts d sources texts × (v ≡ Begin (job texts))
 
   unloaded_one : (file : List ℕ) → IsOne (GivesUnloaded file)
-  unloaded_one file v w (inl a) (inl b) = a.1 ∙ sym b.1
+  unloaded_one file v w (inl a) (inl b) = same v w (a.1 ∙ sym b.1)
   unloaded_one file v w (inl a) (inr b) = let no : None ≡ Some b.0 = sym a.0 ∙ b.1 in absurd cc
   unloaded_one file v w (inr a) (inl b) = let no : None ≡ Some a.0 = sym b.0 ∙ a.1 in absurd cc
   unloaded_one file v w (inr a) (inr b) =
-      let same : a.0 ≡ b.0 = same_Some a.0 b.0 (sym a.1 ∙ b.1) in
-      a.2 ∙ ap (λ text. Refuse (TooLong file (length text))) same ∙ sym b.2
+      let texts : a.0 ≡ b.0 = same_Some a.0 b.0 (sym a.1 ∙ b.1) in
+      same v w (a.2 ∙ ap (λ text. Refuse (TooLong file (length text))) texts ∙ sym b.2)
 
   outside_one : (file : List ℕ) → IsOne (GivesOutside file)
   outside_one file v w a b =
-      let same : a.0 ≡ b.0 = both_texts d (λ text. IsOutside text a.0) (λ text. IsOutside text b.0) file (λ text p q. one_refusal text a.0 b.0 p q) a.1 b.1 in
-      a.2 ∙ ap (λ why. Refuse (InSource file why)) same ∙ sym b.2
+      let reasons : a.0 ≡ b.0 = both_texts d (λ text. IsOutside text a.0) (λ text. IsOutside text b.0) file (λ text p q. one_refusal text a.0 b.0 p q) a.1 b.1 in
+      same v w (a.2 ∙ ap (λ why. Refuse (InSource file why)) reasons ∙ sym b.2)
 
   unbuilt_one : (file : List ℕ) → IsOne (GivesUnbuilt file)
   unbuilt_one file v w a b =
-      let same : Some a.0 ≡ Some b.0 = both_texts d (λ text. HasUnbuilt text (Some a.0)) (λ text. HasUnbuilt text (Some b.0)) file (λ text p q. one_unbuilt text (Some a.0) (Some b.0) p q) a.1 b.1 in
-      a.2 ∙ ap (λ line. Refuse (InSource file (source.NotBuilt line))) (same_Some a.0 b.0 same) ∙ sym b.2
+      let lines : Some a.0 ≡ Some b.0 = both_texts d (λ text. HasUnbuilt text (Some a.0)) (λ text. HasUnbuilt text (Some b.0)) file (λ text p q. one_unbuilt text (Some a.0) (Some b.0) p q) a.1 b.1 in
+      same v w (a.2 ∙ ap (λ line. Refuse (InSource file (source.NotBuilt line))) (same_Some a.0 b.0 lines) ∙ sym b.2)
+
+  ruled_one : (file : List ℕ) → IsOne (GivesRuled file)
+  ruled_one file v w a b =
+      let alike : AreAlike a.0 b.0 = both_texts d (λ text. IsRuledOut text a.0) (λ text. IsRuledOut text b.0) file (λ text p q. one_ruled text a.0 b.0 p q) a.1 b.1 in
+      subst (λ x. IsSameVerdict x w) (sym a.2) (subst (IsSameVerdict (Refuse (InSource file a.0))) (sym b.2) (refl, alike))
 
   texts_one : (files texts others : List (List ℕ)) → AreTexts d files texts → AreTexts d files others → texts ≡ others
   texts_one [] [] [] a b = refl
@@ -106,11 +137,11 @@ module _ (d : Directory) (sources : List (List ℕ)) (job : List (List ℕ) → 
       λ i. first i ∷ texts_one files texts others a.1 b.1 i
 
   job_one : IsOne GivesJob
-  job_one v w a b = a.2 ∙ ap (λ texts. Begin (job texts)) (texts_one sources a.0 b.0 a.1 b.1) ∙ sym b.2
+  job_one v w a b = same v w (a.2 ∙ ap (λ texts. Begin (job texts)) (texts_one sources a.0 b.0 a.1 b.1) ∙ sym b.2)
 
   -- the tests one after the other
   abbrev OfTests : Verdict → Type 0
-  OfTests = Tested (IsLoaded d) GivesUnloaded (Tested (HasText d HasTree) GivesOutside (Tested (HasText d IsBuilt) GivesUnbuilt GivesJob))
+  OfTests = Tested (IsLoaded d) GivesUnloaded (Tested (HasText d HasTree) GivesOutside (Tested (HasText d IsBuilt) GivesUnbuilt (Tested (HasText d IsSound) GivesRuled GivesJob)))
 
   all_loaded : (P : List ℕ → Type 0) → All (HasText d P) sources → All (IsLoaded d) sources
   all_loaded P = All-weaker (HasText d P) (IsLoaded d) (text-loaded d P) sources
@@ -121,16 +152,19 @@ module _ (d : Directory) (sources : List (List ℕ)) (job : List (List ℕ) → 
   all_trees : All (HasText d IsBuilt) sources → All (HasText d HasTree) sources
   all_trees = All-weaker (HasText d IsBuilt) (HasText d HasTree) (weaker d IsBuilt HasTree built_tree) sources
 
-  texts_built : (files texts : List (List ℕ)) (units : List TypedUnit) → AreTexts d files texts → Joins texts units → All (HasText d IsBuilt) files
-  texts_built [] [] units a j = All-nil (HasText d IsBuilt)
-  texts_built [] (text ∷ texts) units a j = absurd a
-  texts_built (file ∷ files) [] units a j = absurd a
-  texts_built (file ∷ []) (text ∷ []) (unit ∷ []) a j =
-      All-cons (HasText d IsBuilt) file [] (weaker d (λ x. x ≡ text) IsBuilt (λ x e. subst IsBuilt (sym e) (program_built text unit j)) file a.0) (All-nil (HasText d IsBuilt))
-  texts_built (file ∷ []) (text ∷ []) [] a j = absurd j
-  texts_built (file ∷ []) (text ∷ []) (unit ∷ next ∷ units) a j = absurd j
-  texts_built (file ∷ next ∷ files) (text ∷ []) units a j = absurd a.1
-  texts_built (file ∷ files) (text ∷ other ∷ texts) units a j = absurd j
+  all_built : All (HasText d IsSound) sources → All (HasText d IsBuilt) sources
+  all_built = All-weaker (HasText d IsSound) (HasText d IsBuilt) (weaker d IsSound IsBuilt sound_built) sources
+
+  texts_sound : (files texts : List (List ℕ)) (units : List TypedUnit) → AreTexts d files texts → Joins texts units → All (HasText d IsSound) files
+  texts_sound [] [] units a j = All-nil (HasText d IsSound)
+  texts_sound [] (text ∷ texts) units a j = absurd a
+  texts_sound (file ∷ files) [] units a j = absurd a
+  texts_sound (file ∷ []) (text ∷ []) (unit ∷ []) a j =
+      All-cons (HasText d IsSound) file [] (weaker d (λ x. x ≡ text) IsSound (λ x e. subst IsSound (sym e) (unit, j)) file a.0) (All-nil (HasText d IsSound))
+  texts_sound (file ∷ []) (text ∷ []) [] a j = absurd j
+  texts_sound (file ∷ []) (text ∷ []) (unit ∷ next ∷ units) a j = absurd j
+  texts_sound (file ∷ next ∷ files) (text ∷ []) units a j = absurd a.1
+  texts_sound (file ∷ files) (text ∷ other ∷ texts) units a j = absurd j
 
   tests : (v : Verdict) → OfSources d sources job v → OfTests v
   tests v (missing file first none) = inl (record { file = file; first = first; stops = not_missing d file none; gives = inl (none, refl) })
@@ -153,22 +187,40 @@ module _ (d : Directory) (sources : List (List ℕ)) (job : List (List ℕ) → 
     where
       not_none : (line : ℕ) → Some line ≡ None → ⊥
       not_none line e = cc
+  tests v (ruled_out file why built first gives) =
+      inr (
+        all_loaded IsBuilt built,
+        inr (
+          all_trees built,
+          inr (
+            built,
+            inl (record {
+              file = file;
+              first = first;
+              stops = λ t. both_texts d (λ text. IsRuledOut text why) IsSound file (λ text p q. ruled_unsound text why p q) gives t;
+              gives = (why, gives, refl);
+            }),
+          ),
+        ),
+      )
   tests v (begin texts units are joins) =
-      let built = texts_built sources texts units are joins in
-      inr (all_loaded IsBuilt built, inr (all_trees built, inr (built, (texts, are, refl))))
+      let sound = texts_sound sources texts units are joins in
+      let built = all_built sound in
+      inr (all_loaded IsBuilt built, inr (all_trees built, inr (built, inr (sound, (texts, are, refl)))))
 
   sources_one : IsOne (OfSources d sources job)
   sources_one v w a b =
-      tested_one (IsLoaded d) GivesUnloaded (Tested (HasText d HasTree) GivesOutside (Tested (HasText d IsBuilt) GivesUnbuilt GivesJob)) unloaded_one
-      (tested_one (HasText d HasTree) GivesOutside (Tested (HasText d IsBuilt) GivesUnbuilt GivesJob) outside_one (tested_one (HasText d IsBuilt) GivesUnbuilt GivesJob unbuilt_one job_one))
+      tested_one (IsLoaded d) GivesUnloaded (Tested (HasText d HasTree) GivesOutside (Tested (HasText d IsBuilt) GivesUnbuilt (Tested (HasText d IsSound) GivesRuled GivesJob))) unloaded_one
+      (tested_one (HasText d HasTree) GivesOutside (Tested (HasText d IsBuilt) GivesUnbuilt (Tested (HasText d IsSound) GivesRuled GivesJob)) outside_one
+      (tested_one (HasText d IsBuilt) GivesUnbuilt (Tested (HasText d IsSound) GivesRuled GivesJob) unbuilt_one (tested_one (HasText d IsSound) GivesRuled GivesJob ruled_one job_one)))
       v w (tests v a) (tests w b)
 
 -- ---- the verdict on words
 
-command_one : (command : Command) (d : Directory) (v w : Verdict) → OfCommand command d v → OfCommand command d w → v ≡ w
+command_one : (command : Command) (d : Directory) (v w : Verdict) → OfCommand command d v → OfCommand command d w → IsSameVerdict v w
 command_one (commands.Go budget sources) d v w a b = sources_one d sources (Go budget) v w a b
 
-pub one_verdict : (words : List (List ℕ)) (d : Directory) (v w : Verdict) → IsVerdict words d v → IsVerdict words d w → v ≡ w
+pub one_verdict : (words : List (List ℕ)) (d : Directory) (v w : Verdict) → IsVerdict words d v → IsVerdict words d w → IsSameVerdict v w
 one_verdict words d v w (usage none) (usage nothing) = refl
 one_verdict words d v w (usage none) (asked command is of) = absurd (none command is)
 one_verdict words d v w (asked command is of) (usage none) = absurd (none command is)
@@ -241,11 +293,25 @@ module _ (words : List (List ℕ)) (files : Option Directory) (budget : ℕ) (fi
               (outside file why (only_all (IsLoaded d) file (has (λ t. Unit {0}) d k.holds tt)) (only_first (HasText d HasTree) file) (has (λ t. IsOutside t why) d k.holds c));
         }
 
+    ruled_verdict : (why : SourceRefusal) → IsRuledOut text why → HasVerdict words files (Refuse (InSource file why))
+    ruled_verdict why c =
+        let k = known_file files file (Some text) loaded in
+        let d = k.directory in
+        record {
+          directory = d;
+          told = k.told;
+          is = go_asked d (Refuse (InSource file why))
+              (ruled_out file why (only_all (HasText d IsBuilt) file (has IsBuilt d k.holds (has_built text _ c))) (only_first (HasText d IsSound) file) (has (λ t. IsRuledOut t why) d k.holds c));
+        }
+
     -- a text that is refused
     pub text_verdict : (why : SourceRefusal) → IsRefusedText text why → HasVerdict words files (Refuse (InSource file why))
     text_verdict (source.Token refusal) c = outside_verdict (source.Token refusal) c
     text_verdict (source.Parse refusal) c = outside_verdict (source.Parse refusal) c
-    text_verdict (source.NotBuilt line) c =
+    text_verdict (source.Broken b) c = ruled_verdict (source.Broken b) c
+    text_verdict (source.TooLarge name nodes) c = ruled_verdict (source.TooLarge name nodes) c
+    text_verdict (source.NotBuilt line) (inr c) = ruled_verdict (source.NotBuilt line) c
+    text_verdict (source.NotBuilt line) (inl c) =
         let k = known_file files file (Some text) loaded in
         let d = k.directory in
         record {

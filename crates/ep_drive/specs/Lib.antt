@@ -1,7 +1,6 @@
 pub mod Asked
 pub mod Calls
 pub mod Commands
-pub mod Elaboration
 pub mod Executions
 pub mod GoRuns
 pub mod Images

@@ -1,5 +1,5 @@
 -- Why a call is refused, and what it then answers and reports.
-use Rattle.std.specs.Prelude.{ℕ, ⊤, List, [], ◌++◌, Some, codes, decimal}
+use Rattle.std.specs.Prelude.{◌≡◌, ℕ, ⊤, ◌⊎◌, List, [], ◌++◌, Some, codes, decimal}
 use Rattle.ep_token.specs.Tokens.{Tokens, Stuck}
 use Rattle.ep_token.specs.declared.refusal.TokenRefusal.{TokenRefusal}
 use Rattle.ep_token.specs.declared.refusal.TokenRefusal.TheVariants as token
@@ -8,7 +8,11 @@ use Rattle.ep_grammar.specs.declared.stop.TheConstants.{MAX_NESTING}
 use Rattle.ep_parse.specs.Refusals.{Refuses}
 use Rattle.ep_parse.specs.declared.text.ParseRefusal.{ParseRefusal}
 use Rattle.ep_parse.specs.declared.text.ParseRefusal.TheVariants as parse
-use Rattle.ep_drive.specs.ProgramTexts.{HasUnbuilt}
+use Rattle.ep_tree.specs.declared.component.Component.{Component}
+use Rattle.ep_check_unit.specs.Units.{BreaksAt, WaitsAt}
+use Rattle.ep_check_unit.specs.declared.outcome.CheckRefusal.{CheckRefusal}
+use Rattle.ep_check_unit.specs.declared.outcome.CheckRefusal.TheVariants as check
+use Rattle.ep_drive.specs.ProgramTexts.{HasUnbuilt, HasBuilt, IsTooLarge}
 use Rattle.ep_drive.specs.declared.source.SourceRefusal.{SourceRefusal}
 use Rattle.ep_drive.specs.declared.source.SourceRefusal.TheVariants as source
 use Rattle.ep_drive.specs.declared.source.SourceStop.{SourceStop}
@@ -55,6 +59,8 @@ source_words (source.Token (token.LongName line)) = on_line line (codes "long na
 source_words (source.Parse (parse.Syntax place line)) = on_line line (codes "syntax")
 source_words (source.Parse (parse.Nested place line)) = on_line line (codes "nested")
 source_words (source.NotBuilt line) = on_line line (codes "not built")
+source_words (source.Broken b) = on_line b.line (codes "rule " ++ decimal b.rule)
+source_words (source.TooLarge name nodes) = codes ": unit " ++ name ++ codes " too large " ++ decimal nodes
 source_words _ = []
 
 -- the report of a refusal, one line
@@ -82,11 +88,31 @@ IsOutside text (source.Token why) = IsStuck text why
 IsOutside text (source.Parse parse.NoMemory) = ⊥
 IsOutside text (source.Parse why) = HasNoTree text why
 IsOutside text (source.NotBuilt line) = ⊥
+IsOutside text (source.Broken b) = ⊥
+IsOutside text (source.TooLarge name nodes) = ⊥
 
--- the text is refused so: it is outside the language, or its first node that is not built begins on this line
+-- The component, all of whose nodes are built, is ruled out so: its first item that breaks a static rule begins on this line and the rule fails there; or it breaks none, and its first item that is accepted and not built begins on this line; or its unit has too many nodes.
+abbrev pub RulesOut : Component → SourceRefusal → Type 0
+RulesOut component (source.Broken b) = BreaksAt component b.rule b.line
+RulesOut component (source.NotBuilt line) = WaitsAt component line
+RulesOut component (source.TooLarge name nodes) = IsTooLarge component name nodes
+RulesOut component _ = ⊥
+
+-- the text is such a component
+abbrev pub IsRuledOut : List ℕ → SourceRefusal → Type 0
+IsRuledOut text why = HasBuilt text (λ component. RulesOut component why)
+
+-- the text is refused so: it is outside the language, or its first node that is not built begins on this line, or it is ruled out
 abbrev pub IsRefusedText : List ℕ → SourceRefusal → Type 0
-IsRefusedText text (source.NotBuilt line) = HasUnbuilt text (Some line)
+IsRefusedText text (source.NotBuilt line) = HasUnbuilt text (Some line) ⊎ IsRuledOut text (source.NotBuilt line)
+IsRefusedText text (source.Broken b) = IsRuledOut text (source.Broken b)
+IsRefusedText text (source.TooLarge name nodes) = IsRuledOut text (source.TooLarge name nodes)
 IsRefusedText text why = IsOutside text why
+
+-- Two refusals of a source that are the same, but for which rule is named of those that fail at one item.
+abbrev pub AreAlike : SourceRefusal → SourceRefusal → Type 0
+AreAlike (source.Broken b) (source.Broken c) = b.line ≡ c.line
+AreAlike why other = why ≡ other
 
 -- some text is refused so, as none is for want of memory
 abbrev pub RefusesSome : SourceRefusal → Type 0
@@ -104,6 +130,11 @@ abbrev pub StopsText : List ℕ → SourceStop → Type 0
 StopsText text (stop.Refused why) = IsRefusedText text why
 StopsText text stop.NoMemory = ⊤
 
+-- the component, all of whose nodes are built, is ruled out so; want of memory says nothing of it
+abbrev pub StopsComponent : Component → SourceStop → Type 0
+StopsComponent component (stop.Refused why) = RulesOut component why
+StopsComponent component stop.NoMemory = ⊤
+
 -- what becomes of a text that has no tokens
 abbrev pub by_tokens : TokenRefusal → SourceStop
 by_tokens token.NoMemory = stop.NoMemory
@@ -113,3 +144,9 @@ by_tokens why = stop.Refused (source.Token why)
 abbrev pub by_grammar : ParseRefusal → SourceStop
 by_grammar parse.NoMemory = stop.NoMemory
 by_grammar why = stop.Refused (source.Parse why)
+
+-- what becomes of a component that the static rules refuse
+abbrev pub by_rules : CheckRefusal → SourceStop
+by_rules (check.Broken b) = stop.Refused (source.Broken b)
+by_rules (check.NotBuilt line) = stop.Refused (source.NotBuilt line)
+by_rules check.NoMemory = stop.NoMemory

@@ -4,8 +4,8 @@ use Rattle.ep_outside.specs.Known.{Directory}
 use Rattle.ep_typed.specs.declared.unit.Unit.{Unit as TypedUnit}
 use Rattle.ep_drive.specs.Commands.{Command, WordsOf}
 use Rattle.ep_drive.specs.Commands as commands
-use Rattle.ep_drive.specs.ProgramTexts.{HasUnbuilt, HasTree, IsBuilt, Joins}
-use Rattle.ep_drive.specs.Refusals.{Refusal, Usage, Missing, TooLong, InSource, source_limit, IsOutside}
+use Rattle.ep_drive.specs.ProgramTexts.{HasUnbuilt, HasTree, IsBuilt, IsSound, Joins}
+use Rattle.ep_drive.specs.Refusals.{Refusal, Usage, Missing, TooLong, InSource, source_limit, IsOutside, IsRuledOut, AreAlike}
 use Rattle.ep_drive.specs.declared.source.SourceRefusal.{SourceRefusal}
 use Rattle.ep_drive.specs.declared.source.SourceRefusal.TheVariants as source
 
@@ -17,6 +17,11 @@ pub data Job : Type 0 where
 pub data Verdict : Type 0 where
   Refuse : Refusal → Verdict
   Begin : Job → Verdict
+
+-- two verdicts that are the same, but for which rule is named of those that fail at one item of one source
+abbrev pub IsSameVerdict : Verdict → Verdict → Type 0
+IsSameVerdict (Refuse (InSource file why)) (Refuse (InSource other because)) = (file ≡ other) × AreAlike why because
+IsSameVerdict verdict other = verdict ≡ other
 
 -- ---- the sources of a command
 
@@ -56,7 +61,10 @@ pub data OfSources (directory : Directory) (sources : List (List ℕ)) (job : Li
   -- all have trees, and the first node that is not built begins on this line of the first text that has one
   not_built : (file : List ℕ) (line : ℕ) → All (HasText directory HasTree) sources → IsFirst (HasText directory IsBuilt) file sources → HasText directory (λ text. HasUnbuilt text (Some line)) file
       → OfSources directory sources job (Refuse (InSource file (source.NotBuilt line)))
-  -- all are built, and they join to units
+  -- all are built, and the first text that is no program is ruled out so
+  ruled_out : (file : List ℕ) (why : SourceRefusal) → All (HasText directory IsBuilt) sources → IsFirst (HasText directory IsSound) file sources → HasText directory (λ text. IsRuledOut text why) file
+      → OfSources directory sources job (Refuse (InSource file why))
+  -- all are programs, and they join to units
   begin : (texts : List (List ℕ)) (units : List TypedUnit) → AreTexts directory sources texts → Joins texts units → OfSources directory sources job (Begin (job texts))
 
 -- ---- the words

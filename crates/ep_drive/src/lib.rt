@@ -6,7 +6,6 @@
 //! the command `go`. A new command is a row of `OfCommand` there, a job with a row in specs/Jobs.antt, and a module.
 #![tactic(auto)]
 
-mod elaboration;
 mod execution;
 mod go;
 mod image;

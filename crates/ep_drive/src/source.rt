@@ -1,24 +1,30 @@
-//! The program of a source text, by its tokens and its syntax tree.
+//! The program of a source text, by its tokens, its syntax tree and the static rules.
 
-ghost use Rattle.std.specs.Prelude.{◌≡◌, ◌≢◌, ◌≤◌, List, [], ℕ, None, length, IfOk, IfErr, IsOkUnless, MatchResult};
-ghost use Rattle.ep_first.specs.Built.{component_unbuilt};
+ghost use Rattle.std.specs.Prelude.{◌≡◌, ◌≢◌, ◌≤◌, List, [], ℕ, None, length, IfOk, IfErr, IsOkUnless, MatchOption, MatchResult, ◌<◌, min};
+ghost use Rattle.ep_built.specs.Built.{component_unbuilt};
+ghost use Rattle.ep_check_unit.specs.Units.{IsTyped};
+ghost use Rattle.ep_typed.specs.Nodes.{unit_nodes};
 ghost use Rattle.ep_typed.specs.Valid.{IsValid};
 ghost use Rattle.ep_typed.specs.declared.unit.Unit.{Unit as TypedUnit};
-ghost use Rattle.ep_drive.specs.ProgramTexts.{HasComponents, IsProgramText, components_unbuilt, second_line};
-ghost use Rattle.ep_drive.specs.Refusals.{StopsText, by_tokens, by_grammar};
+ghost use Rattle.ep_drive.specs.ProgramTexts.{HasComponents, IsProgramText, components_unbuilt, node_limit, second_line};
+ghost use Rattle.ep_drive.specs.Refusals.{StopsComponent, StopsText, by_tokens, by_grammar, by_rules};
 ghost use Rattle.ep_drive.specs.declared.source.SourceStop.TheVariants.{NoMemory};
 
-use crate::elaboration::elaborate;
-use ep_base::Line;
-use ep_first::unbuilt;
+use ep_base::{Line, Name};
+use ep_built::unbuilt;
+use ep_check_expr::Broken;
+use ep_check_unit::{CheckRefusal, check};
 use ep_parse::{ParseRefusal, components};
 use ep_token::{MAX_SOURCE, TokenRefusal, tokens};
 use ep_tree::Component;
-use ep_typed::Unit;
+use ep_typed::{Unit, unit_nodes};
 use std::alloc::{AllocError, Global};
 
+/// The most typed nodes of a unit.
+const MAX_NODES: u64 = 65_536;
+
 /// Why a source is refused.
-#[derive(Clone, Copy)]
+#[derive(Drop)]
 pub enum SourceRefusal {
     /// It has no tokens.
     Token(TokenRefusal),
@@ -26,11 +32,15 @@ pub enum SourceRefusal {
     Parse(ParseRefusal),
     /// The form on this line is accepted, but not built yet.
     NotBuilt(Line),
+    /// It breaks a static rule.
+    Broken(Broken),
+    /// The unit of this name has so many typed nodes, more than a unit may have.
+    TooLarge(Name, u64),
 }
 
 /// Why a source has no program. What the layers below say of want of memory becomes `NoMemory`, so a refusal that
 /// comes from here is one.
-#[derive(Clone, Copy)]
+#[derive(Drop)]
 pub enum SourceStop {
     /// It is refused.
     Refused(SourceRefusal),
@@ -56,6 +66,18 @@ impl From<ParseRefusal> for SourceStop {
         match refusal {
             ParseRefusal::NoMemory => SourceStop::NoMemory,
             refusal => SourceStop::Refused(SourceRefusal::Parse(refusal)),
+        }
+    }
+}
+
+impl From<CheckRefusal> for SourceStop {
+    ghost from_gives = { λ refusal stop. stop ≡ by_rules refusal };
+
+    fn from(refusal: CheckRefusal) -> SourceStop {
+        match refusal {
+            CheckRefusal::Broken(broken) => SourceStop::Refused(SourceRefusal::Broken(broken)),
+            CheckRefusal::NotBuilt(line) => SourceStop::Refused(SourceRefusal::NotBuilt(line)),
+            CheckRefusal::NoMemory => SourceStop::NoMemory,
         }
     }
 }
@@ -109,8 +131,32 @@ fn program_of(alloc: Global, all: &[Component]) -> Result<Unit, SourceStop>
         return Err(SourceStop::Refused(SourceRefusal::NotBuilt(line)));
     }
     let [only] = all else { unreachable!() };
-    let unit = elaborate(alloc, only)?;
+    let unit = checked_program(alloc, only)?;
+    if let Some(nodes) = excess(&unit) {
+        let name = unit.name.copy(alloc)?;
+        return Err(SourceStop::Refused(SourceRefusal::TooLarge(name, nodes)));
+    }
     Ok(unit)
+}
+
+/// The typed program of a component, by the static rules.
+fn checked_program(alloc: Global, component: &Component) -> Result<Unit, SourceStop>
+    requires { component_unbuilt component.now ≡ None }
+    ensures { MatchResult result (λ unit. IsTyped component.now unit × IsValid unit) (StopsComponent component.now) }
+{
+    let Some(unit) = check(alloc, component, &[])?.into_unit() else {
+        unreachable!()
+    };
+    Ok(unit)
+}
+
+/// How many typed nodes a unit has, where they are more than a unit may have.
+fn excess(unit: &Unit) -> Option<u64>
+    ensures { MatchOption result (unit_nodes unit.now ≤ node_limit)
+        (λ nodes. (node_limit < unit_nodes unit.now) × (nodes ≡ min (unit_nodes unit.now) u64.MAX)) }
+{
+    let nodes = unit_nodes(unit);
+    if nodes > MAX_NODES { Some(nodes) } else { None }
 }
 
 /// The line of the first node of components that is not built: a second component is one, whatever it is.
