@@ -16,6 +16,8 @@ import time
 KIB = 1024
 SIZES = (64 * KIB, 256 * KIB, 1024 * KIB)
 RUNS = 5
+# as long as the names that stand for a percent sign in a piece, each of which is another one
+NAME = "a0000000"
 # a shape of sources: its name, what stands before, the piece that is repeated, and what stands after
 SHAPES = (
     ("`writeln(1);`", "program p(output); begin ", "writeln(1);", "end."),
@@ -23,7 +25,9 @@ SHAPES = (
     ("`a(1);`", "program p; begin ", "a(1);", "end."),
     ("`;`", "program p; begin ", ";", "end."),
     ("`[1],`", "program p; begin a := [[1],", "[1],", "[1]] end."),
-    ("`x := (a + 1) * 2 - b;`", "program p; begin ", "x := (a + 1) * 2 - b;", "end."),
+    ("`x := (a + 1) * 2 - b;`", "program p; var x, a, b: integer; begin ", "x := (a + 1) * 2 - b;", "end."),
+    ("`x := 1;` and blanks", "program p; var x: integer; begin ", "x := 1;" + " " * 65, "end."),
+    ("`var` declarations", "program p; var ", "%: integer;", "begin end."),
     ("`const` definitions", "program p; const ", "c = [1: 2];", "begin end."),
     ("an open comment", "program p; {", " a comment", ""),
 )
@@ -31,8 +35,8 @@ SHAPES = (
 
 def source(before, piece, after, size):
     """A source of exactly so many bytes, with blanks where the last piece does not fit."""
-    times = (size - len(before) - len(after)) // len(piece)
-    text = before + piece * times
+    times = (size - len(before) - len(after)) // len(piece.replace("%", NAME))
+    text = before + "".join(piece.replace("%", f"a{number:07}") for number in range(times))
     return text + " " * (size - len(text) - len(after)) + after
 
 
