@@ -1,5 +1,5 @@
 -- The routines of a unit whose object stands in an image simulate the start and the stop of the unit.
-use Rattle.std.proofs.Common.{◌≡◌, ℕ, ◌+◌, ◌≤◌, ◌<◌, List, [], ◌∷◌, ◌++◌, length, length-append, Some, slice_get, refl, sym, ap, ◌∙◌, subst, arith}
+use Rattle.std.proofs.Common.{◌≡◌, ℕ, ◌+◌, ◌≤◌, ◌<◌, List, [], ◌∷◌, ◌++◌, length, length-append, IsTrue, false, Some, slice_get, refl, sym, ap, ◌∙◌, subst, arith}
 use Rattle.std.specs.Prelude.{All}
 use Rattle.std.proofs.lemmas.Bool.{lt-ltb}
 use Rattle.std.proofs.lemmas.Option.{slice_get_within, same_Some}
@@ -8,14 +8,14 @@ use Rattle.ep_gen_unit.specs.StmtCode.{make_all_code, return_code}
 use Rattle.ep_gen_unit.specs.UnitCode.{IsProgramCode, routine_at}
 use Rattle.ep_gen_unit.specs.UnitLaws.{AreDeclared, idle_stop}
 use Rattle.ep_gen_unit.proofs.Declared.{own_is, own_declared, own_types, own_valid}
-use Rattle.ep_gen_unit.proofs.Makes.{make_all_moves}
+use Rattle.ep_gen_unit.proofs.Makes.{VariablesAreFree, make_all_moves}
 use Rattle.ep_gen_unit.proofs.Parts.{code_stands-parts}
 use Rattle.ep_gen_unit.proofs.Starts.{MakesFollow, body_follows}
 use Rattle.ep_object.proofs.Bind.{follows_less, follows_post, follows_from, follows_give}
 use Rattle.ep_object.proofs.Fragments.{fragment_to}
 use Rattle.ep_object.proofs.Growing.{inside_here}
 use Rattle.ep_object.specs.Follows.{Bare}
-use Rattle.ep_object.specs.Matching.{Memory, Injection, at as standing}
+use Rattle.ep_object.specs.Matching.{Memory, Injection, is_undeclared, is_hidden_in, is_hidden_slot, at as standing}
 use Rattle.ep_object.specs.Operands.{Operand}
 use Rattle.ep_object.specs.Placing.{Placement, Span, CodeStands, IsPlacementOf, Stands, HasDistinctNames, moved, placed_routine, placed_object_unit}
 use Rattle.ep_object.specs.Runs.{routine_of, unit_in}
@@ -119,11 +119,18 @@ module _ (u : TypedUnit) (o : Object) (is : IsProgramCode u o) (G : Image) (ps :
       }
 
   module _ (declared : Declarations) (types : declared.types u.name ≡ u.types) (are_declared : AreDeclared declared u.name 0 u.variables) (valid : IsStmt declared (stmt_of u.start)) (distinct : HasDistinctNames G) (scene : Scene declared G ps p o.texts) (n : ℕ) where
+    -- the slots of the variables are not hidden
+    free : VariablesAreFree declared G (is_hidden_slot declared G) (placed_object_unit p o)
+    free unit there k v is_declared hidden = not_hidden (subst IsTrue (ap (λ x. is_hidden_in declared x k) there ∙ ap is_undeclared is_declared) hidden)
+      where
+        not_hidden : IsTrue false → ⊥
+        not_hidden h = cc
+
     -- the machine makes the variables of the unit
-    makes : MakesFollow declared G p n u
+    makes : MakesFollow declared G (is_hidden_slot declared G) p n u
     makes injection memory below d enough home framed =
         let there : slice_get G.units memory.frames.unit ≡ Some (placed_object_unit p o) = ap (slice_get G.units) framed ∙ stands.unit in
-        fragment_to {to = p.instructions.before + (0 + begins_block)} (omega arith) (make_all_moves declared G ps p o.references n (placed_object_unit p o) distinct scene.types_valid u.name is.name u.types types n 0 0 u.variables are_declared (omega (arith, is.unit_slots)) makes_stand injection memory below d enough there)
+        fragment_to {to = p.instructions.before + (0 + begins_block)} (omega arith) (make_all_moves declared G (is_hidden_slot declared G) ps p o.references n (placed_object_unit p o) free distinct scene.types_valid u.name is.name u.types types n 0 0 u.variables are_declared (omega (arith, is.unit_slots)) makes_stand injection memory below d enough there)
 
     -- the start makes the variables and runs the block
     pub start_simulates : Simulates declared G p.unit (moved p.routines o.start) n (start_of n u) Bare

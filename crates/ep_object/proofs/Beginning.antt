@@ -87,18 +87,18 @@ nothing n h = cc
 pub first_matches : (declared : Declarations) (G : Image) (frames : Frames) → frames.units ≡ map empty_slots G.units → Matches declared G first_injection meaning.first_state (first_memory frames)
 first_matches declared G frames empty =
     record {
-      made = refl;
-      represented = first_represented;
-      apart = first_apart;
-      within = first_within;
-      output = refl;
-      frames = λ unit u there. record {
-        slots = empty_slots u;
-        is = ap (λ units. slice_get units unit) empty ∙ map_at empty_slots G.units unit u there;
-        count = length-replicate u.slots None;
-        matches = λ k slot at_k. empty_slot first_segments slot (replicate_at u.slots None slot k at_k);
+      injected = record { made = refl; apart = first_apart; within = first_within };
+      store = record { represented = first_represented };
+      types = record { first = is_prefix first_types; known = λ low high h. cc; sized = first_sized };
+      units = record {
+        frames = λ unit u there. record {
+          slots = empty_slots u;
+          is = ap (λ units. slice_get units unit) empty ∙ map_at empty_slots G.units unit u there;
+          count = length-replicate u.slots None;
+          matches = λ k v slot is_declared at_k. empty_slot first_segments slot (replicate_at u.slots None slot k at_k);
+        };
+        typed = λ unit k n v h e. absurd (nothing n h);
       };
-      typed = λ unit k n v h e. absurd (nothing n h);
-      types = record { first = is_prefix first_types; known = λ low high h. cc; sized = first_sized; count = omega arith };
-      live = omega arith;
+      outside = record { output = refl };
+      counts = record { words = omega arith; hidden = omega arith; number = omega arith };
     }

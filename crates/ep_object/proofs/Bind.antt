@@ -224,7 +224,3 @@ gives_up {G = G} {v = v} {number = number} {unit = unit} {line = line} {k = k} {
 -- where room was lost already, at the next tick
 pub follows_gives_up : {A : Type 0} {Within : State → Type 0} {G : Image} {n : ℕ} {k : State} {s : meaning.State} {c : Computation A} {P : A → meaning.State → State → Type 0} {d : ℕ} {e : A → ℕ} → Steady c → 1 ≤ d → GivesUp G k 0 1 s → Follows Within G n k s c P d e
 follows_gives_up {Within = Within} {G = G} {k = k} {s = s} {c = c} steady enough h = record { by = λ m l. inr (gives_up_grown s (state_of (c m s)) (steady.by m s) (gives_up_weaken (omega (arith, enough)) h)) }
-
--- where a change of the state loses it
-pub follows_change_lost : {Within : State → Type 0} {G : Image} {n : ℕ} {k : State} {s : meaning.State} {f : meaning.State → meaning.State} {P : Unit {0} → meaning.State → State → Type 0} {d : ℕ} {e : Unit {0} → ℕ} → GivesUp G k 0 d (f s) → Follows Within G n k s (meaning.change f) P d e
-follows_change_lost h = record { by = λ m l. inr (gives_up_weaken (omega arith) h) }

@@ -1,7 +1,7 @@
 -- What the rows lead to that change variables and that write, where the machine matches.
 use Rattle.std.proofs.Common.{◌≡◌, ℕ, ℤ, pos, ◌+◌, Bool, true, false, cond, IsTrue, List, ◌∷◌, ◌++◌, length, Some, slice_get, refl, sym, ap, ◌∙◌, subst}
 use Rattle.ep_object.specs.Follows.{Bare, Inside}
-use Rattle.ep_object.specs.Matching.{Memory, at, Injection, IsPlaceOf, Describes, IsValueOf, layout, Represents, Matches}
+use Rattle.ep_object.specs.Matching.{Memory, at, Injection, IsPlaceOf, Describes, IsValueOf, layout, Represents, Matches, Slots}
 use Rattle.ep_object.specs.Operands.{Operand, Word, Text}
 use Rattle.ep_object.specs.Operands as operand
 use Rattle.ep_object.specs.Runs.{outcome, unit_in}
@@ -33,10 +33,13 @@ bounds low high (meaning.Word w) h = (h.0, h.1)
 
 module _ (declared : Declarations) (G : Image) (place line : ℕ) (below : List Operand) where
   -- `Put` of a text to `output`
-  pub put_does : (bytes : List ℕ) → slice_get G.instructions place ≡ Some (instr op.PUT (pos 0) 0 line) → (injection : Injection) (memory : Memory) (s : meaning.State) → Matches declared G injection s memory → Does declared G (at place (Text bytes ∷ operand.Place output_place ∷ below) memory s.trace) (length bytes) (place + 1) (Inside injection memory (Bare below tt)) (with_events (piece_events bytes) s)
+  pub put_does : {untouched : Slots} (bytes : List ℕ) → slice_get G.instructions place ≡ Some (instr op.PUT (pos 0) 0 line) → (injection : Injection) (memory : Memory) (s : meaning.State) → Matches declared G injection s memory → Does declared G (at place (Text bytes ∷ operand.Place output_place ∷ below) memory s.trace) (length bytes) (place + 1) (Inside untouched injection memory (Bare below tt)) (with_events (piece_events bytes) s)
   put_does bytes has injection memory s matches =
-      let a = allocated injection s 2 2 matches.made matches.output in
-      let r : Represents memory.segments memory.types 2 a.0 = matches.represented 2 2 a.0 matches.output a.1 in
+      let injected = matches.injected in
+      let store = matches.store in
+      let outside = matches.outside in
+      let a = allocated injection s 2 2 injected.made outside.output in
+      let r : Represents memory.segments memory.types 2 a.0 = store.represented 2 2 a.0 outside.output a.1 in
       let types = matches.types in
       record {
         injection = injection;
@@ -74,7 +77,7 @@ module _ (declared : Declarations) (G : Image) (place line : ℕ) (below : List 
     type_is : type_at n s ≡ type.Ordinal low high
     type_is = ap type_in here.is ∙ its_type
 
-    pub store_does : is_within (type_at n s) z ≡ true → Does declared G (at place (Word z ∷ operand.Place p ∷ below) memory s.trace) 0 (place + 1) (Inside injection memory (Bare below tt)) (assigned n (meaning.Word z) s)
+    pub store_does : {untouched : Slots} → is_within (type_at n s) z ≡ true → Does declared G (at place (Word z ∷ operand.Place p ∷ below) memory s.trace) 0 (place + 1) (Inside untouched injection memory (Bare below tt)) (assigned n (meaning.Word z) s)
     store_does within =
         let a : Allocation = here.allocation in
         let r : Represents memory.segments memory.types p.segment a = here.represents in

@@ -1,7 +1,7 @@
 -- The machine goes on matching where a value is assigned or events are added.
-use Rattle.std.proofs.Common.{◌≡◌, ℕ, zero, suc, ◌⊎◌, inl, inr, List, length, Option, Some, None, slice_get, slice_set, refl, sym, ap, ◌∙◌, subst, arith}
-use Rattle.std.proofs.lemmas.Option.{same_Some}
-use Rattle.ep_object.specs.Matching.{Memory, Injection, IsIn, MatchesSlot, MatchesFrame, IsValueOf, layout, Represents, HasType, Matches, Grown}
+use Rattle.std.proofs.Common.{◌≡◌, ℕ, zero, suc, true, ◌<◌, ◌⊎◌, inl, inr, List, length, Option, Some, None, slice_get, slice_set, refl, sym, ap, ◌∙◌, subst, arith}
+use Rattle.std.proofs.lemmas.Option.{same_Some, slice_get_within}
+use Rattle.ep_object.specs.Matching.{Memory, Injection, IsIn, MatchesSlot, MatchesInjection, MatchesFrame, MatchesUnits, MatchesCounts, hidden_words, IsValueOf, layout, Represents, HasType, Matches, Slots, Grown}
 use Rattle.ep_object.specs.declared.code.Image.{Image}
 use Rattle.ep_object.specs.declared.code.ImageUnit.{ImageUnit}
 use Rattle.ep_object.specs.declared.state.Place.{Place}
@@ -9,8 +9,9 @@ use Rattle.ep_object.specs.declared.state.Segment.{Segment}
 use Rattle.ep_object.proofs.Elements.{length-set, slice_get-set-same, slice_get-set-other}
 use Rattle.ep_object.proofs.Growing.{is_place_of-grown}
 use Rattle.ep_object.proofs.Grows.{is_prefix}
+use Rattle.ep_object.proofs.HiddenWords.{hidden_words-set}
 use Rattle.ep_typed.specs.Events.{Trace}
-use Rattle.ep_typed.specs.Steps.{Value, Allocation, allocation_at, assigned_at, assigned, type_in, type_at, with_events, is_within}
+use Rattle.ep_typed.specs.Steps.{Value, Undefined, Allocation, allocation_at, assigned_at, assigned, type_in, type_at, with_events, is_within}
 use Rattle.ep_typed.specs.Steps as meaning
 use Rattle.ep_typed.specs.Valid.{Declarations}
 
@@ -24,20 +25,30 @@ same_or_not (suc m) (suc n) = elim (same_or_not m n) [ inl e ↦ inl (ap suc e) 
 -- ---- frames in a memory that grows
 
 -- a slot goes on matching
-slot-grown : {injection longer : Injection} {memory after : Memory} (o : Option ℕ) (slot : Option Place) → Grown injection memory longer after → MatchesSlot injection memory.segments o slot → MatchesSlot longer after.segments o slot
+slot-grown : {untouched : Slots} {injection longer : Injection} {memory after : Memory} (o : Option ℕ) (slot : Option Place) → Grown untouched injection memory longer after → MatchesSlot injection memory.segments o slot → MatchesSlot longer after.segments o slot
 slot-grown None None g h = tt
 slot-grown None (Some p) g h = h
 slot-grown (Some n) None g h = h
 slot-grown (Some n) (Some p) g h = is_place_of-grown g h
 
--- frames that stay what they are go on matching
-pub matches_frame-grown : {injection longer : Injection} {s t : meaning.State} {memory after : Memory} (unit : ℕ) (u : ImageUnit) → Grown injection memory longer after → after.frames ≡ memory.frames → ((k : ℕ) → t.variables u.name k ≡ s.variables u.name k) → MatchesFrame injection s memory unit u → MatchesFrame longer t after unit u
-matches_frame-grown {injection = injection} {longer = longer} {s = s} {t = t} {memory = memory} {after = after} unit u g same variables h =
+-- a frame that stays what it is goes on matching
+pub matches_frame-grown : {untouched : Slots} {declared : Declarations} {injection longer : Injection} {before later : List ℕ → ℕ → Option ℕ} {memory after : Memory} (unit : ℕ) (u : ImageUnit) → Grown untouched injection memory longer after → after.frames ≡ memory.frames → ((k : ℕ) → later u.name k ≡ before u.name k)
+    → MatchesFrame declared injection before memory.frames.units memory.segments unit u → MatchesFrame declared longer later after.frames.units after.segments unit u
+matches_frame-grown {longer = longer} {before = before} {after = after} unit u g same variables h =
     record {
       slots = h.slots;
       is = ap (λ f. slice_get f.units unit) same ∙ h.is;
       count = h.count;
-      matches = λ k slot e. subst (λ o. MatchesSlot longer after.segments o slot) (sym (variables k)) (slot-grown (s.variables u.name k) slot g (h.matches k slot e));
+      matches = λ k v slot is_declared e. subst (λ o. MatchesSlot longer after.segments o slot) (sym (variables k)) (slot-grown (before u.name k) slot g (h.matches k v slot is_declared e));
+    }
+
+-- the units go on matching where memory grows, frames and variables stay, and no allocation changes its type
+pub matches_units-grown : {untouched : Slots} {declared : Declarations} {G : Image} {injection longer : Injection} {allocations others : List Allocation} {variables : List ℕ → ℕ → Option ℕ} {memory after : Memory} → Grown untouched injection memory longer after → after.frames ≡ memory.frames → ((n : ℕ) → type_in (allocation_at others n) ≡ type_in (allocation_at allocations n))
+    → MatchesUnits declared G injection allocations variables memory.frames.units memory.segments → MatchesUnits declared G longer others variables after.frames.units after.segments
+matches_units-grown {declared = declared} {variables = variables} g same types h =
+    record {
+      frames = λ unit u e. matches_frame-grown {before = variables} unit u g same (λ k. refl) (h.frames unit u e);
+      typed = λ unit k n v p q. subst (λ t. HasType declared unit v t) (sym (types n)) (h.typed unit k n v p q);
     }
 
 -- ---- events
@@ -45,19 +56,7 @@ matches_frame-grown {injection = injection} {longer = longer} {s = s} {t = t} {m
 -- events are no part of what is matched
 pub matches_events : {declared : Declarations} {G : Image} {injection : Injection} {s : meaning.State} {memory : Memory} (events : Trace) → Matches declared G injection s memory → Matches declared G injection (with_events events s) memory
 matches_events events h =
-    record {
-      made = h.made;
-      represented = h.represented;
-      apart = h.apart;
-      within = h.within;
-      output = h.output;
-      frames = λ unit u e.
-          let f = h.frames unit u e in
-          record { slots = f.slots; is = f.is; count = f.count; matches = f.matches };
-      typed = h.typed;
-      types = h.types;
-      live = h.live;
-    }
+    record { injected = h.injected; store = h.store; types = h.types; units = h.units; outside = h.outside; counts = h.counts }
 
 -- ---- a value that is assigned
 
@@ -88,13 +87,15 @@ is_in-same injection (suc n) x y p q = same_Some x y (sym p ∙ q)
 
 module _ {declared : Declarations} {G : Image} {injection : Injection} {s : meaning.State} {memory : Memory} (h : Matches declared G injection s memory) (n segment : ℕ) (a : Allocation) (value : Value) (is_in : IsIn injection n segment) (is : allocation_at s.allocations n ≡ Some a) (r : Represents memory.segments memory.types segment a) where
   -- no other segment changes, and this one keeps its type
-  pub grown_storing : Grown injection memory injection (storing memory segment r.type_number value)
+  pub grown_storing : {untouched : Slots} → Grown untouched injection memory injection (storing memory segment r.type_number value)
   grown_storing =
       record {
         larger = is_prefix injection;
         types = is_prefix memory.types;
         segments = omega (arith, length-set memory.segments segment (Some new));
         hidden = λ k le hidden. hidden;
+        allocated = λ k y le q. absurd (let w : k < length (slice_set memory.segments segment (Some new)) = slice_get_within (slice_set memory.segments segment (Some new)) k (Some y) q in omega (arith, w, le, length-set memory.segments segment (Some new)));
+        slots = λ unit k kept. refl;
         others = λ k le hidden. slice_get-set-other memory.segments segment k (Some new) (λ e. hidden n (subst (λ j. IsIn injection n j) e is_in));
         typed = λ k x y p q. typed_at k x y p q (same_or_not segment k);
         ended = λ k y le q. ended_at k y q (same_or_not segment k);
@@ -125,17 +126,12 @@ module _ {declared : Declarations} {G : Image} {injection : Injection} {s : mean
   pub matches_assigned : IsValueOf a.type_value value → Matches declared G injection (assigned n value s) (storing memory segment r.type_number value)
   matches_assigned of_type =
       record {
-        made = h.made ∙ sym (assigned_length s.allocations n value a is);
-        represented = λ m k b p q. represented_at m k b p q (same_or_not n m);
-        apart = h.apart;
-        within = λ m k p.
-            let w = h.within m k p in
-            omega (arith, w, length-set memory.segments segment (Some (record { type_number = r.type_number; words = layout value })));
-        output = h.output;
-        frames = λ unit u e. matches_frame-grown {s = s} unit u grown_storing refl (λ k. refl) (h.frames unit u e);
-        typed = λ unit k m v p q. subst (λ t. HasType declared unit v t) (sym (type_at_assigned m (same_or_not n m))) (h.typed unit k m v p q);
+        injected = injected;
+        store = record { represented = λ m k b p q. represented_at m k b p q (same_or_not n m) };
         types = h.types;
-        live = h.live;
+        units = matches_units-grown grown_whole refl (λ m. type_at_assigned m (same_or_not n m)) h.units;
+        outside = h.outside;
+        counts = counts;
       }
     where
       new : Segment
@@ -144,6 +140,31 @@ module _ {declared : Declarations} {G : Image} {injection : Injection} {s : mean
       old : Segment
       old = record { type_number = r.type_number; words = layout a.value }
 
+      grown_whole : Grown (λ unit k. true) injection memory injection (storing memory segment r.type_number value)
+      grown_whole = grown_storing
+
+      injected : MatchesInjection injection (assigned_at n value s.allocations) (slice_set memory.segments segment (Some new))
+      injected =
+          let old_injected = h.injected in
+          record {
+            made = old_injected.made ∙ sym (assigned_length s.allocations n value a is);
+            apart = old_injected.apart;
+            within = λ m k p. let w = old_injected.within m k p in omega (arith, w, length-set memory.segments segment (Some new));
+          }
+
+      -- a value of either kind has one word
+      one_word : (v w : Value) → length (layout v) ≡ length (layout w)
+      one_word Undefined Undefined = refl
+      one_word Undefined (meaning.Word w) = refl
+      one_word (meaning.Word v) Undefined = refl
+      one_word (meaning.Word v) (meaning.Word w) = refl
+
+      counts : MatchesCounts injection s.resources (slice_set memory.segments segment (Some new)) memory.types memory.live
+      counts =
+          let c = h.counts in
+          let same : hidden_words injection (slice_set memory.segments segment (Some new)) ≡ hidden_words injection memory.segments = hidden_words-set injection memory.segments segment old new (one_word value a.value) r.stands in
+          record { words = omega (arith, c.words, same); hidden = omega (arith, c.hidden, same); number = c.number }
+
       represented_at : (m k : ℕ) (b : Allocation) → IsIn injection m k → allocation_at (assigned_at n value s.allocations) m ≡ Some b → (n ≡ m) ⊎ (n ≡ m → ⊥) → Represents (slice_set memory.segments segment (Some new)) memory.types k b
       represented_at m k b p q (inl e) =
           let there : IsIn injection n k = subst (λ j. IsIn injection j k) (sym e) p in
@@ -151,8 +172,10 @@ module _ {declared : Declarations} {G : Image} {injection : Injection} {s : mean
           let b_is : record a { value = value } ≡ b = same_Some (record a { value = value }) b (sym (assigned_same s.allocations n value a is) ∙ subst (λ j. allocation_at (assigned_at n value s.allocations) j ≡ Some b) (sym e) q) in
           subst (λ j. Represents (slice_set memory.segments segment (Some new)) memory.types j b) seg (subst (λ x. Represents (slice_set memory.segments segment (Some new)) memory.types segment x) b_is (record { type_number = r.type_number; stands = slice_get-set-same memory.segments segment (Some new) (Some old) r.stands; described = r.described; value = of_type }))
       represented_at m k b p q (inr other) =
-          let before : Represents memory.segments memory.types k b = h.represented m k b p (sym (assigned_other s.allocations n m value a is other) ∙ q) in
-          let apart : (segment ≡ k → ⊥) = λ e. other (h.apart n m k (subst (λ j. IsIn injection n j) e is_in) p) in
+          let store = h.store in
+          let injected = h.injected in
+          let before : Represents memory.segments memory.types k b = store.represented m k b p (sym (assigned_other s.allocations n m value a is other) ∙ q) in
+          let apart : (segment ≡ k → ⊥) = λ e. other (injected.apart n m k (subst (λ j. IsIn injection n j) e is_in) p) in
           record { type_number = before.type_number; stands = slice_get-set-other memory.segments segment k (Some new) apart ∙ before.stands; described = before.described; value = before.value }
 
       type_at_assigned : (m : ℕ) → (n ≡ m) ⊎ (n ≡ m → ⊥) → type_at m (assigned n value s) ≡ type_at m s

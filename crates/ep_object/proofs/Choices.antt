@@ -2,7 +2,7 @@
 use Rattle.std.proofs.Common.{◌≡◌, ℕ, ℤ, zero, suc, ◌+◌, ◌≤◌, Bool, true, false, List, ◌∷◌, Option, Some, None, refl, sym, subst, arith}
 use Rattle.std.specs.Prelude.{if◌then◌else◌}
 use Rattle.ep_object.specs.Follows.{Follows, After, Lands, Fragment, Bare, OnTop, SameRoutine, Inside}
-use Rattle.ep_object.specs.Matching.{Memory, at, Injection, Matches, Grown}
+use Rattle.ep_object.specs.Matching.{Memory, at, Injection, Matches, Slots, Grown}
 use Rattle.ep_object.specs.Operands.{Operand, Word}
 use Rattle.ep_object.specs.Runs.{outcome}
 use Rattle.ep_object.specs.State.{State, Going, Running, Stopped, Error}
@@ -102,12 +102,12 @@ fragment_branch false does le then_way else_way = fragment_waits does le (else_w
 
 -- At `place` stands the test and behind it, at `test_end`, the instruction that leads out of the loop; the body is from
 -- `body_place` to `body_end`, where an instruction leads back.
-pub fragment_turns : {declared : Declarations} {G : Image} {n : ℕ} {place test_end body_place body_end to : ℕ} {below : List Operand} {test : Computation Result} {body : Computation (Unit {0})} (h : ℕ) (unit : List ℕ) (d : ℕ) → Steady test → Steady body → (first : Injection) (start : Memory) →
-    ((injection : Injection) (memory : Memory) → Grown first start injection memory → SameRoutine start.frames memory.frames → Fragment declared G n injection memory place below test test_end (λ r. Inside injection memory (OnTop (kind.Ordinal host.Boolean) below r)) d (λ r. d + 2)) →
+pub fragment_turns : {untouched : Slots} {declared : Declarations} {G : Image} {n : ℕ} {place test_end body_place body_end to : ℕ} {below : List Operand} {test : Computation Result} {body : Computation (Unit {0})} (h : ℕ) (unit : List ℕ) (d : ℕ) → Steady test → Steady body → (first : Injection) (start : Memory) →
+    ((injection : Injection) (memory : Memory) → Grown untouched first start injection memory → SameRoutine start.frames memory.frames → Fragment declared G n injection memory place below test test_end (λ r. Inside untouched injection memory (OnTop (kind.Ordinal host.Boolean) below r)) d (λ r. d + 2)) →
     ((z : ℤ) (memory : Memory) (trace : Trace) → SameRoutine start.frames memory.frames → outcome G (at test_end (Word z ∷ below) memory trace) ≡ record { weight = 0; to = Running 0 (at (if is_true z then body_place else to) below memory trace) }) →
-    ((injection : Injection) (memory : Memory) → Grown first start injection memory → SameRoutine start.frames memory.frames → Fragment declared G n injection memory body_place below body body_end (λ a. Inside injection memory (Bare below a)) (d + 1) (λ a. d + 1)) →
+    ((injection : Injection) (memory : Memory) → Grown untouched first start injection memory → SameRoutine start.frames memory.frames → Fragment declared G n injection memory body_place below body body_end (λ a. Inside untouched injection memory (Bare below a)) (d + 1) (λ a. d + 1)) →
     ((memory : Memory) (trace : Trace) → SameRoutine start.frames memory.frames → outcome G (at body_end below memory trace) ≡ record { weight = 0; to = Running 0 (at place below memory trace) }) →
-    (k : ℕ) → k ≤ n → (injection : Injection) (memory : Memory) → Grown first start injection memory → SameRoutine start.frames memory.frames → Fragment declared G k injection memory place below (turns h unit k test body) to (λ a. Inside injection memory (Bare below a)) d (λ a. d)
+    (k : ℕ) → k ≤ n → (injection : Injection) (memory : Memory) → Grown untouched first start injection memory → SameRoutine start.frames memory.frames → Fragment declared G k injection memory place below (turns h unit k test body) to (λ a. Inside untouched injection memory (Bare below a)) d (λ a. d)
 fragment_turns h unit d steady_test steady_body first start tests leads_out bodies leads_back zero le injection memory grown routine = fragment_cut
 fragment_turns h unit d steady_test steady_body first start tests leads_out bodies leads_back (suc k) le injection memory grown routine =
     fragment_bind_number {e = λ r. d + 2} (λ r. steady_if (is_true (number_of r)) (steady_bind steady_body (λ a. steady_spend 1 (steady_turns h k unit steady_test steady_body))) (steady_spend 1 (steady_give tt))) (fragment_less le (tests injection memory grown routine)) (λ z v1 m1 of_host grown1 routine1.

@@ -1,7 +1,7 @@
 -- How the machine follows computations from place to place of the code.
 use Rattle.std.proofs.Common.{◌≡◌, ℕ, ℤ, suc, ◌+◌, ◌*◌, ◌≤◌, IsTrue, List, ◌∷◌, refl, sym, subst, arith}
 use Rattle.ep_object.specs.Follows.{end_of, After, Lands, Fragment, Operands, Bare, OnTop, PlaceOnTop, SameRoutine, Inside}
-use Rattle.ep_object.specs.Matching.{Memory, at, Injection, Matches, Grown, IsPlaceOf, Describes}
+use Rattle.ep_object.specs.Matching.{Memory, at, Injection, Matches, Slots, Grown, IsPlaceOf, Describes}
 use Rattle.ep_object.specs.Operands.{Operand, Word, Place, Text}
 use Rattle.ep_object.specs.Runs.{outcome}
 use Rattle.ep_object.specs.State.{State, Running, Stopped, Error}
@@ -66,35 +66,35 @@ module _ {A : Type 0} {declared : Declarations} {G : Image} {c : Computation A} 
 -- ---- inside of a routine
 
 -- after the code of a form, memory has grown, the same routine runs, and the operand of the form is there
-module _ {B : Type 0} {declared : Declarations} {G : Image} {n : ℕ} {injection : Injection} {memory : Memory} {place middle to : ℕ} {operands : List Operand} {d : ℕ} {g : B → ℕ} {Then : B → Operands} where
+module _ {untouched : Slots} {B : Type 0} {declared : Declarations} {G : Image} {n : ℕ} {injection : Injection} {memory : Memory} {place middle to : ℕ} {operands : List Operand} {d : ℕ} {g : B → ℕ} {Then : B → Operands} where
   -- after a form of any kind
-  pub inside_bind : {A : Type 0} {c : Computation A} {f : A → Computation B} {First : A → Operands} {e : A → ℕ} → ((a : A) → Steady (f a)) → Fragment declared G n injection memory place operands c middle (λ a. Inside injection memory (First a)) d e → ((a : A) (longer : Injection) (after : Memory) (pushed : List Operand) → Grown injection memory longer after → SameRoutine memory.frames after.frames → First a longer after pushed → Fragment declared G n longer after middle pushed (f a) to (λ b. Inside longer after (Then b)) (e a) g) → Fragment declared G n injection memory place operands (bind c f) to (λ b. Inside injection memory (Then b)) d g
+  pub inside_bind : {A : Type 0} {c : Computation A} {f : A → Computation B} {First : A → Operands} {e : A → ℕ} → ((a : A) → Steady (f a)) → Fragment declared G n injection memory place operands c middle (λ a. Inside untouched injection memory (First a)) d e → ((a : A) (longer : Injection) (after : Memory) (pushed : List Operand) → Grown untouched injection memory longer after → SameRoutine memory.frames after.frames → First a longer after pushed → Fragment declared G n longer after middle pushed (f a) to (λ b. Inside untouched longer after (Then b)) (e a) g) → Fragment declared G n injection memory place operands (bind c f) to (λ b. Inside untouched injection memory (Then b)) d g
   inside_bind steady first second =
       fragment_bind steady first (λ a longer after pushed i. (i.routine, fragment_post (λ b last final at_end j. inside_later i.grown i.routine j) (second a longer after pushed i.grown i.routine i.operands_are)))
 
   -- after an expression of an ordinal type
-  pub fragment_bind_number : {host : Host} {below : List Operand} {c : Computation Result} {f : Result → Computation B} {e : Result → ℕ} → ((a : Result) → Steady (f a)) → Fragment declared G n injection memory place operands c middle (λ a. Inside injection memory (OnTop (kind.Ordinal host) below a)) d e → ((z : ℤ) (longer : Injection) (after : Memory) → IsTrue (is_of_host host z) → Grown injection memory longer after → SameRoutine memory.frames after.frames → Fragment declared G n longer after middle (Word z ∷ below) (f (result.Number z)) to (λ b. Inside longer after (Then b)) (e (result.Number z)) g) → Fragment declared G n injection memory place operands (bind c f) to (λ b. Inside injection memory (Then b)) d g
+  pub fragment_bind_number : {host : Host} {below : List Operand} {c : Computation Result} {f : Result → Computation B} {e : Result → ℕ} → ((a : Result) → Steady (f a)) → Fragment declared G n injection memory place operands c middle (λ a. Inside untouched injection memory (OnTop (kind.Ordinal host) below a)) d e → ((z : ℤ) (longer : Injection) (after : Memory) → IsTrue (is_of_host host z) → Grown untouched injection memory longer after → SameRoutine memory.frames after.frames → Fragment declared G n longer after middle (Word z ∷ below) (f (result.Number z)) to (λ b. Inside untouched longer after (Then b)) (e (result.Number z)) g) → Fragment declared G n injection memory place operands (bind c f) to (λ b. Inside untouched injection memory (Then b)) d g
   fragment_bind_number {f = f} {e = e} steady first second =
       inside_bind steady first (λ a longer after pushed grown routine top.
-      subst (λ r. Fragment declared G n longer after middle pushed (f r) to (λ b. Inside longer after (Then b)) (e r) g) (sym top.is_number)
-      (subst (λ x. Fragment declared G n longer after middle x (f (result.Number top.number)) to (λ b. Inside longer after (Then b)) (e (result.Number top.number)) g) (sym top.is) (second top.number longer after top.of_host grown routine)))
+      subst (λ r. Fragment declared G n longer after middle pushed (f r) to (λ b. Inside untouched longer after (Then b)) (e r) g) (sym top.is_number)
+      (subst (λ x. Fragment declared G n longer after middle x (f (result.Number top.number)) to (λ b. Inside untouched longer after (Then b)) (e (result.Number top.number)) g) (sym top.is) (second top.number longer after top.of_host grown routine)))
 
   -- after a text
-  pub fragment_bind_text : {below : List Operand} {c : Computation Result} {f : Result → Computation B} {e : Result → ℕ} → ((a : Result) → Steady (f a)) → Fragment declared G n injection memory place operands c middle (λ a. Inside injection memory (OnTop kind.Bytes below a)) d e → ((bytes : List ℕ) (longer : Injection) (after : Memory) → Grown injection memory longer after → SameRoutine memory.frames after.frames → Fragment declared G n longer after middle (Text bytes ∷ below) (f (result.Bytes bytes)) to (λ b. Inside longer after (Then b)) (e (result.Bytes bytes)) g) → Fragment declared G n injection memory place operands (bind c f) to (λ b. Inside injection memory (Then b)) d g
+  pub fragment_bind_text : {below : List Operand} {c : Computation Result} {f : Result → Computation B} {e : Result → ℕ} → ((a : Result) → Steady (f a)) → Fragment declared G n injection memory place operands c middle (λ a. Inside untouched injection memory (OnTop kind.Bytes below a)) d e → ((bytes : List ℕ) (longer : Injection) (after : Memory) → Grown untouched injection memory longer after → SameRoutine memory.frames after.frames → Fragment declared G n longer after middle (Text bytes ∷ below) (f (result.Bytes bytes)) to (λ b. Inside untouched longer after (Then b)) (e (result.Bytes bytes)) g) → Fragment declared G n injection memory place operands (bind c f) to (λ b. Inside untouched injection memory (Then b)) d g
   fragment_bind_text {f = f} {e = e} steady first second =
       inside_bind steady first (λ a longer after pushed grown routine top.
-      subst (λ r. Fragment declared G n longer after middle pushed (f r) to (λ b. Inside longer after (Then b)) (e r) g) (sym top.is_text)
-      (subst (λ x. Fragment declared G n longer after middle x (f (result.Bytes top.bytes)) to (λ b. Inside longer after (Then b)) (e (result.Bytes top.bytes)) g) (sym top.is) (second top.bytes longer after grown routine)))
+      subst (λ r. Fragment declared G n longer after middle pushed (f r) to (λ b. Inside untouched longer after (Then b)) (e r) g) (sym top.is_text)
+      (subst (λ x. Fragment declared G n longer after middle x (f (result.Bytes top.bytes)) to (λ b. Inside untouched longer after (Then b)) (e (result.Bytes top.bytes)) g) (sym top.is) (second top.bytes longer after grown routine)))
 
   -- after a statement
-  pub fragment_bind_bare : {below : List Operand} {c : Computation (Unit {0})} {f : Unit {0} → Computation B} {e : Unit {0} → ℕ} → ((a : Unit {0}) → Steady (f a)) → Fragment declared G n injection memory place operands c middle (λ a. Inside injection memory (Bare below a)) d e → ((a : Unit {0}) (longer : Injection) (after : Memory) → Grown injection memory longer after → SameRoutine memory.frames after.frames → Fragment declared G n longer after middle below (f a) to (λ b. Inside longer after (Then b)) (e a) g) → Fragment declared G n injection memory place operands (bind c f) to (λ b. Inside injection memory (Then b)) d g
+  pub fragment_bind_bare : {below : List Operand} {c : Computation (Unit {0})} {f : Unit {0} → Computation B} {e : Unit {0} → ℕ} → ((a : Unit {0}) → Steady (f a)) → Fragment declared G n injection memory place operands c middle (λ a. Inside untouched injection memory (Bare below a)) d e → ((a : Unit {0}) (longer : Injection) (after : Memory) → Grown untouched injection memory longer after → SameRoutine memory.frames after.frames → Fragment declared G n longer after middle below (f a) to (λ b. Inside untouched longer after (Then b)) (e a) g) → Fragment declared G n injection memory place operands (bind c f) to (λ b. Inside untouched injection memory (Then b)) d g
   fragment_bind_bare {f = f} {e = e} steady first second =
-      inside_bind steady first (λ a longer after pushed grown routine is. subst (λ x. Fragment declared G n longer after middle x (f a) to (λ b. Inside longer after (Then b)) (e a) g) (sym is) (second a longer after grown routine))
+      inside_bind steady first (λ a longer after pushed grown routine is. subst (λ x. Fragment declared G n longer after middle x (f a) to (λ b. Inside untouched longer after (Then b)) (e a) g) (sym is) (second a longer after grown routine))
 
   -- after a place
-  pub fragment_bind_place : {type : TypeValue} {below : List Operand} {c : Computation ℕ} {f : ℕ → Computation B} {e : ℕ → ℕ} → ((a : ℕ) → Steady (f a)) → Fragment declared G n injection memory place operands c middle (λ a. Inside injection memory (PlaceOnTop type below a)) d e → ((a : ℕ) (p : PlaceOf) (longer : Injection) (after : Memory) → Grown injection memory longer after → SameRoutine memory.frames after.frames → IsPlaceOf longer after.segments a p → Describes after.types p.type_number type → Fragment declared G n longer after middle (Place p ∷ below) (f a) to (λ b. Inside longer after (Then b)) (e a) g) → Fragment declared G n injection memory place operands (bind c f) to (λ b. Inside injection memory (Then b)) d g
+  pub fragment_bind_place : {type : TypeValue} {below : List Operand} {c : Computation ℕ} {f : ℕ → Computation B} {e : ℕ → ℕ} → ((a : ℕ) → Steady (f a)) → Fragment declared G n injection memory place operands c middle (λ a. Inside untouched injection memory (PlaceOnTop type below a)) d e → ((a : ℕ) (p : PlaceOf) (longer : Injection) (after : Memory) → Grown untouched injection memory longer after → SameRoutine memory.frames after.frames → IsPlaceOf longer after.segments a p → Describes after.types p.type_number type → Fragment declared G n longer after middle (Place p ∷ below) (f a) to (λ b. Inside untouched longer after (Then b)) (e a) g) → Fragment declared G n injection memory place operands (bind c f) to (λ b. Inside untouched injection memory (Then b)) d g
   fragment_bind_place {f = f} {e = e} steady first second =
-      inside_bind steady first (λ a longer after pushed grown routine top. subst (λ x. Fragment declared G n longer after middle x (f a) to (λ b. Inside longer after (Then b)) (e a) g) (sym top.is) (second a top.place longer after grown routine top.place_of top.described))
+      inside_bind steady first (λ a longer after pushed grown routine top. subst (λ x. Fragment declared G n longer after middle x (f a) to (λ b. Inside untouched longer after (Then b)) (e a) g) (sym top.is) (second a top.place longer after grown routine top.place_of top.described))
 
 -- ---- one instruction
 

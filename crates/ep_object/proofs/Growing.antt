@@ -1,8 +1,8 @@
 -- Memory grows while a routine runs.
-use Rattle.std.proofs.Common.{◌≡◌, ℕ, zero, suc, ◌<◌, List, [], ◌∷◌, ◌++◌, length, Option, Some, slice_get, refl, sym, ap, ◌∙◌, subst, arith}
+use Rattle.std.proofs.Common.{◌≡◌, ℕ, zero, suc, ◌≤◌, ◌<◌, ◌⊎◌, inl, inr, List, [], ◌∷◌, ◌++◌, length, Option, Some, slice_get, refl, sym, ap, ◌∙◌, subst, arith}
 use Rattle.std.proofs.lemmas.Option.{slice_get_within}
 use Rattle.ep_object.specs.Follows.{SameRoutine, Inside, Operands}
-use Rattle.ep_object.specs.Matching.{Memory, Injection, IsIn, IsPlaceOf, Describes, Grown}
+use Rattle.ep_object.specs.Matching.{Memory, Injection, IsIn, IsPlaceOf, Describes, Slots, Grown}
 use Rattle.ep_object.specs.Operands.{Operand}
 use Rattle.ep_object.specs.Runs.{unit_of, name_of, unit_in}
 use Rattle.ep_object.specs.State.{Frames, text_entry}
@@ -29,8 +29,12 @@ pub is_in-longer : (injection longer : Injection) (n segment : ℕ) → IsPrefix
 is_in-longer injection longer zero segment p h = h
 is_in-longer injection longer (suc n) segment p h = slice_get-prefix injection longer n segment p h
 
+-- a number is before another one or not
+before_or_not : (a b : ℕ) → (a ≤ b) ⊎ (b < a)
+before_or_not a b = grind arith
+
 -- memory has grown from itself
-pub grown_refl : (injection : Injection) (memory : Memory) → Grown injection memory injection memory
+pub grown_refl : {untouched : Slots} (injection : Injection) (memory : Memory) → Grown untouched injection memory injection memory
 grown_refl injection memory =
     record {
       larger = is_prefix injection;
@@ -38,6 +42,8 @@ grown_refl injection memory =
       segments = omega arith;
       hidden = λ segment le h. h;
       others = λ segment le h. refl;
+      allocated = λ segment y le h. absurd (let w : segment < length memory.segments = slice_get_within memory.segments segment (Some y) h in omega (arith, w, le));
+      slots = λ unit k kept. refl;
       typed = λ segment x y p q. same_type segment x y (sym p ∙ q);
       ended = λ segment y le h. (y, h);
     }
@@ -47,14 +53,16 @@ grown_refl injection memory =
         let e : y ≡ x = cc in ap (λ (z : Segment). z.type_number) e
 
 -- what has grown from what has grown
-pub grown_trans : {injection longer last : Injection} {memory after final : Memory} → Grown injection memory longer after → Grown longer after last final → Grown injection memory last final
-grown_trans {memory = memory} {after = after} {final = final} p q =
+pub grown_trans : {untouched : Slots} {injection longer last : Injection} {memory after final : Memory} → Grown untouched injection memory longer after → Grown untouched longer after last final → Grown untouched injection memory last final
+grown_trans {longer = longer} {last = last} {memory = memory} {after = after} {final = final} p q =
     record {
       larger = prefix_then p.larger q.larger;
       types = prefix_then p.types q.types;
       segments = omega (arith, p.segments, q.segments);
       hidden = λ segment le h. q.hidden segment (omega (arith, p.segments)) (p.hidden segment le h);
       others = λ segment le h. q.others segment (omega (arith, p.segments)) (p.hidden segment le h) ∙ p.others segment le h;
+      allocated = λ segment z le hz. allocated segment z le hz (before_or_not (length after.segments) segment);
+      slots = λ unit k kept. q.slots unit k kept ∙ p.slots unit k kept;
       typed = λ segment x z hx hz.
           let w : segment < length memory.segments = slice_get_within memory.segments segment (Some x) hx in
           let y = q.ended segment z (omega (arith, p.segments)) hz in
@@ -63,9 +71,16 @@ grown_trans {memory = memory} {after = after} {final = final} p q =
           let y = q.ended segment z (omega (arith, p.segments)) hz in
           p.ended segment y.0 le y.1;
     }
+  where
+    -- a new segment that lives is that of an allocation, which was made in the first part or in the second
+    allocated : (segment : ℕ) (z : Segment) → length memory.segments ≤ segment → slice_get final.segments segment ≡ Some (Some z) → (length after.segments ≤ segment) ⊎ (segment < length after.segments) → (n : ℕ) × IsIn last n segment
+    allocated segment z le hz (inl new) = q.allocated segment z new hz
+    allocated segment z le hz (inr old) =
+        let y = q.ended segment z (omega (arith, old)) hz in
+        let n = p.allocated segment y.0 le y.1 in (n.0, is_in-longer longer last n.0 segment q.larger n.1)
 
 -- the place of an allocation stays its place
-pub is_place_of-grown : {injection longer : Injection} {memory after : Memory} {n : ℕ} {place : Place} → Grown injection memory longer after → IsPlaceOf injection memory.segments n place → IsPlaceOf longer after.segments n place
+pub is_place_of-grown : {untouched : Slots} {injection longer : Injection} {memory after : Memory} {n : ℕ} {place : Place} → Grown untouched injection memory longer after → IsPlaceOf injection memory.segments n place → IsPlaceOf longer after.segments n place
 is_place_of-grown {injection = injection} {longer = longer} {n = n} {place = place} g h =
     record {
       is_in = is_in-longer injection longer n place.segment g.larger h.is_in;
@@ -77,7 +92,7 @@ is_place_of-grown {injection = injection} {longer = longer} {n = n} {place = pla
     }
 
 -- a type stays what it is
-pub describes-grown : {injection longer : Injection} {memory after : Memory} (n : ℕ) (type_value : TypeValue) → Grown injection memory longer after → Describes memory.types n type_value → Describes after.types n type_value
+pub describes-grown : {untouched : Slots} {injection longer : Injection} {memory after : Memory} (n : ℕ) (type_value : TypeValue) → Grown untouched injection memory longer after → Describes memory.types n type_value → Describes after.types n type_value
 describes-grown {memory = memory} {after = after} n (type.Ordinal low high) g h = slice_get-prefix memory.types after.types n (ordinal_entry low high) g.types h
 describes-grown {memory = memory} {after = after} n type.Text g h = slice_get-prefix memory.types after.types n text_entry g.types h
 
@@ -94,9 +109,9 @@ pub unit_in-same : (G : Image) {before after : Frames} → SameRoutine before af
 unit_in-same G h = ap (λ r. name_of (unit_of G (slice_get G.routines r))) h.routine
 
 -- where nothing has grown yet
-pub inside_here : {injection : Injection} {memory : Memory} {Then : Operands} {operands : List Operand} → Then injection memory operands → Inside injection memory Then injection memory operands
+pub inside_here : {untouched : Slots} {injection : Injection} {memory : Memory} {Then : Operands} {operands : List Operand} → Then injection memory operands → Inside untouched injection memory Then injection memory operands
 inside_here {injection = injection} {memory = memory} h = record { grown = grown_refl injection memory; routine = same_routine-refl memory.frames; operands_are = h }
 
 -- what is inside of a later memory is inside of an earlier one
-pub inside_later : {injection longer last : Injection} {memory after final : Memory} {Then : Operands} {operands : List Operand} → Grown injection memory longer after → SameRoutine memory.frames after.frames → Inside longer after Then last final operands → Inside injection memory Then last final operands
+pub inside_later : {untouched : Slots} {injection longer last : Injection} {memory after final : Memory} {Then : Operands} {operands : List Operand} → Grown untouched injection memory longer after → SameRoutine memory.frames after.frames → Inside untouched longer after Then last final operands → Inside untouched injection memory Then last final operands
 inside_later g r h = record { grown = grown_trans g h.grown; routine = same_routine-trans r h.routine; operands_are = h.operands_are }

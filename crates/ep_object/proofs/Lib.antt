@@ -10,6 +10,7 @@ pub mod Elements
 mod Examples
 pub mod Fragments
 pub mod Growing
+pub mod HiddenWords
 pub mod Grows
 pub mod Limits
 pub mod Losing

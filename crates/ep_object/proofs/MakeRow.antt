@@ -8,7 +8,7 @@ use Rattle.std.proofs.lemmas.Option.{slice_get_within, same_Some}
 use Rattle.std.proofs.lemmas.Slice.Eq.{bytes_eq-Decides}
 use native.Mathlib.Decide.{ℕ_discrete}
 use Rattle.ep_object.specs.Follows.{GivesUp, Bare, Inside}
-use Rattle.ep_object.specs.Matching.{Memory, at, Injection, IsIn, IsPlaceOf, Describes, IsHidden, MatchesSlot, MatchesFrame, Represents, HasType, Matches, Grown}
+use Rattle.ep_object.specs.Matching.{Memory, at, Injection, IsIn, IsPlaceOf, Describes, IsHidden, Slots, slot_of_frame, slot_in, MatchesSlot, MatchesInjection, MatchesFrame, MatchesCounts, hidden_words, Represents, HasType, Matches, Grown}
 use Rattle.ep_object.specs.Operands.{Operand, Word}
 use Rattle.ep_object.specs.Placing.{HasDistinctNames}
 use Rattle.ep_object.specs.Runs.{outcome, unit_in}
@@ -26,12 +26,13 @@ use Rattle.ep_object.proofs.Elements.{slice_get-push, slice_get-pushed, slice_ge
 use Rattle.ep_object.proofs.Fragments.{Does}
 use Rattle.ep_object.proofs.Growing.{slice_get-prefix, is_in-longer}
 use Rattle.ep_object.proofs.Grows.{is_prefix}
-use Rattle.ep_object.proofs.Making.{lost_words}
+use Rattle.ep_object.proofs.HiddenWords.{hidden_words-pushed}
+use Rattle.ep_object.proofs.Making.{lost_words, past_limit, live_bounded}
 use Rattle.ep_object.proofs.Rows.{instr, in_one, outcome_at}
 use Rattle.ep_object.proofs.Standing.{slice_get-some, both, instance_valid}
 use Rattle.ep_typed.specs.Events.{Trace}
 use Rattle.ep_typed.specs.Operations.{is_integer}
-use Rattle.ep_typed.specs.Steps.{Undefined, Allocation, allocation_at, type_in, type_at, bound, counted, made}
+use Rattle.ep_typed.specs.Steps.{Undefined, Allocation, Resources, allocation_at, type_in, type_at, bound, counted, made}
 use Rattle.ep_typed.specs.Steps as meaning
 use Rattle.ep_typed.specs.Valid.{Declarations, IsTypeOf}
 use Rattle.ep_typed.specs.Hosts.{Host}
@@ -127,18 +128,26 @@ is_in-within injection zero segment h = absurd h
 is_in-within injection (suc n) segment h = let w : n < length injection = slice_get_within injection n segment h in omega arith
 
 -- memory grows by the new segment
-grown_making : (injection : Injection) (memory : Memory) (number : ℕ) (frames : Frames) → Grown injection memory (with_segment injection memory) (with_variable number frames memory)
-grown_making injection memory number frames =
+grown_making : {untouched : Slots} (injection : Injection) (memory : Memory) (number : ℕ) (frames : Frames) → ((unit k : ℕ) → IsTrue (untouched unit k) → slot_in frames unit k ≡ slot_in memory.frames unit k) → Grown untouched injection memory (with_segment injection memory) (with_variable number frames memory)
+grown_making injection memory number frames kept =
     record {
       larger = record { rest = length memory.segments ∷ []; is = refl };
       types = is_prefix memory.types;
       segments = omega (arith, length-append memory.segments (Some (new_segment number) ∷ []));
       hidden = λ segment le hidden n is_in. stays_hidden segment le hidden n (is_in-either injection memory n segment is_in);
       others = λ segment le hidden. slice_get-before memory.segments (Some (new_segment number)) segment le;
+      allocated = λ segment y le q. new_allocated segment le (slice_get_within (memory.segments ++ Some (new_segment number) ∷ []) segment (Some y) q);
+      slots = kept;
       typed = λ segment x y p q. same_type segment x y p (sym (slice_get-before memory.segments (Some (new_segment number)) segment (slice_get_within memory.segments segment (Some x) p)) ∙ q);
       ended = λ segment y le q. (y, sym (slice_get-before memory.segments (Some (new_segment number)) segment le) ∙ q);
     }
   where
+    -- the only new segment is that of the new allocation
+    new_allocated : (segment : ℕ) → length memory.segments ≤ segment → segment < length (memory.segments ++ Some (new_segment number) ∷ []) → (n : ℕ) × IsIn (with_segment injection memory) n segment
+    new_allocated segment le less =
+        let same : length memory.segments ≡ segment = omega (arith, le, less, length-append memory.segments (Some (new_segment number) ∷ [])) in
+        (suc (length injection), slice_get-pushed injection (length memory.segments) ∙ ap Some same)
+
     stays_hidden : (segment : ℕ) → suc segment ≤ length memory.segments → IsHidden injection segment → (n : ℕ) → IsOldOrNew injection memory n segment → ⊥
     stays_hidden segment le hidden n (inl h) = hidden n h
     stays_hidden segment le hidden n (inr h) = absurd (omega (arith, h.1))
@@ -148,6 +157,10 @@ grown_making injection memory number frames =
         let e : ◌≡◌ {A = Option (Option Segment)} (Some (Some x)) (Some (Some y)) = sym p ∙ q in
         let z : y ≡ x = cc in ap (λ (s : Segment). s.type_number) z
 
+-- the same where the frames stay what they are
+grown_same_frames : (injection : Injection) (memory : Memory) (number : ℕ) → Grown (λ unit k. true) injection memory (with_segment injection memory) (with_variable number memory.frames memory)
+grown_same_frames injection memory number = grown_making injection memory number memory.frames (λ unit k kept. refl)
+
 module _ {declared : Declarations} {G : Image} {injection : Injection} {s : meaning.State} {memory : Memory} (h : Matches declared G injection s memory) (x : ImageUnit) (low high : ℤ) (number k : ℕ) (is_unit : slice_get G.units memory.frames.unit ≡ Some x) (described : Describes memory.types number (type.Ordinal low high)) (low_fits : IsTrue (is_integer low)) (high_fits : IsTrue (is_integer high)) where
   -- the allocation of the new variable
   abbrev new_allocation : Allocation
@@ -156,6 +169,10 @@ module _ {declared : Declarations} {G : Image} {injection : Injection} {s : mean
   abbrev its_segment : Option Segment
   its_segment = Some (new_segment number)
 
+  -- as many allocations as items of the injection
+  made_same : length injection ≡ length s.allocations
+  made_same = let injected = h.injected in injected.made
+
   -- the new segment represents the new allocation, and those before are as they were
   represented_making : (n segment : ℕ) (a : Allocation) → IsIn (with_segment injection memory) n segment → allocation_at (s.allocations ++ new_allocation ∷ []) n ≡ Some a → Represents (memory.segments ++ its_segment ∷ []) memory.types segment a
   represented_making zero segment a is_in is = absurd is_in
@@ -163,10 +180,12 @@ module _ {declared : Declarations} {G : Image} {injection : Injection} {s : mean
     where
       go : IsOldOrNew injection memory (suc n) segment → (slice_get s.allocations n ≡ Some a) ⊎ ((n ≡ length s.allocations) × (a ≡ new_allocation)) → Represents (memory.segments ++ its_segment ∷ []) memory.types segment a
       go (inl old) (inl before) =
-          let r : Represents memory.segments memory.types segment a = h.represented (suc n) segment a old before in
-          record { type_number = r.type_number; stands = slice_get-before memory.segments its_segment segment (h.within (suc n) segment old) ∙ r.stands; described = r.described; value = r.value }
-      go (inl old) (inr last) = absurd (omega (arith, is_in-within injection (suc n) segment old, last.0, h.made))
-      go (inr new) (inl before) = absurd (omega (arith, slice_get_within s.allocations n a before, new.0, h.made))
+          let store = h.store in
+          let injected = h.injected in
+          let r : Represents memory.segments memory.types segment a = store.represented (suc n) segment a old before in
+          record { type_number = r.type_number; stands = slice_get-before memory.segments its_segment segment (injected.within (suc n) segment old) ∙ r.stands; described = r.described; value = r.value }
+      go (inl old) (inr last) = absurd (omega (arith, is_in-within injection (suc n) segment old, last.0, made_same))
+      go (inr new) (inl before) = absurd (omega (arith, slice_get_within s.allocations n a before, new.0, made_same))
       go (inr new) (inr last) =
           subst (λ j. Represents (memory.segments ++ its_segment ∷ []) memory.types j a) (sym new.1)
           (subst (λ b. Represents (memory.segments ++ its_segment ∷ []) memory.types (length memory.segments) b) (sym last.1)
@@ -174,14 +193,14 @@ module _ {declared : Declarations} {G : Image} {injection : Injection} {s : mean
 
   -- no two allocations are in one segment
   apart_making : (m n segment : ℕ) → IsOldOrNew injection memory m segment → IsOldOrNew injection memory n segment → m ≡ n
-  apart_making m n segment (inl p) (inl q) = h.apart m n segment p q
-  apart_making m n segment (inl p) (inr q) = absurd (omega (arith, h.within m segment p, q.1))
-  apart_making m n segment (inr p) (inl q) = absurd (omega (arith, h.within n segment q, p.1))
+  apart_making m n segment (inl p) (inl q) = let injected = h.injected in injected.apart m n segment p q
+  apart_making m n segment (inl p) (inr q) = absurd (let injected = h.injected in omega (arith, injected.within m segment p, q.1))
+  apart_making m n segment (inr p) (inl q) = absurd (let injected = h.injected in omega (arith, injected.within n segment q, p.1))
   apart_making m n segment (inr p) (inr q) = p.0 ∙ sym q.0
 
   -- the frame in which the variable is made, where memory has grown
-  frame_here : MatchesFrame (with_segment injection memory) s (with_variable number memory.frames memory) memory.frames.unit x
-  frame_here = matches_frame-grown {s = s} memory.frames.unit x (grown_making injection memory number memory.frames) refl (λ j. refl) (h.frames memory.frames.unit x is_unit)
+  frame_here : MatchesFrame declared (with_segment injection memory) s.variables memory.frames.units (memory.segments ++ its_segment ∷ []) memory.frames.unit x
+  frame_here = let units = h.units in matches_frame-grown {before = s.variables} {after = with_variable number memory.frames memory} memory.frames.unit x (grown_same_frames injection memory number) refl (λ j. refl) (units.frames memory.frames.unit x is_unit)
 
   abbrev new_slots : List (Option Place)
   new_slots = slice_set frame_here.slots k (Some (new_place memory number))
@@ -196,7 +215,7 @@ module _ {declared : Declarations} {G : Image} {injection : Injection} {s : mean
   new_place_of : IsPlaceOf (with_segment injection memory) later.segments (suc (length s.allocations)) (new_place memory number)
   new_place_of =
       record {
-        is_in = subst (λ j. slice_get (with_segment injection memory) j ≡ Some (length memory.segments)) h.made (slice_get-pushed injection (length memory.segments));
+        is_in = subst (λ j. slice_get (with_segment injection memory) j ≡ Some (length memory.segments)) made_same (slice_get-pushed injection (length memory.segments));
         within = omega (arith, length-append memory.segments (its_segment ∷ []));
         offset = refl;
         typed = λ y q. number_of y (sym (slice_get-pushed memory.segments its_segment) ∙ q);
@@ -207,8 +226,8 @@ module _ {declared : Declarations} {G : Image} {injection : Injection} {s : mean
 
   module _ (within : k < x.slots) where
     -- the slot has the place of the new variable, and the others have theirs
-    slot_making : (j : ℕ) (slot : Option Place) → slice_get new_slots j ≡ Some slot → MatchesSlot (with_segment injection memory) later.segments (later_state.variables x.name j) slot
-    slot_making j slot q = elim (ℕ_discrete k j) [ yes e ↦ same j slot q e | no e ↦ other j slot q e ]
+    slot_making : (j : ℕ) (v : UnitVariable) (slot : Option Place) → declared.variables x.name j ≡ Some v → slice_get new_slots j ≡ Some slot → MatchesSlot (with_segment injection memory) later.segments (later_state.variables x.name j) slot
+    slot_making number_at v slot is_declared q = elim (ℕ_discrete k number_at) [ yes e ↦ same number_at slot q e | no e ↦ other number_at slot is_declared q e ]
       where
         same : (j : ℕ) (slot : Option Place) → slice_get new_slots j ≡ Some slot → k ≡ j → MatchesSlot (with_segment injection memory) later.segments (later_state.variables x.name j) slot
         same j slot q e =
@@ -221,13 +240,13 @@ module _ {declared : Declarations} {G : Image} {injection : Injection} {s : mean
             (subst (λ o. MatchesSlot (with_segment injection memory) later.segments (later_state.variables x.name k) o) slot_is
             (subst (λ o. MatchesSlot (with_segment injection memory) later.segments o (Some (new_place memory number))) (sym bound_here) new_place_of))
 
-        other : (j : ℕ) (slot : Option Place) → slice_get new_slots j ≡ Some slot → (k ≡ j → ⊥) → MatchesSlot (with_segment injection memory) later.segments (later_state.variables x.name j) slot
-        other j slot q e =
+        other : (j : ℕ) (slot : Option Place) → declared.variables x.name j ≡ Some v → slice_get new_slots j ≡ Some slot → (k ≡ j → ⊥) → MatchesSlot (with_segment injection memory) later.segments (later_state.variables x.name j) slot
+        other j slot is_declared q e =
             let before : slice_get frame_here.slots j ≡ Some slot = sym (slice_get-set-other frame_here.slots k j (Some (new_place memory number)) e) ∙ q in
-            subst (λ o. MatchesSlot (with_segment injection memory) later.segments o slot) (sym (bound-other x.name k (suc (length s.allocations)) s.variables x.name j (λ p. e))) (frame_here.matches j slot before)
+            subst (λ o. MatchesSlot (with_segment injection memory) later.segments o slot) (sym (bound-other x.name k (suc (length s.allocations)) s.variables x.name j (λ p. e))) (frame_here.matches j v slot is_declared before)
 
     -- the frame has the place of the new variable, and those of the others
-    frame_making : MatchesFrame (with_segment injection memory) later_state later memory.frames.unit x
+    frame_making : MatchesFrame declared (with_segment injection memory) later_state.variables later.frames.units later.segments memory.frames.unit x
     frame_making =
         record {
           slots = new_slots;
@@ -238,18 +257,19 @@ module _ {declared : Declarations} {G : Image} {injection : Injection} {s : mean
 
     module _ (distinct : HasDistinctNames G) where
       -- the frames of other units stay what they are
-      frames_making : (unit : ℕ) (u : ImageUnit) → slice_get G.units unit ≡ Some u → MatchesFrame (with_segment injection memory) later_state later unit u
+      frames_making : (unit : ℕ) (u : ImageUnit) → slice_get G.units unit ≡ Some u → MatchesFrame declared (with_segment injection memory) later_state.variables later.frames.units later.segments unit u
       frames_making unit u there = elim (ℕ_discrete memory.frames.unit unit) [ yes e ↦ same e | no e ↦ other e ]
         where
-          same : memory.frames.unit ≡ unit → MatchesFrame (with_segment injection memory) later_state later unit u
+          same : memory.frames.unit ≡ unit → MatchesFrame declared (with_segment injection memory) later_state.variables later.frames.units later.segments unit u
           same e =
               let is_x : x ≡ u = same_Some x u (sym is_unit ∙ subst (λ i. slice_get G.units i ≡ Some u) (sym e) there) in
-              subst (λ i. MatchesFrame (with_segment injection memory) later_state later i u) e (subst (λ v. MatchesFrame (with_segment injection memory) later_state later memory.frames.unit v) is_x frame_making)
+              subst (λ i. MatchesFrame declared (with_segment injection memory) later_state.variables later.frames.units later.segments i u) e (subst (λ v. MatchesFrame declared (with_segment injection memory) later_state.variables later.frames.units later.segments memory.frames.unit v) is_x frame_making)
 
-          other : (memory.frames.unit ≡ unit → ⊥) → MatchesFrame (with_segment injection memory) later_state later unit u
+          other : (memory.frames.unit ≡ unit → ⊥) → MatchesFrame declared (with_segment injection memory) later_state.variables later.frames.units later.segments unit u
           other e =
-              let f : MatchesFrame (with_segment injection memory) later_state (with_variable number memory.frames memory) unit u =
-              matches_frame-grown {s = s} unit u (grown_making injection memory number memory.frames) refl (λ j. bound-other x.name k (suc (length s.allocations)) s.variables u.name j (λ p q. e (distinct memory.frames.unit unit x u is_unit there p))) (h.frames unit u there) in
+              let units = h.units in
+              let f : MatchesFrame declared (with_segment injection memory) later_state.variables memory.frames.units later.segments unit u =
+              matches_frame-grown {before = s.variables} {after = with_variable number memory.frames memory} unit u (grown_same_frames injection memory number) refl (λ j. bound-other x.name k (suc (length s.allocations)) s.variables u.name j (λ p q. e (distinct memory.frames.unit unit x u is_unit there p))) (units.frames unit u there) in
               record {
                 slots = f.slots;
                 is = slice_get-set-other memory.frames.units memory.frames.unit unit new_slots e ∙ f.is;
@@ -273,7 +293,8 @@ module _ {declared : Declarations} {G : Image} {injection : Injection} {s : mean
             other : (x.name ≡ unit → k ≡ j → ⊥) → HasType declared unit v (type_at n later_state)
             other different =
                 let before : s.variables unit j ≡ Some n = sym (bound-other x.name k (suc (length s.allocations)) s.variables unit j different) ∙ is in
-                let has_type : HasType declared unit v (type_at n s) = h.typed unit j n v before is_declared in
+                let units = h.units in
+                let has_type : HasType declared unit v (type_at n s) = units.typed unit j n v before is_declared in
                 let kept : type_at n later_state ≡ type_at n s = type_more s.allocations new_allocation n (types_valid unit j v is_declared).host (type_at n s) (instance_valid (types_valid unit j v is_declared) (type_at n s) has_type) refl in
                 subst (λ t. HasType declared unit v t) (sym kept) has_type
 
@@ -281,20 +302,33 @@ module _ {declared : Declarations} {G : Image} {injection : Injection} {s : mean
         matches_making : Matches declared G (with_segment injection memory) later_state later
         matches_making =
             record {
-              made = omega (arith, h.made, length-append injection (length memory.segments ∷ []), length-append s.allocations (new_allocation ∷ []));
-              represented = represented_making;
-              apart = λ m n segment p q. apart_making m n segment (is_in-either injection memory m segment p) (is_in-either injection memory n segment q);
-              within = λ n segment p. within_making n segment (is_in-either injection memory n segment p);
-              output = is_in-longer injection (with_segment injection memory) 2 2 (record { rest = length memory.segments ∷ []; is = refl }) h.output;
-              frames = frames_making;
-              typed = typed_making;
-              types = record { first = h.types.first; known = h.types.known; sized = h.types.sized; count = h.types.count };
-              live = omega (arith, h.live);
+              injected = injected_making;
+              store = record { represented = represented_making };
+              types = let types = h.types in record { first = types.first; known = types.known; sized = types.sized };
+              units = record { frames = frames_making; typed = typed_making };
+              outside = let outside = h.outside in record { output = is_in-longer injection (with_segment injection memory) 2 2 (record { rest = length memory.segments ∷ []; is = refl }) outside.output };
+              counts = counts_making;
             }
           where
             within_making : (n segment : ℕ) → IsOldOrNew injection memory n segment → suc segment ≤ length later.segments
-            within_making n segment (inl p) = omega (arith, h.within n segment p, length-append memory.segments (its_segment ∷ []))
+            within_making n segment (inl p) = let injected = h.injected in omega (arith, injected.within n segment p, length-append memory.segments (its_segment ∷ []))
             within_making n segment (inr p) = omega (arith, p.1, length-append memory.segments (its_segment ∷ []))
+
+            -- the new allocation has the new segment
+            injected_making : MatchesInjection (with_segment injection memory) later_state.allocations later.segments
+            injected_making =
+                record {
+                  made = omega (arith, made_same, length-append injection (length memory.segments ∷ []), length-append s.allocations (new_allocation ∷ []));
+                  apart = λ m n segment p q. apart_making m n segment (is_in-either injection memory m segment p) (is_in-either injection memory n segment q);
+                  within = λ n segment p. within_making n segment (is_in-either injection memory n segment p);
+                }
+
+            -- its words are counted on both sides
+            counts_making : MatchesCounts (with_segment injection memory) later_state.resources later.segments later.types later.live
+            counts_making =
+                let counts = h.counts in
+                let same : hidden_words (with_segment injection memory) later.segments ≡ hidden_words injection memory.segments = hidden_words-pushed injection memory.segments (new_segment number) in
+                record { words = omega (arith, counts.words, same); hidden = omega (arith, counts.hidden, same); number = counts.number }
 
 -- ---- the row
 
@@ -307,20 +341,36 @@ make_outcome G place line below low high number k slots memory trace false has f
     outcome_at G (instr op.MAKE (pos k) 0 line) place (Word (pos number) ∷ below) memory trace has ∙ rw (frame, lt-ltb number (length memory.types) (slice_get_within memory.types number (ordinal_entry low high) described), described, lt-ltb k (length slots) within, fits) refl
 
 -- `Make` of an ordinal type in a slot of the unit's frame, over the number of the type
-pub make_does : (declared : Declarations) (G : Image) (place line : ℕ) (below : List Operand) (low high : ℤ) (number k : ℕ) (x : ImageUnit) → slice_get G.instructions place ≡ Some (instr op.MAKE (pos k) 0 line)
+pub make_does : {untouched : Slots} (declared : Declarations) (G : Image) (place line : ℕ) (below : List Operand) (low high : ℤ) (number k : ℕ) (x : ImageUnit) → slice_get G.instructions place ≡ Some (instr op.MAKE (pos k) 0 line)
     → HasDistinctNames G → IsTrue (is_integer low) → IsTrue (is_integer high)
     → HaveValidTypes declared → ((v : UnitVariable) → declared.variables x.name k ≡ Some v → HasType declared x.name v (type.Ordinal low high))
-    → (injection : Injection) (memory : Memory) (s : meaning.State) → slice_get G.units memory.frames.unit ≡ Some x → k < x.slots → Describes memory.types number (type.Ordinal low high) → Matches declared G injection s memory
-    → Does declared G (at place (Word (pos number) ∷ below) memory s.trace) 1 (place + 1) (Inside injection memory (Bare below tt)) (made x.name k (type.Ordinal low high) (counted (type.Ordinal low high) s)) ⊎ GivesUp G (at place (Word (pos number) ∷ below) memory s.trace) 0 1 (counted (type.Ordinal low high) s)
-make_does declared G place line below low high number k x has distinct low_fits high_fits types_valid declared_so injection memory s is_unit within described matches = go (leb (memory.live + 2) live_limit) refl
+    → (injection : Injection) (memory : Memory) (s : meaning.State) → slice_get G.units memory.frames.unit ≡ Some x → k < x.slots → (IsTrue (untouched memory.frames.unit k) → ⊥) → Describes memory.types number (type.Ordinal low high) → Matches declared G injection s memory
+    → Does declared G (at place (Word (pos number) ∷ below) memory s.trace) 1 (place + 1) (Inside untouched injection memory (Bare below tt)) (made x.name k (type.Ordinal low high) (counted (type.Ordinal low high) s)) ⊎ GivesUp G (at place (Word (pos number) ∷ below) memory s.trace) 0 1 (counted (type.Ordinal low high) s)
+make_does {untouched = untouched} declared G place line below low high number k x has distinct low_fits high_fits types_valid declared_so injection memory s is_unit within free described matches = go (leb (memory.live + 2) live_limit) refl
   where
-    frame : MatchesFrame (with_segment injection memory) s (with_variable number memory.frames memory) memory.frames.unit x
+    frame : MatchesFrame declared (with_segment injection memory) s.variables memory.frames.units (memory.segments ++ Some (new_segment number) ∷ []) memory.frames.unit x
     frame = frame_here matches x low high number k is_unit described low_fits high_fits
+
+    -- the slots that are kept are what they were
+    kept : (unit j : ℕ) → IsTrue (untouched unit j) → slot_in (with_place number k frame.slots memory) unit j ≡ slot_in memory.frames unit j
+    kept unit j is_kept = elim (ℕ_discrete memory.frames.unit unit) [ yes e ↦ own e | no e ↦ other e ]
+      where
+        new_slots_here : slice_get (slice_set memory.frames.units memory.frames.unit (slice_set frame.slots k (Some (new_place memory number)))) memory.frames.unit ≡ Some (slice_set frame.slots k (Some (new_place memory number)))
+        new_slots_here = slice_get-set-same memory.frames.units memory.frames.unit (slice_set frame.slots k (Some (new_place memory number))) frame.slots frame.is
+
+        own : memory.frames.unit ≡ unit → slot_in (with_place number k frame.slots memory) unit j ≡ slot_in memory.frames unit j
+        own e =
+            let different : (k ≡ j → ⊥) = λ q. free (subst (λ i. IsTrue (untouched i k)) (sym e) (subst (λ i. IsTrue (untouched unit i)) (sym q) is_kept)) in
+            subst (λ u. slot_in (with_place number k frame.slots memory) u j ≡ slot_in memory.frames u j) e
+            (ap (λ o. slot_of_frame o j) new_slots_here ∙ (slice_get-set-other frame.slots k j (Some (new_place memory number)) different ∙ sym (ap (λ o. slot_of_frame o j) frame.is)))
+
+        other : (memory.frames.unit ≡ unit → ⊥) → slot_in (with_place number k frame.slots memory) unit j ≡ slot_in memory.frames unit j
+        other e = ap (λ o. slot_of_frame o j) (slice_get-set-other memory.frames.units memory.frames.unit unit (slice_set frame.slots k (Some (new_place memory number))) e)
 
     leads : (b : Bool) → leb (memory.live + 2) live_limit ≡ b → outcome G (at place (Word (pos number) ∷ below) memory s.trace) ≡ cond b (record { weight = 1; to = Running 0 (at (place + 1) below (with_variable number (with_place number k frame.slots memory) memory) s.trace) }) (in_one (Stopped (Error run_error.STORAGE_LIMIT (unit_in G memory.frames) line) s.trace))
     leads b e = make_outcome G place line below low high number k frame.slots memory s.trace b has frame.is described (omega (arith, within, frame.count)) e
 
-    go : (b : Bool) → leb (memory.live + 2) live_limit ≡ b → Does declared G (at place (Word (pos number) ∷ below) memory s.trace) 1 (place + 1) (Inside injection memory (Bare below tt)) (made x.name k (type.Ordinal low high) (counted (type.Ordinal low high) s)) ⊎ GivesUp G (at place (Word (pos number) ∷ below) memory s.trace) 0 1 (counted (type.Ordinal low high) s)
+    go : (b : Bool) → leb (memory.live + 2) live_limit ≡ b → Does declared G (at place (Word (pos number) ∷ below) memory s.trace) 1 (place + 1) (Inside untouched injection memory (Bare below tt)) (made x.name k (type.Ordinal low high) (counted (type.Ordinal low high) s)) ⊎ GivesUp G (at place (Word (pos number) ∷ below) memory s.trace) 0 1 (counted (type.Ordinal low high) s)
     go true e =
         inl (record {
           injection = with_segment injection memory;
@@ -328,8 +378,9 @@ make_does declared G place line below low high number k x has distinct low_fits 
           operands = below;
           does = leads true e;
           matches = matches_making matches x low high number k is_unit described low_fits high_fits within distinct types_valid declared_so;
-          post = record { grown = grown_making injection memory number (with_place number k frame.slots memory); routine = record { turn = refl; routine = refl; unit = refl }; operands_are = refl };
+          post = record { grown = grown_making injection memory number (with_place number k frame.slots memory) kept; routine = record { turn = refl; routine = refl; unit = refl }; operands_are = refl };
         })
     go false e =
         let many : live_limit < memory.live + 2 = grind (arith, nat_tests) in
-        inr (gives_up (leads false e) (inl refl) (is_prefix s.trace) (lost_words (record s.resources { words = s.resources.words + 2 }) (omega (arith, many, matches.live))))
+        let counted_here : Resources = record s.resources { allocated = s.resources.allocated + 2 } in
+        inr (gives_up (leads false e) (inl refl) (is_prefix s.trace) (lost_words counted_here (past_limit (memory.live + 2) counted_here many (omega (arith, live_bounded matches.counts)))))

@@ -1,17 +1,17 @@
 -- A type is elaborated and a variable is made: the machine's instructions do what the meaning's changes do, or end
 -- for want of storage where room was lost.
-use Rattle.std.proofs.Common.{length-append, append-nil, ltb, ◌≡◌, ℕ, ℤ, suc, pos, ◌+◌, ◌≤◌, ◌<◌, ◌⊎◌, inl, inr, Bool, true, false, IsTrue, List, [], ◌∷◌, ◌++◌, length, Option, Some, None, slice_get, refl, sym, ap, ◌∙◌, arith, cond, get_or, position}
+use Rattle.std.proofs.Common.{length-append, append-nil, ltb, ◌≡◌, ℕ, ℤ, suc, pos, ◌+◌, ◌*◌, ◌≤◌, ◌<◌, ◌⊎◌, inl, inr, Bool, true, false, IsTrue, List, [], ◌∷◌, ◌++◌, length, Option, Some, None, slice_get, refl, sym, ap, ◌∙◌, arith, cond, get_or, position}
 use Rattle.std.specs.Prelude.{nat_lt, int_le, ◌&&◌, ◌||◌, not, nat_le, if◌then◌else◌}
 use Rattle.std.specs.List.{list_any, position_or_len}
 use Rattle.std.proofs.lemmas.Option.{slice_get-get_or}
 use Rattle.std.proofs.lemmas.List.Quantifiers.{position-Some}
 use Rattle.std.proofs.lemmas.Bool.Decides.{nat_tests}
 use Rattle.std.proofs.lemmas.Int.{ints}
-use Rattle.ep_object.specs.Matching.{Memory, at, Injection, Describes, MatchesTypes, Matches, Represents, Grown}
+use Rattle.ep_object.specs.Matching.{Memory, at, Injection, Describes, MatchesTypes, MatchesStore, MatchesCounts, Matches, Slots, Grown}
 use Rattle.ep_object.specs.Follows.{GivesUp, SameRoutine}
 use Rattle.ep_object.specs.Operands.{Operand, Word}
 use Rattle.ep_object.specs.Runs.{outcome, outcome_of, after, unit_in, run, tick_of, and_then}
-use Rattle.ep_object.specs.State.{State, TypeTable, Going, Running, integer_entry, char_entry, boolean_entry, text_entry, pointer_entry, first_types, live_limit, type_limit}
+use Rattle.ep_object.specs.State.{State, Segments, TypeTable, Going, Running, integer_entry, char_entry, boolean_entry, text_entry, pointer_entry, first_types, live_limit, type_limit}
 use Rattle.ep_object.specs.Types.{interned}
 use Rattle.ep_object.specs.Table.{typing, with_typing}
 use Rattle.ep_object.specs.Effects.{mapped, Fails, Continues}
@@ -23,7 +23,7 @@ use Rattle.ep_object.specs.declared.state.TypeEntry.{TypeEntry}
 use Rattle.ep_object.proofs.Grows.{prefix_then}
 use Rattle.ep_object.proofs.Growing.{slice_get-prefix, grown_refl, same_routine-refl}
 use Rattle.ep_object.proofs.Elements.{slice_get-push, slice_get-pushed}
-use Rattle.ep_typed.specs.Steps.{Resources, words_of_type, met, watched, same_type}
+use Rattle.ep_typed.specs.Steps.{Resources, held, words_of_type, met, watched, same_type}
 use Rattle.ep_typed.specs.Steps as meaning
 use Rattle.ep_typed.specs.Steps.{Allocation}
 use Rattle.ep_typed.specs.Valid.{Declarations}
@@ -65,13 +65,21 @@ described-found {types = types} low high n m h =
 same_type-refl : (low high : ℤ) → IsTrue (same_type (type.Ordinal low high) (type.Ordinal low high))
 same_type-refl low high = grind (arith, ints)
 
--- nothing is forgotten of what was counted
-pub met-words : (t : TypeValue) (r : Resources) → r.words ≤ (met t r).words
-met-words t r = go (list_any (same_type t) r.types)
+-- the words of type values only rise
+pub met-typed : (t : TypeValue) (r : Resources) → r.typed ≤ (met t r).typed
+met-typed t r = go (list_any (same_type t) r.types)
   where
-    go : (b : Bool) → r.words ≤ (watched (if b then r else record r { types = t ∷ r.types; words = r.words + words_of_type t })).words
+    go : (b : Bool) → r.typed ≤ (watched (if b then r else record r { types = t ∷ r.types; typed = r.typed + words_of_type t })).typed
     go true = omega arith
     go false = omega arith
+
+-- what is held stays the same where a type is met
+pub met-held : (t : TypeValue) (r : Resources) → ((met t r).allocated ≡ r.allocated) × ((met t r).reserved ≡ r.reserved)
+met-held t r = go (list_any (same_type t) r.types)
+  where
+    go : (b : Bool) → ((watched (if b then r else record r { types = t ∷ r.types; typed = r.typed + words_of_type t })).allocated ≡ r.allocated) × ((watched (if b then r else record r { types = t ∷ r.types; typed = r.typed + words_of_type t })).reserved ≡ r.reserved)
+    go true = (refl, refl)
+    go false = (refl, refl)
 
 -- how far the first element is that passes, or the length
 place_more : {A : Type 0} (p : A → Bool) (xs ys : List A) → position_or_len p xs < length xs → position_or_len p (xs ++ ys) ≡ position_or_len p xs
@@ -120,7 +128,7 @@ either false b t = inr t
 met_among : (low high l h : ℤ) (r : Resources) → IsTrue (list_any (same_type (type.Ordinal l h)) (met (type.Ordinal low high) r).types) → IsTrue (same_type (type.Ordinal l h) (type.Ordinal low high)) ⊎ IsTrue (list_any (same_type (type.Ordinal l h)) r.types)
 met_among low high l h r = go (list_any (same_type (type.Ordinal low high)) r.types)
   where
-    go : (b : Bool) → IsTrue (list_any (same_type (type.Ordinal l h)) (watched (if b then r else record r { types = type.Ordinal low high ∷ r.types; words = r.words + words_of_type (type.Ordinal low high) })).types) → IsTrue (same_type (type.Ordinal l h) (type.Ordinal low high)) ⊎ IsTrue (list_any (same_type (type.Ordinal l h)) r.types)
+    go : (b : Bool) → IsTrue (list_any (same_type (type.Ordinal l h)) (watched (if b then r else record r { types = type.Ordinal low high ∷ r.types; typed = r.typed + words_of_type (type.Ordinal low high) })).types) → IsTrue (same_type (type.Ordinal l h) (type.Ordinal low high)) ⊎ IsTrue (list_any (same_type (type.Ordinal l h)) r.types)
     go true t = inr t
     go false t = either (same_type (type.Ordinal l h) (type.Ordinal low high)) (list_any (same_type (type.Ordinal l h)) r.types) t
 
@@ -128,15 +136,15 @@ met_among low high l h r = go (list_any (same_type (type.Ordinal low high)) r.ty
 met_types-le : (t : TypeValue) (r : Resources) → length r.types ≤ length (met t r).types
 met_types-le t r = go (list_any (same_type t) r.types)
   where
-    go : (b : Bool) → length r.types ≤ length (watched (if b then r else record r { types = t ∷ r.types; words = r.words + words_of_type t })).types
+    go : (b : Bool) → length r.types ≤ length (watched (if b then r else record r { types = t ∷ r.types; typed = r.typed + words_of_type t })).types
     go true = omega arith
     go false = omega arith
 
 -- a type that is not among them is counted
-met_new : (t : TypeValue) (r : Resources) → (IsTrue (list_any (same_type t) r.types) → ⊥) → (suc (length r.types) ≤ length (met t r).types) × (r.words + words_of_type t ≤ (met t r).words)
+met_new : (t : TypeValue) (r : Resources) → (IsTrue (list_any (same_type t) r.types) → ⊥) → (suc (length r.types) ≤ length (met t r).types) × (r.typed + words_of_type t ≤ (met t r).typed)
 met_new t r n = go (list_any (same_type t) r.types) n
   where
-    go : (b : Bool) → (IsTrue b → ⊥) → (suc (length r.types) ≤ length (watched (if b then r else record r { types = t ∷ r.types; words = r.words + words_of_type t })).types) × (r.words + words_of_type t ≤ (watched (if b then r else record r { types = t ∷ r.types; words = r.words + words_of_type t })).words)
+    go : (b : Bool) → (IsTrue b → ⊥) → (suc (length r.types) ≤ length (watched (if b then r else record r { types = t ∷ r.types; typed = r.typed + words_of_type t })).types) × (r.typed + words_of_type t ≤ (watched (if b then r else record r { types = t ∷ r.types; typed = r.typed + words_of_type t })).typed)
     go true f = absurd (f refl)
     go false f = (omega arith, omega arith)
 
@@ -151,7 +159,6 @@ types-found {r = r} {types = types} low high n m found =
       first = m.first;
       known = λ l h t. known l h (met_among low high l h r t);
       sized = m.sized;
-      count = omega (arith, m.count, met_types-le (type.Ordinal low high) r);
     }
   where
     known : (l h : ℤ) → IsTrue (same_type (type.Ordinal l h) (type.Ordinal low high)) ⊎ IsTrue (list_any (same_type (type.Ordinal l h)) r.types) → (k : ℕ) × (ordinal_number l h types ≡ Some k)
@@ -205,7 +212,6 @@ types-added {r = r} {types = types} low high m none =
       first = prefix_then m.first (record { rest = ordinal_entry low high ∷ []; is = refl });
       known = λ l h t. known l h (met_among low high l h r t);
       sized = λ n e at_n. sized n e (slice_get-push types (ordinal_entry low high) e n at_n);
-      count = let new = met_new (type.Ordinal low high) r (not_known low high m none) in omega (arith, m.count, new.0, length-append types (ordinal_entry low high ∷ []));
     }
   where
     known : (l h : ℤ) → IsTrue (same_type (type.Ordinal l h) (type.Ordinal low high)) ⊎ IsTrue (list_any (same_type (type.Ordinal l h)) r.types) → (k : ℕ) × (ordinal_number l h (types ++ ordinal_entry low high ∷ []) ≡ Some k)
@@ -217,8 +223,8 @@ types-added {r = r} {types = types} low high m none =
     sized n e (inr h) = ap (λ (x : TypeEntry). x.size) h.1
 
 -- room is lost where so many words live, or so many types are counted
-pub lost_words : (r : Resources) → 4194305 ≤ r.words → IsTrue (watched r).lost
-lost_words r h = let full : nat_le r.words meaning.room_for_words ≡ false = grind (arith, nat_tests) in go r.lost (nat_le r.words meaning.room_for_words) (nat_le (length r.types) meaning.room_for_types) full
+pub lost_words : (r : Resources) → 4194305 ≤ held r + r.typed → IsTrue (watched r).lost
+lost_words r h = let full : nat_le (held r + r.typed) meaning.room_for_words ≡ false = grind (arith, nat_tests) in go r.lost (nat_le (held r + r.typed) meaning.room_for_words) (nat_le (length r.types) meaning.room_for_types) full
   where
     go : (lost a b : Bool) → a ≡ false → IsTrue (lost || not (a && b))
     go true a b e = refl
@@ -226,7 +232,7 @@ lost_words r h = let full : nat_le r.words meaning.room_for_words ≡ false = gr
     go false false b e = refl
 
 pub lost_types : (r : Resources) → 262001 ≤ length r.types → IsTrue (watched r).lost
-lost_types r h = let full : nat_le (length r.types) meaning.room_for_types ≡ false = grind (arith, nat_tests) in go r.lost (nat_le r.words meaning.room_for_words) (nat_le (length r.types) meaning.room_for_types) full
+lost_types r h = let full : nat_le (length r.types) meaning.room_for_types ≡ false = grind (arith, nat_tests) in go r.lost (nat_le (held r + r.typed) meaning.room_for_words) (nat_le (length r.types) meaning.room_for_types) full
   where
     go : (lost a b : Bool) → b ≡ false → IsTrue (lost || not (a && b))
     go true a b e = refl
@@ -245,39 +251,35 @@ pub described-longer : (types longer : TypeTable) (n : ℕ) (t : TypeValue) → 
 described-longer types longer n (type.Ordinal low high) p h = slice_get-prefix types longer n (ordinal_entry low high) p h
 described-longer types longer n type.Text p h = slice_get-prefix types longer n text_entry p h
 
--- Matching with another table of types, where no number changes its type.
-pub matches-types : {declared : Declarations} {G : Image} {injection : Injection} {s : meaning.State} {memory : Memory} (resources : Resources) (types : TypeTable) (live : ℕ) → IsPrefix memory.types types → MatchesTypes resources types → live ≤ resources.words
-    → Matches declared G injection s memory → Matches declared G injection (record s { resources = resources }) (record memory { types = types; live = live })
-matches-types {memory = memory} resources types live longer known fits m =
+-- the store goes on matching with a longer table of types
+pub matches_store-types : {injection : Injection} {allocations : List Allocation} {segments : Segments} {types longer : TypeTable} → IsPrefix types longer → MatchesStore injection allocations segments types → MatchesStore injection allocations segments longer
+matches_store-types {types = types} {longer = longer} prefix m =
     record {
-      made = m.made;
-      represented = λ n segment allocation is_in at_n. represents segment allocation (m.represented n segment allocation is_in at_n);
-      apart = m.apart;
-      within = m.within;
-      output = m.output;
-      frames = λ unit u is_unit. let f = m.frames unit u is_unit in record { slots = f.slots; is = f.is; count = f.count; matches = f.matches };
-      typed = m.typed;
-      types = known;
-      live = fits;
+      represented = λ n segment allocation is_in at_n.
+          let r = m.represented n segment allocation is_in at_n in
+          record { type_number = r.type_number; stands = r.stands; described = described-longer types longer r.type_number allocation.type_value prefix r.described; value = r.value };
     }
-  where
-    represents : (segment : ℕ) (allocation : Allocation) → Represents memory.segments memory.types segment allocation → Represents memory.segments types segment allocation
-    represents segment allocation r = record { type_number = r.type_number; stands = r.stands; described = described-longer memory.types types r.type_number allocation.type_value longer r.described; value = r.value }
+
+-- Matching with another table of types, where no number changes its type.
+pub matches-types : {declared : Declarations} {G : Image} {injection : Injection} {s : meaning.State} {memory : Memory} (resources : Resources) (types : TypeTable) (live : ℕ) → IsPrefix memory.types types → MatchesTypes resources types → MatchesCounts injection resources memory.segments types live
+    → Matches declared G injection s memory → Matches declared G injection (record s { resources = resources }) (record memory { types = types; live = live })
+matches-types resources types live longer known counts m =
+    record { injected = m.injected; store = matches_store-types longer m.store; types = known; units = m.units; outside = m.outside; counts = counts }
 
 -- grown by a longer table alone
-grown-types : (injection : Injection) (memory : Memory) (types : TypeTable) (live : ℕ) → IsPrefix memory.types types → Grown injection memory injection (record memory { types = types; live = live })
-grown-types injection memory types live longer =
-    let g = grown_refl injection memory in
-    record { larger = g.larger; types = longer; segments = g.segments; hidden = g.hidden; others = g.others; typed = g.typed; ended = g.ended }
+grown-types : {untouched : Slots} (injection : Injection) (memory : Memory) (types : TypeTable) (live : ℕ) → IsPrefix memory.types types → Grown untouched injection memory injection (record memory { types = types; live = live })
+grown-types {untouched = untouched} injection memory types live longer =
+    let g = grown_refl {untouched = untouched} injection memory in
+    record { larger = g.larger; types = longer; segments = g.segments; hidden = g.hidden; others = g.others; allocated = g.allocated; slots = g.slots; typed = g.typed; ended = g.ended }
 
 -- what TOrd leads to: the type's number on top, and the state that has met the type
-pub record Elaborates (declared : Declarations) (G : Image) (injection : Injection) (memory : Memory) (place : ℕ) (below : List Operand) (t : TypeValue) (k : State) (s : meaning.State) : Type 0 where
+pub record Elaborates (untouched : Slots) (declared : Declarations) (G : Image) (injection : Injection) (memory : Memory) (place : ℕ) (below : List Operand) (t : TypeValue) (k : State) (s : meaning.State) : Type 0 where
   pub number : ℕ
   pub final : Memory
   pub does : outcome G k ≡ record { weight = 0; to = Running 0 (at (place + 1) (Word (pos number) ∷ below) final s.trace) }
   pub matches : Matches declared G injection (meaning.with_type t s) final
   pub described : Describes final.types number t
-  pub grown : Grown injection memory injection final
+  pub grown : Grown untouched injection memory injection final
   pub routine : SameRoutine memory.frames final.frames
 
 -- `TOrd`
@@ -305,41 +307,74 @@ module _ (G : Image) (place line : ℕ) (low high : ℤ) (below : List Operand) 
       ∙ ap (λ b. record { weight = 0; to = after G (ordinal_instr line) k (mapped (with_typing k) (cond b (interned (ordinal_number low high memory.types) (ordinal_entry low high) below (typing k)) (Fails run_error.OUTSIDE_DOMAIN))) }) ordered
       ∙ ap (λ x. record { weight = 0; to = after G (ordinal_instr line) k (mapped (with_typing k) (interned x (ordinal_entry low high) below (typing k))) }) is
 
+-- Where more words would live than may at most, the meaning has passed what every run has: a word of a type value counts
+-- 4, and the limit is 4 times as high.
+pub past_limit : (live : ℕ) (r : Resources) → live_limit < live → live ≤ held r + 4 * r.typed → 4194305 ≤ held r + r.typed
+past_limit live r full bounded = omega (arith, full, bounded)
+
+-- no more words live than what is held and 4 for each word of a type value
+pub live_bounded : {injection : Injection} {r : Resources} {segments : Segments} {types : TypeTable} {live : ℕ} → MatchesCounts injection r segments types live → live ≤ held r + 4 * r.typed
+live_bounded c = omega (arith, c.words, c.hidden)
+
 -- the limits are not met, or room is lost
-full_lost : (a b : ℕ) (r : Resources) → (ltb a type_limit && ltb b live_limit) ≡ false → a ≤ length r.types + 5 → b ≤ r.words → IsTrue (watched r).lost
+full_lost : (a b : ℕ) (r : Resources) → (ltb a type_limit && ltb b live_limit) ≡ false → a ≤ length r.types + 5 → b + 1 ≤ held r + 4 * r.typed → IsTrue (watched r).lost
 full_lost a b r full few live = go (ltb a type_limit) refl
   where
     go : (x : Bool) → ltb a type_limit ≡ x → IsTrue (watched r).lost
-    go true e = lost_words r (let f : ltb b live_limit ≡ false = sym (ap (λ y. y && ltb b live_limit) e) ∙ full in grind (arith, nat_tests))
+    go true e = lost_words r (let f : ltb b live_limit ≡ false = sym (ap (λ y. y && ltb b live_limit) e) ∙ full in past_limit (b + 1) r (grind (arith, nat_tests)) live)
     go false e = lost_types r (grind (arith, nat_tests))
 
-met_lost : (a b : ℕ) (t : TypeValue) (r : Resources) → (IsTrue (list_any (same_type t) r.types) → ⊥) → (ltb a type_limit && ltb b live_limit) ≡ false → a ≤ length r.types + 5 → b ≤ r.words → IsTrue (met t r).lost
-met_lost a b t r new full few live = go (list_any (same_type t) r.types) new
+met_lost : (a b : ℕ) (t : TypeValue) (r : Resources) → (IsTrue (list_any (same_type t) r.types) → ⊥) → (ltb a type_limit && ltb b live_limit) ≡ false → a ≤ length r.types + 5 → b ≤ held r + 4 * r.typed → words_of_type t ≡ 1 → IsTrue (met t r).lost
+met_lost a b t r new full few live word = go (list_any (same_type t) r.types) new
   where
-    go : (x : Bool) → (IsTrue x → ⊥) → IsTrue (watched (if x then r else record r { types = t ∷ r.types; words = r.words + words_of_type t })).lost
+    go : (x : Bool) → (IsTrue x → ⊥) → IsTrue (watched (if x then r else record r { types = t ∷ r.types; typed = r.typed + words_of_type t })).lost
     go true n = absurd (n refl)
-    go false n = full_lost a b (record r { types = t ∷ r.types; words = r.words + words_of_type t }) full (omega (arith, few)) (omega (arith, live))
+    go false n = full_lost a b (record r { types = t ∷ r.types; typed = r.typed + words_of_type t }) full (omega (arith, few)) (omega (arith, live, word))
 
 -- The type is met, or the machine ends for want of storage where room is lost.
-pub elaborates : {declared : Declarations} {G : Image} {injection : Injection} {memory : Memory} (place line : ℕ) (low high : ℤ) (below : List Operand) (s : meaning.State) → IsTrue (int_le low high) → slice_get G.instructions place ≡ Some (ordinal_instr line) → Matches declared G injection s memory
-    → Elaborates declared G injection memory place below (type.Ordinal low high) (before_type place low high below memory s.trace) s ⊎ GivesUp G (before_type place low high below memory s.trace) 0 1 (meaning.with_type (type.Ordinal low high) s)
-elaborates {declared} {G} {injection} {memory} place line low high below s ordered fetch m = by_number (ordinal_number low high memory.types) refl
+pub elaborates : {untouched : Slots} {declared : Declarations} {G : Image} {injection : Injection} {memory : Memory} (place line : ℕ) (low high : ℤ) (below : List Operand) (s : meaning.State) → IsTrue (int_le low high) → slice_get G.instructions place ≡ Some (ordinal_instr line) → Matches declared G injection s memory
+    → Elaborates untouched declared G injection memory place below (type.Ordinal low high) (before_type place low high below memory s.trace) s ⊎ GivesUp G (before_type place low high below memory s.trace) 0 1 (meaning.with_type (type.Ordinal low high) s)
+elaborates {untouched} {declared} {G} {injection} {memory} place line low high below s ordered fetch m = by_number (ordinal_number low high memory.types) refl
   where
-    added : (b : Bool) → fits_one_more (before_type place low high below memory s.trace) ≡ b → ordinal_number low high memory.types ≡ None → Elaborates declared G injection memory place below (type.Ordinal low high) (before_type place low high below memory s.trace) s ⊎ GivesUp G (before_type place low high below memory s.trace) 0 1 (meaning.with_type (type.Ordinal low high) s)
+    numbers : MatchesCounts injection s.resources memory.segments memory.types memory.live
+    numbers = m.counts
+
+    -- one more type was added, and one word is counted for it
+    counts_added : ordinal_number low high memory.types ≡ None → MatchesCounts injection (met (type.Ordinal low high) s.resources) memory.segments (memory.types ++ ordinal_entry low high ∷ []) (memory.live + 1)
+    counts_added none =
+        let new = met_new (type.Ordinal low high) s.resources (not_known low high m.types none) in
+        let same = met-held (type.Ordinal low high) s.resources in
+        record {
+          words = omega (arith, numbers.words, new.1, new_word low high m.types none, same.0);
+          hidden = omega (arith, numbers.hidden, same.1);
+          number = omega (arith, numbers.number, new.0, length-append memory.types (ordinal_entry low high ∷ []));
+        }
+
+    -- nothing was added
+    counts_found : MatchesCounts injection (met (type.Ordinal low high) s.resources) memory.segments memory.types memory.live
+    counts_found =
+        let same = met-held (type.Ordinal low high) s.resources in
+        record {
+          words = omega (arith, numbers.words, met-typed (type.Ordinal low high) s.resources, same.0);
+          hidden = omega (arith, numbers.hidden, same.1);
+          number = omega (arith, numbers.number, met_types-le (type.Ordinal low high) s.resources);
+        }
+
+    added : (b : Bool) → fits_one_more (before_type place low high below memory s.trace) ≡ b → ordinal_number low high memory.types ≡ None → Elaborates untouched declared G injection memory place below (type.Ordinal low high) (before_type place low high below memory s.trace) s ⊎ GivesUp G (before_type place low high below memory s.trace) 0 1 (meaning.with_type (type.Ordinal low high) s)
     added true fits none =
         inl (record {
           number = length memory.types;
           final = with_entry (ordinal_entry low high) memory;
           does = ordinal_outcome G place line low high below memory s.trace ordered None none fetch ∙ ap (λ b. record { weight = 0; to = adds G (ordinal_instr line) (before_type place low high below memory s.trace) (ordinal_entry low high) below b }) fits;
           matches = matches-types (met (type.Ordinal low high) s.resources) (memory.types ++ ordinal_entry low high ∷ []) (memory.live + 1) (record { rest = ordinal_entry low high ∷ []; is = refl }) (types-added low high m.types none)
-              (let new = met_new (type.Ordinal low high) s.resources (not_known low high m.types none) in omega (arith, new.1, new_word low high m.types none, m.live)) m;
+              (counts_added none) m;
           described = slice_get-pushed memory.types (ordinal_entry low high);
           grown = grown-types injection memory (memory.types ++ ordinal_entry low high ∷ []) (memory.live + 1) (record { rest = ordinal_entry low high ∷ []; is = refl });
           routine = same_routine-refl memory.frames;
         })
     added false full none =
         inr (record {
-          lost = met_lost (length memory.types) memory.live (type.Ordinal low high) s.resources (not_known low high m.types none) full m.types.count m.live;
+          lost = met_lost (length memory.types) memory.live (type.Ordinal low high) s.resources (not_known low high m.types none) full numbers.number (live_bounded numbers) (new_word low high m.types none);
           ticks = 1;
           fast = omega arith;
           number = run_error.STORAGE_LIMIT;
@@ -351,13 +386,13 @@ elaborates {declared} {G} {injection} {memory} place line low high below s order
           begins = record { rest = []; is = sym (append-nil s.trace) };
         })
 
-    by_number : (o : Option ℕ) → ordinal_number low high memory.types ≡ o → Elaborates declared G injection memory place below (type.Ordinal low high) (before_type place low high below memory s.trace) s ⊎ GivesUp G (before_type place low high below memory s.trace) 0 1 (meaning.with_type (type.Ordinal low high) s)
+    by_number : (o : Option ℕ) → ordinal_number low high memory.types ≡ o → Elaborates untouched declared G injection memory place below (type.Ordinal low high) (before_type place low high below memory s.trace) s ⊎ GivesUp G (before_type place low high below memory s.trace) 0 1 (meaning.with_type (type.Ordinal low high) s)
     by_number (Some n) found =
         inl (record {
           number = n;
           final = memory;
           does = ordinal_outcome G place line low high below memory s.trace ordered (Some n) found fetch;
-          matches = matches-types (met (type.Ordinal low high) s.resources) memory.types memory.live (record { rest = []; is = sym (append-nil memory.types) }) (types-found low high n m.types found) (omega (arith, m.live, met-words (type.Ordinal low high) s.resources)) m;
+          matches = matches-types (met (type.Ordinal low high) s.resources) memory.types memory.live (record { rest = []; is = sym (append-nil memory.types) }) (types-found low high n m.types found) counts_found m;
           described = described-found low high n m.types found;
           grown = grown_refl injection memory;
           routine = same_routine-refl memory.frames;

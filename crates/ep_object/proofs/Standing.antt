@@ -44,8 +44,10 @@ allocated injection s (suc n) segment made h =
 -- at the place of an allocation stands that allocation
 pub place_stands : {declared : Declarations} {G : Image} {injection : Injection} {s : meaning.State} {memory : Memory} {n : ℕ} {place : Place} → Matches declared G injection s memory → IsPlaceOf injection memory.segments n place → Stands s memory n place
 place_stands {injection = injection} {s = s} {memory = memory} {n = n} {place = place} matches place_of =
-    let a = allocated injection s n place.segment matches.made place_of.is_in in
-    let r : Represents memory.segments memory.types place.segment a.0 = matches.represented n place.segment a.0 place_of.is_in a.1 in
+    let injected = matches.injected in
+    let store = matches.store in
+    let a = allocated injection s n place.segment injected.made place_of.is_in in
+    let r : Represents memory.segments memory.types place.segment a.0 = store.represented n place.segment a.0 place_of.is_in a.1 in
     record { allocation = a.0; is = a.1; represents = r; type_number = place_of.typed (record { type_number = r.type_number; words = _ }) r.stands }
 
 -- a type describes one type value

@@ -9,7 +9,7 @@ use Rattle.ep_typed.specs.Valid as kind
 use Rattle.ep_typed.specs.Valid.{Declarations, Kind}
 use Rattle.ep_typed.specs.Hosts.{Host, is_of_host}
 use Rattle.ep_typed.specs.declared.value.TypeValue.{TypeValue}
-use Rattle.ep_object.specs.Matching.{Memory, at, Injection, Matches, Grown, IsPlaceOf, Describes}
+use Rattle.ep_object.specs.Matching.{Memory, at, Injection, Matches, Slots, Grown, IsPlaceOf, Describes}
 use Rattle.ep_object.specs.Operands.{Operand, Word, Place, Text}
 use Rattle.ep_object.specs.Runs.{run, tick}
 use Rattle.ep_object.specs.State.{State, Frames, End, Running, Stopped, Normal, Halt, Error}
@@ -150,8 +150,8 @@ pub record PlaceOnTop (type : TypeValue) (below : List Operand) (n : ℕ) (injec
   pub place_of : IsPlaceOf injection memory.segments n place
   pub described : Describes memory.types place.type_number type
 
--- inside of a routine: memory has grown, the routine is the same, and the operands are such
-pub record Inside (injection : Injection) (memory : Memory) (Then : Operands) (longer : Injection) (after : Memory) (operands : List Operand) : Type 0 where
-  pub grown : Grown injection memory longer after
+-- inside of a routine: memory has grown and these slots are untouched, the routine is the same, and the operands are such
+pub record Inside (untouched : Slots) (injection : Injection) (memory : Memory) (Then : Operands) (longer : Injection) (after : Memory) (operands : List Operand) : Type 0 where
+  pub grown : Grown untouched injection memory longer after
   pub routine : SameRoutine memory.frames after.frames
   pub operands_are : Then longer after operands

@@ -1,5 +1,5 @@
 -- When a state of the machine matches a state of the meaning.
-use Rattle.std.specs.Prelude.{◌≡◌, ℕ, ℤ, zero, suc, ◌+◌, ◌≤◌, IsTrue, List, [], ◌∷◌, length, slice_get, Option, Some, None, ⊤}
+use Rattle.std.specs.Prelude.{◌≡◌, ℕ, ℤ, zero, suc, ◌+◌, ◌*◌, ◌≤◌, ◌==◌, Bool, true, false, IsTrue, List, [], ◌∷◌, length, slice_get, Option, Some, None, ⊤, if◌then◌else◌}
 use Rattle.std.specs.List.{list_any}
 use Rattle.ep_outside.specs.Known.{IsPrefix}
 use Rattle.ep_typed.specs.Denoters.{IsInstance}
@@ -89,48 +89,110 @@ MatchesSlot injection segments None (Some place) = ⊥
 MatchesSlot injection segments (Some n) None = ⊥
 MatchesSlot injection segments (Some n) (Some place) = IsPlaceOf injection segments n place
 
--- the frame of a unit has the places of its variables
-pub record MatchesFrame (injection : Injection) (s : meaning.State) (memory : Memory) (unit : ℕ) (u : ImageUnit) : Type 0 where
-  pub slots : List (Option Place)
-  pub is : slice_get memory.frames.units unit ≡ Some slots
-  pub count : length slots ≡ u.slots
-  pub matches : (k : ℕ) (slot : Option Place) → slice_get slots k ≡ Some slot → MatchesSlot injection memory.segments (s.variables u.name k) slot
+-- a slot of a frame, where both are there
+abbrev pub slot_of_frame : Option (List (Option Place)) → ℕ → Option (Option Place)
+slot_of_frame None k = None
+slot_of_frame (Some slots) k = slice_get slots k
 
--- What the types of the machine have to do with those that the meaning counts: each that was elaborated has a
--- number, and no more were added than were elaborated.
-pub record MatchesTypes (resources : Resources) (types : TypeTable) : Type 0 where
-  pub first : IsPrefix first_types types
-  pub known : (low high : ℤ) → IsTrue (list_any (same_type (type.Ordinal low high)) resources.types) → (n : ℕ) × (ordinal_number low high types ≡ Some n)
-  pub sized : (n : ℕ) (entry : TypeEntry) → slice_get types n ≡ Some entry → entry.size ≡ 1
-  pub count : length types ≤ length resources.types + 5
+-- the slot of this number of the unit's frame
+abbrev pub slot_in : Frames → ℕ → ℕ → Option (Option Place)
+slot_in frames unit k = slot_of_frame (slice_get frames.units unit) k
 
 -- the type value is that of a variable of the unit
 abbrev pub HasType : Declarations → List ℕ → UnitVariable → TypeValue → Type 0
 HasType declared unit v t = IsInstance (declared.types unit) (denoter_of v.denoter) t
 
+-- The words of the hidden segments from this number on, those in which no allocation is, with one more for each.
+abbrev pub hidden_from : Injection → ℕ → Segments → ℕ
+hidden_from injection k [] = 0
+hidden_from injection k (None ∷ segments) = hidden_from injection (suc k) segments
+hidden_from injection k (Some x ∷ segments) = (if list_any (λ j. j == k) injection then 0 else length x.words + 1) + hidden_from injection (suc k) segments
+
+-- the words of all hidden segments, with one more for each
+abbrev pub hidden_words : Injection → Segments → ℕ
+hidden_words injection segments = hidden_from injection 0 segments
+
+-- ---- matching, in groups: each is over what it reads, so that it goes on holding where nothing of that changes
+
+-- each allocation that was made is in a segment of its own
+pub record MatchesInjection (injection : Injection) (allocations : List Allocation) (segments : Segments) : Type 0 where
+  pub made : length injection ≡ length allocations
+  pub apart : (m n segment : ℕ) → IsIn injection m segment → IsIn injection n segment → m ≡ n
+  pub within : (n segment : ℕ) → IsIn injection n segment → suc segment ≤ length segments
+
+-- the store: the segment of an allocation represents it
+pub record MatchesStore (injection : Injection) (allocations : List Allocation) (segments : Segments) (types : TypeTable) : Type 0 where
+  pub represented : (n segment : ℕ) (allocation : Allocation) → IsIn injection n segment → meaning.allocation_at allocations n ≡ Some allocation → Represents segments types segment allocation
+
+-- the types: each that was elaborated has a number
+pub record MatchesTypes (resources : Resources) (types : TypeTable) : Type 0 where
+  pub first : IsPrefix first_types types
+  pub known : (low high : ℤ) → IsTrue (list_any (same_type (type.Ordinal low high)) resources.types) → (n : ℕ) × (ordinal_number low high types ≡ Some n)
+  pub sized : (n : ℕ) (entry : TypeEntry) → slice_get types n ≡ Some entry → entry.size ≡ 1
+
+-- the frame of a unit has the places of the variables that are declared; its other slots match nothing
+pub record MatchesFrame (declared : Declarations) (injection : Injection) (variables : List ℕ → ℕ → Option ℕ) (units : List (List (Option Place))) (segments : Segments) (unit : ℕ) (u : ImageUnit) : Type 0 where
+  pub slots : List (Option Place)
+  pub is : slice_get units unit ≡ Some slots
+  pub count : length slots ≡ u.slots
+  pub matches : (k : ℕ) (v : UnitVariable) (slot : Option Place) → declared.variables u.name k ≡ Some v → slice_get slots k ≡ Some slot → MatchesSlot injection segments (variables u.name k) slot
+
+-- the slots of units: the frame of each unit matches, and an allocation of a variable has the type of its declaration
+pub record MatchesUnits (declared : Declarations) (G : Image) (injection : Injection) (allocations : List Allocation) (variables : List ℕ → ℕ → Option ℕ) (units : List (List (Option Place))) (segments : Segments) : Type 0 where
+  pub frames : (unit : ℕ) (u : ImageUnit) → slice_get G.units unit ≡ Some u → MatchesFrame declared injection variables units segments unit u
+  pub typed : (unit : List ℕ) (k n : ℕ) (v : UnitVariable) → variables unit k ≡ Some n → declared.variables unit k ≡ Some v → HasType declared unit v (meaning.type_in (meaning.allocation_at allocations n))
+
+-- the outside: `output` is the second allocation and the second segment
+pub record MatchesOutside (injection : Injection) : Type 0 where
+  pub output : IsIn injection 2 2
+
+-- The counts: no more words live than were counted, where a type value counts 4 for each of its words; hidden segments
+-- take no more than was set aside; and no more types were added than were elaborated.
+pub record MatchesCounts (injection : Injection) (resources : Resources) (segments : Segments) (types : TypeTable) (live : ℕ) : Type 0 where
+  pub words : live ≤ resources.allocated + hidden_words injection segments + 4 * resources.typed
+  pub hidden : hidden_words injection segments ≤ resources.reserved
+  pub number : length types ≤ length resources.types + 5
+
 -- the state of the meaning matches the machine's memory by the injection, where these variables are declared
 pub record Matches (declared : Declarations) (G : Image) (injection : Injection) (s : meaning.State) (memory : Memory) : Type 0 where
-  pub made : length injection ≡ length s.allocations
-  pub represented : (n segment : ℕ) (allocation : Allocation) → IsIn injection n segment → meaning.allocation_at s.allocations n ≡ Some allocation → Represents memory.segments memory.types segment allocation
-  pub apart : (m n segment : ℕ) → IsIn injection m segment → IsIn injection n segment → m ≡ n
-  pub within : (n segment : ℕ) → IsIn injection n segment → suc segment ≤ length memory.segments
-  pub output : IsIn injection 2 2
-  pub frames : (unit : ℕ) (u : ImageUnit) → slice_get G.units unit ≡ Some u → MatchesFrame injection s memory unit u
-  -- the allocation of a variable that is declared has the type of the declaration
-  pub typed : (unit : List ℕ) (k n : ℕ) (v : UnitVariable) → s.variables unit k ≡ Some n → declared.variables unit k ≡ Some v → HasType declared unit v (meaning.type_at n s)
+  pub injected : MatchesInjection injection s.allocations memory.segments
+  pub store : MatchesStore injection s.allocations memory.segments memory.types
   pub types : MatchesTypes s.resources memory.types
-  pub live : memory.live ≤ s.resources.words
+  pub units : MatchesUnits declared G injection s.allocations s.variables memory.frames.units memory.segments
+  pub outside : MatchesOutside injection
+  pub counts : MatchesCounts injection s.resources memory.segments memory.types memory.live
+
+-- ---- growing
 
 -- a segment in which no allocation is
 abbrev pub IsHidden : Injection → ℕ → Type 0
 IsHidden injection segment = (n : ℕ) → IsIn injection n segment → ⊥
 
--- The injection is a longer one, hidden segments are what they were, and no segment changes its type.
-pub record Grown (injection : Injection) (memory : Memory) (longer : Injection) (after : Memory) : Type 0 where
+-- which slots of units' frames, by the number of the unit and their own
+abbrev pub Slots : Type 0
+Slots = ℕ → ℕ → Bool
+
+abbrev pub is_undeclared : Option UnitVariable → Bool
+is_undeclared None = true
+is_undeclared (Some v) = false
+
+abbrev pub is_hidden_in : Declarations → Option ImageUnit → ℕ → Bool
+is_hidden_in declared None k = false
+is_hidden_in declared (Some u) k = is_undeclared (declared.variables u.name k)
+
+-- a slot of a unit's frame that no variable has which is declared
+abbrev pub is_hidden_slot : Declarations → Image → Slots
+is_hidden_slot declared G unit k = is_hidden_in declared (slice_get G.units unit) k
+
+-- The injection is a longer one, hidden segments are what they were, those that are new have ended, these slots are
+-- untouched, and no segment changes its type.
+pub record Grown (untouched : Slots) (injection : Injection) (memory : Memory) (longer : Injection) (after : Memory) : Type 0 where
   pub larger : IsPrefix injection longer
   pub types : IsPrefix memory.types after.types
   pub segments : length memory.segments ≤ length after.segments
   pub hidden : (segment : ℕ) → suc segment ≤ length memory.segments → IsHidden injection segment → IsHidden longer segment
   pub others : (segment : ℕ) → suc segment ≤ length memory.segments → IsHidden injection segment → slice_get after.segments segment ≡ slice_get memory.segments segment
+  pub allocated : (segment : ℕ) (y : Segment) → length memory.segments ≤ segment → slice_get after.segments segment ≡ Some (Some y) → (n : ℕ) × IsIn longer n segment
+  pub slots : (unit k : ℕ) → IsTrue (untouched unit k) → slot_in after.frames unit k ≡ slot_in memory.frames unit k
   pub typed : (segment : ℕ) (x y : Segment) → slice_get memory.segments segment ≡ Some (Some x) → slice_get after.segments segment ≡ Some (Some y) → y.type_number ≡ x.type_number
   pub ended : (segment : ℕ) (y : Segment) → suc segment ≤ length memory.segments → slice_get after.segments segment ≡ Some (Some y) → (x : Segment) × (slice_get memory.segments segment ≡ Some (Some x))

@@ -9,7 +9,7 @@ use Rattle.ep_typed.specs.Valid.{Declarations, Kind}
 use Rattle.ep_object.specs.Effects.{Returns, light}
 use Rattle.ep_object.specs.Follows.{end_of, Follows, GivesUp, Lands, Operands, Bare, OnTop, SameRoutine, Inside}
 use Rattle.ep_object.specs.Laws.{EndsAt}
-use Rattle.ep_object.specs.Matching.{Memory, at, Injection, Matches}
+use Rattle.ep_object.specs.Matching.{Memory, at, Injection, Matches, is_hidden_slot}
 use Rattle.ep_object.specs.Operands.{Operand}
 use Rattle.ep_object.specs.Runs.{run, routine_of, trace_of}
 use Rattle.ep_object.specs.State.{State, End, Running}
@@ -31,13 +31,13 @@ pub record Enters (declared : Declarations) (G : Image) (unit routine : ℕ) (in
   pub in_unit : memory.frames.unit ≡ unit
   pub matches : Matches declared G injection s memory
 
--- The machine stands at an instruction that leaves the routine, in the same unit's frame and with these operands, and matches again by a longer injection; hidden segments are what they were.
+-- The machine stands at an instruction that leaves the routine, in the same unit's frame and with these operands, and matches again by a longer injection; hidden segments and hidden slots are what they were.
 pub record Leaves (declared : Declarations) (G : Image) (injection : Injection) (memory : Memory) (Then : Operands) (s : meaning.State) (k : State) : Type 0 where
   pub place : ℕ
   pub instruction : Instr
   pub stands : slice_get G.instructions place ≡ Some instruction
   pub returns : obey G instruction k ≡ light Returns
-  pub lands : Lands declared G place (Inside injection memory Then) s k
+  pub lands : Lands declared G place (Inside (is_hidden_slot declared G) injection memory Then) s k
 
 -- The routine of this number, of the unit at this place of the image, simulates the computation with up to n steps: the computation spends the step of a call and then goes on as a body, and wherever the machine enters the routine it follows the body within the routine, and where that gives a value it leaves the routine with these results on the operands below.
 pub record Simulates {A : Type 0} (declared : Declarations) (G : Image) (unit routine n : ℕ) (c : Computation A) (Results : List Operand → A → Operands) : Type 0 where

@@ -177,7 +177,7 @@ module _ (g j : ℕ) (unit : List ℕ) where
   -- a type that is elaborated
   lasting_elaborated : (o : Option TypeValue) → Lasting (elaborated g unit o) (elaborated (g + j) unit o)
   lasting_elaborated None = lasting_cut
-  lasting_elaborated (Some t) = lasting_spend 1 (lasting_bind {c = change (with_type t)} {f = λ _. give t} (lasting_change (grows_type t)) (λ _. lasting_give t))
+  lasting_elaborated (Some t) = lasting_bind {c = change (with_type t)} {f = λ _. spend 1 (give t)} (lasting_change (grows_type t)) (λ _. lasting_spend 1 (lasting_give t))
 
   -- a variable that is allocated
   lasting_allocate : (number : ℕ) (t : TypeValue) → Lasting (allocate unit number t) (allocate unit number t)

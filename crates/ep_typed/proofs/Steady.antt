@@ -52,7 +52,7 @@ watched_lost r h = rw h refl
 met_lost : (t : TypeValue) (r : Resources) → IsTrue r.lost → IsTrue (met t r).lost
 met_lost t r h = go (list_any (same_type t) r.types)
   where
-    go : (b : Bool) → IsTrue (watched (if b then r else record r { types = t ∷ r.types; words = r.words + words_of_type t })).lost
+    go : (b : Bool) → IsTrue (watched (if b then r else record r { types = t ∷ r.types; typed = r.typed + words_of_type t })).lost
     go true = rw h refl
     go false = rw h refl
 
@@ -207,7 +207,7 @@ module _ (g : ℕ) (unit : List ℕ) where
   -- a type that is elaborated
   pub steady_elaborated : (o : Option TypeValue) → Steady (elaborated g unit o)
   steady_elaborated None = steady_cut
-  steady_elaborated (Some t) = steady_spend 1 (steady_bind {c = change (with_type t)} {f = λ _. give t} (steady_change (grows_type t)) (λ _. steady_give t))
+  steady_elaborated (Some t) = steady_bind {c = change (with_type t)} {f = λ _. spend 1 (give t)} (steady_change (grows_type t)) (λ _. steady_spend 1 (steady_give t))
 
   -- a variable of a type that is elaborated
   pub steady_make : (types : List UnitType) (number : ℕ) (v : UnitVariable) → Steady (make g unit types number v)

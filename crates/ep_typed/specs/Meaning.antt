@@ -84,11 +84,11 @@ module _ (g : ℕ) (unit : List ℕ) where
     exec_all none = give tt
     exec_all (next s ss) = bind (exec s) (λ _. exec_all ss)
 
-  -- A type is elaborated, which spends a step for its node: constant bounds spend none, and a name spends what its
-  -- definition does. A denoter without a type value has no meaning, and no valid unit has one.
+  -- A type is elaborated: it is counted, and then spends a step for its node. Constant bounds spend none, and a name
+  -- spends what its definition does. A denoter without a type value has no meaning, and no valid unit has one.
   abbrev pub elaborated : Option TypeValue → Computation TypeValue
   elaborated None = cut
-  elaborated (Some t) = spend 1 (bind (change (with_type t)) (λ _. give t))
+  elaborated (Some t) = bind (change (with_type t)) (λ _. spend 1 (give t))
 
   abbrev pub elaborate : List UnitType → Denoter → Computation TypeValue
   elaborate types d = elaborated (type_of types d)

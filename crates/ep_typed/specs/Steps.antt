@@ -27,12 +27,19 @@ pub record Allocation : Type 0 where
   pub type_value : TypeValue
   pub value : Value
 
--- what is counted of resources: the distinct type values that were elaborated, the words that live, and whether
--- they have passed what every run has
+-- What is counted of resources: the distinct type values that were elaborated, the words of allocations with one more
+-- for each, what is set aside for activations, `for` and structured values under way, the words of type values, and
+-- whether they have passed what every run has.
 pub record Resources : Type 0 where
   pub types : List TypeValue
-  pub words : ℕ
+  pub allocated : ℕ
+  pub reserved : ℕ
+  pub typed : ℕ
   pub lost : Bool
+
+-- what is given back when it ends; the words of type values never are
+abbrev pub held : Resources → ℕ
+held r = r.allocated + r.reserved
 
 -- the state of a run
 pub record State : Type 0 where
@@ -162,7 +169,7 @@ abbrev pub room_for_types : ℕ
 room_for_types = 262000
 
 abbrev pub has_room : Resources → Bool
-has_room r = nat_le r.words room_for_words && nat_le (length r.types) room_for_types
+has_room r = nat_le (held r + r.typed) room_for_words && nat_le (length r.types) room_for_types
 
 -- room that was lost stays lost
 abbrev pub watched : Resources → Resources
@@ -178,14 +185,14 @@ words_of_type t = if list_any (same_type t) first_types then 0 else 1
 
 -- one more type that is elaborated, which counts where it is a new one
 abbrev pub met : TypeValue → Resources → Resources
-met t r = watched (if list_any (same_type t) r.types then r else record r { types = t ∷ r.types; words = r.words + words_of_type t })
+met t r = watched (if list_any (same_type t) r.types then r else record r { types = t ∷ r.types; typed = r.typed + words_of_type t })
 
 abbrev pub with_type : TypeValue → State → State
 with_type t s = record s { resources = met t s.resources }
 
--- so many more words live
+-- so many more words are allocated
 abbrev pub taken : ℕ → Resources → Resources
-taken n r = watched (record r { words = r.words + n })
+taken n r = watched (record r { allocated = r.allocated + n })
 
 -- the variable of this number of the unit is the allocation
 abbrev pub bound : List ℕ → ℕ → ℕ → (List ℕ → ℕ → Option ℕ) → List ℕ → ℕ → Option ℕ
@@ -218,6 +225,6 @@ first_state =
     record {
       allocations = record { type_value = Text; value = Undefined } ∷ record { type_value = Text; value = Undefined } ∷ [];
       variables = λ unit number. None;
-      resources = record { types = []; words = 4; lost = false };
+      resources = record { types = []; allocated = 4; reserved = 0; typed = 0; lost = false };
       trace = [];
     }
