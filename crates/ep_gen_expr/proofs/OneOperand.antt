@@ -1,5 +1,6 @@
 -- The machine follows the operations with one operand.
 use Rattle.std.proofs.Common.{◌≡◌, ℕ, ℤ, pos, suc, ◌+◌, ◌%◌, IsTrue, List, ◌∷◌, length, refl, arith}
+use Rattle.ep_object.specs.Follows.{Facts}
 use Rattle.std.specs.Prelude.{◌-ℤ◌, ◌*ℤ◌, neg_ℤ, unsigned_abs}
 use Rattle.ep_object.specs.Matching.{Slots, Memory, Injection}
 use Rattle.ep_object.specs.Operands.{Operand, Word}
@@ -23,11 +24,11 @@ use Rattle.ep_gen_expr.proofs.Hosts.{given, integer_answer, within_answer, odd_b
 use Rattle.ep_gen_expr.proofs.Placed.{instr_at}
 use Rattle.ep_typed.specs.declared.run_error.TheConstants as run_error
 
-module _ (declared : Declarations) (G : Image) (untouched : Slots) (ps : List Placement) (p : Placement) (references : List Reference) (g : ℕ) (unit : List ℕ) (line : ℕ) where
+module _ (declared : Declarations) (G : Image) (untouched : Slots) (Here : Facts) (ps : List Placement) (p : Placement) (references : List Reference) (g : ℕ) (unit : List ℕ) (line : ℕ) where
   -- from the value of the operand, the machine follows the operation to the end of its code
   abbrev Operates : ℕ → ℕ → Unary → Host → Host → Type 0
   Operates n at operation operand result =
-      (z : ℤ) → IsTrue (is_of_host operand z) → (injection : Injection) (memory : Memory) (below : List Operand) (d : ℕ) → unit_in G memory.frames ≡ unit → Evaluates declared G untouched n injection memory (p.instructions.before + at) (Word z ∷ below) (answering g unit line (unary_answer operation z)) (p.instructions.before + (at + length (one_code line operation))) (Ordinal result) below (d + 8) (d + 8)
+      (z : ℤ) → IsTrue (is_of_host operand z) → (injection : Injection) (memory : Memory) (below : List Operand) (d : ℕ) → unit_in G memory.frames ≡ unit → Evaluates declared G untouched Here n injection memory (p.instructions.before + at) (Word z ∷ below) (answering g unit line (unary_answer operation z)) (p.instructions.before + (at + length (one_code line operation))) (Ordinal result) below (d + 8) (d + 8)
 
   -- the same where the kinds of the operand and the result are those
   pub record UnaryFollows (n at : ℕ) (operation : Unary) (operand_kind result_kind : Kind) : Type 0 where

@@ -1,5 +1,6 @@
 -- The machine follows the operations with two operands.
 use Rattle.std.proofs.Common.{◌≡◌, ℕ, ℤ, ◌+◌, not, ◌&&◌, ◌||◌, IsTrue, List, [], ◌∷◌, arith}
+use Rattle.ep_object.specs.Follows.{Facts}
 use Rattle.std.specs.Prelude.{◌+ℤ◌, ◌-ℤ◌, ◌*ℤ◌, int_le, int_lt}
 use Rattle.ep_object.specs.Matching.{Slots, Memory, Injection}
 use Rattle.ep_object.specs.Operands.{Operand, Word}
@@ -19,11 +20,11 @@ use Rattle.ep_gen_expr.specs.ExprCode.{two_code}
 use Rattle.ep_gen_expr.proofs.Answering.{Evaluates, answering, answer_follows}
 use Rattle.ep_gen_expr.proofs.Hosts.{given, integer_answer, divided_answer, modulo_answer, ordinal_boolean}
 
-module _ (declared : Declarations) (G : Image) (untouched : Slots) (ps : List Placement) (p : Placement) (references : List Reference) (g : ℕ) (unit : List ℕ) (line : ℕ) where
+module _ (declared : Declarations) (G : Image) (untouched : Slots) (Here : Facts) (ps : List Placement) (p : Placement) (references : List Reference) (g : ℕ) (unit : List ℕ) (line : ℕ) where
   -- from the values of both operands, the machine follows the operation to the end of its code
   abbrev Operates : ℕ → ℕ → Binary → Host → Host → Type 0
   Operates n at operation operand result =
-      (x y : ℤ) → IsTrue (is_of_host operand x) → IsTrue (is_of_host operand y) → (injection : Injection) (memory : Memory) (below : List Operand) (d : ℕ) → unit_in G memory.frames ≡ unit → Evaluates declared G untouched n injection memory (p.instructions.before + at) (Word y ∷ Word x ∷ below) (answering g unit line (binary_answer operation x y)) (p.instructions.before + (at + 1)) (Ordinal result) below (d + 16) (d + 8)
+      (x y : ℤ) → IsTrue (is_of_host operand x) → IsTrue (is_of_host operand y) → (injection : Injection) (memory : Memory) (below : List Operand) (d : ℕ) → unit_in G memory.frames ≡ unit → Evaluates declared G untouched Here n injection memory (p.instructions.before + at) (Word y ∷ Word x ∷ below) (answering g unit line (binary_answer operation x y)) (p.instructions.before + (at + 1)) (Ordinal result) below (d + 16) (d + 8)
 
   -- the same where the kinds of the operands and the result are those
   pub record BinaryFollows (n at : ℕ) (operation : Binary) (left right result_kind : Kind) : Type 0 where

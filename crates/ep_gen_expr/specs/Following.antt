@@ -1,7 +1,7 @@
 -- The machine follows expressions and places: wherever their code stands in an image, it does what they mean.
 use Rattle.std.specs.Prelude.{◌≡◌, ℕ, ◌+◌, ◌≤◌, List, length, Some}
 use Rattle.ep_gen_expr.specs.ExprCode.{IsPlaceCode, IsExprCode}
-use Rattle.ep_object.specs.Follows.{Fragment, Inside, Operands, OnTop, PlaceOnTop}
+use Rattle.ep_object.specs.Follows.{point, Since, Fragment, Inside, Operands, OnTop, PlaceOnTop}
 use Rattle.ep_object.specs.Matching.{Memory, Injection, Slots, HasType}
 use Rattle.ep_object.specs.Operands.{Operand}
 use Rattle.ep_object.specs.Placing.{Placement, CodeStands}
@@ -11,7 +11,7 @@ use Rattle.ep_object.specs.declared.code.Image.{Image}
 use Rattle.ep_object.specs.declared.code.Instr.{Instr}
 use Rattle.ep_object.specs.declared.code.Reference.{Reference}
 use Rattle.ep_typed.specs.Meaning.{eval, place, weight_of}
-use Rattle.ep_typed.specs.Steps.{Computation}
+use Rattle.ep_typed.specs.Steps.{State, Computation}
 use Rattle.ep_typed.specs.Trees.{Variable, Expr}
 use Rattle.ep_typed.specs.Valid.{Declarations, Kind, IsExpr}
 use Rattle.ep_typed.specs.declared.unit.UnitVariable.{UnitVariable}
@@ -21,11 +21,11 @@ use Rattle.ep_typed.specs.declared.value.TypeValue.{TypeValue}
 abbrev pub least_credit : ℕ
 least_credit = 32
 
--- From every memory of a routine of the unit, with any operands below and at every number of steps, the machine follows the computation through the code at this place of the object. Behind the code the same routine runs, memory has grown, any slots that are named are untouched, what the computation gives lies on the operands below, and the credit has risen by this gain.
+-- From every memory of a routine of the unit, with any operands below and at every number of steps, the machine follows the computation through the code at this place of the object. Behind the code the same routine runs, memory has grown, any slots that are named are untouched, and what has lasted since any earlier point still does, what the computation gives lies on the operands below, and the credit has risen by this gain.
 abbrev pub IsFollowedThrough : {A : Type 0} → Declarations → Image → Placement → List ℕ → ℕ → List Instr → Computation A → (List Operand → A → Operands) → (A → ℕ) → Type 0
 IsFollowedThrough declared G p unit at code c Then gain =
-    (untouched : Slots) (n : ℕ) (injection : Injection) (memory : Memory) (below : List Operand) (credit : ℕ) → least_credit ≤ credit → unit_in G memory.frames ≡ unit
-    → Fragment declared G n injection memory (p.instructions.before + at) below c (p.instructions.before + (at + length code)) (λ a. Inside untouched injection memory (Then below a)) credit (λ a. credit + gain a)
+    (untouched : Slots) (first : Injection) (begun : State) (origin : Memory) (n : ℕ) (injection : Injection) (memory : Memory) (below : List Operand) (credit : ℕ) → least_credit ≤ credit → unit_in G memory.frames ≡ unit
+    → Fragment declared G (Since untouched first begun origin) n (point injection memory (p.instructions.before + at) below) c (p.instructions.before + (at + length code)) (λ a. Inside untouched injection memory (Then below a)) credit (λ a. credit + gain a)
 
 -- Wherever the code of a variable that is declared stands in an image with a scene, the machine follows its place through the code and leaves the place on top, of a type that describes the variable's.
 abbrev pub PlacesAreFollowed : Type 0

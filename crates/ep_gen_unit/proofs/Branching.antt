@@ -1,5 +1,6 @@
 -- The machine follows `if` and `while`.
 use Rattle.std.proofs.Common.{◌≡◌, ℕ, pos, suc, ◌+◌, ◌≤◌, ◌<◌, cond, List, [], ◌∷◌, length, Some, slice_get, refl, sym, ap, ◌∙◌, arith}
+use Rattle.ep_object.specs.Follows.{Facts}
 use Rattle.ep_object.specs.Matching.{Slots}
 use Rattle.std.proofs.lemmas.Bool.{lt-ltb}
 use Rattle.ep_gen_expr.specs.ExprCode.{instr, IsExprCode}
@@ -33,13 +34,13 @@ module _ (G : Image) (ps : List Placement) (p : Placement) (references : List Re
   jump_false_has : (line at target : ℕ) (is : List Instr) → target < p.instructions.own → CodeStands G ps p references at (instr op.JUMP_FALSE (pos target) 0 line ∷ is) → slice_get G.instructions (p.instructions.before + at) ≡ Some (instr op.JUMP_FALSE (pos (p.instructions.before + target)) 0 line)
   jump_false_has line at target is inside stands = stands.0 ∙ ap (λ k. Some (instr op.JUMP_FALSE (pos k) 0 line)) (placed_target target inside)
 
-module _ {declared : Declarations} {G : Image} {untouched : Slots} (ps : List Placement) (p : Placement) (texts : List (List ℕ)) (references : List Reference) (n : ℕ) (unit : List ℕ) (room : p.instructions.before + p.instructions.own ≤ length G.instructions) where
-  module _ (expressions : ExpressionsFollow declared G untouched ps p texts references n unit) where
+module _ {declared : Declarations} {G : Image} {untouched : Slots} {Here : Facts} (ps : List Placement) (p : Placement) (texts : List (List ℕ)) (references : List Reference) (n : ℕ) (unit : List ℕ) (room : p.instructions.before + p.instructions.own ≤ length G.instructions) where
+  module _ (expressions : ExpressionsFollow declared G untouched Here ps p texts references n unit) where
     -- `if`, where the parts stand at `at`, `then_at` and `else_at`
     pub if_parts : (line at test_end then_end else_end : ℕ) (x : Expr) (a b : Stmt) (xs : List Instr) → IsExpr declared (kind.Ordinal host.Boolean) x → IsExprCode texts references line x xs → test_end ≡ at + length xs → CodeStands G ps p references at xs
         → CodeStands G ps p references test_end (instr op.JUMP_FALSE (pos (then_end + 1)) 0 line ∷ []) → CodeStands G ps p references then_end (instr op.JUMP (pos else_end) 0 line ∷ []) → then_end + 1 < p.instructions.own → else_end < p.instructions.own
-        → Moves declared G untouched ps p texts references n unit (test_end + 1) then_end (exec n unit a) → Moves declared G untouched ps p texts references n unit (then_end + 1) else_end (exec n unit b)
-        → Moves declared G untouched ps p texts references n unit at else_end (exec n unit (If line x a b))
+        → Moves declared G untouched Here ps p texts references n unit (test_end + 1) then_end (exec n unit a) → Moves declared G untouched Here ps p texts references n unit (then_end + 1) else_end (exec n unit b)
+        → Moves declared G untouched Here ps p texts references n unit at else_end (exec n unit (If line x a b))
     if_parts line at test_end then_end else_end x a b xs valid code ends at_test at_out at_jump inside inside_end then_moves else_moves injection memory below d enough home =
         fragment_bind_number {host = host.Boolean} {e = λ r. d + 8 + weight_of r} (λ r. steady_if (is_true (number_of r)) (steady_bind (steady_exec n unit a) (λ u. steady_spend 1 (steady_give tt))) (steady_bind (steady_exec n unit b) (λ u. steady_spend 1 (steady_give tt))))
         (fragment_to {to = p.instructions.before + (at + length xs)} (ap (λ k. p.instructions.before + k) (sym ends)) (expressions (kind.Ordinal host.Boolean) x valid line at xs code at_test injection memory below d (omega arith) home)) (λ z longer after of_host grown routine.
@@ -53,8 +54,8 @@ module _ {declared : Declarations} {G : Image} {untouched : Slots} (ps : List Pl
     -- `while`
     pub while_parts : (line at test_end body_end : ℕ) (x : Expr) (s : Stmt) (xs : List Instr) → IsExpr declared (kind.Ordinal host.Boolean) x → IsExprCode texts references line x xs → test_end ≡ at + length xs → CodeStands G ps p references at xs
         → CodeStands G ps p references test_end (instr op.JUMP_FALSE (pos (body_end + 1)) 0 line ∷ []) → CodeStands G ps p references body_end (instr op.JUMP (pos at) 0 line ∷ []) → body_end + 1 < p.instructions.own → at ≤ body_end
-        → Moves declared G untouched ps p texts references n unit (test_end + 1) body_end (exec n unit s)
-        → Moves declared G untouched ps p texts references n unit at (body_end + 1) (exec n unit (While line x s))
+        → Moves declared G untouched Here ps p texts references n unit (test_end + 1) body_end (exec n unit s)
+        → Moves declared G untouched Here ps p texts references n unit at (body_end + 1) (exec n unit (While line x s))
     while_parts line at test_end body_end x s xs valid code ends at_test at_out at_jump inside before body_moves injection memory below d enough home =
         fragment_turns {place = p.instructions.before + at} {test_end = p.instructions.before + test_end} {body_place = p.instructions.before + test_end + 1} {body_end = p.instructions.before + body_end} {to = p.instructions.before + (body_end + 1)} n unit d (steady_eval n unit line x) (steady_exec n unit s) injection memory
         (λ longer after grown routine. fragment_to {to = p.instructions.before + (at + length xs)} (ap (λ k. p.instructions.before + k) (sym ends)) (fragment_credit {d = d} {e = λ r. d + 8 + weight_of r} (omega arith) (λ r. omega arith) (expressions (kind.Ordinal host.Boolean) x valid line at xs code at_test longer after below d (omega arith) (unit_in-same G routine ∙ home))))

@@ -54,7 +54,7 @@ module _ (u : TypedUnit) (o : Object) (is : IsProgramCode u o) where
       }
 
   -- after the start of the only unit the run ends
-  ends : (s : meaning.State) (k : State) → Leaves (own u) (alone o) first_injection (first_memory start_frames) (Bare [] tt) s k → outcome (alone o) k ≡ record { weight = 0; to = Stopped Normal s.trace }
+  ends : (s : meaning.State) (k : State) → Leaves (own u) (alone o) first_injection meaning.first_state (first_memory start_frames) (Bare [] tt) s k → outcome (alone o) k ≡ record { weight = 0; to = Stopped Normal s.trace }
   ends s k leaves =
       let lands = leaves.lands in
       let inside = lands.post in

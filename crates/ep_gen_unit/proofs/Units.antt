@@ -13,8 +13,8 @@ use Rattle.ep_gen_unit.proofs.Parts.{code_stands-parts}
 use Rattle.ep_gen_unit.proofs.Starts.{MakesFollow, body_follows}
 use Rattle.ep_object.proofs.Bind.{follows_less, follows_post, follows_from, follows_give}
 use Rattle.ep_object.proofs.Fragments.{fragment_to}
-use Rattle.ep_object.proofs.Growing.{inside_here}
-use Rattle.ep_object.specs.Follows.{Bare}
+use Rattle.ep_object.proofs.Growing.{inside_here, since_here, since_lasts}
+use Rattle.ep_object.specs.Follows.{Facts, Lasts, Since, Bare}
 use Rattle.ep_object.specs.Matching.{Memory, Injection, is_undeclared, is_hidden_in, is_hidden_slot, at as standing}
 use Rattle.ep_object.specs.Operands.{Operand}
 use Rattle.ep_object.specs.Placing.{Placement, Span, CodeStands, IsPlacementOf, Stands, HasDistinctNames, moved, placed_routine, placed_object_unit}
@@ -114,7 +114,7 @@ module _ (u : TypedUnit) (o : Object) (is : IsProgramCode u o) (G : Image) (ps :
               instruction = return_code;
               stands = returns_stand.1.0;
               returns = refl;
-              lands = record { injection = injection; memory = memory; operands = below; is = refl; matches = enters.matches; post = inside_here refl };
+              lands = record { injection = injection; memory = memory; operands = below; is = refl; matches = enters.matches; here = since_here injection s memory; post = inside_here refl };
             }));
       }
 
@@ -127,10 +127,10 @@ module _ (u : TypedUnit) (o : Object) (is : IsProgramCode u o) (G : Image) (ps :
         not_hidden h = cc
 
     -- the machine makes the variables of the unit
-    makes : MakesFollow declared G (is_hidden_slot declared G) p n u
-    makes injection memory below d enough home framed =
+    makes : {Here : Facts} → Lasts (is_hidden_slot declared G) Here → MakesFollow declared G (is_hidden_slot declared G) Here p n u
+    makes {Here = Here} lasts injection memory below d enough home framed =
         let there : slice_get G.units memory.frames.unit ≡ Some (placed_object_unit p o) = ap (slice_get G.units) framed ∙ stands.unit in
-        fragment_to {to = p.instructions.before + (0 + begins_block)} (omega arith) (make_all_moves declared G (is_hidden_slot declared G) ps p o.references n (placed_object_unit p o) free distinct scene.types_valid u.name is.name u.types types n 0 0 u.variables are_declared (omega (arith, is.unit_slots)) makes_stand injection memory below d enough there)
+        fragment_to {to = p.instructions.before + (0 + begins_block)} (omega arith) (make_all_moves declared G (is_hidden_slot declared G) Here lasts ps p o.references n (placed_object_unit p o) free distinct scene.types_valid u.name is.name u.types types n 0 0 u.variables are_declared (omega (arith, is.unit_slots)) makes_stand injection memory below d enough there)
 
     -- the start makes the variables and runs the block
     pub start_simulates : Simulates declared G p.unit (moved p.routines o.start) n (start_of n u) Bare
@@ -143,12 +143,12 @@ module _ (u : TypedUnit) (o : Object) (is : IsProgramCode u o) (G : Image) (ps :
           called = refl;
           follows = λ m le injection memory below s k enters.
               let whole = of_object in
-              let body = body_follows ps p n u o is stands.code room whole.instructions scene
+              let body = body_follows {Here = Since (is_hidden_slot declared G) injection s memory} since_lasts ps p n u o is stands.code room whole.instructions scene
               (λ x_kind x is_x line at code is_code x_stands v1 m1 operands d enough x_home. expression_follows ps p o.texts o.references scene n u.name n x_kind x is_x line at code is_code x_stands v1 m1 operands d (omega arith) x_home)
               (λ of_unit slot v t is_declared has_type line at code is_code x_stands v1 m1 operands d enough x_home. place_follows ps p o.texts o.references scene n u.name n of_unit slot v t is_declared has_type line at code is_code x_stands v1 m1 operands d (omega arith) x_home)
-              valid makes injection memory below routine_credit (omega arith) (home o.start (routine_at 0) start_is memory.frames enters.runs) enters.in_unit in
+              valid (makes since_lasts) injection memory below routine_credit (omega arith) (home o.start (routine_at 0) start_is memory.frames enters.runs) enters.in_unit in
               follows_from (at_entry o.start (routine_at 0) start_is (omega (arith, instructions_own)) enters)
-              (follows_less {n = n} (omega arith) (follows_post (λ a t l lands. record { place = p.instructions.before + ends_block; instruction = return_code; stands = returns_stand.0; returns = refl; lands = lands }) (body.by s enters.matches)));
+              (follows_less {n = n} (omega arith) (follows_post (λ a t l lands. record { place = p.instructions.before + ends_block; instruction = return_code; stands = returns_stand.0; returns = refl; lands = lands }) (body.by s enters.matches (since_here injection s memory))));
         }
 
   -- the variables of the unit have their slots

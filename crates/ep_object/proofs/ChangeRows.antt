@@ -1,6 +1,6 @@
 -- What the rows lead to that change variables and that write, where the machine matches.
 use Rattle.std.proofs.Common.{◌≡◌, ℕ, ℤ, pos, ◌+◌, Bool, true, false, cond, IsTrue, List, ◌∷◌, ◌++◌, length, Some, slice_get, refl, sym, ap, ◌∙◌, subst}
-use Rattle.ep_object.specs.Follows.{Bare, Inside}
+use Rattle.ep_object.specs.Follows.{Facts, Lasts, Bare, Inside}
 use Rattle.ep_object.specs.Matching.{Memory, at, Injection, IsPlaceOf, Describes, IsValueOf, layout, Represents, Matches, Slots}
 use Rattle.ep_object.specs.Operands.{Operand, Word, Text}
 use Rattle.ep_object.specs.Operands as operand
@@ -12,7 +12,7 @@ use Rattle.ep_object.specs.declared.code.Image.{Image}
 use Rattle.ep_object.specs.declared.state.Place.{Place}
 use Rattle.ep_object.proofs.Changes.{storing, matches_events, grown_storing, matches_assigned}
 use Rattle.ep_object.proofs.Fragments.{Does, FailsWith}
-use Rattle.ep_object.proofs.Growing.{slice_get-prefix, same_routine-refl, inside_here}
+use Rattle.ep_object.proofs.Growing.{slice_get-prefix, grown_refl, same_routine-refl, inside_here}
 use Rattle.ep_object.proofs.Rows.{instr, in_one, outcome_at}
 use Rattle.ep_object.proofs.Standing.{Stands, allocated, place_stands, described-same}
 use Rattle.ep_object.proofs.TextRows.{written-same}
@@ -33,8 +33,8 @@ bounds low high (meaning.Word w) h = (h.0, h.1)
 
 module _ (declared : Declarations) (G : Image) (place line : ℕ) (below : List Operand) where
   -- `Put` of a text to `output`
-  pub put_does : {untouched : Slots} (bytes : List ℕ) → slice_get G.instructions place ≡ Some (instr op.PUT (pos 0) 0 line) → (injection : Injection) (memory : Memory) (s : meaning.State) → Matches declared G injection s memory → Does declared G (at place (Text bytes ∷ operand.Place output_place ∷ below) memory s.trace) (length bytes) (place + 1) (Inside untouched injection memory (Bare below tt)) (with_events (piece_events bytes) s)
-  put_does bytes has injection memory s matches =
+  pub put_does : {untouched : Slots} {Here : Facts} (bytes : List ℕ) → slice_get G.instructions place ≡ Some (instr op.PUT (pos 0) 0 line) → Lasts untouched Here → (injection : Injection) (memory : Memory) (s : meaning.State) → Matches declared G injection s memory → Here injection s memory → Does declared G Here (at place (Text bytes ∷ operand.Place output_place ∷ below) memory s.trace) (length bytes) (place + 1) (Inside untouched injection memory (Bare below tt)) (with_events (piece_events bytes) s)
+  put_does bytes has lasts injection memory s matches here =
       let injected = matches.injected in
       let store = matches.store in
       let outside = matches.outside in
@@ -47,6 +47,7 @@ module _ (declared : Declarations) (G : Image) (place line : ℕ) (below : List 
         operands = below;
         does = go a.0.value r.type_number (slice_get-prefix first_types memory.types 3 text_entry types.first refl) r.stands ∙ ap (λ events. record { weight = length bytes; to = Running 0 (at (place + 1) below memory (s.trace ++ events)) }) (written-same bytes);
         matches = matches_events (piece_events bytes) matches;
+        here = lasts.by injection injection s (with_events (piece_events bytes) s) memory memory (record { grown = grown_refl injection memory; routine = same_routine-refl memory.frames; calls = refl }) here;
         post = inside_here refl;
       }
     where
@@ -77,8 +78,8 @@ module _ (declared : Declarations) (G : Image) (place line : ℕ) (below : List 
     type_is : type_at n s ≡ type.Ordinal low high
     type_is = ap type_in here.is ∙ its_type
 
-    pub store_does : {untouched : Slots} → is_within (type_at n s) z ≡ true → Does declared G (at place (Word z ∷ operand.Place p ∷ below) memory s.trace) 0 (place + 1) (Inside untouched injection memory (Bare below tt)) (assigned n (meaning.Word z) s)
-    store_does within =
+    pub store_does : {untouched : Slots} {Here : Facts} → Lasts untouched Here → Here injection s memory → is_within (type_at n s) z ≡ true → Does declared G Here (at place (Word z ∷ operand.Place p ∷ below) memory s.trace) 0 (place + 1) (Inside untouched injection memory (Bare below tt)) (assigned n (meaning.Word z) s)
+    store_does {untouched = untouched} lasts known within =
         let a : Allocation = here.allocation in
         let r : Represents memory.segments memory.types p.segment a = here.represents in
         let inside : is_within (type.Ordinal low high) z ≡ true = ap (λ t. is_within t z) (sym type_is) ∙ within in
@@ -90,6 +91,7 @@ module _ (declared : Declarations) (G : Image) (place line : ℕ) (below : List 
           operands = below;
           does = store_outcome memory s.trace p low high z r.type_number a.value true has described r.stands place_of.offset inside;
           matches = matches_assigned matches n p.segment a (meaning.Word z) place_of.is_in here.is r of_type;
+          here = lasts.by injection injection s (assigned n (meaning.Word z) s) memory (storing memory p.segment r.type_number (meaning.Word z)) (record { grown = grown_storing matches n p.segment a (meaning.Word z) place_of.is_in here.is r; routine = same_routine-refl memory.frames; calls = refl }) known;
           post = record { grown = grown_storing matches n p.segment a (meaning.Word z) place_of.is_in here.is r; routine = same_routine-refl memory.frames; operands_are = refl };
         }
 

@@ -1,7 +1,8 @@
 -- Memory grows while a routine runs.
 use Rattle.std.proofs.Common.{◌≡◌, ℕ, zero, suc, ◌≤◌, ◌<◌, ◌⊎◌, inl, inr, List, [], ◌∷◌, ◌++◌, length, Option, Some, slice_get, refl, sym, ap, ◌∙◌, subst, arith}
 use Rattle.std.proofs.lemmas.Option.{slice_get_within}
-use Rattle.ep_object.specs.Follows.{SameRoutine, Inside, Operands}
+use Rattle.ep_object.specs.Follows.{Facts, HasGrown, Lasts, Since, SameRoutine, Inside, Operands}
+use Rattle.ep_typed.specs.Steps as meaning
 use Rattle.ep_object.specs.Matching.{Memory, Injection, IsIn, IsPlaceOf, Describes, Slots, Grown}
 use Rattle.ep_object.specs.Operands.{Operand}
 use Rattle.ep_object.specs.Runs.{unit_of, name_of, unit_in}
@@ -30,7 +31,7 @@ is_in-longer injection longer zero segment p h = h
 is_in-longer injection longer (suc n) segment p h = slice_get-prefix injection longer n segment p h
 
 -- a number is before another one or not
-before_or_not : (a b : ℕ) → (a ≤ b) ⊎ (b < a)
+pub before_or_not : (a b : ℕ) → (a ≤ b) ⊎ (b < a)
 before_or_not a b = grind arith
 
 -- memory has grown from itself
@@ -115,3 +116,15 @@ inside_here {injection = injection} {memory = memory} h = record { grown = grown
 -- what is inside of a later memory is inside of an earlier one
 pub inside_later : {untouched : Slots} {injection longer last : Injection} {memory after final : Memory} {Then : Operands} {operands : List Operand} → Grown untouched injection memory longer after → SameRoutine memory.frames after.frames → Inside untouched longer after Then last final operands → Inside untouched injection memory Then last final operands
 inside_later g r h = record { grown = grown_trans g h.grown; routine = same_routine-trans r h.routine; operands_are = h.operands_are }
+
+-- memory has grown so since now
+pub since_here : {untouched : Slots} (injection : Injection) (s : meaning.State) (memory : Memory) → HasGrown untouched injection s memory injection s memory
+since_here injection s memory = record { grown = grown_refl injection memory; routine = same_routine-refl memory.frames; calls = refl }
+
+-- and that lasts
+pub since_lasts : {untouched : Slots} {injection : Injection} {s : meaning.State} {memory : Memory} → Lasts untouched (Since untouched injection s memory)
+since_lasts = record { by = λ longer last t u after final more h. record { grown = grown_trans h.grown more.grown; routine = same_routine-trans h.routine more.routine; calls = more.calls ∙ h.calls } }
+
+-- Whatever lasts and held then holds where memory has grown so since.
+pub since_holds : {untouched : Slots} {Here : Facts} {injection longer : Injection} {s t : meaning.State} {memory after : Memory} → Lasts untouched Here → Here injection s memory → Since untouched injection s memory longer t after → Here longer t after
+since_holds {injection = injection} {longer = longer} {s = s} {t = t} {memory = memory} {after = after} lasts held since = lasts.by injection longer s t memory after since held

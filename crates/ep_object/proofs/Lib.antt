@@ -23,7 +23,6 @@ pub mod Rows
 pub mod Simulating
 mod Spinning
 pub mod Standing
-pub mod Stays
 pub mod Tells
 pub mod TextRows
 pub mod Ticks

@@ -7,7 +7,7 @@ use Rattle.std.proofs.lemmas.Bool.{lt-ltb}
 use Rattle.std.proofs.lemmas.Option.{slice_get_within, same_Some}
 use Rattle.std.proofs.lemmas.Slice.Eq.{bytes_eq-Decides}
 use native.Mathlib.Decide.{ℕ_discrete}
-use Rattle.ep_object.specs.Follows.{GivesUp, Bare, Inside}
+use Rattle.ep_object.specs.Follows.{GivesUp, Facts, Lasts, Bare, Inside}
 use Rattle.ep_object.specs.Matching.{Memory, at, Injection, IsIn, IsPlaceOf, Describes, IsHidden, Slots, slot_of_frame, slot_in, MatchesSlot, MatchesInjection, MatchesFrame, MatchesCounts, hidden_words, Represents, HasType, Matches, Grown}
 use Rattle.ep_object.specs.Operands.{Operand, Word}
 use Rattle.ep_object.specs.Placing.{HasDistinctNames}
@@ -341,12 +341,12 @@ make_outcome G place line below low high number k slots memory trace false has f
     outcome_at G (instr op.MAKE (pos k) 0 line) place (Word (pos number) ∷ below) memory trace has ∙ rw (frame, lt-ltb number (length memory.types) (slice_get_within memory.types number (ordinal_entry low high) described), described, lt-ltb k (length slots) within, fits) refl
 
 -- `Make` of an ordinal type in a slot of the unit's frame, over the number of the type
-pub make_does : {untouched : Slots} (declared : Declarations) (G : Image) (place line : ℕ) (below : List Operand) (low high : ℤ) (number k : ℕ) (x : ImageUnit) → slice_get G.instructions place ≡ Some (instr op.MAKE (pos k) 0 line)
+pub make_does : {untouched : Slots} {Here : Facts} (declared : Declarations) (G : Image) (place line : ℕ) (below : List Operand) (low high : ℤ) (number k : ℕ) (x : ImageUnit) → slice_get G.instructions place ≡ Some (instr op.MAKE (pos k) 0 line)
     → HasDistinctNames G → IsTrue (is_integer low) → IsTrue (is_integer high)
     → HaveValidTypes declared → ((v : UnitVariable) → declared.variables x.name k ≡ Some v → HasType declared x.name v (type.Ordinal low high))
-    → (injection : Injection) (memory : Memory) (s : meaning.State) → slice_get G.units memory.frames.unit ≡ Some x → k < x.slots → (IsTrue (untouched memory.frames.unit k) → ⊥) → Describes memory.types number (type.Ordinal low high) → Matches declared G injection s memory
-    → Does declared G (at place (Word (pos number) ∷ below) memory s.trace) 1 (place + 1) (Inside untouched injection memory (Bare below tt)) (made x.name k (type.Ordinal low high) (counted (type.Ordinal low high) s)) ⊎ GivesUp G (at place (Word (pos number) ∷ below) memory s.trace) 0 1 (counted (type.Ordinal low high) s)
-make_does {untouched = untouched} declared G place line below low high number k x has distinct low_fits high_fits types_valid declared_so injection memory s is_unit within free described matches = go (leb (memory.live + 2) live_limit) refl
+    → (injection : Injection) (memory : Memory) (s : meaning.State) → slice_get G.units memory.frames.unit ≡ Some x → k < x.slots → (IsTrue (untouched memory.frames.unit k) → ⊥) → Describes memory.types number (type.Ordinal low high) → Lasts untouched Here → Matches declared G injection s memory → Here injection s memory
+    → Does declared G Here (at place (Word (pos number) ∷ below) memory s.trace) 1 (place + 1) (Inside untouched injection memory (Bare below tt)) (made x.name k (type.Ordinal low high) (counted (type.Ordinal low high) s)) ⊎ GivesUp G (at place (Word (pos number) ∷ below) memory s.trace) 0 1 (counted (type.Ordinal low high) s)
+make_does {untouched = untouched} {Here = Here} declared G place line below low high number k x has distinct low_fits high_fits types_valid declared_so injection memory s is_unit within free described lasts matches known = go (leb (memory.live + 2) live_limit) refl
   where
     frame : MatchesFrame declared (with_segment injection memory) s.variables memory.frames.units (memory.segments ++ Some (new_segment number) ∷ []) memory.frames.unit x
     frame = frame_here matches x low high number k is_unit described low_fits high_fits
@@ -370,7 +370,7 @@ make_does {untouched = untouched} declared G place line below low high number k 
     leads : (b : Bool) → leb (memory.live + 2) live_limit ≡ b → outcome G (at place (Word (pos number) ∷ below) memory s.trace) ≡ cond b (record { weight = 1; to = Running 0 (at (place + 1) below (with_variable number (with_place number k frame.slots memory) memory) s.trace) }) (in_one (Stopped (Error run_error.STORAGE_LIMIT (unit_in G memory.frames) line) s.trace))
     leads b e = make_outcome G place line below low high number k frame.slots memory s.trace b has frame.is described (omega (arith, within, frame.count)) e
 
-    go : (b : Bool) → leb (memory.live + 2) live_limit ≡ b → Does declared G (at place (Word (pos number) ∷ below) memory s.trace) 1 (place + 1) (Inside untouched injection memory (Bare below tt)) (made x.name k (type.Ordinal low high) (counted (type.Ordinal low high) s)) ⊎ GivesUp G (at place (Word (pos number) ∷ below) memory s.trace) 0 1 (counted (type.Ordinal low high) s)
+    go : (b : Bool) → leb (memory.live + 2) live_limit ≡ b → Does declared G Here (at place (Word (pos number) ∷ below) memory s.trace) 1 (place + 1) (Inside untouched injection memory (Bare below tt)) (made x.name k (type.Ordinal low high) (counted (type.Ordinal low high) s)) ⊎ GivesUp G (at place (Word (pos number) ∷ below) memory s.trace) 0 1 (counted (type.Ordinal low high) s)
     go true e =
         inl (record {
           injection = with_segment injection memory;
@@ -378,6 +378,7 @@ make_does {untouched = untouched} declared G place line below low high number k 
           operands = below;
           does = leads true e;
           matches = matches_making matches x low high number k is_unit described low_fits high_fits within distinct types_valid declared_so;
+          here = lasts.by injection (with_segment injection memory) s (made x.name k (type.Ordinal low high) (counted (type.Ordinal low high) s)) memory (with_variable number (with_place number k frame.slots memory) memory) (record { grown = grown_making injection memory number (with_place number k frame.slots memory) kept; routine = record { turn = refl; routine = refl; unit = refl }; calls = refl }) known;
           post = record { grown = grown_making injection memory number (with_place number k frame.slots memory) kept; routine = record { turn = refl; routine = refl; unit = refl }; operands_are = refl };
         })
     go false e =

@@ -1,5 +1,5 @@
 -- The machine follows a computation: with costs both ways, in runs that are cut, and for want of room.
-use Rattle.std.specs.Prelude.{◌≡◌, ℕ, ℤ, suc, ◌+◌, ◌*◌, ◌≤◌, ◌⊎◌, IsTrue, List, ◌∷◌}
+use Rattle.std.specs.Prelude.{◌≡◌, ℕ, ℤ, suc, ◌+◌, ◌*◌, ◌≤◌, ◌<◌, ◌⊎◌, IsTrue, List, ◌∷◌}
 use Rattle.ep_outside.specs.Known.{IsPrefix}
 use Rattle.ep_typed.specs.Events.{Trace}
 use Rattle.ep_typed.specs.Printing.{Result, Number, Bytes}
@@ -31,34 +31,39 @@ pub record Pays (m left t d e : ℕ) : Type 0 where
   pub slow : spent + e ≤ 64 * t + d
   pub fast : t + e ≤ 64 * spent + d
 
--- the machine comes to a state of which this holds
-pub record Reaches (G : Image) (k : State) (m left d e : ℕ) (Post : State → Type 0) : Type 0 where
+-- at each tick before that many from a state the run is in such states
+pub record StaysWithin (Within : State → Type 0) (G : Image) (k : State) (ticks : ℕ) : Type 0 where
+  pub each : (t wait : ℕ) (s : State) → t < ticks → run G t 0 k ≡ Running wait s → Within s
+
+-- the machine comes to a state of which this holds, and is in such states before
+pub record Reaches (Within : State → Type 0) (G : Image) (k : State) (m left d e : ℕ) (Post : State → Type 0) : Type 0 where
   pub ticks : ℕ
   pub to : State
   pub runs : run G ticks 0 k ≡ Running 0 to
+  pub within : StaysWithin Within G k ticks
   pub pays : Pays m left ticks d e
   pub post : Post to
 
--- The machine ends so, from such a state, and at no earlier tick. Of m steps all but those left were spent; the last tick pays for none of them.
+-- The machine ends so, and is in such states until then. Of m steps all but those left were spent; the last tick pays for none of them.
 pub record EndsToo (Within : State → Type 0) (G : Image) (k : State) (m left d : ℕ) (e : meaning.End) (trace : Trace) : Type 0 where
   pub ticks : ℕ
   pub wait : ℕ
   pub last : State
   pub runs : run G ticks 0 k ≡ Running wait last
-  pub within : Within last
+  pub within : StaysWithin Within G k (suc ticks)
   pub ends : tick G wait last ≡ Stopped (end_of e) trace
   pub spent : ℕ
   pub all : left + spent ≡ m
   pub slow : spent ≤ 64 * ticks + d
   pub fast : suc ticks ≤ 64 * spent + d
 
--- the machine is still running, in such a state, at a point at which its events are those
+-- the machine is still running, in such states up to a point at which its events are those
 pub record RunsOn (Within : State → Type 0) (G : Image) (k : State) (m d : ℕ) (trace : Trace) : Type 0 where
   pub ticks : ℕ
   pub wait : ℕ
   pub to : State
   pub runs : run G ticks 0 k ≡ Running wait to
-  pub within : Within to
+  pub within : StaysWithin Within G k (suc ticks)
   pub same : to.trace ≡ trace
   pub slow : m ≤ 64 * ticks + d
   pub fast : ticks ≤ 64 * m + d
@@ -66,7 +71,7 @@ pub record RunsOn (Within : State → Type 0) (G : Image) (k : State) (m d : ℕ
 -- What the machine does where the computation comes to this with m steps. The credit after it may depend on what
 -- the computation gives, since a text has a weight.
 abbrev pub Meets : {A : Type 0} → (State → Type 0) → Image → State → ℕ → (A → meaning.State → State → Type 0) → ℕ → (A → ℕ) → Outcome A → Type 0
-Meets Within G k m Post d e (Gives left a s) = Reaches G k m left d (e a) (Post a s)
+Meets Within G k m Post d e (Gives left a s) = Reaches Within G k m left d (e a) (Post a s)
 Meets Within G k m Post d e (Ends left end s) = EndsToo Within G k m left d end s.trace
 Meets Within G k m Post d e (Cut s) = RunsOn Within G k m d s.trace
 
@@ -83,21 +88,42 @@ pub record GivesUp (G : Image) (k : State) (m d : ℕ) (s : meaning.State) : Typ
   pub runs : run G ticks 0 k ≡ Stopped (Error number unit line) trace
   pub begins : IsPrefix trace s.trace
 
--- The machine follows the computation with up to n steps, and is in such a state where that is cut or ends the run. That room is lost lets it end within ticks that the steps bound, and nothing else: where it goes on, it follows.
+-- The machine follows the computation with up to n steps, and is in such states at each tick until it has given a value, is cut or has ended. That room is lost lets it end within ticks that the steps bound, and nothing else: where it goes on, it follows.
 pub record Follows {A : Type 0} (Within : State → Type 0) (G : Image) (n : ℕ) (k : State) (s : meaning.State) (c : Computation A) (Post : A → meaning.State → State → Type 0) (d : ℕ) (e : A → ℕ) : Type 0 where
   pub by : (m : ℕ) → m ≤ n → Meets Within G k m Post d e (c m s) ⊎ GivesUp G k m d (state_of (c m s))
+
+-- Where the machine stands between two instructions, but for its events: the injection by which it matches, the memory,
+-- the place in the code, and the operands.
+pub record Point : Type 0 where
+  pub injection : Injection
+  pub memory : Memory
+  pub place : ℕ
+  pub operands : List Operand
+
+abbrev pub point : Injection → Memory → ℕ → List Operand → Point
+point injection memory place operands = record { injection = injection; memory = memory; place = place; operands = operands }
+
+-- the state of the machine at a point
+abbrev pub state_at : Point → Trace → State
+state_at from trace = at from.place from.operands from.memory trace
+
+-- What code knows of its own activation: of its frame, its arguments and its allocations, and of the frames that it
+-- sees. Nothing of it stands in `Matches`, so that code of any origin may call any other.
+abbrev pub Facts : Type 1
+Facts = Injection → meaning.State → Memory → Type 0
 
 -- what holds of the injection, the memory and the operands after a fragment of code
 abbrev pub After : Type 1
 After = Injection → Memory → List Operand → Type 0
 
--- the machine stands at a place of the code and matches, and this holds
-pub record Lands (declared : Declarations) (G : Image) (place : ℕ) (Post : After) (s : meaning.State) (k : State) : Type 0 where
+-- the machine stands at a place of the code and matches, the facts of the activation hold, and this holds
+pub record Lands (declared : Declarations) (G : Image) (Here : Facts) (place : ℕ) (Post : After) (s : meaning.State) (k : State) : Type 0 where
   pub injection : Injection
   pub memory : Memory
   pub operands : List Operand
   pub is : k ≡ at place operands memory s.trace
   pub matches : Matches declared G injection s memory
+  pub here : Here injection s memory
   pub post : Post injection memory operands
 
 -- the same routine runs in the same unit's frame
@@ -106,9 +132,25 @@ pub record SameRoutine (before after : Frames) : Type 0 where
   pub routine : after.routine ≡ before.routine
   pub unit : after.unit ≡ before.unit
 
--- From a place of the code, with this injection, memory and operands, the machine follows the computation within the same routine to another place, where this holds then.
-pub record Fragment {A : Type 0} (declared : Declarations) (G : Image) (n : ℕ) (injection : Injection) (memory : Memory) (place : ℕ) (operands : List Operand) (c : Computation A) (to : ℕ) (Post : A → After) (d : ℕ) (e : A → ℕ) : Type 0 where
-  pub by : (s : meaning.State) → Matches declared G injection s memory → Follows (λ k. SameRoutine memory.frames k.frames) G n (at place operands memory s.trace) s c (λ a. Lands declared G to (Post a)) d e
+-- The calls under way are the same, memory has grown and these slots are untouched, and the same routine runs.
+pub record HasGrown (untouched : Slots) (injection : Injection) (s : meaning.State) (memory : Memory) (longer : Injection) (t : meaning.State) (after : Memory) : Type 0 where
+  pub grown : Grown untouched injection memory longer after
+  pub routine : SameRoutine memory.frames after.frames
+  pub calls : t.calls ≡ s.calls
+
+-- facts that go on holding where memory has grown so
+pub record Lasts (untouched : Slots) (Here : Facts) : Type 0 where
+  pub by : (injection longer : Injection) (s t : meaning.State) (memory after : Memory) → HasGrown untouched injection s memory longer t after → Here injection s memory → Here longer t after
+
+-- That memory has grown so since then, which lasts. Whatever facts last and held then hold where this does.
+abbrev pub Since : Slots → Injection → meaning.State → Memory → Facts
+Since untouched injection s memory longer t after = HasGrown untouched injection s memory longer t after
+
+-- From a point at which the facts of the activation hold, the machine follows the computation within the same routine to
+-- a place of the code at which they hold again, and this does.
+pub record Fragment {A : Type 0} (declared : Declarations) (G : Image) (Here : Facts) (n : ℕ) (from : Point) (c : Computation A) (to : ℕ) (Post : A → After) (d : ℕ) (e : A → ℕ) : Type 0 where
+  pub by : (s : meaning.State) → Matches declared G from.injection s from.memory → Here from.injection s from.memory
+      → Follows (λ k. SameRoutine from.memory.frames k.frames) G n (state_at from s.trace) s c (λ a. Lands declared G Here to (Post a)) d e
 
 -- ---- what holds after the code of a form
 

@@ -7,7 +7,7 @@ use Rattle.ep_typed.specs.Steps.{Outcome, Gives, Ends, Cut, Computation, spend, 
 use Rattle.ep_typed.specs.Steps as meaning
 use Rattle.ep_typed.specs.Valid.{Declarations, Kind}
 use Rattle.ep_object.specs.Effects.{Returns, light}
-use Rattle.ep_object.specs.Follows.{end_of, Follows, GivesUp, Lands, Operands, Bare, OnTop, SameRoutine, Inside}
+use Rattle.ep_object.specs.Follows.{end_of, Follows, GivesUp, Since, Lands, Operands, Bare, OnTop, SameRoutine, Inside}
 use Rattle.ep_object.specs.Laws.{EndsAt}
 use Rattle.ep_object.specs.Matching.{Memory, at, Injection, Matches, is_hidden_slot}
 use Rattle.ep_object.specs.Operands.{Operand}
@@ -31,13 +31,13 @@ pub record Enters (declared : Declarations) (G : Image) (unit routine : ℕ) (in
   pub in_unit : memory.frames.unit ≡ unit
   pub matches : Matches declared G injection s memory
 
--- The machine stands at an instruction that leaves the routine, in the same unit's frame and with these operands, and matches again by a longer injection; hidden segments and hidden slots are what they were.
-pub record Leaves (declared : Declarations) (G : Image) (injection : Injection) (memory : Memory) (Then : Operands) (s : meaning.State) (k : State) : Type 0 where
+-- The machine stands at an instruction that leaves the routine, in the same unit's frame and with these operands, and matches again by a longer injection; hidden segments and hidden slots are what they were, and the calls under way are those from which it began.
+pub record Leaves (declared : Declarations) (G : Image) (injection : Injection) (begun : meaning.State) (memory : Memory) (Then : Operands) (s : meaning.State) (k : State) : Type 0 where
   pub place : ℕ
   pub instruction : Instr
   pub stands : slice_get G.instructions place ≡ Some instruction
   pub returns : obey G instruction k ≡ light Returns
-  pub lands : Lands declared G place (Inside (is_hidden_slot declared G) injection memory Then) s k
+  pub lands : Lands declared G (Since (is_hidden_slot declared G) injection begun memory) place (Inside (is_hidden_slot declared G) injection memory Then) s k
 
 -- The routine of this number, of the unit at this place of the image, simulates the computation with up to n steps: the computation spends the step of a call and then goes on as a body, and wherever the machine enters the routine it follows the body within the routine, and where that gives a value it leaves the routine with these results on the operands below.
 pub record Simulates {A : Type 0} (declared : Declarations) (G : Image) (unit routine n : ℕ) (c : Computation A) (Results : List Operand → A → Operands) : Type 0 where
@@ -47,7 +47,7 @@ pub record Simulates {A : Type 0} (declared : Declarations) (G : Image) (unit ro
   pub body : Computation A
   pub called : c ≡ spend 1 body
   pub follows : (m : ℕ) → m < n → (injection : Injection) (memory : Memory) (below : List Operand) (s : meaning.State) (k : State) → Enters declared G unit routine injection memory below s k
-      → Follows (λ l. SameRoutine memory.frames l.frames) G m k s body (λ a. Leaves declared G injection memory (Results below a)) routine_credit (λ a. routine_credit)
+      → Follows (λ l. SameRoutine memory.frames l.frames) G m k s body (λ a. Leaves declared G injection s memory (Results below a)) routine_credit (λ a. routine_credit)
 
 -- ---- what this says of runs from the entry
 
@@ -65,11 +65,11 @@ pub record StaysIn (G : Image) (k : State) (ticks : ℕ) (trace : Trace) : Type 
   pub begins : IsPrefix to.trace trace
 
 -- A value is given after so many steps: the machine comes to the instruction that leaves the routine, its ticks with the one of that instruction keep pace with the steps, and until then it stays in the routine.
-pub record LeavesAfter (declared : Declarations) (G : Image) (injection : Injection) (memory : Memory) (Then : Operands) (k : State) (s : meaning.State) (steps : ℕ) : Type 0 where
+pub record LeavesAfter (declared : Declarations) (G : Image) (injection : Injection) (begun : meaning.State) (memory : Memory) (Then : Operands) (k : State) (s : meaning.State) (steps : ℕ) : Type 0 where
   pub ticks : ℕ
   pub last : State
   pub runs : run G ticks 0 k ≡ Running 0 last
-  pub leaves : Leaves declared G injection memory Then s last
+  pub leaves : Leaves declared G injection begun memory Then s last
   pub pace : KeepPace steps (suc ticks)
   pub until : (t : ℕ) → t ≤ ticks → StaysIn G k t s.trace
 
@@ -86,25 +86,25 @@ pub record StaysAfter (G : Image) (k : State) (trace : Trace) (steps : ℕ) : Ty
   pub all : (ticks : ℕ) → 64 * steps ≤ ticks → IsPrefix trace (trace_of (run G ticks 0 k))
 
 -- what a run from the entry does where the computation comes to this with so many steps
-abbrev pub Answers : {A : Type 0} → Declarations → Image → Injection → Memory → (A → Operands) → State → ℕ → Outcome A → Type 0
-Answers declared G injection memory Then k steps (Gives left a s) = (spent : ℕ) → left + spent ≡ steps → LeavesAfter declared G injection memory (Then a) k s spent
-Answers declared G injection memory Then k steps (Ends left end s) = (spent : ℕ) → left + spent ≡ steps → EndsAfter G k (end_of end) s.trace spent
-Answers declared G injection memory Then k steps (Cut s) = StaysAfter G k s.trace steps
+abbrev pub Answers : {A : Type 0} → Declarations → Image → Injection → meaning.State → Memory → (A → Operands) → State → ℕ → Outcome A → Type 0
+Answers declared G injection begun memory Then k steps (Gives left a s) = (spent : ℕ) → left + spent ≡ steps → LeavesAfter declared G injection begun memory (Then a) k s spent
+Answers declared G injection begun memory Then k steps (Ends left end s) = (spent : ℕ) → left + spent ≡ steps → EndsAfter G k (end_of end) s.trace spent
+Answers declared G injection begun memory Then k steps (Cut s) = StaysAfter G k s.trace steps
 
 -- The same, but where the computation has more words or types than every run has room for within so many steps, the machine may end for want of storage or of depth within 64 ticks for each of them, after a front of the events.
-abbrev pub AnswersInRoom : {A : Type 0} → Declarations → Image → Injection → Memory → (A → Operands) → State → ℕ → Outcome A → Type 0
-AnswersInRoom declared G injection memory Then k steps o = Answers declared G injection memory Then k steps o ⊎ GivesUp G k steps 0 (state_of o)
+abbrev pub AnswersInRoom : {A : Type 0} → Declarations → Image → Injection → meaning.State → Memory → (A → Operands) → State → ℕ → Outcome A → Type 0
+AnswersInRoom declared G injection begun memory Then k steps o = Answers declared G injection begun memory Then k steps o ⊎ GivesUp G k steps 0 (state_of o)
 
 -- Where a routine simulates a computation without a value with up to n steps, every run from its entry answers it with each number of steps up to n.
 abbrev pub ProceduresAnswer : Type 0
 ProceduresAnswer =
     (declared : Declarations) (G : Image) (unit routine n : ℕ) (c : Computation (Unit {0})) → Simulates declared G unit routine n c Bare
     → (injection : Injection) (memory : Memory) (below : List Operand) (s : meaning.State) (k : State) → Enters declared G unit routine injection memory below s k
-    → (steps : ℕ) → steps ≤ n → AnswersInRoom declared G injection memory (Bare below) k steps (c steps s)
+    → (steps : ℕ) → steps ≤ n → AnswersInRoom declared G injection s memory (Bare below) k steps (c steps s)
 
 -- the same of a computation that gives a result of a kind
 abbrev pub FunctionsAnswer : Type 0
 FunctionsAnswer =
     (declared : Declarations) (G : Image) (unit routine n : ℕ) (kind : Kind) (c : Computation Result) → Simulates declared G unit routine n c (OnTop kind)
     → (injection : Injection) (memory : Memory) (below : List Operand) (s : meaning.State) (k : State) → Enters declared G unit routine injection memory below s k
-    → (steps : ℕ) → steps ≤ n → AnswersInRoom declared G injection memory (OnTop kind below) k steps (c steps s)
+    → (steps : ℕ) → steps ≤ n → AnswersInRoom declared G injection s memory (OnTop kind below) k steps (c steps s)

@@ -41,11 +41,19 @@ pub record Resources : Type 0 where
 abbrev pub held : Resources → ℕ
 held r = r.allocated + r.reserved
 
+-- a call under way: the name of its routine, and the unit and the line of the statement or declaration that made it
+pub record Call : Type 0 where
+  pub routine : List ℕ
+  pub unit : List ℕ
+  pub line : ℕ
+
 -- the state of a run
 pub record State : Type 0 where
   pub allocations : List Allocation
   -- the allocation of each variable of each unit, by the unit's name, once it is made
   pub variables : List ℕ → ℕ → Option ℕ
+  -- the calls under way, the innermost first
+  pub calls : List Call
   pub resources : Resources
   pub trace : Trace
 
@@ -225,6 +233,7 @@ first_state =
     record {
       allocations = record { type_value = Text; value = Undefined } ∷ record { type_value = Text; value = Undefined } ∷ [];
       variables = λ unit number. None;
+      calls = [];
       resources = record { types = []; allocated = 4; reserved = 0; typed = 0; lost = false };
       trace = [];
     }
