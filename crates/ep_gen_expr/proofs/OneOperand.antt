@@ -12,6 +12,7 @@ use Rattle.ep_object.proofs.Fragments.{fragment_less, fragment_to, fragment_one,
 use Rattle.ep_object.proofs.Growing.{inside_here}
 use Rattle.ep_object.proofs.Rows.{RowAnswers, push_pushes, neg_answers, abs_answers, sqr_answers, odd_answers, not_answers, check_answers}
 use Rattle.ep_object.proofs.TextRows.{drop_drops, dup_pushes}
+use Rattle.ep_typed.specs.Calls.{Handler}
 use Rattle.ep_typed.specs.Operations.{Number, last_char, unary_answer}
 use Rattle.ep_typed.specs.Valid.{Declarations, Kind, Ordinal, IsUnary}
 use Rattle.ep_typed.specs.declared.operations.Unary.{Unary}
@@ -24,11 +25,11 @@ use Rattle.ep_gen_expr.proofs.Hosts.{given, integer_answer, within_answer, odd_b
 use Rattle.ep_gen_expr.proofs.Placed.{instr_at}
 use Rattle.ep_typed.specs.declared.run_error.TheConstants as run_error
 
-module _ (declared : Declarations) (G : Image) (untouched : Slots) (Here : Facts) (ps : List Placement) (p : Placement) (references : List Reference) (g : ℕ) (unit : List ℕ) (line : ℕ) where
+module _ (declared : Declarations) (G : Image) (untouched : Slots) (Here : Facts) (ps : List Placement) (p : Placement) (references : List Reference) (call : Handler) (g : ℕ) (unit : List ℕ) (line : ℕ) where
   -- from the value of the operand, the machine follows the operation to the end of its code
   abbrev Operates : ℕ → ℕ → Unary → Host → Host → Type 0
   Operates n at operation operand result =
-      (z : ℤ) → IsTrue (is_of_host operand z) → (injection : Injection) (memory : Memory) (below : List Operand) (d : ℕ) → unit_in G memory.frames ≡ unit → Evaluates declared G untouched Here n injection memory (p.instructions.before + at) (Word z ∷ below) (answering g unit line (unary_answer operation z)) (p.instructions.before + (at + length (one_code line operation))) (Ordinal result) below (d + 8) (d + 8)
+      (z : ℤ) → IsTrue (is_of_host operand z) → (injection : Injection) (memory : Memory) (below : List Operand) (d : ℕ) → unit_in G memory.frames ≡ unit → Evaluates declared G untouched Here n injection memory (p.instructions.before + at) (Word z ∷ below) (answering call g unit line (unary_answer operation z)) (p.instructions.before + (at + length (one_code line operation))) (Ordinal result) below (d + 8) (d + 8)
 
   -- the same where the kinds of the operand and the result are those
   pub record UnaryFollows (n at : ℕ) (operation : Unary) (operand_kind result_kind : Kind) : Type 0 where
@@ -41,7 +42,7 @@ module _ (declared : Declarations) (G : Image) (untouched : Slots) (Here : Facts
   -- an operation of one instruction
   one_instruction : (n at : ℕ) (operation : Unary) (operand result : Host) → length (one_code line operation) ≡ 1 → ((z : ℤ) (below : List Operand) → IsTrue (is_of_host operand z) → RowAnswers G (p.instructions.before + at) line (Word z ∷ below) below (unary_answer operation z)) → ((z w : ℤ) → IsTrue (is_of_host operand z) → unary_answer operation z ≡ Number w → IsTrue (is_of_host result w)) → Operates n at operation operand result
   one_instruction n at operation operand result single row answers z of_host injection memory below d unit_is =
-      fragment_to (omega (arith, single)) (answer_follows g unit line n (p.instructions.before + at) (Word z ∷ below) below (unary_answer operation z) (row z below of_host) result (λ w is. answers z w of_host is) injection memory (d + 8) (d + 8) unit_is (omega arith) (omega arith))
+      fragment_to (omega (arith, single)) (answer_follows call g unit line n (p.instructions.before + at) (Word z ∷ below) below (unary_answer operation z) (row z below of_host) result (λ w is. answers z w of_host is) injection memory (d + 8) (d + 8) unit_is (omega arith) (omega arith))
 
   -- the number of a value, which `Dup` and `Drop` leave
   same_follows : (n at : ℕ) (operand : Host) → ((z : ℤ) → IsTrue (is_of_host operand z) → IsTrue (is_of_host host.Integer z)) → CodeStands G ps p references at (one_code line unary.Same) → Operates n at unary.Same operand host.Integer
@@ -56,7 +57,7 @@ module _ (declared : Declarations) (G : Image) (untouched : Slots) (Here : Facts
       let place : ℕ = p.instructions.before + at in
       fragment_to (omega arith) (row_waits {d1 = d + 7} (push_pushes G place line (Word z ∷ below) (pos 0) stands.0) (omega arith)
       (row_waits {d1 = d + 6} (push_pushes G (place + 1) line (Word (pos 0) ∷ Word z ∷ below) (pos last_char) (instr_at G (omega arith) stands.1.0)) (omega arith)
-      (answer_follows g unit line n (place + 1 + 1) (Word (pos last_char) ∷ Word (pos 0) ∷ Word z ∷ below) below (unary_answer unary.Character z) (check_answers G (place + 1 + 1) line below z (pos 0) (pos last_char) (instr_at G (omega arith) stands.1.1.0)) host.Char (λ w is. within_answer host.Char run_error.SUCCESSOR z w is) injection memory (d + 6) (d + 8) unit_is (omega arith) (omega arith))))
+      (answer_follows call g unit line n (place + 1 + 1) (Word (pos last_char) ∷ Word (pos 0) ∷ Word z ∷ below) below (unary_answer unary.Character z) (check_answers G (place + 1 + 1) line below z (pos 0) (pos last_char) (instr_at G (omega arith) stands.1.1.0)) host.Char (λ w is. within_answer host.Char run_error.SUCCESSOR z w is) injection memory (d + 6) (d + 8) unit_is (omega arith) (omega arith))))
 
   pub unary_follows : (n at : ℕ) (operation : Unary) (operand_kind result_kind : Kind) → IsUnary operation operand_kind result_kind → CodeStands G ps p references at (one_code line operation) → UnaryFollows n at operation operand_kind result_kind
   unary_follows n at unary.Same operand_kind result_kind (k, r) stands =

@@ -10,6 +10,7 @@ use Rattle.ep_object.specs.declared.code.Image.{Image}
 use Rattle.ep_object.specs.declared.code.Reference.{Reference}
 use Rattle.ep_object.proofs.Fragments.{fragment_to}
 use Rattle.ep_object.proofs.Rows.{RowAnswers, add_answers, sub_answers, mul_answers, div_answers, mod_answers, and_answers, or_answers, equal_answers, unequal_answers, less_answers, greater_answers, at_most_answers, at_least_answers}
+use Rattle.ep_typed.specs.Calls.{Handler}
 use Rattle.ep_typed.specs.Operations.{Number, is_same, is_true, ordinal_of, binary_answer}
 use Rattle.ep_typed.specs.Valid.{Declarations, Kind, Ordinal, IsArithmetic, IsLogical, IsComparison, IsBinary}
 use Rattle.ep_typed.specs.declared.operations.Binary.{Binary}
@@ -20,11 +21,11 @@ use Rattle.ep_gen_expr.specs.ExprCode.{two_code}
 use Rattle.ep_gen_expr.proofs.Answering.{Evaluates, answering, answer_follows}
 use Rattle.ep_gen_expr.proofs.Hosts.{given, integer_answer, divided_answer, modulo_answer, ordinal_boolean}
 
-module _ (declared : Declarations) (G : Image) (untouched : Slots) (Here : Facts) (ps : List Placement) (p : Placement) (references : List Reference) (g : ℕ) (unit : List ℕ) (line : ℕ) where
+module _ (declared : Declarations) (G : Image) (untouched : Slots) (Here : Facts) (ps : List Placement) (p : Placement) (references : List Reference) (call : Handler) (g : ℕ) (unit : List ℕ) (line : ℕ) where
   -- from the values of both operands, the machine follows the operation to the end of its code
   abbrev Operates : ℕ → ℕ → Binary → Host → Host → Type 0
   Operates n at operation operand result =
-      (x y : ℤ) → IsTrue (is_of_host operand x) → IsTrue (is_of_host operand y) → (injection : Injection) (memory : Memory) (below : List Operand) (d : ℕ) → unit_in G memory.frames ≡ unit → Evaluates declared G untouched Here n injection memory (p.instructions.before + at) (Word y ∷ Word x ∷ below) (answering g unit line (binary_answer operation x y)) (p.instructions.before + (at + 1)) (Ordinal result) below (d + 16) (d + 8)
+      (x y : ℤ) → IsTrue (is_of_host operand x) → IsTrue (is_of_host operand y) → (injection : Injection) (memory : Memory) (below : List Operand) (d : ℕ) → unit_in G memory.frames ≡ unit → Evaluates declared G untouched Here n injection memory (p.instructions.before + at) (Word y ∷ Word x ∷ below) (answering call g unit line (binary_answer operation x y)) (p.instructions.before + (at + 1)) (Ordinal result) below (d + 16) (d + 8)
 
   -- the same where the kinds of the operands and the result are those
   pub record BinaryFollows (n at : ℕ) (operation : Binary) (left right result_kind : Kind) : Type 0 where
@@ -45,7 +46,7 @@ module _ (declared : Declarations) (G : Image) (untouched : Slots) (Here : Facts
 
   operates : (n at : ℕ) (operation : Binary) (operand result : Host) → Rows at operation operand → Answers operation operand result → Operates n at operation operand result
   operates n at operation operand result row answers x y of_x of_y injection memory below d unit_is =
-      fragment_to (omega arith) (answer_follows g unit line n (p.instructions.before + at) (Word y ∷ Word x ∷ below) below (binary_answer operation x y) (row x y below of_x of_y) result (λ w is. answers x y w of_x of_y is) injection memory (d + 16) (d + 8) unit_is (omega arith) (omega arith))
+      fragment_to (omega arith) (answer_follows call g unit line n (p.instructions.before + at) (Word y ∷ Word x ∷ below) below (binary_answer operation x y) (row x y below of_x of_y) result (λ w is. answers x y w of_x of_y is) injection memory (d + 16) (d + 8) unit_is (omega arith) (omega arith))
 
   arithmetic : (n at : ℕ) (operation : Binary) (left right result : Kind) → IsArithmetic left right result → Rows at operation host.Integer → Answers operation host.Integer host.Integer → BinaryFollows n at operation left right result
   arithmetic n at operation left right result (l, r, e) row answers =

@@ -1,6 +1,7 @@
 -- The machine follows the making of variables.
 use Rattle.std.proofs.Common.{◌≡◌, ℕ, ℤ, pos, suc, ◌+◌, ◌-◌, ◌≤◌, ◌<◌, IsTrue, List, [], ◌∷◌, ◌++◌, length, length-append, Some, slice_get, refl, sym, ap, ◌∙◌, subst, arith}
 use Rattle.std.proofs.lemmas.Option.{same_Some}
+use Rattle.ep_gen_expr.specs.Following.{least_credit}
 use Rattle.ep_gen_expr.specs.ExprCode.{instr}
 use Rattle.ep_gen_unit.specs.StmtCode.{type_code, elaborating_code, make_code, make_all_code}
 use Rattle.ep_gen_unit.specs.UnitLaws.{AreDeclared}
@@ -21,6 +22,8 @@ use Rattle.ep_object.specs.Scene.{HaveValidTypes}
 use Rattle.ep_object.proofs.NewTypes.{TypeOnTop, ord_does}
 use Rattle.ep_object.proofs.Rows.{push_pushes}
 use Rattle.ep_gen_unit.proofs.Declared.{integer_bounds}
+use Rattle.ep_typed.specs.Steady.{IsSteadyHandler}
+use Rattle.ep_typed.specs.Calls.{Handler}
 use Rattle.ep_typed.proofs.Denoters.{types_are_instances}
 use Rattle.ep_typed.proofs.Steady.{grows_refl, grows_made, steady_allocate, steady_make_all}
 use Rattle.ep_typed.specs.Operations.{is_integer}
@@ -47,10 +50,10 @@ VariablesAreFree declared G untouched x = (unit : ℕ) → slice_get G.units uni
 -- operands as they were
 abbrev pub MovesIn : Declarations → Image → Slots → Facts → Placement → ℕ → ImageUnit → ℕ → ℕ → Computation (Unit {0}) → Type 0
 MovesIn declared G untouched Here p n x at to c =
-    (injection : Injection) (memory : Memory) (below : List Operand) (d : ℕ) → 32 ≤ d → slice_get G.units memory.frames.unit ≡ Some x
+    (injection : Injection) (memory : Memory) (below : List Operand) (d : ℕ) → least_credit ≤ d → slice_get G.units memory.frames.unit ≡ Some x
     → Fragment declared G Here n (point injection memory (p.instructions.before + at) below) c (p.instructions.before + to) (λ a. Inside untouched injection memory (Bare below a)) d (λ a. d)
 
-module _ (declared : Declarations) (G : Image) (untouched : Slots) (Here : Facts) (lasts : Lasts untouched Here) (ps : List Placement) (p : Placement) (references : List Reference) (n : ℕ) (x : ImageUnit) (free : VariablesAreFree declared G untouched x) (distinct : HasDistinctNames G) (types_valid : HaveValidTypes declared) where
+module _ (declared : Declarations) (G : Image) (untouched : Slots) (Here : Facts) (lasts : Lasts untouched Here) (ps : List Placement) (p : Placement) (references : List Reference) (call : Handler) (steady_call : IsSteadyHandler call) (n : ℕ) (x : ImageUnit) (free : VariablesAreFree declared G untouched x) (distinct : HasDistinctNames G) (types_valid : HaveValidTypes declared) where
   module _ (number line at : ℕ) (v : UnitVariable) (is_declared : declared.variables x.name number ≡ Some v) (within : number < x.slots) where
     -- `Make`, over the number of the type
     make_row_moves : (low high : ℤ) (type_number : ℕ) → IsTrue (is_integer low) → IsTrue (is_integer high) → ((v : UnitVariable) → declared.variables x.name number ≡ Some v → HasType declared x.name v (type.Ordinal low high)) → (place : ℕ) → slice_get G.instructions place ≡ Some (instr op.MAKE (pos number) 0 line)
@@ -60,7 +63,7 @@ module _ (declared : Declarations) (G : Image) (untouched : Slots) (Here : Facts
         fragment_less {n = suc n} (omega arith) (fragment_counted {weight = 1} 0 (counted (type.Ordinal low high)) (made x.name number (type.Ordinal low high)) tt (λ s. refl) (grows_made x.name number (type.Ordinal low high)) (λ s matches here. make_does declared G place line below low high type_number number x has distinct low_fits high_fits types_valid declared_so injection memory s home within (free memory.frames.unit home number v is_declared) described lasts matches here) enough (omega arith) (omega arith) (omega arith))
 
     -- the code that makes a variable of a type
-    make_typed : (g : ℕ) (t : TypeValue) (host : Host) → IsTypeOf host t → IsValueOf t Undefined → ((v : UnitVariable) → declared.variables x.name number ≡ Some v → HasType declared x.name v t) → CodeStands G ps p references at (type_code line t ++ instr op.MAKE (pos number) 0 line ∷ []) → MovesIn declared G untouched Here p n x at (at + length (type_code line t ++ instr op.MAKE (pos number) 0 line ∷ [])) (bind (elaborated g x.name (Some t)) (λ a. allocate x.name number a))
+    make_typed : (g : ℕ) (t : TypeValue) (host : Host) → IsTypeOf host t → IsValueOf t Undefined → ((v : UnitVariable) → declared.variables x.name number ≡ Some v → HasType declared x.name v t) → CodeStands G ps p references at (type_code line t ++ instr op.MAKE (pos number) 0 line ∷ []) → MovesIn declared G untouched Here p n x at (at + length (type_code line t ++ instr op.MAKE (pos number) 0 line ∷ [])) (bind (elaborated call g x.name (Some t)) (λ a. allocate x.name number a))
     make_typed g type.Text host valid fits declared_so stands injection memory below d enough home = absurd valid
     make_typed g (type.Ordinal low high) host valid fits declared_so stands injection memory below d enough home =
         let second : p.instructions.before + at + 1 ≡ p.instructions.before + (at + 1) = omega arith in
@@ -77,9 +80,9 @@ module _ (declared : Declarations) (G : Image) (untouched : Slots) (Here : Facts
         (fragment_from fourth (fragment_to last (make_row_moves low high top.number fits.0 fits.1 declared_so (p.instructions.before + (at + 1 + 1 + 1)) stands.1.1.1.0 longer after below d (omega (arith, enough)) (same_frame G x memory.frames after.frames routine home) top.described)))))))))
 
   -- a variable is made in its slot
-  one_moves : (g number at : ℕ) (v : UnitVariable) → declared.variables x.name number ≡ Some v → number < x.slots → CodeStands G ps p references at (make_code (declared.types x.name) number v) → MovesIn declared G untouched Here p n x at (at + length (make_code (declared.types x.name) number v)) (make g x.name (declared.types x.name) number v)
+  one_moves : (g number at : ℕ) (v : UnitVariable) → declared.variables x.name number ≡ Some v → number < x.slots → CodeStands G ps p references at (make_code (declared.types x.name) number v) → MovesIn declared G untouched Here p n x at (at + length (make_code (declared.types x.name) number v)) (make call g x.name (declared.types x.name) number v)
   one_moves g number at v is_declared within stands =
-      subst (λ o. CodeStands G ps p references at (elaborating_code v.line o ++ instr op.MAKE (pos number) 0 v.line ∷ []) → MovesIn declared G untouched Here p n x at (at + length (elaborating_code v.line o ++ instr op.MAKE (pos number) 0 v.line ∷ [])) (bind (elaborated g x.name o) (λ a. allocate x.name number a))) (sym valid.has_type) typed stands
+      subst (λ o. CodeStands G ps p references at (elaborating_code v.line o ++ instr op.MAKE (pos number) 0 v.line ∷ []) → MovesIn declared G untouched Here p n x at (at + length (elaborating_code v.line o ++ instr op.MAKE (pos number) 0 v.line ∷ [])) (bind (elaborated call g x.name o) (λ a. allocate x.name number a))) (sym valid.has_type) typed stands
     where
       valid : IsDenoter (declared.types x.name) (denoter_of v.denoter)
       valid = types_valid x.name number v is_declared
@@ -87,12 +90,12 @@ module _ (declared : Declarations) (G : Image) (untouched : Slots) (Here : Facts
       has_type : (w : UnitVariable) → declared.variables x.name number ≡ Some w → HasType declared x.name w valid.type_value
       has_type w e = subst (λ (u : UnitVariable). HasType declared x.name u valid.type_value) (same_Some v w (sym is_declared ∙ e)) (types_are_instances (declared.types x.name) (denoter_of v.denoter) valid.type_value valid.has_type)
 
-      typed : CodeStands G ps p references at (type_code v.line valid.type_value ++ instr op.MAKE (pos number) 0 v.line ∷ []) → MovesIn declared G untouched Here p n x at (at + length (type_code v.line valid.type_value ++ instr op.MAKE (pos number) 0 v.line ∷ [])) (bind (elaborated g x.name (Some valid.type_value)) (λ a. allocate x.name number a))
+      typed : CodeStands G ps p references at (type_code v.line valid.type_value ++ instr op.MAKE (pos number) 0 v.line ∷ []) → MovesIn declared G untouched Here p n x at (at + length (type_code v.line valid.type_value ++ instr op.MAKE (pos number) 0 v.line ∷ [])) (bind (elaborated call g x.name (Some valid.type_value)) (λ a. allocate x.name number a))
       typed s =
           make_typed number v.line at v is_declared within g valid.type_value valid.host valid.is_type (integer_bounds valid.host valid.type_value valid.is_type) has_type s
 
   -- and so are the variables from this number on
-  all_moves : (g number at : ℕ) (vs : List UnitVariable) → AreDeclared declared x.name number vs → number + length vs ≤ x.slots → CodeStands G ps p references at (make_all_code (declared.types x.name) number vs) → MovesIn declared G untouched Here p n x at (at + length (make_all_code (declared.types x.name) number vs)) (make_all g x.name (declared.types x.name) number vs)
+  all_moves : (g number at : ℕ) (vs : List UnitVariable) → AreDeclared declared x.name number vs → number + length vs ≤ x.slots → CodeStands G ps p references at (make_all_code (declared.types x.name) number vs) → MovesIn declared G untouched Here p n x at (at + length (make_all_code (declared.types x.name) number vs)) (make_all call g x.name (declared.types x.name) number vs)
   all_moves g number at [] are_declared within stands injection memory below d enough home = fragment_to (omega arith) (fragment_give (omega arith) (inside_here refl))
   all_moves g number at (v ∷ vs) are_declared within stands injection memory below d enough home =
       let types = declared.types x.name in
@@ -100,13 +103,13 @@ module _ (declared : Declarations) (G : Image) (untouched : Slots) (Here : Facts
       let ends : at + length (make_code types number v) + length (make_all_code types (suc number) vs) ≡ at + length (make_code types number v ++ make_all_code types (suc number) vs) = omega (arith, length-append (make_code types number v) (make_all_code types (suc number) vs)) in
       let first : declared.variables x.name number ≡ Some v = subst (λ k. declared.variables x.name k ≡ Some v) (omega arith) (are_declared 0 v refl) in
       fragment_to (ap (λ k. p.instructions.before + k) ends)
-      (fragment_bind_bare {e = λ a. d} (λ a. steady_make_all g x.name types (suc number) vs) (one_moves g number at v first (omega (arith, within)) parts.0 injection memory below d enough home) (λ a longer after grown routine.
+      (fragment_bind_bare {e = λ a. d} (λ a. steady_make_all call steady_call g x.name types (suc number) vs) (one_moves g number at v first (omega (arith, within)) parts.0 injection memory below d enough home) (λ a longer after grown routine.
       all_moves g (suc number) (at + length (make_code types number v)) vs (λ i w e. subst (λ k. declared.variables x.name k ≡ Some w) (omega arith) (are_declared (suc i) w e)) (omega (arith, within)) parts.1 longer after below d enough (same_frame G x memory.frames after.frames routine home)))
 
   -- the machine follows the making of the variables of a unit with these types, from this number on
-  pub make_all_moves : (unit : List ℕ) → x.name ≡ unit → (types : List UnitType) → declared.types unit ≡ types → (g number at : ℕ) (vs : List UnitVariable) → AreDeclared declared unit number vs → number + length vs ≤ x.slots → CodeStands G ps p references at (make_all_code types number vs) → MovesIn declared G untouched Here p n x at (at + length (make_all_code types number vs)) (make_all g unit types number vs)
+  pub make_all_moves : (unit : List ℕ) → x.name ≡ unit → (types : List UnitType) → declared.types unit ≡ types → (g number at : ℕ) (vs : List UnitVariable) → AreDeclared declared unit number vs → number + length vs ≤ x.slots → CodeStands G ps p references at (make_all_code types number vs) → MovesIn declared G untouched Here p n x at (at + length (make_all_code types number vs)) (make_all call g unit types number vs)
   make_all_moves unit named types same g number at vs are_declared within stands =
-      subst (λ ts. CodeStands G ps p references at (make_all_code ts number vs) → MovesIn declared G untouched Here p n x at (at + length (make_all_code ts number vs)) (make_all g unit ts number vs)) same
-      (subst (λ u. CodeStands G ps p references at (make_all_code (declared.types u) number vs) → MovesIn declared G untouched Here p n x at (at + length (make_all_code (declared.types u) number vs)) (make_all g u (declared.types u) number vs)) named
+      subst (λ ts. CodeStands G ps p references at (make_all_code ts number vs) → MovesIn declared G untouched Here p n x at (at + length (make_all_code ts number vs)) (make_all call g unit ts number vs)) same
+      (subst (λ u. CodeStands G ps p references at (make_all_code (declared.types u) number vs) → MovesIn declared G untouched Here p n x at (at + length (make_all_code (declared.types u) number vs)) (make_all call g u (declared.types u) number vs)) named
       (all_moves g number at vs (subst (λ u. AreDeclared declared u number vs) (sym named) are_declared) within))
       stands

@@ -1,5 +1,6 @@
 -- What the proofs about statements share: where parts of code stand, and what is known of expressions.
 use Rattle.std.proofs.Common.{◌≡◌, ℕ, ℤ, ◌+◌, ◌≤◌, List, ◌++◌, length, Some, refl}
+use Rattle.ep_gen_expr.specs.Following.{least_credit}
 use Rattle.ep_gen_expr.specs.ExprCode.{IsPlaceCode, IsExprCode}
 use Rattle.ep_gen_expr.proofs.Placed.{code_front, code_back}
 use Rattle.ep_object.specs.Follows.{point, Facts, Fragment, Inside, Bare, OnTop, PlaceOnTop}
@@ -10,6 +11,7 @@ use Rattle.ep_object.specs.Runs.{unit_in}
 use Rattle.ep_object.specs.declared.code.Image.{Image}
 use Rattle.ep_object.specs.declared.code.Instr.{Instr}
 use Rattle.ep_object.specs.declared.code.Reference.{Reference}
+use Rattle.ep_typed.specs.Calls.{Handler}
 use Rattle.ep_typed.specs.Meaning.{place, eval, weight_of}
 use Rattle.ep_typed.specs.Steps.{Computation}
 use Rattle.ep_typed.specs.Trees.{Variable, Expr}
@@ -28,29 +30,33 @@ pub ordinal_of_host : (h : Host) (t : TypeValue) → IsTypeOf h t → (low high 
 ordinal_of_host h (type.Ordinal low high) k = (low, high, refl)
 ordinal_of_host h type.Text k = absurd k
 
-module _ (declared : Declarations) (G : Image) (untouched : Slots) (Here : Facts) (ps : List Placement) (p : Placement) (texts : List (List ℕ)) (references : List Reference) (n : ℕ) (unit : List ℕ) where
+-- the credit that is there before each statement
+abbrev pub statement_credit : ℕ
+statement_credit = least_credit + 8
+
+module _ (declared : Declarations) (G : Image) (untouched : Slots) (Here : Facts) (ps : List Placement) (p : Placement) (texts : List (List ℕ)) (references : List Reference) (call : Handler) (n : ℕ) (unit : List ℕ) where
   -- from a place of the object to another one, the machine follows the computation and leaves the operands as they were
   abbrev pub Moves : ℕ → ℕ → Computation (Unit {0}) → Type 0
   Moves at to c =
-      (injection : Injection) (memory : Memory) (below : List Operand) (d : ℕ) → 40 ≤ d → unit_in G memory.frames ≡ unit
+      (injection : Injection) (memory : Memory) (below : List Operand) (d : ℕ) → statement_credit ≤ d → unit_in G memory.frames ≡ unit
       → Fragment declared G Here n (point injection memory (p.instructions.before + at) below) c (p.instructions.before + to) (λ a. Inside untouched injection memory (Bare below a)) d (λ a. d)
 
   -- the same, where more credit is left than there was
   abbrev pub Writes : ℕ → ℕ → Computation (Unit {0}) → Type 0
   Writes at to c =
-      (injection : Injection) (memory : Memory) (below : List Operand) (d : ℕ) → 40 ≤ d → unit_in G memory.frames ≡ unit
+      (injection : Injection) (memory : Memory) (below : List Operand) (d : ℕ) → statement_credit ≤ d → unit_in G memory.frames ≡ unit
       → Fragment declared G Here n (point injection memory (p.instructions.before + at) below) c (p.instructions.before + to) (λ a. Inside untouched injection memory (Bare below a)) d (λ a. 1 + d)
 
   -- the machine follows expressions
   abbrev pub ExpressionsFollow : Type 0
   ExpressionsFollow =
       (kind : Kind) (x : Expr) → IsExpr declared kind x → (line at : ℕ) (code : List Instr) → IsExprCode texts references line x code → CodeStands G ps p references at code
-      → (injection : Injection) (memory : Memory) (below : List Operand) (d : ℕ) → 32 ≤ d → unit_in G memory.frames ≡ unit
-      → Fragment declared G Here n (point injection memory (p.instructions.before + at) below) (eval n unit line x) (p.instructions.before + (at + length code)) (λ r. Inside untouched injection memory (OnTop kind below r)) d (λ r. d + 8 + weight_of r)
+      → (injection : Injection) (memory : Memory) (below : List Operand) (d : ℕ) → least_credit ≤ d → unit_in G memory.frames ≡ unit
+      → Fragment declared G Here n (point injection memory (p.instructions.before + at) below) (eval call n unit line x) (p.instructions.before + (at + length code)) (λ r. Inside untouched injection memory (OnTop kind below r)) d (λ r. d + 8 + weight_of r)
 
   -- the machine follows places
   abbrev pub PlacesFollow : Type 0
   PlacesFollow =
       (of_unit : List ℕ) (k : ℕ) (v : UnitVariable) (t : TypeValue) → declared.variables of_unit k ≡ Some v → HasType declared of_unit v t → (line at : ℕ) (code : List Instr) → IsPlaceCode references line (Variable of_unit k) code → CodeStands G ps p references at code
-      → (injection : Injection) (memory : Memory) (below : List Operand) (d : ℕ) → 32 ≤ d → unit_in G memory.frames ≡ unit
-      → Fragment declared G Here n (point injection memory (p.instructions.before + at) below) (place n unit line (Variable of_unit k)) (p.instructions.before + (at + length code)) (λ a. Inside untouched injection memory (PlaceOnTop t below a)) d (λ a. d + 8)
+      → (injection : Injection) (memory : Memory) (below : List Operand) (d : ℕ) → least_credit ≤ d → unit_in G memory.frames ≡ unit
+      → Fragment declared G Here n (point injection memory (p.instructions.before + at) below) (place call n unit line (Variable of_unit k)) (p.instructions.before + (at + length code)) (λ a. Inside untouched injection memory (PlaceOnTop t below a)) d (λ a. d + 8)

@@ -9,7 +9,7 @@ use Rattle.ep_object.proofs.Beginning.{first_memory, first_injection, first_matc
 use Rattle.ep_object.proofs.Bind.{follows_bind, follows_stop}
 use Rattle.ep_object.proofs.Simulating.{simulation_follows, leaves_enters}
 use Rattle.ep_object.proofs.Tells.{Never, tells, tells_at_end, tells_close}
-use Rattle.ep_object.specs.Follows.{Follows, Bare, SameRoutine}
+use Rattle.ep_object.specs.Follows.{Follows, Bare, SameRoutine, IsNotLeft}
 use Rattle.ep_object.specs.Laws.{EndsAt}
 use Rattle.ep_object.specs.Matching.{at as standing}
 use Rattle.ep_object.specs.Placing.{alone, first_placement, moved, placed_routine}
@@ -18,9 +18,9 @@ use Rattle.ep_object.specs.Simulates.{Enters, Leaves}
 use Rattle.ep_object.specs.State.{State, Frames, End, Running, Stopped, Normal, first_frames}
 use Rattle.ep_object.specs.Tells.{Tells, TellsAtEnd, AreClose, spare_ticks}
 use Rattle.ep_object.specs.declared.code.Object.{Object}
-use Rattle.ep_typed.proofs.Steady.{steady_stop}
+use Rattle.ep_typed.proofs.Steady.{steady_stop, steady_routine_of}
 use Rattle.ep_typed.specs.Events.{Trace}
-use Rattle.ep_typed.specs.Meaning.{starts_of, meaning as meaning_of}
+use Rattle.ep_typed.specs.Meaning.{routine_of, starts_of, meaning as meaning_of}
 use Rattle.ep_typed.specs.Steps as meaning
 use Rattle.ep_typed.specs.Valid.{IsValid, own}
 use Rattle.ep_typed.specs.declared.unit.Unit.{Unit as TypedUnit}
@@ -64,25 +64,25 @@ module _ (u : TypedUnit) (o : Object) (is : IsProgramCode u o) where
 
   module _ (valid : IsValid u) where
     -- the machine follows the meaning of the program
-    pub program_follows : (n : ℕ) → Follows (λ k. SameRoutine start_frames k.frames) (alone o) n start_state meaning.first_state (starts_of n (u ∷ [])) Never spare_ticks (λ a. 41)
+    pub program_follows : (n : ℕ) → Follows (λ k. IsNotLeft start_frames k.frames) (alone o) n start_state meaning.first_state (starts_of (routine_of (u ∷ []) n) n (u ∷ [])) Never spare_ticks (λ a. 41)
     program_follows n =
         follows_bind {e = λ a. 41} (λ a. steady_stop meaning.Normal)
-        (simulation_follows (unit_simulates u o is (alone o) (placements_alone o) (first_placement o) (stands-alone o) valid (distinct-alone o) n) first_injection (first_memory start_frames) [] meaning.first_state start_state enters)
-        (λ a s k leaves. let lands = leaves.lands in let inside = lands.post in follows_stop {v = 0} (subst (λ (l : State). SameRoutine start_frames l.frames) (sym lands.is) inside.routine) (ends s k leaves) (omega arith))
+        (simulation_follows (unit_simulates u o is (alone o) (placements_alone o) (first_placement o) (stands-alone o) valid (distinct-alone o) (routine_of (u ∷ []) n) (steady_routine_of (u ∷ []) n) n) first_injection (first_memory start_frames) [] meaning.first_state start_state enters)
+        (λ a s k leaves. let lands = leaves.lands in let inside = lands.post in follows_stop {v = 0} (subst (λ (l : State). IsNotLeft start_frames l.frames) (sym lands.is) (record { runs = inside.routine })) (ends s k leaves) (omega arith))
 
     -- What a run of the program's image tells of the meaning of the program.
     pub program_tells : (t : ℕ) → Tells (meaning_of (u ∷ [])) t (run_from (alone o) t (begin (alone o)))
     program_tells t =
         subst (λ g. Tells (meaning_of (u ∷ [])) t (run_from (alone o) t g)) (sym begins)
-        (tells (λ k. SameRoutine start_frames k.frames) (alone o) start_state (meaning_of (u ∷ [])) (λ a. 41) (λ m. let f = program_follows m in f.by m (omega arith)) t)
+        (tells (λ k. IsNotLeft start_frames k.frames) (alone o) start_state (meaning_of (u ∷ [])) (λ a. 41) (λ m. let f = program_follows m in f.by m (omega arith)) t)
 
     -- What it tells at its end.
     pub program_tells_at_end : (t : ℕ) (end : End) (trace : Trace) → EndsAt (alone o) (begin (alone o)) 0 t end trace → TellsAtEnd (meaning_of (u ∷ [])) t end trace
     program_tells_at_end t end trace at =
-        tells_at_end (λ k. SameRoutine start_frames k.frames) (alone o) start_state (meaning_of (u ∷ [])) (λ a. 41) (λ m. let f = program_follows m in f.by m (omega arith)) t end trace (subst (λ g. EndsAt (alone o) g 0 t end trace) begins at)
+        tells_at_end (λ k. IsNotLeft start_frames k.frames) (alone o) start_state (meaning_of (u ∷ [])) (λ a. 41) (λ m. let f = program_follows m in f.by m (omega arith)) t end trace (subst (λ g. EndsAt (alone o) g 0 t end trace) begins at)
 
     -- The ticks of a run of the program's image that ends and the steps of its meaning bound one another.
     pub program_spends : (t : ℕ) (end : End) (trace : Trace) → EndsAt (alone o) (begin (alone o)) 0 t end trace
         → (steps left : ℕ) (its_end : meaning.End) (s : meaning.State) → meaning_of (u ∷ []) (left + steps) ≡ meaning.Ends left its_end s → s.resources.lost ≡ false → AreClose steps t
     program_spends t end trace at steps left its_end s is kept =
-        tells_close (λ k. SameRoutine start_frames k.frames) (alone o) start_state (meaning_of (u ∷ [])) (λ a. 41) (λ m. let f = program_follows m in f.by m (omega arith)) t steps left its_end s end trace (subst (λ g. EndsAt (alone o) g 0 t end trace) begins at) is kept
+        tells_close (λ k. IsNotLeft start_frames k.frames) (alone o) start_state (meaning_of (u ∷ [])) (λ a. 41) (λ m. let f = program_follows m in f.by m (omega arith)) t steps left its_end s end trace (subst (λ g. EndsAt (alone o) g 0 t end trace) begins at) is kept

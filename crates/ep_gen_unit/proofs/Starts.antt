@@ -1,8 +1,9 @@
 -- The machine follows what the start of a unit does after the step of its call.
+use Rattle.ep_gen_expr.specs.Following.{least_credit}
 use Rattle.std.proofs.Common.{◌≡◌, ℕ, ◌+◌, ◌≤◌, List, [], ◌∷◌, ◌++◌, length, length-append, ap, ◌∙◌, subst, arith}
 use Rattle.ep_gen_unit.specs.StmtCode.{make_all_code, return_code}
 use Rattle.ep_gen_unit.specs.UnitCode.{IsProgramCode}
-use Rattle.ep_gen_unit.proofs.Parts.{ExpressionsFollow, PlacesFollow, code_stands-parts}
+use Rattle.ep_gen_unit.proofs.Parts.{statement_credit, ExpressionsFollow, PlacesFollow, code_stands-parts}
 use Rattle.ep_gen_unit.proofs.StmtMoves.{statement_moves}
 use Rattle.ep_object.specs.Follows.{point, Facts, Lasts, Fragment, Inside, Bare}
 use Rattle.ep_object.specs.Matching.{Slots, Memory, Injection}
@@ -14,6 +15,8 @@ use Rattle.ep_object.specs.declared.code.Image.{Image}
 use Rattle.ep_object.specs.declared.code.Object.{Object}
 use Rattle.ep_object.proofs.Fragments.{fragment_bind_bare}
 use Rattle.ep_object.proofs.Growing.{unit_in-same}
+use Rattle.ep_typed.specs.Steady.{IsSteadyHandler}
+use Rattle.ep_typed.specs.Calls.{Handler}
 use Rattle.ep_typed.proofs.Steady.{steady_exec}
 use Rattle.ep_typed.specs.Meaning.{make_all, exec}
 use Rattle.ep_typed.specs.Steps.{bind}
@@ -21,22 +24,22 @@ use Rattle.ep_typed.specs.Valid.{Declarations, IsStmt}
 use Rattle.ep_typed.specs.Viewed.{stmt_of}
 use Rattle.ep_typed.specs.declared.unit.Unit.{Unit as TypedUnit}
 
-module _ (declared : Declarations) (G : Image) (untouched : Slots) (Here : Facts) (p : Placement) (n : ℕ) (u : TypedUnit) where
+module _ (declared : Declarations) (G : Image) (untouched : Slots) (Here : Facts) (p : Placement) (call : Handler) (n : ℕ) (u : TypedUnit) where
   -- the machine makes the variables of the unit, in the unit's frame
   abbrev pub MakesFollow : Type 0
   MakesFollow =
-      (injection : Injection) (memory : Memory) (below : List Operand) (d : ℕ) → 32 ≤ d → unit_in G memory.frames ≡ u.name → memory.frames.unit ≡ p.unit
-      → Fragment declared G Here n (point injection memory (p.instructions.before + 0) below) (make_all n u.name u.types 0 u.variables) (p.instructions.before + length (make_all_code u.types 0 u.variables)) (λ a. Inside untouched injection memory (Bare below a)) d (λ a. d)
+      (injection : Injection) (memory : Memory) (below : List Operand) (d : ℕ) → least_credit ≤ d → unit_in G memory.frames ≡ u.name → memory.frames.unit ≡ p.unit
+      → Fragment declared G Here n (point injection memory (p.instructions.before + 0) below) (make_all call n u.name u.types 0 u.variables) (p.instructions.before + length (make_all_code u.types 0 u.variables)) (λ a. Inside untouched injection memory (Bare below a)) d (λ a. d)
 
-module _ {declared : Declarations} {G : Image} {untouched : Slots} {Here : Facts} (lasts : Lasts untouched Here) (ps : List Placement) (p : Placement) (n : ℕ) (u : TypedUnit) (o : Object) (is : IsProgramCode u o) (stands : CodeStands G ps p o.references 0 o.instructions) (room : p.instructions.before + p.instructions.own ≤ length G.instructions) (own : p.instructions.own ≡ length o.instructions) (scene : Scene declared G ps p o.texts)
-    (expressions : ExpressionsFollow declared G untouched Here ps p o.texts o.references n u.name) (places : PlacesFollow declared G untouched Here ps p o.texts o.references n u.name) (valid : IsStmt declared (stmt_of u.start)) (makes : MakesFollow declared G untouched Here p n u) where
+module _ {declared : Declarations} {G : Image} {untouched : Slots} {Here : Facts} (lasts : Lasts untouched Here) (ps : List Placement) (p : Placement) (call : Handler) (steady_call : IsSteadyHandler call) (n : ℕ) (u : TypedUnit) (o : Object) (is : IsProgramCode u o) (stands : CodeStands G ps p o.references 0 o.instructions) (room : p.instructions.before + p.instructions.own ≤ length G.instructions) (own : p.instructions.own ≡ length o.instructions) (scene : Scene declared G ps p o.texts)
+    (expressions : ExpressionsFollow declared G untouched Here ps p o.texts o.references call n u.name) (places : PlacesFollow declared G untouched Here ps p o.texts o.references call n u.name) (valid : IsStmt declared (stmt_of u.start)) (makes : MakesFollow declared G untouched Here p call n u) where
   -- after the step of its call the start makes the variables and runs the block, up to the `Return` behind it
-  pub body_follows : (injection : Injection) (memory : Memory) (below : List Operand) (d : ℕ) → 40 ≤ d → unit_in G memory.frames ≡ u.name → memory.frames.unit ≡ p.unit
-      → Fragment declared G Here n (point injection memory (p.instructions.before + 0) below) (bind (make_all n u.name u.types 0 u.variables) (λ a. exec n u.name (stmt_of u.start))) (p.instructions.before + (length (make_all_code u.types 0 u.variables) + length is.code)) (λ a. Inside untouched injection memory (Bare below a)) d (λ a. d)
+  pub body_follows : (injection : Injection) (memory : Memory) (below : List Operand) (d : ℕ) → statement_credit ≤ d → unit_in G memory.frames ≡ u.name → memory.frames.unit ≡ p.unit
+      → Fragment declared G Here n (point injection memory (p.instructions.before + 0) below) (bind (make_all call n u.name u.types 0 u.variables) (λ a. exec call n u.name (stmt_of u.start))) (p.instructions.before + (length (make_all_code u.types 0 u.variables) + length is.code)) (λ a. Inside untouched injection memory (Bare below a)) d (λ a. d)
   body_follows injection memory below d enough home framed =
       let parts = code_stands-parts G ps p o.references 0 (make_all_code u.types 0 u.variables) (is.code ++ return_code ∷ return_code ∷ []) (subst (λ k. CodeStands G ps p o.references 0 k) is.instructions stands) in
       let block = code_stands-parts G ps p o.references (0 + length (make_all_code u.types 0 u.variables)) is.code (return_code ∷ return_code ∷ []) parts.1 in
-      let moves = statement_moves lasts ps p o.texts o.references n u.name room scene expressions places (stmt_of u.start) (length (make_all_code u.types 0 u.variables)) is.code valid is.is_code (subst (λ k. CodeStands G ps p o.references k is.code) (omega arith) block.0)
+      let moves = statement_moves lasts ps p o.texts o.references call steady_call n u.name room scene expressions places (stmt_of u.start) (length (make_all_code u.types 0 u.variables)) is.code valid is.is_code (subst (λ k. CodeStands G ps p o.references k is.code) (omega arith) block.0)
       (omega (arith, own, ap length is.instructions, length-append (make_all_code u.types 0 u.variables) (is.code ++ return_code ∷ return_code ∷ []), length-append is.code (return_code ∷ return_code ∷ []))) in
-      fragment_bind_bare {e = λ a. d} (λ a. steady_exec n u.name (stmt_of u.start)) (makes injection memory below d (omega arith) home framed) (λ a longer after grown routine.
+      fragment_bind_bare {e = λ a. d} (λ a. steady_exec call steady_call n u.name (stmt_of u.start)) (makes injection memory below d (omega arith) home framed) (λ a longer after grown routine.
       moves longer after below d (omega arith) (unit_in-same G routine ∙ home))

@@ -26,6 +26,8 @@ use Rattle.ep_object.specs.declared.code.CodeRoutine.{CodeRoutine}
 use Rattle.ep_object.specs.declared.code.Image.{Image}
 use Rattle.ep_object.specs.declared.code.ImageRoutine.{ImageRoutine}
 use Rattle.ep_object.specs.declared.code.Object.{Object}
+use Rattle.ep_typed.specs.Steady.{IsSteadyHandler}
+use Rattle.ep_typed.specs.Calls.{Handler}
 use Rattle.ep_typed.specs.Meaning.{make_all, exec, start_of}
 use Rattle.ep_typed.specs.Steps.{Computation, bind, give}
 use Rattle.ep_typed.specs.Steps as meaning
@@ -118,7 +120,7 @@ module _ (u : TypedUnit) (o : Object) (is : IsProgramCode u o) (G : Image) (ps :
             }));
       }
 
-  module _ (declared : Declarations) (types : declared.types u.name ≡ u.types) (are_declared : AreDeclared declared u.name 0 u.variables) (valid : IsStmt declared (stmt_of u.start)) (distinct : HasDistinctNames G) (scene : Scene declared G ps p o.texts) (n : ℕ) where
+  module _ (declared : Declarations) (types : declared.types u.name ≡ u.types) (are_declared : AreDeclared declared u.name 0 u.variables) (valid : IsStmt declared (stmt_of u.start)) (distinct : HasDistinctNames G) (scene : Scene declared G ps p o.texts) (call : Handler) (steady_call : IsSteadyHandler call) (n : ℕ) where
     -- the slots of the variables are not hidden
     free : VariablesAreFree declared G (is_hidden_slot declared G) (placed_object_unit p o)
     free unit there k v is_declared hidden = not_hidden (subst IsTrue (ap (λ x. is_hidden_in declared x k) there ∙ ap is_undeclared is_declared) hidden)
@@ -127,25 +129,25 @@ module _ (u : TypedUnit) (o : Object) (is : IsProgramCode u o) (G : Image) (ps :
         not_hidden h = cc
 
     -- the machine makes the variables of the unit
-    makes : {Here : Facts} → Lasts (is_hidden_slot declared G) Here → MakesFollow declared G (is_hidden_slot declared G) Here p n u
+    makes : {Here : Facts} → Lasts (is_hidden_slot declared G) Here → MakesFollow declared G (is_hidden_slot declared G) Here p call n u
     makes {Here = Here} lasts injection memory below d enough home framed =
         let there : slice_get G.units memory.frames.unit ≡ Some (placed_object_unit p o) = ap (slice_get G.units) framed ∙ stands.unit in
-        fragment_to {to = p.instructions.before + (0 + begins_block)} (omega arith) (make_all_moves declared G (is_hidden_slot declared G) Here lasts ps p o.references n (placed_object_unit p o) free distinct scene.types_valid u.name is.name u.types types n 0 0 u.variables are_declared (omega (arith, is.unit_slots)) makes_stand injection memory below d enough there)
+        fragment_to {to = p.instructions.before + (0 + begins_block)} (omega arith) (make_all_moves declared G (is_hidden_slot declared G) Here lasts ps p o.references call steady_call n (placed_object_unit p o) free distinct scene.types_valid u.name is.name u.types types n 0 0 u.variables are_declared (omega (arith, is.unit_slots)) makes_stand injection memory below d enough there)
 
     -- the start makes the variables and runs the block
-    pub start_simulates : Simulates declared G p.unit (moved p.routines o.start) n (start_of n u) Bare
+    pub start_simulates : Simulates declared G p.unit (moved p.routines o.start) n (start_of call n u) Bare
     start_simulates =
         record {
           image_routine = placed_routine p (routine_at 0);
           there = routine_there o.start (routine_at 0) start_is;
           of_unit = refl;
-          body = bind (make_all n u.name u.types 0 u.variables) (λ a. exec n u.name (stmt_of u.start));
+          body = bind (make_all call n u.name u.types 0 u.variables) (λ a. exec call n u.name (stmt_of u.start));
           called = refl;
           follows = λ m le injection memory below s k enters.
               let whole = of_object in
-              let body = body_follows {Here = Since (is_hidden_slot declared G) injection s memory} since_lasts ps p n u o is stands.code room whole.instructions scene
-              (λ x_kind x is_x line at code is_code x_stands v1 m1 operands d enough x_home. expression_follows ps p o.texts o.references scene n u.name n x_kind x is_x line at code is_code x_stands v1 m1 operands d (omega arith) x_home)
-              (λ of_unit slot v t is_declared has_type line at code is_code x_stands v1 m1 operands d enough x_home. place_follows ps p o.texts o.references scene n u.name n of_unit slot v t is_declared has_type line at code is_code x_stands v1 m1 operands d (omega arith) x_home)
+              let body = body_follows {Here = Since (is_hidden_slot declared G) injection s memory} since_lasts ps p call steady_call n u o is stands.code room whole.instructions scene
+              (λ x_kind x is_x line at code is_code x_stands v1 m1 operands d enough x_home. expression_follows ps p o.texts o.references scene call steady_call n u.name n x_kind x is_x line at code is_code x_stands v1 m1 operands d (omega arith) x_home)
+              (λ of_unit slot v t is_declared has_type line at code is_code x_stands v1 m1 operands d enough x_home. place_follows ps p o.texts o.references scene call steady_call n u.name n of_unit slot v t is_declared has_type line at code is_code x_stands v1 m1 operands d (omega arith) x_home)
               valid (makes since_lasts) injection memory below routine_credit (omega arith) (home o.start (routine_at 0) start_is memory.frames enters.runs) enters.in_unit in
               follows_from (at_entry o.start (routine_at 0) start_is (omega (arith, instructions_own)) enters)
               (follows_less {n = n} (omega arith) (follows_post (λ a t l lands. record { place = p.instructions.before + ends_block; instruction = return_code; stands = returns_stand.0; returns = refl; lands = lands }) (body.by s enters.matches (since_here injection s memory))));
@@ -177,5 +179,5 @@ module _ (u : TypedUnit) (o : Object) (is : IsProgramCode u o) (G : Image) (ps :
         types_valid = own_valid u variables;
       }
 
-  pub unit_simulates : IsValid u → HasDistinctNames G → (n : ℕ) → Simulates (own u) G p.unit (moved p.routines o.start) n (start_of n u) Bare
-  unit_simulates valid distinct n = start_simulates (own u) (own_types u) (own_declared u) valid.start distinct (scene_of valid.variables) n
+  pub unit_simulates : IsValid u → HasDistinctNames G → (call : Handler) → IsSteadyHandler call → (n : ℕ) → Simulates (own u) G p.unit (moved p.routines o.start) n (start_of call n u) Bare
+  unit_simulates valid distinct call steady_call n = start_simulates (own u) (own_types u) (own_declared u) valid.start distinct (scene_of valid.variables) call steady_call n

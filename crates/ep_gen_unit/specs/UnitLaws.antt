@@ -7,6 +7,8 @@ use Rattle.ep_object.specs.Scene.{Scene}
 use Rattle.ep_object.specs.Simulates.{Simulates}
 use Rattle.ep_object.specs.declared.code.Image.{Image}
 use Rattle.ep_object.specs.declared.code.Object.{Object}
+use Rattle.ep_typed.specs.Steady.{IsSteadyHandler}
+use Rattle.ep_typed.specs.Calls.{Handler}
 use Rattle.ep_typed.specs.Meaning.{start_of}
 use Rattle.ep_typed.specs.Steps.{Computation, give, spend}
 use Rattle.ep_typed.specs.Valid.{Declarations, IsStmt, IsValid, own}
@@ -22,18 +24,18 @@ AreDeclared declared unit number vs = (i : ℕ) (v : UnitVariable) → slice_get
 abbrev pub idle_stop : Computation (Unit {0})
 idle_stop = spend 1 (give tt)
 
--- Wherever the object of a valid unit stands in an image whose units have names of their own, its start routine simulates the meaning of the start, with any number of steps.
+-- Wherever the object of a valid unit stands in an image whose units have names of their own, its start routine simulates the meaning of the start, whatever calls do, with any number of steps.
 abbrev pub StartsAreSimulated : Type 0
 StartsAreSimulated =
     (u : TypedUnit) (o : Object) → IsProgramCode u o → IsValid u → (G : Image) (ps : List Placement) (p : Placement) → Stands G ps p o → HasDistinctNames G
-    → (n : ℕ) → Simulates (own u) G p.unit (moved p.routines o.start) n (start_of n u) Bare
+    → (call : Handler) → IsSteadyHandler call → (n : ℕ) → Simulates (own u) G p.unit (moved p.routines o.start) n (start_of call n u) Bare
 
 -- The same under any declarations that have the types and the variables of the unit, where all that is declared stands in the image and the block is valid under them.
 abbrev pub StartsAreSimulatedUnder : Type 0
 StartsAreSimulatedUnder =
     (declared : Declarations) (u : TypedUnit) (o : Object) → IsProgramCode u o → declared.types u.name ≡ u.types → AreDeclared declared u.name 0 u.variables → IsStmt declared (stmt_of u.start)
     → (G : Image) (ps : List Placement) (p : Placement) → Stands G ps p o → HasDistinctNames G → Scene declared G ps p o.texts
-    → (n : ℕ) → Simulates declared G p.unit (moved p.routines o.start) n (start_of n u) Bare
+    → (call : Handler) → IsSteadyHandler call → (n : ℕ) → Simulates declared G p.unit (moved p.routines o.start) n (start_of call n u) Bare
 
 -- Its stop routine simulates a stop that does nothing, under any declarations.
 abbrev pub StopsAreSimulated : Type 0

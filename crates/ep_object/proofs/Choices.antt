@@ -1,7 +1,7 @@
 -- Fragments of code that may end by an error, or go one of two ways.
 use Rattle.std.proofs.Common.{◌≡◌, ℕ, ℤ, zero, suc, ◌+◌, ◌≤◌, Bool, true, false, List, ◌∷◌, Option, Some, None, refl, sym, subst, arith}
 use Rattle.std.specs.Prelude.{if◌then◌else◌}
-use Rattle.ep_object.specs.Follows.{Follows, point, Facts, After, Lands, Fragment, Bare, OnTop, SameRoutine, Inside}
+use Rattle.ep_object.specs.Follows.{Follows, point, Facts, After, Lands, Fragment, Bare, OnTop, IsNotLeft, SameRoutine, Inside}
 use Rattle.ep_object.specs.Matching.{Memory, at, Injection, Matches, Slots, Grown}
 use Rattle.ep_object.specs.Operands.{Operand, Word}
 use Rattle.ep_object.specs.Runs.{outcome}
@@ -9,8 +9,9 @@ use Rattle.ep_object.specs.State.{State, Going, Running, Stopped, Error}
 use Rattle.ep_object.specs.declared.code.Image.{Image}
 use Rattle.ep_object.proofs.Bind.{Met, follows_paid, follows_stop, follows_give, follows_changed}
 use Rattle.ep_object.proofs.Fragments.{Does, FailsWith, landed, fragment_bind_number, fragment_bind_bare, fragment_less, fragment_waits, fragment_one, fragment_move, fragment_give, fragment_cut, fragment_stop}
-use Rattle.ep_object.proofs.Growing.{grown_trans, same_routine-refl, same_routine-trans, inside_here}
+use Rattle.ep_object.proofs.Growing.{grown_trans, not_left-here, same_routine-trans, inside_here}
 use Rattle.ep_typed.proofs.Steady.{steady_if, steady_bind, steady_spend, steady_give, steady_turns}
+use Rattle.ep_typed.specs.Calls.{Handler}
 use Rattle.ep_typed.specs.Events.{Trace}
 use Rattle.ep_typed.specs.Meaning.{answered, turns}
 use Rattle.ep_typed.specs.Operations.{Answer, Number, Fault, is_true}
@@ -37,24 +38,24 @@ fragment_fetch {A = A} {B = B} {declared = declared} {G = G} {Here = Here} {n = 
     read : Option A → Computation B
     read o = bind (found (meaning.Error number unit line) o) (λ a. spend 1 (give (f a)))
 
-    by_option : (s : meaning.State) (m : ℕ) (o : Option A) → h s ≡ o → Met (λ k. SameRoutine memory.frames k.frames) G (at place operands memory s.trace) m (λ a. Lands declared G Here to (P a)) d e (bind (found (meaning.Error number unit line) o) (λ a. spend 1 (give (f a))) m s) → Met (λ k. SameRoutine memory.frames k.frames) G (at place operands memory s.trace) m (λ a. Lands declared G Here to (P a)) d e (bind (fetch (meaning.Error number unit line) h) (λ a. spend 1 (give (f a))) m s)
-    by_option s m o q x = subst (λ y. Met (λ k. SameRoutine memory.frames k.frames) G (at place operands memory s.trace) m (λ a. Lands declared G Here to (P a)) d e (bind (found (meaning.Error number unit line) y) (λ a. spend 1 (give (f a))) m s)) (sym q) x
+    by_option : (s : meaning.State) (m : ℕ) (o : Option A) → h s ≡ o → Met (λ k. IsNotLeft memory.frames k.frames) G (at place operands memory s.trace) m (λ a. Lands declared G Here to (P a)) d e (bind (found (meaning.Error number unit line) o) (λ a. spend 1 (give (f a))) m s) → Met (λ k. IsNotLeft memory.frames k.frames) G (at place operands memory s.trace) m (λ a. Lands declared G Here to (P a)) d e (bind (fetch (meaning.Error number unit line) h) (λ a. spend 1 (give (f a))) m s)
+    by_option s m o q x = subst (λ y. Met (λ k. IsNotLeft memory.frames k.frames) G (at place operands memory s.trace) m (λ a. Lands declared G Here to (P a)) d e (bind (found (meaning.Error number unit line) y) (λ a. spend 1 (give (f a))) m s)) (sym q) x
 
-    missed : (s : meaning.State) → FailsWith G (at place operands memory s.trace) 0 number unit line s → Follows (λ k. SameRoutine memory.frames k.frames) G (suc n) (at place operands memory s.trace) s (stop {A = B} (meaning.Error number unit line)) (λ a. Lands declared G Here to (P a)) d e
-    missed s fails = follows_stop (same_routine-refl memory.frames) fails.fails le
+    missed : (s : meaning.State) → FailsWith G (at place operands memory s.trace) 0 number unit line s → Follows (λ k. IsNotLeft memory.frames k.frames) G (suc n) (at place operands memory s.trace) s (stop {A = B} (meaning.Error number unit line)) (λ a. Lands declared G Here to (P a)) d e
+    missed s fails = follows_stop (not_left-here memory.frames) fails.fails le
 
-    met : (s : meaning.State) (a : A) → Does declared G Here (at place operands memory s.trace) 0 to (P (f a)) s → Follows (λ k. SameRoutine memory.frames k.frames) G (suc n) (at place operands memory s.trace) s (spend 1 (give (f a))) (λ b. Lands declared G Here to (P b)) d e
+    met : (s : meaning.State) (a : A) → Does declared G Here (at place operands memory s.trace) 0 to (P (f a)) s → Follows (λ k. IsNotLeft memory.frames k.frames) G (suc n) (at place operands memory s.trace) s (spend 1 (give (f a))) (λ b. Lands declared G Here to (P b)) d e
     met s a does =
         let small : e (f a) ≤ d + 63 = le2 a in
-        follows_paid {v = 0} {w = 0} {d1 = d + 63} (same_routine-refl memory.frames) refl does.does (omega arith) (omega arith) (omega arith) (follows_give (f a) small (landed does))
+        follows_paid {v = 0} {w = 0} {d1 = d + 63} (not_left-here memory.frames) refl does.does (omega arith) (omega arith) (omega arith) (follows_give (f a) small (landed does))
 
-    go : (s : meaning.State) (m : ℕ) → m ≤ suc n → (o : Option A) → Reads declared G Here (at place operands memory s.trace) number unit line to (λ a. P (f a)) s o → Met (λ k. SameRoutine memory.frames k.frames) G (at place operands memory s.trace) m (λ a. Lands declared G Here to (P a)) d e (bind (found (meaning.Error number unit line) o) (λ a. spend 1 (give (f a))) m s)
+    go : (s : meaning.State) (m : ℕ) → m ≤ suc n → (o : Option A) → Reads declared G Here (at place operands memory s.trace) number unit line to (λ a. P (f a)) s o → Met (λ k. IsNotLeft memory.frames k.frames) G (at place operands memory s.trace) m (λ a. Lands declared G Here to (P a)) d e (bind (found (meaning.Error number unit line) o) (λ a. spend 1 (give (f a))) m s)
     go s m l o (Misses is fails) =
         let z = missed s fails in
-        subst (λ y. Met (λ k. SameRoutine memory.frames k.frames) G (at place operands memory s.trace) m (λ a. Lands declared G Here to (P a)) d e (bind (found (meaning.Error number unit line) y) (λ a. spend 1 (give (f a))) m s)) (sym is) (z.by m l)
+        subst (λ y. Met (λ k. IsNotLeft memory.frames k.frames) G (at place operands memory s.trace) m (λ a. Lands declared G Here to (P a)) d e (bind (found (meaning.Error number unit line) y) (λ a. spend 1 (give (f a))) m s)) (sym is) (z.by m l)
     go s m l o (Finds a is does) =
         let z = met s a does in
-        subst (λ y. Met (λ k. SameRoutine memory.frames k.frames) G (at place operands memory s.trace) m (λ a. Lands declared G Here to (P a)) d e (bind (found (meaning.Error number unit line) y) (λ a. spend 1 (give (f a))) m s)) (sym is) (z.by m l)
+        subst (λ y. Met (λ k. IsNotLeft memory.frames k.frames) G (at place operands memory s.trace) m (λ a. Lands declared G Here to (P a)) d e (bind (found (meaning.Error number unit line) y) (λ a. spend 1 (give (f a))) m s)) (sym is) (z.by m l)
 
 -- ---- an answer
 
@@ -64,11 +65,11 @@ going_of to below memory unit line trace (Number z) = Running 0 (at to (Word z �
 going_of to below memory unit line trace (Fault error) = Stopped (Error error unit line) trace
 
 -- one instruction, with the step of the form
-pub fragment_answer : {B : Type 0} {declared : Declarations} {G : Image} {Here : Facts} {n : ℕ} {injection : Injection} {memory : Memory} {place to : ℕ} {operands : List Operand} {P : B → After} {d : ℕ} {e : B → ℕ} (g : ℕ) (unit : List ℕ) (line : ℕ) (below : List Operand) (a : Answer) (f : ℤ → B) → ((s : meaning.State) → Matches declared G injection s memory → outcome G (at place operands memory s.trace) ≡ record { weight = 0; to = going_of to below memory unit line s.trace a }) → ((z : ℤ) → a ≡ Number z → P (f z) injection memory (Word z ∷ below)) → 1 ≤ d → ((z : ℤ) → e (f z) ≤ d + 63) → Fragment declared G Here (suc n) (point injection memory place operands) (bind (answered g unit line a) (λ z. spend 1 (give (f z)))) to P d e
-fragment_answer {d = d} {e = e} g unit line below (Number z) f does post le le2 =
+pub fragment_answer : {B : Type 0} {declared : Declarations} {G : Image} {Here : Facts} {n : ℕ} {injection : Injection} {memory : Memory} {place to : ℕ} {operands : List Operand} {P : B → After} {d : ℕ} {e : B → ℕ} (call : Handler) (g : ℕ) (unit : List ℕ) (line : ℕ) (below : List Operand) (a : Answer) (f : ℤ → B) → ((s : meaning.State) → Matches declared G injection s memory → outcome G (at place operands memory s.trace) ≡ record { weight = 0; to = going_of to below memory unit line s.trace a }) → ((z : ℤ) → a ≡ Number z → P (f z) injection memory (Word z ∷ below)) → 1 ≤ d → ((z : ℤ) → e (f z) ≤ d + 63) → Fragment declared G Here (suc n) (point injection memory place operands) (bind (answered call g unit line a) (λ z. spend 1 (give (f z)))) to P d e
+fragment_answer {d = d} {e = e} call g unit line below (Number z) f does post le le2 =
     let small : e (f z) ≤ d + 63 = le2 z in
     fragment_one {d1 = d + 63} does (omega arith) (fragment_give small (post z refl))
-fragment_answer g unit line below (Fault error) f does post le le2 = fragment_stop does le
+fragment_answer call g unit line below (Fault error) f does post le le2 = fragment_stop does le
 
 -- ---- a change of the state that is checked first
 
@@ -77,19 +78,19 @@ pub fragment_checked : {declared : Declarations} {G : Image} {Here : Facts} {n :
 fragment_checked {declared = declared} {G = G} {Here = Here} {n = n} {injection = injection} {memory = memory} {place = place} {to = to} {operands = operands} {P = P} {d = d} {e = e} {number = number} {line = line} {unit = unit} b f passes refuses le le2 =
     record { by = λ s matches here. record { by = λ m l. go s matches here m l (b s) refl } }
   where
-    holds : (s : meaning.State) → Does declared G Here (at place operands memory s.trace) 0 to (P tt) (f s) → Follows (λ k. SameRoutine memory.frames k.frames) G (suc n) (at place operands memory s.trace) s (spend 1 (change f)) (λ a. Lands declared G Here to (P a)) d e
-    holds s does = follows_paid {v = 0} {w = 0} {d1 = d + 63} (same_routine-refl memory.frames) refl does.does (omega arith) (omega arith) (omega arith) (follows_changed {n = n} f {P = λ a. Lands declared G Here to (P a)} {d = d + 63} {e = e} le2 (landed does))
+    holds : (s : meaning.State) → Does declared G Here (at place operands memory s.trace) 0 to (P tt) (f s) → Follows (λ k. IsNotLeft memory.frames k.frames) G (suc n) (at place operands memory s.trace) s (spend 1 (change f)) (λ a. Lands declared G Here to (P a)) d e
+    holds s does = follows_paid {v = 0} {w = 0} {d1 = d + 63} (not_left-here memory.frames) refl does.does (omega arith) (omega arith) (omega arith) (follows_changed {n = n} f {P = λ a. Lands declared G Here to (P a)} {d = d + 63} {e = e} le2 (landed does))
 
-    fails : (s : meaning.State) → FailsWith G (at place operands memory s.trace) 0 number unit line s → Follows (λ k. SameRoutine memory.frames k.frames) G (suc n) (at place operands memory s.trace) s (stop {A = Unit {0}} (meaning.Error number unit line)) (λ a. Lands declared G Here to (P a)) d e
-    fails s x = follows_stop (same_routine-refl memory.frames) x.fails le
+    fails : (s : meaning.State) → FailsWith G (at place operands memory s.trace) 0 number unit line s → Follows (λ k. IsNotLeft memory.frames k.frames) G (suc n) (at place operands memory s.trace) s (stop {A = Unit {0}} (meaning.Error number unit line)) (λ a. Lands declared G Here to (P a)) d e
+    fails s x = follows_stop (not_left-here memory.frames) x.fails le
 
-    go : (s : meaning.State) → Matches declared G injection s memory → Here injection s memory → (m : ℕ) → m ≤ suc n → (x : Bool) → b s ≡ x → Met (λ k. SameRoutine memory.frames k.frames) G (at place operands memory s.trace) m (λ a. Lands declared G Here to (P a)) d e ((if b s then spend 1 (change f) else stop (meaning.Error number unit line)) m s)
+    go : (s : meaning.State) → Matches declared G injection s memory → Here injection s memory → (m : ℕ) → m ≤ suc n → (x : Bool) → b s ≡ x → Met (λ k. IsNotLeft memory.frames k.frames) G (at place operands memory s.trace) m (λ a. Lands declared G Here to (P a)) d e ((if b s then spend 1 (change f) else stop (meaning.Error number unit line)) m s)
     go s matches here m l true q =
         let z = holds s (passes s matches here q) in
-        subst (λ y. Met (λ k. SameRoutine memory.frames k.frames) G (at place operands memory s.trace) m (λ a. Lands declared G Here to (P a)) d e ((if y then spend 1 (change f) else stop (meaning.Error number unit line)) m s)) (sym q) (z.by m l)
+        subst (λ y. Met (λ k. IsNotLeft memory.frames k.frames) G (at place operands memory s.trace) m (λ a. Lands declared G Here to (P a)) d e ((if y then spend 1 (change f) else stop (meaning.Error number unit line)) m s)) (sym q) (z.by m l)
     go s matches here m l false q =
         let z = fails s (refuses s matches q) in
-        subst (λ y. Met (λ k. SameRoutine memory.frames k.frames) G (at place operands memory s.trace) m (λ a. Lands declared G Here to (P a)) d e ((if y then spend 1 (change f) else stop (meaning.Error number unit line)) m s)) (sym q) (z.by m l)
+        subst (λ y. Met (λ k. IsNotLeft memory.frames k.frames) G (at place operands memory s.trace) m (λ a. Lands declared G Here to (P a)) d e ((if y then spend 1 (change f) else stop (meaning.Error number unit line)) m s)) (sym q) (z.by m l)
 
 -- ---- one of two ways
 
@@ -102,17 +103,17 @@ fragment_branch false does le then_way else_way = fragment_waits does le (else_w
 
 -- At `place` stands the test and behind it, at `test_end`, the instruction that leads out of the loop; the body is from
 -- `body_place` to `body_end`, where an instruction leads back.
-pub fragment_turns : {untouched : Slots} {declared : Declarations} {G : Image} {Here : Facts} {n : ℕ} {place test_end body_place body_end to : ℕ} {below : List Operand} {test : Computation Result} {body : Computation (Unit {0})} (h : ℕ) (unit : List ℕ) (d : ℕ) → Steady test → Steady body → (first : Injection) (start : Memory) →
+pub fragment_turns : {untouched : Slots} {declared : Declarations} {G : Image} {Here : Facts} {n : ℕ} {place test_end body_place body_end to : ℕ} {below : List Operand} {test : Computation Result} {body : Computation (Unit {0})} (call : Handler) (h : ℕ) (unit : List ℕ) (d : ℕ) → Steady test → Steady body → (first : Injection) (start : Memory) →
     ((injection : Injection) (memory : Memory) → Grown untouched first start injection memory → SameRoutine start.frames memory.frames → Fragment declared G Here n (point injection memory place below) test test_end (λ r. Inside untouched injection memory (OnTop (kind.Ordinal host.Boolean) below r)) d (λ r. d + 2)) →
     ((z : ℤ) (memory : Memory) (trace : Trace) → SameRoutine start.frames memory.frames → outcome G (at test_end (Word z ∷ below) memory trace) ≡ record { weight = 0; to = Running 0 (at (if is_true z then body_place else to) below memory trace) }) →
     ((injection : Injection) (memory : Memory) → Grown untouched first start injection memory → SameRoutine start.frames memory.frames → Fragment declared G Here n (point injection memory body_place below) body body_end (λ a. Inside untouched injection memory (Bare below a)) (d + 1) (λ a. d + 1)) →
     ((memory : Memory) (trace : Trace) → SameRoutine start.frames memory.frames → outcome G (at body_end below memory trace) ≡ record { weight = 0; to = Running 0 (at place below memory trace) }) →
-    (k : ℕ) → k ≤ n → (injection : Injection) (memory : Memory) → Grown untouched first start injection memory → SameRoutine start.frames memory.frames → Fragment declared G Here k (point injection memory place below) (turns h unit k test body) to (λ a. Inside untouched injection memory (Bare below a)) d (λ a. d)
-fragment_turns h unit d steady_test steady_body first start tests leads_out bodies leads_back zero le injection memory grown routine = fragment_cut
-fragment_turns h unit d steady_test steady_body first start tests leads_out bodies leads_back (suc k) le injection memory grown routine =
-    fragment_bind_number {e = λ r. d + 2} (λ r. steady_if (is_true (number_of r)) (steady_bind steady_body (λ a. steady_spend 1 (steady_turns h k unit steady_test steady_body))) (steady_spend 1 (steady_give tt))) (fragment_less le (tests injection memory grown routine)) (λ z v1 m1 of_host grown1 routine1.
+    (k : ℕ) → k ≤ n → (injection : Injection) (memory : Memory) → Grown untouched first start injection memory → SameRoutine start.frames memory.frames → Fragment declared G Here k (point injection memory place below) (turns call h unit k test body) to (λ a. Inside untouched injection memory (Bare below a)) d (λ a. d)
+fragment_turns call h unit d steady_test steady_body first start tests leads_out bodies leads_back zero le injection memory grown routine = fragment_cut
+fragment_turns call h unit d steady_test steady_body first start tests leads_out bodies leads_back (suc k) le injection memory grown routine =
+    fragment_bind_number {e = λ r. d + 2} (λ r. steady_if (is_true (number_of r)) (steady_bind steady_body (λ a. steady_spend 1 (steady_turns call h k unit steady_test steady_body))) (steady_spend 1 (steady_give tt))) (fragment_less le (tests injection memory grown routine)) (λ z v1 m1 of_host grown1 routine1.
     fragment_branch {d1 = d + 1} (is_true z) (λ s matches. leads_out z m1 s.trace (same_routine-trans routine routine1)) (omega arith)
-    (λ is. fragment_bind_bare {e = λ a. d + 1} (λ a. steady_spend 1 (steady_turns h k unit steady_test steady_body)) (fragment_less le (bodies v1 m1 (grown_trans grown grown1) (same_routine-trans routine routine1))) (λ a v2 m2 grown2 routine2.
+    (λ is. fragment_bind_bare {e = λ a. d + 1} (λ a. steady_spend 1 (steady_turns call h k unit steady_test steady_body)) (fragment_less le (bodies v1 m1 (grown_trans grown grown1) (same_routine-trans routine routine1))) (λ a v2 m2 grown2 routine2.
     fragment_one {d1 = d} (λ s matches. leads_back m2 s.trace (same_routine-trans routine (same_routine-trans routine1 routine2))) (omega arith)
-    (fragment_turns h unit d steady_test steady_body first start tests leads_out bodies leads_back k (omega arith) v2 m2 (grown_trans grown (grown_trans grown1 grown2)) (same_routine-trans routine (same_routine-trans routine1 routine2)))))
+    (fragment_turns call h unit d steady_test steady_body first start tests leads_out bodies leads_back k (omega arith) v2 m2 (grown_trans grown (grown_trans grown1 grown2)) (same_routine-trans routine (same_routine-trans routine1 routine2)))))
     (λ is. fragment_move {d1 = d} (omega arith) (fragment_give (omega arith) (inside_here refl))))

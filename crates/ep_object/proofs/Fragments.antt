@@ -8,7 +8,7 @@ use Rattle.ep_object.specs.State.{State, Running, Stopped, Error}
 use Rattle.ep_object.specs.declared.code.Image.{Image}
 use Rattle.ep_object.specs.declared.state.Place.{Place as PlaceOf}
 use Rattle.ep_object.proofs.Bind.{follows_bind, follows_less, follows_weaken, follows_wider, follows_credit, follows_from, follows_waits, follows_paid, follows_moves, follows_give, follows_changed, follows_cut, follows_stop}
-use Rattle.ep_object.proofs.Growing.{inside_later, same_routine-refl, same_routine-trans}
+use Rattle.ep_object.proofs.Growing.{inside_later, not_left-here, not_left-after}
 use Rattle.ep_typed.specs.Printing.{Result}
 use Rattle.ep_typed.specs.Printing as result
 use Rattle.ep_typed.specs.Steady.{Steady}
@@ -28,7 +28,7 @@ fragment_bind steady first second =
       by = λ s matches here. follows_bind steady (first.by s matches here) (λ a s1 k1 lands.
           let next = second a lands.injection lands.memory lands.operands lands.post in
           let fragment = next.1 in
-          follows_from lands.is (follows_wider (λ k same. same_routine-trans next.0 same) (fragment.by s1 lands.matches lands.here)));
+          follows_from lands.is (follows_wider (λ k same. not_left-after next.0 same) (fragment.by s1 lands.matches lands.here)));
     }
 
 module _ {A : Type 0} {declared : Declarations} {G : Image} {Here : Facts} {c : Computation A} where
@@ -120,12 +120,12 @@ module _ {A : Type 0} {declared : Declarations} {G : Image} {Here : Facts} {c : 
   -- an instruction without a step, which leaves memory as it is and costs its ticks
   pub fragment_waits : {n : ℕ} {injection : Injection} {memory : Memory} {place place1 d d1 weight : ℕ} {operands operands1 : List Operand} → ((s : meaning.State) → Matches declared G injection s memory → outcome G (at place operands memory s.trace) ≡ record { weight = weight; to = Running 0 (at place1 operands1 memory s.trace) }) → suc weight + d1 ≤ d → Fragment declared G Here n (point injection memory place1 operands1) c to P d1 e → Fragment declared G Here n (point injection memory place operands) c to P d e
   fragment_waits {memory = memory} {d1 = d1} {weight = weight} does le h =
-      record { by = λ s matches here. follows_credit {d = suc weight + d1} {e = e} le (λ a. omega arith) (follows_waits (same_routine-refl memory.frames) (does s matches) (h.by s matches here)) }
+      record { by = λ s matches here. follows_credit {d = suc weight + d1} {e = e} le (λ a. omega arith) (follows_waits (not_left-here memory.frames) (does s matches) (h.by s matches here)) }
 
   -- an instruction with steps, which leaves memory as it is
   pub fragment_paid : {n : ℕ} {injection : Injection} {memory : Memory} {place place1 d d1 weight w : ℕ} {operands operands1 : List Operand} → ((s : meaning.State) → Matches declared G injection s memory → outcome G (at place operands memory s.trace) ≡ record { weight = weight; to = Running 0 (at place1 operands1 memory s.trace) }) → w ≤ 64 * weight + d → suc w + d1 ≤ 64 * suc weight + d → suc weight + d1 ≤ 64 * suc w + d → Fragment declared G Here n (point injection memory place1 operands1) c to P d1 e → Fragment declared G Here (suc n) (point injection memory place operands) (spend (suc w) c) to P d e
   fragment_paid {memory = memory} does inside slow fast h =
-      record { by = λ s matches here. follows_paid (same_routine-refl memory.frames) refl (does s matches) inside slow fast (h.by s matches here) }
+      record { by = λ s matches here. follows_paid (not_left-here memory.frames) refl (does s matches) inside slow fast (h.by s matches here) }
 
   -- one instruction of one tick, with one step
   pub fragment_one : {n : ℕ} {injection : Injection} {memory : Memory} {place place1 d d1 : ℕ} {operands operands1 : List Operand} → ((s : meaning.State) → Matches declared G injection s memory → outcome G (at place operands memory s.trace) ≡ record { weight = 0; to = Running 0 (at place1 operands1 memory s.trace) }) → d1 ≤ d + 63 → Fragment declared G Here n (point injection memory place1 operands1) c to P d1 e → Fragment declared G Here (suc n) (point injection memory place operands) (spend 1 c) to P d e
@@ -135,7 +135,7 @@ module _ {A : Type 0} {declared : Declarations} {G : Image} {Here : Facts} {c : 
   -- steps without an instruction, which cost their number
   pub fragment_moves : {n : ℕ} (w : ℕ) {injection : Injection} {memory : Memory} {place d d1 : ℕ} {operands : List Operand} → w + d1 ≤ d → Fragment declared G Here n (point injection memory place operands) c to P d1 e → Fragment declared G Here (w + n) (point injection memory place operands) (spend w c) to P d e
   fragment_moves w {memory = memory} {d1 = d1} le h =
-      record { by = λ s matches here. follows_credit {d = w + d1} {e = e} le (λ a. omega arith) (follows_moves w (same_routine-refl memory.frames) refl (h.by s matches here)) }
+      record { by = λ s matches here. follows_credit {d = w + d1} {e = e} le (λ a. omega arith) (follows_moves w (not_left-here memory.frames) refl (h.by s matches here)) }
 
   -- one step without an instruction
   pub fragment_move : {n : ℕ} {injection : Injection} {memory : Memory} {place d d1 : ℕ} {operands : List Operand} → 1 + d1 ≤ d → Fragment declared G Here n (point injection memory place operands) c to P d1 e → Fragment declared G Here (suc n) (point injection memory place operands) (spend 1 c) to P d e
@@ -148,11 +148,11 @@ fragment_give {injection = injection} {memory = memory} {operands = operands} {a
 
 -- no step is left
 pub fragment_cut : {A : Type 0} {declared : Declarations} {G : Image} {Here : Facts} {injection : Injection} {memory : Memory} {place to : ℕ} {operands : List Operand} {P : A → After} {d : ℕ} {e : A → ℕ} → Fragment declared G Here 0 (point injection memory place operands) cut to P d e
-fragment_cut {memory = memory} = record { by = λ s matches here. follows_cut (same_routine-refl memory.frames) refl }
+fragment_cut {memory = memory} = record { by = λ s matches here. follows_cut (not_left-here memory.frames) refl }
 
 -- an instruction that ends the run
 pub fragment_stop : {A : Type 0} {declared : Declarations} {G : Image} {Here : Facts} {n : ℕ} {injection : Injection} {memory : Memory} {place to weight : ℕ} {operands : List Operand} {x : meaning.End} {P : A → After} {d : ℕ} {e : A → ℕ} → ((s : meaning.State) → Matches declared G injection s memory → outcome G (at place operands memory s.trace) ≡ record { weight = weight; to = Stopped (end_of x) s.trace }) → suc weight ≤ d → Fragment declared G Here n (point injection memory place operands) (stop x) to P d e
-fragment_stop {memory = memory} does le = record { by = λ s matches here. follows_stop (same_routine-refl memory.frames) (does s matches) le }
+fragment_stop {memory = memory} does le = record { by = λ s matches here. follows_stop (not_left-here memory.frames) (does s matches) le }
 
 module _ {declared : Declarations} {G : Image} {Here : Facts} {n : ℕ} {injection : Injection} {memory : Memory} {place to weight : ℕ} {operands : List Operand} {P : Unit {0} → After} {d : ℕ} {e : Unit {0} → ℕ} where
   -- an instruction that changes the state, with steps; what events it has come with its last tick
@@ -161,7 +161,7 @@ module _ {declared : Declarations} {G : Image} {Here : Facts} {n : ℕ} {injecti
       record {
         by = λ s matches here.
             let x = does s matches here in
-            follows_paid (same_routine-refl memory.frames) refl x.does inside slow fast (follows_changed {n = n} f {P = λ a. Lands declared G Here to (P a)} {d = e tt} {e = e} (omega arith) (landed x));
+            follows_paid (not_left-here memory.frames) refl x.does inside slow fast (follows_changed {n = n} f {P = λ a. Lands declared G Here to (P a)} {d = e tt} {e = e} (omega arith) (landed x));
       }
 
   -- an instruction that changes the state, without a step
@@ -170,5 +170,5 @@ module _ {declared : Declarations} {G : Image} {Here : Facts} {n : ℕ} {injecti
       record {
         by = λ s matches here.
             let x = does s matches here in
-            follows_credit {d = suc weight + e tt} {e = e} le (λ a. omega arith) (follows_waits (same_routine-refl memory.frames) x.does (follows_changed {n = n} f {P = λ a. Lands declared G Here to (P a)} {d = e tt} {e = e} (omega arith) (landed x)));
+            follows_credit {d = suc weight + e tt} {e = e} le (λ a. omega arith) (follows_waits (not_left-here memory.frames) x.does (follows_changed {n = n} f {P = λ a. Lands declared G Here to (P a)} {d = e tt} {e = e} (omega arith) (landed x)));
       }

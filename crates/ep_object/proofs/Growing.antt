@@ -1,7 +1,7 @@
 -- Memory grows while a routine runs.
 use Rattle.std.proofs.Common.{◌≡◌, ℕ, zero, suc, ◌≤◌, ◌<◌, ◌⊎◌, inl, inr, List, [], ◌∷◌, ◌++◌, length, Option, Some, slice_get, refl, sym, ap, ◌∙◌, subst, arith}
 use Rattle.std.proofs.lemmas.Option.{slice_get_within}
-use Rattle.ep_object.specs.Follows.{Facts, HasGrown, Lasts, Since, SameRoutine, Inside, Operands}
+use Rattle.ep_object.specs.Follows.{Facts, IsNotLeft, HasGrown, Lasts, Since, SameRoutine, Inside, Operands}
 use Rattle.ep_typed.specs.Steps as meaning
 use Rattle.ep_object.specs.Matching.{Memory, Injection, IsIn, IsPlaceOf, Describes, Slots, Grown}
 use Rattle.ep_object.specs.Operands.{Operand}
@@ -104,6 +104,14 @@ same_routine-refl frames = record { turn = refl; routine = refl; unit = refl }
 -- and the same as one that is the same
 pub same_routine-trans : {a b c : Frames} → SameRoutine a b → SameRoutine b c → SameRoutine a c
 same_routine-trans p q = record { turn = q.turn ∙ p.turn; routine = q.routine ∙ p.routine; unit = q.unit ∙ p.unit }
+
+-- a routine that has just been entered is not left
+pub not_left-here : (frames : Frames) → IsNotLeft frames frames
+not_left-here frames = record { runs = same_routine-refl frames }
+
+-- nor is one while it runs, or after that while it is not left
+pub not_left-after : {a b c : Frames} → SameRoutine a b → IsNotLeft b c → IsNotLeft a c
+not_left-after p q = record { runs = same_routine-trans p q.runs }
 
 -- while the same routine runs, errors tell the same unit
 pub unit_in-same : (G : Image) {before after : Frames} → SameRoutine before after → unit_in G after ≡ unit_in G before

@@ -19,6 +19,7 @@ pub mod Making
 pub mod NewTypes
 pub mod Pieces
 pub mod PlaceRows
+pub mod Promising
 pub mod Rows
 pub mod Simulating
 mod Spinning

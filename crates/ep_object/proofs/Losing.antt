@@ -1,12 +1,12 @@
 -- Fragments of code that may end for want of room.
 use Rattle.std.proofs.Common.{◌≡◌, ℕ, suc, ◌+◌, ◌*◌, ◌≤◌, ◌⊎◌, inl, inr, List, sym, arith}
-use Rattle.ep_object.specs.Follows.{GivesUp, Follows, point, Facts, Fragment, After, Lands, SameRoutine}
+use Rattle.ep_object.specs.Follows.{GivesUp, Follows, point, Facts, Fragment, After, Lands, IsNotLeft}
 use Rattle.ep_object.specs.Matching.{Memory, at, Injection, Matches}
 use Rattle.ep_object.specs.Operands.{Operand}
 use Rattle.ep_object.specs.declared.code.Image.{Image}
 use Rattle.ep_object.proofs.Bind.{follows_paid, follows_give, follows_counted, follows_gives_up}
 use Rattle.ep_object.proofs.Fragments.{Does, landed}
-use Rattle.ep_object.proofs.Growing.{same_routine-refl}
+use Rattle.ep_object.proofs.Growing.{not_left-here}
 use Rattle.ep_typed.proofs.Steady.{steady_bind, steady_give, steady_spend, steady_change}
 use Rattle.ep_typed.specs.Steady.{Grows}
 use Rattle.ep_typed.specs.Steps.{give, bind, spend, change}
@@ -20,6 +20,6 @@ pub fragment_counted : {A : Type 0} {declared : Declarations} {G : Image} {Here 
     → 1 ≤ d → w ≤ 64 * weight + d → suc w + e a ≤ 64 * suc weight + d → suc weight + e a ≤ 64 * suc w + d → Fragment declared G Here (suc n) (point injection memory place operands) (bind (change count) (λ _. spend (suc w) (bind (change f) (λ _. give a)))) to P d e
 fragment_counted {A = A} {declared = declared} {G = G} {Here = Here} {n = n} {injection = injection} {memory = memory} {place = place} {to = to} {weight = weight} {operands = operands} {P = P} {d = d} {e = e} w count f a quiet grows does enough inside slow fast = record { by = λ s matches here. follows_counted count (go s (does s matches here)) }
   where
-    go : (s : meaning.State) → Does declared G Here (at place operands memory s.trace) weight to (P a) (f (count s)) ⊎ GivesUp G (at place operands memory s.trace) 0 1 (count s) → Follows (λ k. SameRoutine memory.frames k.frames) G (suc n) (at place operands memory s.trace) (count s) (spend (suc w) (bind (change f) (λ _. give a))) (λ b. Lands declared G Here to (P b)) d e
-    go s (inl x) = follows_paid {v = weight} {w = w} {d1 = e a} (same_routine-refl memory.frames) (sym (quiet s)) x.does inside slow fast (follows_counted f (follows_give a (omega arith) (landed x)))
+    go : (s : meaning.State) → Does declared G Here (at place operands memory s.trace) weight to (P a) (f (count s)) ⊎ GivesUp G (at place operands memory s.trace) 0 1 (count s) → Follows (λ k. IsNotLeft memory.frames k.frames) G (suc n) (at place operands memory s.trace) (count s) (spend (suc w) (bind (change f) (λ _. give a))) (λ b. Lands declared G Here to (P b)) d e
+    go s (inl x) = follows_paid {v = weight} {w = w} {d1 = e a} (not_left-here memory.frames) (sym (quiet s)) x.does inside slow fast (follows_counted f (follows_give a (omega arith) (landed x)))
     go s (inr x) = follows_gives_up (steady_spend (suc w) (steady_bind (steady_change grows) (λ _. steady_give a))) enough x

@@ -6,7 +6,7 @@ use Rattle.ep_typed.specs.Steps.{Outcome, Gives, Ends, Cut, Computation, spend, 
 use Rattle.ep_typed.specs.Steps as meaning
 use Rattle.ep_typed.specs.Valid.{Declarations}
 use Rattle.ep_object.specs.Effects.{Work}
-use Rattle.ep_object.specs.Follows.{end_of, Reaches, EndsToo, RunsOn, Follows, Operands, SameRoutine}
+use Rattle.ep_object.specs.Follows.{end_of, Reaches, EndsToo, RunsOn, Follows, Operands, IsNotLeft}
 use Rattle.ep_object.specs.Laws.{IsRunning}
 use Rattle.ep_object.specs.Matching.{Memory, Injection}
 use Rattle.ep_object.specs.Operands.{Operand}
@@ -15,14 +15,14 @@ use Rattle.ep_object.specs.Simulates.{routine_credit, Enters, Leaves, Simulates,
 use Rattle.ep_object.specs.State.{State, Frames, Going, Running, Stopped}
 use Rattle.ep_object.specs.declared.code.Image.{Image}
 use Rattle.ep_object.proofs.Bind.{one_state, stays_wider, stays_here, stays_join, Met, gives_up_weaken, follows_moves, run_instruction}
-use Rattle.ep_object.proofs.Growing.{before_or_not, same_routine-refl}
+use Rattle.ep_object.proofs.Growing.{before_or_not, not_left-here}
 use Rattle.ep_object.proofs.Grows.{is_prefix, prefix_then, run_grows}
 use Rattle.ep_object.proofs.Tells.{running_before, events_between, ends_after}
 use Rattle.ep_object.proofs.Views.{runs_extend}
 
 module _ (G : Image) (k : State) where
   -- a run that still goes on stays in the routine at a tick at which all its states are in it
-  stays_in : (t u wait : ℕ) (last : State) (trace : Trace) → t ≤ u → run G u 0 k ≡ Running wait last → ((v : ℕ) (s : State) → run G t 0 k ≡ Running v s → SameRoutine k.frames s.frames) → IsPrefix last.trace trace → StaysIn G k t trace
+  pub stays_in : (t u wait : ℕ) (last : State) (trace : Trace) → t ≤ u → run G u 0 k ≡ Running wait last → ((v : ℕ) (s : State) → run G t 0 k ≡ Running v s → IsNotLeft k.frames s.frames) → IsPrefix last.trace trace → StaysIn G k t trace
   stays_in t u wait last trace le runs same begins = go (run G t 0 k) refl
     where
       go : (g : Going) → run G t 0 k ≡ g → StaysIn G k t trace
@@ -39,7 +39,7 @@ module _ (G : Image) (k : State) where
 module _ {A : Type 0} {declared : Declarations} {G : Image} {unit routine n : ℕ} {c : Computation A} {Results : List Operand → A → Operands} (sim : Simulates declared G unit routine n c Results) (injection : Injection) (memory : Memory) (below : List Operand) (s : meaning.State) (k : State) (enters : Enters declared G unit routine injection memory below s k) where
   -- in the routine that is entered
   abbrev In : State → Type 0
-  In l = SameRoutine memory.frames l.frames
+  In l = IsNotLeft memory.frames l.frames
 
   in_frames : k.frames ≡ memory.frames
   in_frames = ap (λ (l : State). l.frames) enters.is
@@ -47,15 +47,15 @@ module _ {A : Type 0} {declared : Declarations} {G : Image} {unit routine n : �
   in_trace : k.trace ≡ s.trace
   in_trace = ap (λ (l : State). l.trace) enters.is
 
-  from_entry : (l : State) → In l → SameRoutine k.frames l.frames
-  from_entry l same = subst (λ f. SameRoutine f l.frames) (sym in_frames) same
+  from_entry : (l : State) → In l → IsNotLeft k.frames l.frames
+  from_entry l same = subst (λ f. IsNotLeft f l.frames) (sym in_frames) same
 
   -- where it is left it is still the routine
   is_left : (a : A) (t : meaning.State) (l : State) → Leaves declared G injection s memory (Results below a) t l → In l
-  is_left a t l post = let lands = post.lands in subst (λ (l : State). SameRoutine memory.frames l.frames) (sym lands.is) lands.post.routine
+  is_left a t l post = let lands = post.lands in subst (λ (l : State). IsNotLeft memory.frames l.frames) (sym lands.is) (record { runs = lands.post.routine })
 
   at_home : In k
-  at_home = subst (λ (f : Frames). SameRoutine memory.frames f) (sym in_frames) (same_routine-refl memory.frames)
+  at_home = subst (λ (f : Frames). IsNotLeft memory.frames f) (sym in_frames) (not_left-here memory.frames)
 
   -- where the body gives a value the routine is left
   leaves : (m left : ℕ) (a : A) (t : meaning.State) → Reaches In G k m left routine_credit routine_credit (Leaves declared G injection s memory (Results below a) t) → (spent : ℕ) → left + spent ≡ suc m → LeavesAfter declared G injection s memory (Results below a) k t spent

@@ -132,6 +132,10 @@ pub record SameRoutine (before after : Frames) : Type 0 where
   pub routine : after.routine ≡ before.routine
   pub unit : after.unit ≡ before.unit
 
+-- The routine that ran is not left: it runs. A routine that it calls runs within it, once there are calls.
+pub record IsNotLeft (before now : Frames) : Type 0 where
+  pub runs : SameRoutine before now
+
 -- The calls under way are the same, memory has grown and these slots are untouched, and the same routine runs.
 pub record HasGrown (untouched : Slots) (injection : Injection) (s : meaning.State) (memory : Memory) (longer : Injection) (t : meaning.State) (after : Memory) : Type 0 where
   pub grown : Grown untouched injection memory longer after
@@ -146,11 +150,11 @@ pub record Lasts (untouched : Slots) (Here : Facts) : Type 0 where
 abbrev pub Since : Slots → Injection → meaning.State → Memory → Facts
 Since untouched injection s memory longer t after = HasGrown untouched injection s memory longer t after
 
--- From a point at which the facts of the activation hold, the machine follows the computation within the same routine to
+-- From a point at which the facts of the activation hold, the machine follows the computation, without leaving the routine, to
 -- a place of the code at which they hold again, and this does.
 pub record Fragment {A : Type 0} (declared : Declarations) (G : Image) (Here : Facts) (n : ℕ) (from : Point) (c : Computation A) (to : ℕ) (Post : A → After) (d : ℕ) (e : A → ℕ) : Type 0 where
   pub by : (s : meaning.State) → Matches declared G from.injection s from.memory → Here from.injection s from.memory
-      → Follows (λ k. SameRoutine from.memory.frames k.frames) G n (state_at from s.trace) s c (λ a. Lands declared G Here to (Post a)) d e
+      → Follows (λ k. IsNotLeft from.memory.frames k.frames) G n (state_at from s.trace) s c (λ a. Lands declared G Here to (Post a)) d e
 
 -- ---- what holds after the code of a form
 

@@ -7,6 +7,7 @@ pub mod Matching
 pub mod Operands
 pub mod Places
 pub mod Placing
+pub mod Promises
 pub mod Runs
 pub mod Scene
 pub mod Simulates

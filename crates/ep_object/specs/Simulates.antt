@@ -7,7 +7,7 @@ use Rattle.ep_typed.specs.Steps.{Outcome, Gives, Ends, Cut, Computation, spend, 
 use Rattle.ep_typed.specs.Steps as meaning
 use Rattle.ep_typed.specs.Valid.{Declarations, Kind}
 use Rattle.ep_object.specs.Effects.{Returns, light}
-use Rattle.ep_object.specs.Follows.{end_of, Follows, GivesUp, Since, Lands, Operands, Bare, OnTop, SameRoutine, Inside}
+use Rattle.ep_object.specs.Follows.{end_of, Follows, GivesUp, Since, Lands, Operands, Bare, OnTop, IsNotLeft, Inside}
 use Rattle.ep_object.specs.Laws.{EndsAt}
 use Rattle.ep_object.specs.Matching.{Memory, at, Injection, Matches, is_hidden_slot}
 use Rattle.ep_object.specs.Operands.{Operand}
@@ -47,7 +47,7 @@ pub record Simulates {A : Type 0} (declared : Declarations) (G : Image) (unit ro
   pub body : Computation A
   pub called : c ≡ spend 1 body
   pub follows : (m : ℕ) → m < n → (injection : Injection) (memory : Memory) (below : List Operand) (s : meaning.State) (k : State) → Enters declared G unit routine injection memory below s k
-      → Follows (λ l. SameRoutine memory.frames l.frames) G m k s body (λ a. Leaves declared G injection s memory (Results below a)) routine_credit (λ a. routine_credit)
+      → Follows (λ l. IsNotLeft memory.frames l.frames) G m k s body (λ a. Leaves declared G injection s memory (Results below a)) routine_credit (λ a. routine_credit)
 
 -- ---- what this says of runs from the entry
 
@@ -56,12 +56,12 @@ pub record KeepPace (steps ticks : ℕ) : Type 0 where
   pub slow : steps ≤ 64 * ticks
   pub fast : ticks ≤ 64 * steps
 
--- after so many ticks from a state the run goes on in the same routine and unit's frame, and its events are a front of these
+-- after so many ticks from a state the run goes on, the routine is not left, and the events are a front of these
 pub record StaysIn (G : Image) (k : State) (ticks : ℕ) (trace : Trace) : Type 0 where
   pub wait : ℕ
   pub to : State
   pub runs : run G ticks 0 k ≡ Running wait to
-  pub stays : SameRoutine k.frames to.frames
+  pub stays : IsNotLeft k.frames to.frames
   pub begins : IsPrefix to.trace trace
 
 -- A value is given after so many steps: the machine comes to the instruction that leaves the routine, its ticks with the one of that instruction keep pace with the steps, and until then it stays in the routine.

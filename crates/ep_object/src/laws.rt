@@ -1,6 +1,7 @@
 //! The laws of runs.
 
 ghost use Rattle.ep_object.specs.Laws.{RunsAgree, RunsExtend, EndsStay, EndsExactly, EventsGrow};
+ghost use Rattle.ep_object.specs.Promises.{CallsAnswer};
 ghost use Rattle.ep_object.specs.Simulates.{ProceduresAnswer, FunctionsAnswer};
 
 /// Does nothing: its contract states what holds of every run of every image. Instruction by instruction and tick by
@@ -23,4 +24,12 @@ pub fn laws_of_runs()
 pub fn laws_of_simulations()
     ensures procedures { ProceduresAnswer }
     ensures functions { FunctionsAnswer }
+{}
+
+/// Does nothing: its contract states what a run from a call does of a routine that keeps its promise. Where the call gives
+/// its results after m steps the machine stands at the instruction after it, and matches, after t ticks; where it ends the
+/// run the machine ends so; where it is not done the caller is not left for m / 64 ticks. The bounds are those of
+/// simulations, and so is the exception for want of room.
+pub fn laws_of_calls()
+    ensures calls { CallsAnswer }
 {}

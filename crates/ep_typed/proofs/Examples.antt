@@ -4,7 +4,7 @@ use Rattle.ep_typed.specs.Events.{Trace, Write}
 use Rattle.ep_typed.specs.Trees.{Variable, Expr, Constant, Read, One, Two, Plain, Wide, Stmt, Compound, Assign, While, Write, stmts, none, next}
 use Rattle.ep_typed.specs.Trees as tree
 use Rattle.ep_typed.specs.Steps.{End, Normal, Error, Outcome, Gives, Ends, Cut, state_of, made, first_state}
-use Rattle.ep_typed.specs.Meaning.{exec}
+use Rattle.ep_typed.specs.Meaning.{exec, routine_of}
 use Rattle.ep_typed.specs.declared.operations.Unary.TheVariants as unary
 use Rattle.ep_typed.specs.declared.operations.Binary.TheVariants as binary
 use Rattle.ep_typed.specs.declared.operations.Print.TheVariants as print
@@ -13,7 +13,7 @@ use Rattle.ep_typed.specs.declared.run_error.TheConstants as run_error
 
 -- what a statement of unit p comes to, with one variable x of type integer
 abbrev run : Stmt → ℕ → Outcome (Unit {0})
-run s m = exec m (codes "p") s m (made (codes "p") 0 (Ordinal (negsuc 9223372036854775806) (pos 9223372036854775807)) first_state)
+run s m = exec (routine_of [] 0) m (codes "p") s m (made (codes "p") 0 (Ordinal (negsuc 9223372036854775806) (pos 9223372036854775807)) first_state)
 
 abbrev end_of : Outcome (Unit {0}) → End
 end_of (Gives left a s) = Normal

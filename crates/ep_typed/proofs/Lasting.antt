@@ -1,13 +1,14 @@
 -- With more steps, and more turns of its loops, a computation comes to the same, or goes on from where it was cut.
-use Rattle.std.proofs.Common.{◌≡◌, ℕ, ℤ, pos, negsuc, zero, suc, ◌+◌, List, [], ◌∷◌, Option, Some, None, Bool, true, false, length, refl, arith}
+use Rattle.std.proofs.Common.{◌≡◌, ℕ, ℤ, pos, negsuc, zero, suc, ◌+◌, List, [], ◌∷◌, Option, Some, None, Bool, true, false, length, refl, ap, arith}
 use Rattle.std.specs.Prelude.{if◌then◌else◌}
 use Rattle.ep_typed.specs.Denoters.{type_of}
-use Rattle.ep_typed.specs.Meaning.{answered, place, eval, write_piece, write_wide, write_item, write_items, assign, turns, exec, exec_all, elaborated, make, make_all, start_of, starts_of}
+use Rattle.ep_typed.specs.Meaning.{answered, place, eval, write_piece, write_wide, write_item, write_items, assign, turns, exec, exec_all, elaborated, make, make_all, start_of, starts_of, routine_of}
 use Rattle.ep_typed.specs.Operations.{Answer, Number, Fault, is_true}
 use Rattle.ep_typed.specs.Printing.{Result, number_of, plain_text, wide_text, piece_events}
 use Rattle.ep_typed.specs.Printing as result
-use Rattle.ep_typed.specs.Steady.{Grows, Steady}
-use Rattle.ep_typed.specs.Steps.{End, Normal, Halted, Error, Word, State, Outcome, Gives, Ends, Cut, state_of, Computation, give, cut, stop, go_on, bind, spend, change, found, fetch, assigned, type_at, is_within, size_of, with_type, counted, made, allocate, standard_file, first_state}
+use Rattle.ep_typed.specs.Calls.{Argument, Handler, entered, given_back, in_call}
+use Rattle.ep_typed.specs.Steady.{Grows, Steady, IsSteadyHandler}
+use Rattle.ep_typed.specs.Steps.{Call, End, Normal, Halted, Error, Word, State, Outcome, Gives, Ends, Cut, state_of, Computation, give, cut, stop, go_on, bind, spend, change, found, fetch, assigned, type_at, is_within, size_of, with_type, counted, made, allocate, standard_file, first_state}
 use Rattle.ep_typed.specs.Trees.{Place, Variable, Standard, Expr, Constant, Text, Read, One, Two, Step, Item, Plain, Wide, Stmt, Stmts, Empty, Compound, Assign, If, While, Halt, Write, none, next}
 use Rattle.ep_typed.specs.Viewed.{denoter_of, stmt_of}
 use Rattle.ep_typed.specs.declared.operations.Print.{Print}
@@ -16,13 +17,18 @@ use Rattle.ep_typed.specs.declared.unit.UnitType.{UnitType}
 use Rattle.ep_typed.specs.declared.unit.UnitVariable.{UnitVariable}
 use Rattle.ep_typed.specs.declared.value.TypeValue.{TypeValue}
 use Rattle.ep_typed.specs.Laws.{IsLonger, MeaningsLast}
-use Rattle.ep_typed.proofs.Steady.{grows_refl, grows_trans, grows_quiet, grows_events, grows_type, grows_counted, grows_made, steady_give, steady_cut, steady_stop, steady_bind, steady_spend, steady_change, steady_fetch, steady_turns, steady_assign}
+use Rattle.ep_typed.proofs.Steady.{grows_refl, grows_trans, grows_quiet, grows_events, grows_type, grows_counted, grows_made, steady_give, steady_cut, steady_stop, steady_bind, steady_spend, steady_change, steady_fetch, steady_turns, steady_assign, steady_in_call, steady_routine_of}
 use Rattle.ep_typed.specs.declared.run_error.TheConstants as run_error
 
 -- What one computation comes to, another one comes to with more steps.
 pub record Lasting {A : Type 0} (c d : Computation A) : Type 0 where
   pub steady : Steady d
   pub by : (m k : ℕ) (s : State) → IsLonger k (c m s) (d (m + k) s)
+
+-- What calls do, calls that may nest deeper do with more steps.
+record IsLastingHandler (call other : Handler) : Type 0 where
+  steady : IsSteadyHandler other
+  by : (from : List ℕ) (line : ℕ) (unit : List ℕ) (routine : ℕ) (arguments : List Argument) → Lasting (call from line unit routine arguments) (other from line unit routine arguments)
 
 -- ---- computations
 
@@ -91,29 +97,29 @@ lasting_if true p q = p
 lasting_if false p q = q
 
 -- a loop that may make more turns
-lasting_turns : (h i g j : ℕ) (unit : List ℕ) {test test2 : Computation Result} {body body2 : Computation (Unit {0})} → Lasting test test2 → Lasting body body2 → Lasting (turns h unit g test body) (turns i unit (g + j) test2 body2)
-lasting_turns h i zero j unit x y =
-    let z = steady_turns i (zero + j) unit x.steady y.steady in
+lasting_turns : (call other : Handler) (h i g j : ℕ) (unit : List ℕ) {test test2 : Computation Result} {body body2 : Computation (Unit {0})} → Lasting test test2 → Lasting body body2 → Lasting (turns call h unit g test body) (turns other i unit (g + j) test2 body2)
+lasting_turns call other h i zero j unit x y =
+    let z = steady_turns other i (zero + j) unit x.steady y.steady in
     record { steady = z; by = λ m k s. z.by (m + k) s }
-lasting_turns h i (suc g) j unit x y =
+lasting_turns call other h i (suc g) j unit x y =
     let one : suc g + j ≡ suc (g + j) = omega arith in
-    rw one (lasting_bind x (λ r. lasting_if (is_true (number_of r)) (lasting_bind y (λ _. lasting_spend 1 (lasting_turns h i g j unit x y))) (lasting_spend 1 (lasting_give tt))))
+    rw one (lasting_bind x (λ r. lasting_if (is_true (number_of r)) (lasting_bind y (λ _. lasting_spend 1 (lasting_turns call other h i g j unit x y))) (lasting_spend 1 (lasting_give tt))))
 
 -- ---- the forms
 
-module _ (g j : ℕ) (unit : List ℕ) where
+module _ (call other : Handler) (lasts : IsLastingHandler call other) (g j : ℕ) (unit : List ℕ) where
   -- an answer
-  lasting_answered : (line : ℕ) (a : Answer) → Lasting (answered g unit line a) (answered (g + j) unit line a)
+  lasting_answered : (line : ℕ) (a : Answer) → Lasting (answered call g unit line a) (answered other (g + j) unit line a)
   lasting_answered line (Number z) = lasting_give z
   lasting_answered line (Fault error) = lasting_stop (Error error unit line)
 
   -- a place
-  lasting_place : (line : ℕ) (p : Place) → Lasting (place g unit line p) (place (g + j) unit line p)
+  lasting_place : (line : ℕ) (p : Place) → Lasting (place call g unit line p) (place other (g + j) unit line p)
   lasting_place line (Variable u k) = lasting_bind (lasting_fetch _ _) (λ n. lasting_spend 1 (lasting_give n))
   lasting_place line (Standard file) = lasting_spend 1 (lasting_give (standard_file file))
 
   -- an expression
-  lasting_eval : (line : ℕ) (x : Expr) → Lasting (eval g unit line x) (eval (g + j) unit line x)
+  lasting_eval : (line : ℕ) (x : Expr) → Lasting (eval call g unit line x) (eval other (g + j) unit line x)
   lasting_eval line (Constant z) = lasting_spend 1 (lasting_give (result.Number z))
   lasting_eval line (Text bytes) = lasting_spend (suc (length bytes)) (lasting_give (result.Bytes bytes))
   lasting_eval line (Read p) =
@@ -126,22 +132,22 @@ module _ (g j : ℕ) (unit : List ℕ) where
       lasting_bind (lasting_eval line x) (λ a. lasting_bind (lasting_eval line y) (λ b. lasting_bind (lasting_answered line _) (λ z. lasting_spend 1 (lasting_give (result.Number z)))))
 
   -- one piece that is written
-  lasting_write_piece : (bytes : List ℕ) → Lasting (write_piece g unit bytes) (write_piece (g + j) unit bytes)
+  lasting_write_piece : (bytes : List ℕ) → Lasting (write_piece call g unit bytes) (write_piece other (g + j) unit bytes)
   lasting_write_piece bytes = lasting_spend (suc (length bytes)) (lasting_change (grows_events (piece_events bytes)))
 
   -- a value in so many places
-  lasting_write_wide : (line : ℕ) (print : Print) (r : Result) (width : ℤ) → Lasting (write_wide g unit line print r width) (write_wide (g + j) unit line print r width)
+  lasting_write_wide : (line : ℕ) (print : Print) (r : Result) (width : ℤ) → Lasting (write_wide call g unit line print r width) (write_wide other (g + j) unit line print r width)
   lasting_write_wide line print r (pos width) = lasting_write_piece (wide_text print width r)
   lasting_write_wide line print r (negsuc n) = lasting_stop (Error run_error.NEGATIVE_WIDTH unit line)
 
   -- an item
-  lasting_write_item : (line : ℕ) (i : Item) → Lasting (write_item g unit line i) (write_item (g + j) unit line i)
+  lasting_write_item : (line : ℕ) (i : Item) → Lasting (write_item call g unit line i) (write_item other (g + j) unit line i)
   lasting_write_item line (Plain print x) = lasting_bind (lasting_eval line x) (λ r. lasting_write_piece (plain_text print r))
   lasting_write_item line (Wide print x w) =
       lasting_bind (lasting_eval line x) (λ r. lasting_bind (lasting_eval line w) (λ width. lasting_write_wide line print r (number_of width)))
 
   -- items
-  lasting_write_items : (line : ℕ) (items : List Item) (ends_line : Bool) → Lasting (write_items g unit line items ends_line) (write_items (g + j) unit line items ends_line)
+  lasting_write_items : (line : ℕ) (items : List Item) (ends_line : Bool) → Lasting (write_items call g unit line items ends_line) (write_items other (g + j) unit line items ends_line)
   lasting_write_items line [] false = lasting_spend 1 (lasting_give tt)
   lasting_write_items line [] true = lasting_bind (lasting_write_piece (10 ∷ [])) (λ _. lasting_spend 1 (lasting_give tt))
   lasting_write_items line (i ∷ is) ends_line = lasting_bind (lasting_write_item line i) (λ _. lasting_write_items line is ends_line)
@@ -151,8 +157,8 @@ module _ (g j : ℕ) (unit : List ℕ) where
   lasting_assigned n z = lasting_spend 1 (lasting_change (λ s. grows_quiet s (assigned n (Word z) s) refl refl))
 
   -- an assignment
-  lasting_assign : (line n : ℕ) (z : ℤ) → Lasting (assign g unit line n z) (assign (g + j) unit line n z)
-  lasting_assign line n z = record { steady = steady_assign (g + j) unit line n z; by = λ m k s. go m k s (is_within (type_at n s) z) }
+  lasting_assign : (line n : ℕ) (z : ℤ) → Lasting (assign call g unit line n z) (assign other (g + j) unit line n z)
+  lasting_assign line n z = record { steady = steady_assign other lasts.steady (g + j) unit line n z; by = λ m k s. go m k s (is_within (type_at n s) z) }
     where
       go : (m k : ℕ) (s : State) (b : Bool) → IsLonger k ((if b then spend 1 (change (assigned n (Word z))) else stop (Error run_error.OUTSIDE_TYPE unit line)) m s) ((if b then spend 1 (change (assigned n (Word z))) else stop (Error run_error.OUTSIDE_TYPE unit line)) (m + k) s)
       go m k s true =
@@ -160,22 +166,22 @@ module _ (g j : ℕ) (unit : List ℕ) where
       go m k s false = refl
 
   mutual
-    lasting_exec : (x : Stmt) → Lasting (exec g unit x) (exec (g + j) unit x)
+    lasting_exec : (x : Stmt) → Lasting (exec call g unit x) (exec other (g + j) unit x)
     lasting_exec Empty = lasting_give tt
     lasting_exec (Compound ss) = lasting_exec_all ss
     lasting_exec (Assign line p x) = lasting_bind (lasting_place line p) (λ n. lasting_bind (lasting_eval line x) (λ r. lasting_assign line n (number_of r)))
     lasting_exec (If line x a b) =
         lasting_bind (lasting_eval line x) (λ r. lasting_if (is_true (number_of r)) (lasting_bind (lasting_exec a) (λ _. lasting_spend 1 (lasting_give tt))) (lasting_bind (lasting_exec b) (λ _. lasting_spend 1 (lasting_give tt))))
-    lasting_exec (While line x s) = lasting_turns g (g + j) g j unit (lasting_eval line x) (lasting_exec s)
+    lasting_exec (While line x s) = lasting_turns call other g (g + j) g j unit (lasting_eval line x) (lasting_exec s)
     lasting_exec (Halt line) = lasting_stop Halted
     lasting_exec (Write line items ends_line) = lasting_write_items line items ends_line
 
-    lasting_exec_all : (ss : Stmts) → Lasting (exec_all g unit ss) (exec_all (g + j) unit ss)
+    lasting_exec_all : (ss : Stmts) → Lasting (exec_all call g unit ss) (exec_all other (g + j) unit ss)
     lasting_exec_all none = lasting_give tt
     lasting_exec_all (next s ss) = lasting_bind (lasting_exec s) (λ _. lasting_exec_all ss)
 
   -- a type that is elaborated
-  lasting_elaborated : (o : Option TypeValue) → Lasting (elaborated g unit o) (elaborated (g + j) unit o)
+  lasting_elaborated : (o : Option TypeValue) → Lasting (elaborated call g unit o) (elaborated other (g + j) unit o)
   lasting_elaborated None = lasting_cut
   lasting_elaborated (Some t) = lasting_bind {c = change (with_type t)} {f = λ _. spend 1 (give t)} (lasting_change (grows_type t)) (λ _. lasting_spend 1 (lasting_give t))
 
@@ -185,25 +191,43 @@ module _ (g j : ℕ) (unit : List ℕ) where
       lasting_bind {c = change (counted t)} {f = λ _. spend (size_of t) (change (made unit number t))} (lasting_change (grows_counted t)) (λ _. lasting_spend (size_of t) (lasting_change (grows_made unit number t)))
 
   -- a variable
-  lasting_make : (types : List UnitType) (number : ℕ) (v : UnitVariable) → Lasting (make g unit types number v) (make (g + j) unit types number v)
+  lasting_make : (types : List UnitType) (number : ℕ) (v : UnitVariable) → Lasting (make call g unit types number v) (make other (g + j) unit types number v)
   lasting_make types number v = lasting_bind (lasting_elaborated (type_of types (denoter_of v.denoter))) (λ t. lasting_allocate number t)
 
   -- variables
-  lasting_make_all : (types : List UnitType) (number : ℕ) (vs : List UnitVariable) → Lasting (make_all g unit types number vs) (make_all (g + j) unit types number vs)
+  lasting_make_all : (types : List UnitType) (number : ℕ) (vs : List UnitVariable) → Lasting (make_all call g unit types number vs) (make_all other (g + j) unit types number vs)
   lasting_make_all types number [] = lasting_give tt
   lasting_make_all types number (v ∷ vs) = lasting_bind (lasting_make types number v) (λ _. lasting_make_all types (suc number) vs)
 
 -- the start of a unit
-lasting_start_of : (g j : ℕ) (u : TypedUnit) → Lasting (start_of g u) (start_of (g + j) u)
-lasting_start_of g j u = lasting_spend 1 (lasting_bind (lasting_make_all g j u.name u.types 0 u.variables) (λ _. lasting_exec g j u.name (stmt_of u.start)))
+lasting_start_of : (call other : Handler) → IsLastingHandler call other → (g j : ℕ) (u : TypedUnit) → Lasting (start_of call g u) (start_of other (g + j) u)
+lasting_start_of call other lasts g j u = lasting_spend 1 (lasting_bind (lasting_make_all call other lasts g j u.name u.types 0 u.variables) (λ _. lasting_exec call other lasts g j u.name (stmt_of u.start)))
 
 -- the starts of units
-lasting_starts_of : (g j : ℕ) (us : List TypedUnit) → Lasting (starts_of g us) (starts_of (g + j) us)
-lasting_starts_of g j [] = lasting_stop Normal
-lasting_starts_of g j (u ∷ us) = lasting_bind (lasting_start_of g j u) (λ _. lasting_starts_of g j us)
+lasting_starts_of : (call other : Handler) → IsLastingHandler call other → (g j : ℕ) (us : List TypedUnit) → Lasting (starts_of call g us) (starts_of other (g + j) us)
+lasting_starts_of call other lasts g j [] = lasting_stop Normal
+lasting_starts_of call other lasts g j (u ∷ us) = lasting_bind (lasting_start_of call other lasts g j u) (λ _. lasting_starts_of call other lasts g j us)
+
+-- while a call is under way
+pub lasting_in_call : {A : Type 0} (x : Call) {c d : Computation A} → Lasting c d → Lasting (in_call x c) (in_call x d)
+lasting_in_call {A = A} x {c = c} {d = d} p = record { steady = steady_in_call x p.steady; by = λ m k s. go k s (c m (entered x s)) (d (m + k) (entered x s)) (p.by m k (entered x s)) }
+  where
+    after : (s t : State) (o : Outcome A) → Grows t (state_of o) → Grows t (state_of (given_back s o))
+    after s t (Gives left a u) h = record { events = h.events; lost = h.lost }
+    after s t (Ends left e u) h = h
+    after s t (Cut u) h = h
+
+    go : (k : ℕ) (s : State) (o r : Outcome A) → IsLonger k o r → IsLonger k (given_back s o) (given_back s r)
+    go k s (Gives left a t) r is = ap (given_back s) is
+    go k s (Ends left e t) r is = ap (given_back s) is
+    go k s (Cut t) r is = after s t r is
+
+-- no routine has a meaning so far
+lasting_routine_of : (units : List TypedUnit) (depth more : ℕ) → IsLastingHandler (routine_of units depth) (routine_of units (depth + more))
+lasting_routine_of units depth more = record { steady = steady_routine_of units (depth + more); by = λ from line unit number arguments. lasting_cut }
 
 -- The meaning of units with more steps.
 pub meanings_last : MeaningsLast
 meanings_last units steps more =
-    let x = lasting_starts_of steps more units in
+    let x = lasting_starts_of (routine_of units steps) (routine_of units (steps + more)) (lasting_routine_of units steps more) steps more units in
     x.by steps more first_state

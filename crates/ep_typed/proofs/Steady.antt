@@ -5,12 +5,13 @@ use Rattle.std.specs.List.{list_any}
 use Rattle.ep_outside.specs.Known.{IsPrefix}
 use Rattle.ep_typed.specs.Denoters.{type_of}
 use Rattle.ep_typed.specs.Events.{Trace}
-use Rattle.ep_typed.specs.Meaning.{answered, place, eval, write_piece, write_wide, write_item, write_items, assign, turns, exec, exec_all, elaborated, make, make_all, start_of, starts_of}
+use Rattle.ep_typed.specs.Meaning.{answered, place, eval, write_piece, write_wide, write_item, write_items, assign, turns, exec, exec_all, elaborated, make, make_all, start_of, starts_of, routine_of}
 use Rattle.ep_typed.specs.Operations.{Answer, Number, Fault, is_true}
 use Rattle.ep_typed.specs.Printing.{Result, number_of, plain_text, wide_text, piece_events}
 use Rattle.ep_typed.specs.Printing as result
-use Rattle.ep_typed.specs.Steady.{Grows, Steady}
-use Rattle.ep_typed.specs.Steps.{End, Normal, Halted, Error, Word, State, Outcome, Gives, Ends, Cut, state_of, Computation, give, cut, stop, go_on, bind, spend, change, found, fetch, with_events, assigned, type_at, is_within, size_of, same_type, Resources, watched, words_of_type, met, with_type, counted, made, allocate, standard_file}
+use Rattle.ep_typed.specs.Calls.{Handler, entered, given_back, in_call}
+use Rattle.ep_typed.specs.Steady.{Grows, Steady, IsSteadyHandler}
+use Rattle.ep_typed.specs.Steps.{Call, End, Normal, Halted, Error, Word, State, Outcome, Gives, Ends, Cut, state_of, Computation, give, cut, stop, go_on, bind, spend, change, found, fetch, with_events, assigned, type_at, is_within, size_of, same_type, Resources, watched, words_of_type, met, with_type, counted, made, allocate, standard_file}
 use Rattle.ep_typed.specs.Trees.{Place, Variable, Standard, Expr, Constant, Text, Read, One, Two, Step, Item, Plain, Wide, Stmt, Stmts, Empty, Compound, Assign, If, While, Halt, Write, none, next}
 use Rattle.ep_typed.specs.Viewed.{denoter_of, stmt_of}
 use Rattle.ep_typed.specs.declared.operations.Print.{Print}
@@ -124,26 +125,26 @@ steady_if true p q = p
 steady_if false p q = q
 
 -- a loop
-pub steady_turns : (h g : ℕ) (unit : List ℕ) {test : Computation Result} {body : Computation (Unit {0})} → Steady test → Steady body → Steady (turns h unit g test body)
-steady_turns h zero unit x y = steady_cut
-steady_turns h (suc g) unit x y =
-    steady_bind x (λ r. steady_if (is_true (number_of r)) (steady_bind y (λ _. steady_spend 1 (steady_turns h g unit x y))) (steady_spend 1 (steady_give tt)))
+pub steady_turns : (call : Handler) (h g : ℕ) (unit : List ℕ) {test : Computation Result} {body : Computation (Unit {0})} → Steady test → Steady body → Steady (turns call h unit g test body)
+steady_turns call h zero unit x y = steady_cut
+steady_turns call h (suc g) unit x y =
+    steady_bind x (λ r. steady_if (is_true (number_of r)) (steady_bind y (λ _. steady_spend 1 (steady_turns call h g unit x y))) (steady_spend 1 (steady_give tt)))
 
 -- ---- the forms
 
-module _ (g : ℕ) (unit : List ℕ) where
+module _ (call : Handler) (steady : IsSteadyHandler call) (g : ℕ) (unit : List ℕ) where
   -- an answer
-  pub steady_answered : (line : ℕ) (a : Answer) → Steady (answered g unit line a)
+  pub steady_answered : (line : ℕ) (a : Answer) → Steady (answered call g unit line a)
   steady_answered line (Number z) = steady_give z
   steady_answered line (Fault error) = steady_stop (Error error unit line)
 
   -- a place
-  pub steady_place : (line : ℕ) (p : Place) → Steady (place g unit line p)
+  pub steady_place : (line : ℕ) (p : Place) → Steady (place call g unit line p)
   steady_place line (Variable u k) = steady_bind (steady_fetch _ _) (λ n. steady_spend 1 (steady_give n))
   steady_place line (Standard file) = steady_spend 1 (steady_give (standard_file file))
 
   -- an expression
-  pub steady_eval : (line : ℕ) (x : Expr) → Steady (eval g unit line x)
+  pub steady_eval : (line : ℕ) (x : Expr) → Steady (eval call g unit line x)
   steady_eval line (Constant z) = steady_spend 1 (steady_give (result.Number z))
   steady_eval line (Text bytes) = steady_spend (suc (length bytes)) (steady_give (result.Bytes bytes))
   steady_eval line (Read p) =
@@ -156,22 +157,22 @@ module _ (g : ℕ) (unit : List ℕ) where
       steady_bind (steady_eval line x) (λ a. steady_bind (steady_eval line y) (λ b. steady_bind (steady_answered line _) (λ z. steady_spend 1 (steady_give (result.Number z)))))
 
   -- one piece that is written
-  pub steady_write_piece : (bytes : List ℕ) → Steady (write_piece g unit bytes)
+  pub steady_write_piece : (bytes : List ℕ) → Steady (write_piece call g unit bytes)
   steady_write_piece bytes = steady_spend (suc (length bytes)) (steady_change (grows_events (piece_events bytes)))
 
   -- a value in so many places
-  pub steady_write_wide : (line : ℕ) (print : Print) (r : Result) (width : ℤ) → Steady (write_wide g unit line print r width)
+  pub steady_write_wide : (line : ℕ) (print : Print) (r : Result) (width : ℤ) → Steady (write_wide call g unit line print r width)
   steady_write_wide line print r (pos width) = steady_write_piece (wide_text print width r)
   steady_write_wide line print r (negsuc n) = steady_stop (Error run_error.NEGATIVE_WIDTH unit line)
 
   -- an item
-  pub steady_write_item : (line : ℕ) (i : Item) → Steady (write_item g unit line i)
+  pub steady_write_item : (line : ℕ) (i : Item) → Steady (write_item call g unit line i)
   steady_write_item line (Plain print x) = steady_bind (steady_eval line x) (λ r. steady_write_piece (plain_text print r))
   steady_write_item line (Wide print x w) =
       steady_bind (steady_eval line x) (λ r. steady_bind (steady_eval line w) (λ width. steady_write_wide line print r (number_of width)))
 
   -- items
-  pub steady_write_items : (line : ℕ) (items : List Item) (ends_line : Bool) → Steady (write_items g unit line items ends_line)
+  pub steady_write_items : (line : ℕ) (items : List Item) (ends_line : Bool) → Steady (write_items call g unit line items ends_line)
   steady_write_items line [] false = steady_spend 1 (steady_give tt)
   steady_write_items line [] true = steady_bind (steady_write_piece (10 ∷ [])) (λ _. steady_spend 1 (steady_give tt))
   steady_write_items line (i ∷ is) ends_line = steady_bind (steady_write_item line i) (λ _. steady_write_items line is ends_line)
@@ -181,7 +182,7 @@ module _ (g : ℕ) (unit : List ℕ) where
   steady_assigned n z = steady_spend 1 (steady_change (λ s. grows_quiet s (assigned n (Word z) s) refl refl))
 
   -- an assignment
-  pub steady_assign : (line n : ℕ) (z : ℤ) → Steady (assign g unit line n z)
+  pub steady_assign : (line n : ℕ) (z : ℤ) → Steady (assign call g unit line n z)
   steady_assign line n z = record { by = λ m s. go m s (is_within (type_at n s) z) }
     where
       go : (m : ℕ) (s : State) (b : Bool) → Grows s (state_of ((if b then spend 1 (change (assigned n (Word z))) else stop (Error run_error.OUTSIDE_TYPE unit line)) m s))
@@ -190,39 +191,57 @@ module _ (g : ℕ) (unit : List ℕ) where
       go m s false = grows_refl s
 
   mutual
-    pub steady_exec : (x : Stmt) → Steady (exec g unit x)
+    pub steady_exec : (x : Stmt) → Steady (exec call g unit x)
     steady_exec Empty = steady_give tt
     steady_exec (Compound ss) = steady_exec_all ss
     steady_exec (Assign line p x) = steady_bind (steady_place line p) (λ n. steady_bind (steady_eval line x) (λ r. steady_assign line n (number_of r)))
     steady_exec (If line x a b) =
         steady_bind (steady_eval line x) (λ r. steady_if (is_true (number_of r)) (steady_bind (steady_exec a) (λ _. steady_spend 1 (steady_give tt))) (steady_bind (steady_exec b) (λ _. steady_spend 1 (steady_give tt))))
-    steady_exec (While line x s) = steady_turns g g unit (steady_eval line x) (steady_exec s)
+    steady_exec (While line x s) = steady_turns call g g unit (steady_eval line x) (steady_exec s)
     steady_exec (Halt line) = steady_stop Halted
     steady_exec (Write line items ends_line) = steady_write_items line items ends_line
 
-    pub steady_exec_all : (ss : Stmts) → Steady (exec_all g unit ss)
+    pub steady_exec_all : (ss : Stmts) → Steady (exec_all call g unit ss)
     steady_exec_all none = steady_give tt
     steady_exec_all (next s ss) = steady_bind (steady_exec s) (λ _. steady_exec_all ss)
 
   -- a type that is elaborated
-  pub steady_elaborated : (o : Option TypeValue) → Steady (elaborated g unit o)
+  pub steady_elaborated : (o : Option TypeValue) → Steady (elaborated call g unit o)
   steady_elaborated None = steady_cut
   steady_elaborated (Some t) = steady_bind {c = change (with_type t)} {f = λ _. spend 1 (give t)} (steady_change (grows_type t)) (λ _. steady_spend 1 (steady_give t))
 
   -- a variable of a type that is elaborated
-  pub steady_make : (types : List UnitType) (number : ℕ) (v : UnitVariable) → Steady (make g unit types number v)
+  pub steady_make : (types : List UnitType) (number : ℕ) (v : UnitVariable) → Steady (make call g unit types number v)
   steady_make types number v = steady_bind (steady_elaborated (type_of types (denoter_of v.denoter))) (λ t. steady_allocate unit number t)
 
   -- variables
-  pub steady_make_all : (types : List UnitType) (number : ℕ) (vs : List UnitVariable) → Steady (make_all g unit types number vs)
+  pub steady_make_all : (types : List UnitType) (number : ℕ) (vs : List UnitVariable) → Steady (make_all call g unit types number vs)
   steady_make_all types number [] = steady_give tt
   steady_make_all types number (v ∷ vs) = steady_bind (steady_make types number v) (λ _. steady_make_all types (suc number) vs)
 
 -- the start of a unit
-pub steady_start_of : (g : ℕ) (u : TypedUnit) → Steady (start_of g u)
-steady_start_of g u = steady_spend 1 (steady_bind (steady_make_all g u.name u.types 0 u.variables) (λ _. steady_exec g u.name (stmt_of u.start)))
+pub steady_start_of : (call : Handler) → IsSteadyHandler call → (g : ℕ) (u : TypedUnit) → Steady (start_of call g u)
+steady_start_of call steady g u = steady_spend 1 (steady_bind (steady_make_all call steady g u.name u.types 0 u.variables) (λ _. steady_exec call steady g u.name (stmt_of u.start)))
 
 -- the starts of units
-pub steady_starts_of : (g : ℕ) (us : List TypedUnit) → Steady (starts_of g us)
-steady_starts_of g [] = steady_stop Normal
-steady_starts_of g (u ∷ us) = steady_bind (steady_start_of g u) (λ _. steady_starts_of g us)
+pub steady_starts_of : (call : Handler) → IsSteadyHandler call → (g : ℕ) (us : List TypedUnit) → Steady (starts_of call g us)
+steady_starts_of call steady g [] = steady_stop Normal
+steady_starts_of call steady g (u ∷ us) = steady_bind (steady_start_of call steady g u) (λ _. steady_starts_of call steady g us)
+
+-- ---- calls
+
+-- while a call is under way, and after it
+pub steady_in_call : {A : Type 0} (x : Call) {c : Computation A} → Steady c → Steady (in_call x c)
+steady_in_call {A = A} x {c = c} g = record { by = λ m s. go m s (c m (entered x s)) (grows_trans (grows_entered s) (g.by m (entered x s))) }
+  where
+    grows_entered : (s : State) → Grows s (entered x s)
+    grows_entered s = record { events = record { rest = []; is = sym (append-nil s.trace) }; lost = λ h. rw h refl }
+
+    go : (m : ℕ) (s : State) (o : Outcome A) → Grows s (state_of o) → Grows s (state_of (given_back s o))
+    go m s (Gives left a t) h = record { events = h.events; lost = h.lost }
+    go m s (Ends left e t) h = h
+    go m s (Cut t) h = h
+
+-- no routine has a meaning so far
+pub steady_routine_of : (units : List TypedUnit) (depth : ℕ) → IsSteadyHandler (routine_of units depth)
+steady_routine_of units depth from line unit number arguments = steady_cut

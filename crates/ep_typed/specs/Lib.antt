@@ -1,3 +1,4 @@
+pub mod Calls
 pub mod Denoters
 pub mod Events
 pub mod Hosts

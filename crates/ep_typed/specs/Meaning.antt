@@ -1,5 +1,6 @@
 -- The meaning of typed trees, by recursion on them, in counted steps.
 use Rattle.std.specs.Prelude.{ℕ, ℤ, pos, negsuc, zero, suc, Bool, true, false, List, [], ◌∷◌, length, Option, Some, None, if◌then◌else◌}
+use Rattle.ep_typed.specs.Calls.{Handler}
 use Rattle.ep_typed.specs.Denoters.{type_of}
 use Rattle.ep_typed.specs.Trees.{Denoter, Place, Variable, Standard, Expr, Constant, Text, Read, One, Two, Step, Item, Plain, Wide, Stmt, Stmts, Empty, Compound, Assign, If, While, Halt, Write, none, next}
 use Rattle.ep_typed.specs.Viewed.{denoter_of, stmt_of}
@@ -19,8 +20,8 @@ abbrev pub weight_of : Result → ℕ
 weight_of (result.Number z) = 0
 weight_of (Bytes bytes) = length bytes
 
--- The forms at a line of a unit; `g` is the most turns that a loop makes, and the most calls that are under way.
-module _ (g : ℕ) (unit : List ℕ) where
+-- The forms at a line of a unit, where `call` does calls, and `g` is the most turns that a loop makes.
+module _ (call : Handler) (g : ℕ) (unit : List ℕ) where
   abbrev pub answered : ℕ → Answer → Computation ℤ
   answered line (Number z) = give z
   answered line (Fault error) = stop (Error error unit line)
@@ -103,15 +104,20 @@ module _ (g : ℕ) (unit : List ℕ) where
   make_all types number (v ∷ vs) = bind (make types number v) (λ _. make_all types (suc number) vs)
 
 -- The start of a unit spends the step of a call, makes its variables, and runs its block.
-abbrev pub start_of : ℕ → TypedUnit → Computation (Unit {0})
-start_of g u = spend 1 (bind (make_all g u.name u.types 0 u.variables) (λ _. exec g u.name (stmt_of u.start)))
+abbrev pub start_of : Handler → ℕ → TypedUnit → Computation (Unit {0})
+start_of call g u = spend 1 (bind (make_all call g u.name u.types 0 u.variables) (λ _. exec call g u.name (stmt_of u.start)))
 
 -- the starts of units in order
-abbrev pub starts_of : ℕ → List TypedUnit → Computation (Unit {0})
-starts_of g [] = stop Normal
-starts_of g (u ∷ us) = bind (start_of g u) (λ _. starts_of g us)
+abbrev pub starts_of : Handler → ℕ → List TypedUnit → Computation (Unit {0})
+starts_of call g [] = stop Normal
+starts_of call g (u ∷ us) = bind (start_of call g u) (λ _. starts_of call g us)
 
--- The meaning of joined units within so many steps. Loops turn at most that often, which is enough, since each
--- turn spends a step.
+-- What a call does, where calls nest at most so deep. No form makes one so far, and no valid unit has a routine, so none
+-- has a meaning.
+abbrev pub routine_of : List TypedUnit → ℕ → Handler
+routine_of units depth from line unit number arguments = cut
+
+-- The meaning of joined units within so many steps. Loops turn and calls nest at most that often, which is enough,
+-- since each turn and each call spends a step.
 abbrev pub meaning : List TypedUnit → ℕ → Outcome (Unit {0})
-meaning units steps = starts_of steps units steps first_state
+meaning units steps = starts_of (routine_of units steps) steps units steps first_state

@@ -1,6 +1,7 @@
 -- What a computation leaves of the state that it began with.
-use Rattle.std.specs.Prelude.{ℕ, IsTrue}
+use Rattle.std.specs.Prelude.{ℕ, IsTrue, List}
 use Rattle.ep_outside.specs.Known.{IsPrefix}
+use Rattle.ep_typed.specs.Calls.{Argument, Handler}
 use Rattle.ep_typed.specs.Steps.{State, Computation, state_of}
 
 -- events are added, and room that was lost stays lost
@@ -11,3 +12,7 @@ pub record Grows (before after : State) : Type 0 where
 -- however many steps there are, the state grows
 pub record Steady {A : Type 0} (c : Computation A) : Type 0 where
   pub by : (m : ℕ) (s : State) → Grows s (state_of (c m s))
+
+-- whatever is called, the state grows
+abbrev pub IsSteadyHandler : Handler → Type 0
+IsSteadyHandler call = (from : List ℕ) (line : ℕ) (unit : List ℕ) (routine : ℕ) (arguments : List Argument) → Steady (call from line unit routine arguments)

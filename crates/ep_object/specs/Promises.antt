@@ -1,0 +1,101 @@
+-- What a routine promises to the code that calls it, whoever made either. It is said over the `Call` instruction, from
+-- before it to after the instruction that leaves the routine, whose tick may have an effect as any other.
+use Rattle.std.specs.Prelude.{◌≡◌, ℕ, ℤ, pos, ◌+◌, ◌≤◌, ◌⊎◌, IsTrue, List, [], ◌∷◌, Some, slice_get}
+use Rattle.ep_object.specs.Follows.{end_of, Operands, point, state_at, operand_of, Fragment, Since, Lands, Inside, GivesUp}
+use Rattle.ep_object.specs.Matching.{Memory, Injection, Matches, IsPlaceOf, is_hidden_slot}
+use Rattle.ep_object.specs.Operands.{Operand, Place}
+use Rattle.ep_object.specs.Runs.{run, unit_in}
+use Rattle.ep_object.specs.Simulates.{KeepPace, StaysIn, EndsAfter, StaysAfter}
+use Rattle.ep_object.specs.State.{State, Running}
+use Rattle.ep_object.specs.Table as table
+use Rattle.ep_object.specs.Table.{op_of}
+use Rattle.ep_object.specs.declared.code.Image.{Image}
+use Rattle.ep_object.specs.declared.code.Instr.{Instr}
+use Rattle.ep_object.specs.declared.state.Place.{Place as PlaceOf}
+use Rattle.ep_typed.specs.Calls.{Argument, Value, Variable}
+use Rattle.ep_typed.specs.Hosts.{is_of_host}
+use Rattle.ep_typed.specs.Printing.{Result, Number, Bytes}
+use Rattle.ep_typed.specs.Steps.{Outcome, Gives, Ends, Cut, Computation, state_of}
+use Rattle.ep_typed.specs.Steps as meaning
+use Rattle.ep_typed.specs.Valid as kind
+use Rattle.ep_typed.specs.Valid.{Declarations, Kind}
+
+-- how a formal takes its argument: a value of a kind, or a variable
+pub data Passing : Type 0 where
+  ByValue : (kind : Kind) → Passing
+  ByReference : Passing
+
+-- a result is one of the kind
+abbrev pub IsOfKind : Kind → Result → Type 0
+IsOfKind (kind.Ordinal host) r = (z : ℤ) × (r ≡ Number z) × IsTrue (is_of_host host z)
+IsOfKind kind.Bytes r = (bytes : List ℕ) × (r ≡ Bytes bytes)
+
+-- an operand is that of an argument: the value, or a place of the variable
+abbrev pub IsArgument : Injection → Memory → Passing → Argument → Operand → Type 0
+IsArgument injection memory (ByValue k) (Value r) o = IsOfKind k r × (o ≡ operand_of r)
+IsArgument injection memory (ByValue k) (Variable n) o = ⊥
+IsArgument injection memory ByReference (Value r) o = ⊥
+IsArgument injection memory ByReference (Variable n) o = (p : PlaceOf) × (o ≡ Place p) × IsPlaceOf injection memory.segments n p
+
+-- the operands are those of the arguments, one for each formal and the first lowest, on the ones below
+abbrev pub AreArguments : Injection → Memory → List Passing → List Argument → List Operand → List Operand → Type 0
+AreArguments injection memory [] [] below operands = operands ≡ below
+AreArguments injection memory [] (x ∷ xs) below operands = ⊥
+AreArguments injection memory (f ∷ fs) [] below operands = ⊥
+AreArguments injection memory (f ∷ fs) (x ∷ xs) below operands = (o : Operand) × IsArgument injection memory f x o × AreArguments injection memory fs xs (o ∷ below) operands
+
+-- Results of these kinds lie on the operands below, the first lowest. A procedure has none, and a function has one.
+abbrev pub ResultsOnTop : List Kind → List Operand → List Result → Operands
+ResultsOnTop [] below [] injection memory operands = operands ≡ below
+ResultsOnTop [] below (r ∷ rs) injection memory operands = ⊥
+ResultsOnTop (k ∷ ks) below [] injection memory operands = ⊥
+ResultsOnTop (k ∷ ks) below (r ∷ rs) injection memory operands = IsOfKind k r × ResultsOnTop ks (operand_of r ∷ below) rs injection memory operands
+
+-- what a call of one routine does, by the unit and the line of what makes the call and by the arguments
+abbrev pub Called : Type 0
+Called = List ℕ → ℕ → List Argument → Computation (List Result)
+
+-- at this place of the code stands a `Call` of the routine of this number
+pub record CallsAt (G : Image) (place routine line : ℕ) : Type 0 where
+  pub instruction : Instr
+  pub stands : slice_get G.instructions place ≡ Some instruction
+  pub is_call : op_of instruction.op ≡ Some table.Call
+  pub names : instruction.a ≡ pos routine
+  pub at_line : instruction.line ≡ line
+
+-- The routine of this number keeps its promise for what calls of it do, with up to n steps. Wherever the machine matches
+-- and stands at a `Call` of it with such arguments on the operands below, it follows the call to the next instruction,
+-- where the results are on the operands below. The allocations that the routine made have ended then on both sides, if
+-- they do at all, and what the caller knows of its own activation holds as before. No credit is there before or after.
+pub record Promises (declared : Declarations) (G : Image) (routine n : ℕ) (formals : List Passing) (results : List Kind) (called : Called) : Type 0 where
+  pub by : (place line : ℕ) → CallsAt G place routine line
+      → (injection : Injection) (begun : meaning.State) (memory : Memory) (below operands : List Operand) (arguments : List Argument) → AreArguments injection memory formals arguments below operands
+      → Fragment declared G (Since (is_hidden_slot declared G) injection begun memory) n (point injection memory place operands) (called (unit_in G memory.frames) line arguments) (place + 1)
+      (λ rs. Inside (is_hidden_slot declared G) injection memory (ResultsOnTop results below rs)) 0 (λ rs. 0)
+
+-- ---- what this says of runs from a call
+
+-- A call has given its results after so many steps: the machine comes to the instruction after it and matches, its ticks keep pace with the steps, and until then the calling routine is not left.
+pub record ComesBackAfter (declared : Declarations) (G : Image) (injection : Injection) (begun : meaning.State) (memory : Memory) (Then : Operands) (to : ℕ) (k : State) (s : meaning.State) (steps : ℕ) : Type 0 where
+  pub ticks : ℕ
+  pub last : State
+  pub runs : run G ticks 0 k ≡ Running 0 last
+  pub lands : Lands declared G (Since (is_hidden_slot declared G) injection begun memory) to (Inside (is_hidden_slot declared G) injection memory Then) s last
+  pub pace : KeepPace steps ticks
+  pub until : (t : ℕ) → t ≤ ticks → StaysIn G k t s.trace
+
+-- what a run from a call does where what the call does comes to this with so many steps
+abbrev pub CallComesTo : Declarations → Image → Injection → meaning.State → Memory → (List Result → Operands) → ℕ → State → ℕ → Outcome (List Result) → Type 0
+CallComesTo declared G injection begun memory Then to k steps (Gives left a s) = (spent : ℕ) → left + spent ≡ steps → ComesBackAfter declared G injection begun memory (Then a) to k s spent
+CallComesTo declared G injection begun memory Then to k steps (Ends left end s) = (spent : ℕ) → left + spent ≡ steps → EndsAfter G k (end_of end) s.trace spent
+CallComesTo declared G injection begun memory Then to k steps (Cut s) = StaysAfter G k s.trace steps
+
+-- Where a routine keeps its promise, every run from a call of it answers what the call does with each number of steps up to n, or ends for want of room within 64 ticks for each of them.
+abbrev pub CallsAnswer : Type 0
+CallsAnswer =
+    (declared : Declarations) (G : Image) (routine n : ℕ) (formals : List Passing) (results : List Kind) (called : Called) → Promises declared G routine n formals results called
+    → (place line : ℕ) → CallsAt G place routine line
+    → (injection : Injection) (memory : Memory) (below operands : List Operand) (arguments : List Argument) → AreArguments injection memory formals arguments below operands
+    → (s : meaning.State) → Matches declared G injection s memory → (steps : ℕ) → steps ≤ n
+    → CallComesTo declared G injection s memory (ResultsOnTop results below) (place + 1) (state_at (point injection memory place operands) s.trace) steps (called (unit_in G memory.frames) line arguments steps s)
+    ⊎ GivesUp G (state_at (point injection memory place operands) s.trace) steps 0 (state_of (called (unit_in G memory.frames) line arguments steps s))

@@ -1,0 +1,35 @@
+-- Calls of routines: what is handed over, what a call does, and how long it is under way.
+use Rattle.std.specs.Prelude.{ℕ, ◌+◌, List, ◌∷◌}
+use Rattle.ep_typed.specs.Printing.{Result}
+use Rattle.ep_typed.specs.Steps.{Call, State, Outcome, Gives, Ends, Cut, Computation, watched}
+
+-- what is handed over for a formal: a value, or a variable by the number of its allocation (ISO 10206, 6.7.3)
+pub data Argument : Type 0 where
+  Value : (result : Result) → Argument
+  Variable : (allocation : ℕ) → Argument
+
+-- What calls do: by the unit and the line of the statement or declaration that makes the call, the unit and the number
+-- of the routine, and the arguments. A call gives as many results as the routine has.
+abbrev pub Handler : Type 0
+Handler = List ℕ → ℕ → List ℕ → ℕ → List Argument → Computation (List Result)
+
+-- the words that are set aside for an activation
+abbrev pub activation_words : ℕ
+activation_words = 64
+
+-- one more call is under way, and words are set aside for its activation
+abbrev pub entered : Call → State → State
+entered x s = record s { calls = x ∷ s.calls; resources = watched (record s.resources { reserved = s.resources.reserved + activation_words }) }
+
+-- after the call those before it are under way, and what was set aside for it is given back
+abbrev pub left_from : State → State → State
+left_from before s = record s { calls = before.calls; resources = record s.resources { reserved = before.resources.reserved } }
+
+abbrev pub given_back : {A : Type 0} → State → Outcome A → Outcome A
+given_back before (Gives left a s) = Gives left a (left_from before s)
+given_back before (Ends left e s) = Ends left e s
+given_back before (Cut s) = Cut s
+
+-- a computation while a call is under way
+abbrev pub in_call : {A : Type 0} → Call → Computation A → Computation A
+in_call x c m s = given_back s (c m (entered x s))
