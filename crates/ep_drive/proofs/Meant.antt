@@ -6,7 +6,7 @@ use Rattle.ep_object.specs.Tells.{Tells}
 use Rattle.ep_typed.proofs.Lasting.{meanings_last}
 use Rattle.ep_typed.specs.Events.{Trace, Does}
 use Rattle.ep_typed.specs.Laws.{IsLonger}
-use Rattle.ep_typed.specs.Meaning.{meaning, make_all, exec}
+use Rattle.ep_typed.specs.Meaning.{routine_of, meaning, make_all, exec}
 use Rattle.ep_typed.specs.Viewed.{stmt_of}
 use Rattle.ep_typed.specs.Steps.{Outcome, Gives, Ends, Cut, State, state_of, stop, go_on, bind, spend, first_state}
 use Rattle.ep_typed.specs.Steps as meant
@@ -148,7 +148,7 @@ settled_status units ticks m l e s (Stopped end trace) (inr t) h room few = absu
 
 -- the meaning is that of the name, the types, the variables and the statements
 same_meaning : (u v : TypedUnit) (m : ℕ) → u.name ≡ v.name → u.types ≡ v.types → u.variables ≡ v.variables → stmt_of u.start ≡ stmt_of v.start → meaning (u ∷ []) m ≡ meaning (v ∷ []) m
-same_meaning u v m a t b c = λ i. go_on (spend 1 (bind (make_all m (a i) (t i) 0 (b i)) (λ _. exec m (a i) (c i))) m first_state) (λ _. stop meant.Normal)
+same_meaning u v m a t b c = λ i. go_on (spend 1 (bind (make_all (routine_of [] m) m (a i) (t i) 0 (b i)) (λ _. exec (routine_of [] m) m (a i) (c i))) m first_state) (λ _. stop meant.Normal)
 
 -- a text has one meaning
 text_means : (text : List ℕ) (u v : TypedUnit) (m : ℕ) → IsProgramText text u → IsProgramText text v → meaning (u ∷ []) m ≡ meaning (v ∷ []) m

@@ -5,10 +5,10 @@ use Rattle.ep_object.specs.Matching.{Slots, Memory, Injection}
 use Rattle.ep_object.specs.Operands.{Operand}
 use Rattle.ep_object.specs.Runs.{unit_in}
 use Rattle.ep_object.specs.declared.code.Image.{Image}
-use Rattle.ep_object.proofs.Choices.{going_of, fragment_answer}
-use Rattle.ep_object.proofs.Fragments.{fragment_less, fragment_waits}
-use Rattle.ep_object.proofs.Growing.{inside_here}
-use Rattle.ep_object.proofs.Rows.{RowAnswers, RowPushes}
+use Rattle.ep_object.proofs.following.Choices.{going_of, fragment_answer}
+use Rattle.ep_object.proofs.following.Fragments.{fragment_less, fragment_waits}
+use Rattle.ep_object.proofs.matching.Growing.{inside_here}
+use Rattle.ep_object.proofs.rows.Rows.{RowAnswers, RowPushes}
 use Rattle.ep_typed.specs.Calls.{Handler}
 use Rattle.ep_typed.specs.Meaning.{answered, weight_of}
 use Rattle.ep_typed.specs.Operations.{Answer, Number}

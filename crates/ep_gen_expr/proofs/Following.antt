@@ -11,12 +11,12 @@ use Rattle.ep_object.specs.declared.code.Image.{Image}
 use Rattle.ep_object.specs.declared.code.Instr.{Instr}
 use Rattle.ep_object.specs.declared.code.Reference.{Reference}
 use Rattle.ep_object.specs.declared.state.Place.{Place as PlaceOf}
-use Rattle.ep_object.proofs.Choices.{Reads, fragment_fetch}
-use Rattle.ep_object.proofs.Fragments.{fragment_less, fragment_to, fragment_one, fragment_paid, fragment_give, fragment_credit, fragment_bind_place, fragment_bind_number}
-use Rattle.ep_object.proofs.Growing.{unit_in-same, inside_here}
-use Rattle.ep_object.proofs.PlaceRows.{unit_reads, load_reads}
-use Rattle.ep_object.proofs.Rows.{push_pushes}
-use Rattle.ep_object.proofs.TextRows.{text_pushes}
+use Rattle.ep_object.proofs.following.Choices.{Reads, fragment_fetch}
+use Rattle.ep_object.proofs.following.Fragments.{fragment_less, fragment_to, fragment_one, fragment_paid, fragment_give, fragment_credit, fragment_bind_place, fragment_bind_number}
+use Rattle.ep_object.proofs.matching.Growing.{unit_in-same, inside_here}
+use Rattle.ep_object.proofs.rows.PlaceRows.{unit_reads, load_reads}
+use Rattle.ep_object.proofs.rows.Rows.{push_pushes}
+use Rattle.ep_object.proofs.rows.TextRows.{text_pushes}
 use Rattle.std.proofs.lemmas.Option.{same_Some}
 use Rattle.ep_typed.specs.Steady.{IsSteadyHandler}
 use Rattle.ep_typed.specs.Calls.{Handler}

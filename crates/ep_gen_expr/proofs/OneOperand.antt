@@ -8,10 +8,10 @@ use Rattle.ep_object.specs.Placing.{Placement, CodeStands}
 use Rattle.ep_object.specs.Runs.{unit_in}
 use Rattle.ep_object.specs.declared.code.Image.{Image}
 use Rattle.ep_object.specs.declared.code.Reference.{Reference}
-use Rattle.ep_object.proofs.Fragments.{fragment_less, fragment_to, fragment_one, fragment_give}
-use Rattle.ep_object.proofs.Growing.{inside_here}
-use Rattle.ep_object.proofs.Rows.{RowAnswers, push_pushes, neg_answers, abs_answers, sqr_answers, odd_answers, not_answers, check_answers}
-use Rattle.ep_object.proofs.TextRows.{drop_drops, dup_pushes}
+use Rattle.ep_object.proofs.following.Fragments.{fragment_less, fragment_to, fragment_one, fragment_give}
+use Rattle.ep_object.proofs.matching.Growing.{inside_here}
+use Rattle.ep_object.proofs.rows.Rows.{RowAnswers, push_pushes, neg_answers, abs_answers, sqr_answers, odd_answers, not_answers, check_answers}
+use Rattle.ep_object.proofs.rows.TextRows.{drop_drops, dup_pushes}
 use Rattle.ep_typed.specs.Calls.{Handler}
 use Rattle.ep_typed.specs.Operations.{Number, last_char, unary_answer}
 use Rattle.ep_typed.specs.Valid.{Declarations, Kind, Ordinal, IsUnary}

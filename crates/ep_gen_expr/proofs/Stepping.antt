@@ -8,9 +8,9 @@ use Rattle.ep_object.specs.Placing.{Placement, CodeStands}
 use Rattle.ep_object.specs.Runs.{unit_in}
 use Rattle.ep_object.specs.declared.code.Image.{Image}
 use Rattle.ep_object.specs.declared.code.Reference.{Reference}
-use Rattle.ep_object.proofs.Choices.{going_of}
-use Rattle.ep_object.proofs.Fragments.{fragment_to, fragment_from, fragment_credit}
-use Rattle.ep_object.proofs.Rows.{instr, RowPushes, push_pushes, neg_answers, step_answers}
+use Rattle.ep_object.proofs.following.Choices.{going_of}
+use Rattle.ep_object.proofs.following.Fragments.{fragment_to, fragment_from, fragment_credit}
+use Rattle.ep_object.proofs.rows.Rows.{instr, RowPushes, push_pushes, neg_answers, step_answers}
 use Rattle.ep_typed.specs.Calls.{Handler}
 use Rattle.ep_typed.specs.Operations.{step_answer}
 use Rattle.ep_typed.specs.Valid.{Declarations, Ordinal}

@@ -8,8 +8,8 @@ use Rattle.ep_object.specs.Placing.{Placement, CodeStands}
 use Rattle.ep_object.specs.Runs.{unit_in}
 use Rattle.ep_object.specs.declared.code.Image.{Image}
 use Rattle.ep_object.specs.declared.code.Reference.{Reference}
-use Rattle.ep_object.proofs.Fragments.{fragment_to}
-use Rattle.ep_object.proofs.Rows.{RowAnswers, add_answers, sub_answers, mul_answers, div_answers, mod_answers, and_answers, or_answers, equal_answers, unequal_answers, less_answers, greater_answers, at_most_answers, at_least_answers}
+use Rattle.ep_object.proofs.following.Fragments.{fragment_to}
+use Rattle.ep_object.proofs.rows.Rows.{RowAnswers, add_answers, sub_answers, mul_answers, div_answers, mod_answers, and_answers, or_answers, equal_answers, unequal_answers, less_answers, greater_answers, at_most_answers, at_least_answers}
 use Rattle.ep_typed.specs.Calls.{Handler}
 use Rattle.ep_typed.specs.Operations.{Number, is_same, is_true, ordinal_of, binary_answer}
 use Rattle.ep_typed.specs.Valid.{Declarations, Kind, Ordinal, IsArithmetic, IsLogical, IsComparison, IsBinary}

@@ -9,10 +9,10 @@ use Rattle.ep_object.specs.Placing.{Placement, CodeStands, moved}
 use Rattle.ep_object.specs.declared.code.Image.{Image}
 use Rattle.ep_object.specs.declared.code.Instr.{Instr}
 use Rattle.ep_object.specs.declared.code.Reference.{Reference}
-use Rattle.ep_object.proofs.Choices.{fragment_branch, fragment_turns}
-use Rattle.ep_object.proofs.Fragments.{fragment_give, fragment_to, fragment_from, fragment_less, fragment_credit, fragment_one, fragment_move, fragment_bind_number, fragment_bind_bare}
-use Rattle.ep_object.proofs.Growing.{unit_in-same, grown_refl, same_routine-refl, inside_here}
-use Rattle.ep_object.proofs.Rows.{jump_jumps, jump_false_jumps}
+use Rattle.ep_object.proofs.following.Choices.{fragment_branch, fragment_turns}
+use Rattle.ep_object.proofs.following.Fragments.{fragment_give, fragment_to, fragment_from, fragment_less, fragment_credit, fragment_one, fragment_move, fragment_bind_number, fragment_bind_bare}
+use Rattle.ep_object.proofs.matching.Growing.{unit_in-same, grown_refl, same_routine-refl, inside_here}
+use Rattle.ep_object.proofs.rows.Rows.{jump_jumps, jump_false_jumps}
 use Rattle.ep_typed.specs.Steady.{IsSteadyHandler}
 use Rattle.ep_typed.specs.Calls.{Handler}
 use Rattle.ep_typed.proofs.Steady.{steady_bind, steady_spend, steady_give, steady_if, steady_eval, steady_exec}

@@ -14,13 +14,13 @@ use Rattle.ep_object.specs.State.{Frames}
 use Rattle.ep_object.specs.declared.code.Image.{Image}
 use Rattle.ep_object.specs.declared.code.ImageUnit.{ImageUnit}
 use Rattle.ep_object.specs.declared.code.Reference.{Reference}
-use Rattle.ep_object.proofs.Fragments.{inside_bind, fragment_bind_bare, fragment_give, fragment_from, fragment_to, fragment_less, fragment_waits}
-use Rattle.ep_object.proofs.Growing.{inside_here}
-use Rattle.ep_object.proofs.Losing.{fragment_counted}
-use Rattle.ep_object.proofs.MakeRow.{make_does}
+use Rattle.ep_object.proofs.following.Fragments.{inside_bind, fragment_bind_bare, fragment_give, fragment_from, fragment_to, fragment_less, fragment_waits}
+use Rattle.ep_object.proofs.matching.Growing.{inside_here}
+use Rattle.ep_object.proofs.following.Losing.{fragment_counted}
+use Rattle.ep_object.proofs.rows.MakeRow.{make_does}
 use Rattle.ep_object.specs.Scene.{HaveValidTypes}
-use Rattle.ep_object.proofs.NewTypes.{TypeOnTop, ord_does}
-use Rattle.ep_object.proofs.Rows.{push_pushes}
+use Rattle.ep_object.proofs.rows.NewTypes.{TypeOnTop, ord_does}
+use Rattle.ep_object.proofs.rows.Rows.{push_pushes}
 use Rattle.ep_gen_unit.proofs.Declared.{integer_bounds}
 use Rattle.ep_typed.specs.Steady.{IsSteadyHandler}
 use Rattle.ep_typed.specs.Calls.{Handler}

@@ -5,9 +5,9 @@ use Rattle.ep_gen_unit.specs.StmtCode.{make_all_code, return_code}
 use Rattle.ep_gen_unit.specs.UnitCode.{IsProgramCode, routine_at}
 use Rattle.ep_gen_unit.proofs.Units.{unit_simulates}
 use Rattle.ep_object.proofs.Alone.{placements_alone, stands-alone, distinct-alone}
-use Rattle.ep_object.proofs.Beginning.{first_memory, first_injection, first_matches}
-use Rattle.ep_object.proofs.Bind.{follows_bind, follows_stop}
-use Rattle.ep_object.proofs.Simulating.{simulation_follows, leaves_enters}
+use Rattle.ep_object.proofs.matching.Beginning.{first_memory, first_injection, first_matches}
+use Rattle.ep_object.proofs.following.Bind.{follows_bind, follows_stop}
+use Rattle.ep_object.proofs.following.Simulating.{simulation_follows, leaves_enters}
 use Rattle.ep_object.proofs.Tells.{Never, tells, tells_at_end, tells_close}
 use Rattle.ep_object.specs.Follows.{Follows, Bare, SameRoutine, IsNotLeft}
 use Rattle.ep_object.specs.Laws.{EndsAt}

@@ -15,11 +15,11 @@ use Rattle.ep_object.specs.declared.code.Image.{Image}
 use Rattle.ep_object.specs.declared.code.Instr.{Instr}
 use Rattle.ep_object.specs.declared.code.Reference.{Reference}
 use Rattle.ep_object.specs.declared.state.Place.{Place as PlaceOf}
-use Rattle.ep_object.proofs.ChangeRows.{store_does, store_fails}
-use Rattle.ep_object.proofs.Choices.{fragment_checked}
-use Rattle.ep_object.proofs.Fragments.{FailsWith, fragment_give, fragment_stop, fragment_to, fragment_less, fragment_credit, fragment_bind_number, fragment_bind_place}
-use Rattle.ep_object.proofs.Growing.{unit_in-same, is_place_of-grown, describes-grown, inside_here}
-use Rattle.ep_object.proofs.Rows.{outcome_at}
+use Rattle.ep_object.proofs.rows.ChangeRows.{store_does, store_fails}
+use Rattle.ep_object.proofs.following.Choices.{fragment_checked}
+use Rattle.ep_object.proofs.following.Fragments.{FailsWith, fragment_give, fragment_stop, fragment_to, fragment_less, fragment_credit, fragment_bind_number, fragment_bind_place}
+use Rattle.ep_object.proofs.matching.Growing.{unit_in-same, is_place_of-grown, describes-grown, inside_here}
+use Rattle.ep_object.proofs.rows.Rows.{outcome_at}
 use Rattle.ep_typed.specs.Steady.{IsSteadyHandler}
 use Rattle.ep_typed.specs.Calls.{Handler}
 use Rattle.ep_typed.proofs.Steady.{steady_bind, steady_eval, steady_assign}

@@ -13,8 +13,8 @@ use Rattle.ep_object.specs.Scene.{Scene}
 use Rattle.ep_object.specs.Runs.{unit_in}
 use Rattle.ep_object.specs.declared.code.Image.{Image}
 use Rattle.ep_object.specs.declared.code.Object.{Object}
-use Rattle.ep_object.proofs.Fragments.{fragment_bind_bare}
-use Rattle.ep_object.proofs.Growing.{unit_in-same}
+use Rattle.ep_object.proofs.following.Fragments.{fragment_bind_bare}
+use Rattle.ep_object.proofs.matching.Growing.{unit_in-same}
 use Rattle.ep_typed.specs.Steady.{IsSteadyHandler}
 use Rattle.ep_typed.specs.Calls.{Handler}
 use Rattle.ep_typed.proofs.Steady.{steady_exec}

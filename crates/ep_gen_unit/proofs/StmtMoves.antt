@@ -13,8 +13,8 @@ use Rattle.ep_object.specs.Scene.{Scene}
 use Rattle.ep_object.specs.declared.code.Image.{Image}
 use Rattle.ep_object.specs.declared.code.Instr.{Instr}
 use Rattle.ep_object.specs.declared.code.Reference.{Reference}
-use Rattle.ep_object.proofs.Fragments.{fragment_to, fragment_bind_bare}
-use Rattle.ep_object.proofs.Growing.{unit_in-same}
+use Rattle.ep_object.proofs.following.Fragments.{fragment_to, fragment_bind_bare}
+use Rattle.ep_object.proofs.matching.Growing.{unit_in-same}
 use Rattle.ep_typed.specs.Steady.{IsSteadyHandler}
 use Rattle.ep_typed.specs.Calls.{Handler}
 use Rattle.ep_typed.proofs.Steady.{steady_exec_all}

@@ -11,9 +11,9 @@ use Rattle.ep_gen_unit.proofs.Declared.{own_is, own_declared, own_types, own_val
 use Rattle.ep_gen_unit.proofs.Makes.{VariablesAreFree, make_all_moves}
 use Rattle.ep_gen_unit.proofs.Parts.{code_stands-parts}
 use Rattle.ep_gen_unit.proofs.Starts.{MakesFollow, body_follows}
-use Rattle.ep_object.proofs.Bind.{follows_less, follows_post, follows_from, follows_give}
-use Rattle.ep_object.proofs.Fragments.{fragment_to}
-use Rattle.ep_object.proofs.Growing.{inside_here, since_here, since_lasts}
+use Rattle.ep_object.proofs.following.Bind.{follows_less, follows_post, follows_from, follows_give}
+use Rattle.ep_object.proofs.following.Fragments.{fragment_to}
+use Rattle.ep_object.proofs.matching.Growing.{inside_here, since_here, since_lasts}
 use Rattle.ep_object.specs.Follows.{Facts, Lasts, Since, Bare}
 use Rattle.ep_object.specs.Matching.{Memory, Injection, is_undeclared, is_hidden_in, is_hidden_slot, at as standing}
 use Rattle.ep_object.specs.Operands.{Operand}

@@ -15,13 +15,13 @@ use Rattle.ep_object.specs.Runs.{unit_in}
 use Rattle.ep_object.specs.declared.code.Image.{Image}
 use Rattle.ep_object.specs.declared.code.Instr.{Instr}
 use Rattle.ep_object.specs.declared.code.Reference.{Reference}
-use Rattle.ep_object.proofs.ChangeRows.{put_does}
-use Rattle.ep_object.proofs.Pieces.{piece_form}
-use Rattle.ep_object.proofs.Fragments.{fragment_to, fragment_from, fragment_less, fragment_credit, fragment_waits, fragment_effect, fragment_stop, fragment_move, fragment_give, fragment_bind_bare, fragment_bind_number, fragment_bind_text}
-use Rattle.ep_object.proofs.Growing.{unit_in-same, inside_here}
-use Rattle.ep_object.proofs.PlaceRows.{output_pushes}
-use Rattle.ep_object.proofs.Rows.{RowPushes, push_pushes}
-use Rattle.ep_object.proofs.TextRows.{RowFails, chars_pushes, form_integer, form_boolean, form_wide_integer, form_wide_boolean, form_wide_text, form_negative_integer, form_negative_boolean, form_negative_text}
+use Rattle.ep_object.proofs.rows.ChangeRows.{put_does}
+use Rattle.ep_object.proofs.rows.Pieces.{piece_form}
+use Rattle.ep_object.proofs.following.Fragments.{fragment_to, fragment_from, fragment_less, fragment_credit, fragment_waits, fragment_effect, fragment_stop, fragment_move, fragment_give, fragment_bind_bare, fragment_bind_number, fragment_bind_text}
+use Rattle.ep_object.proofs.matching.Growing.{unit_in-same, inside_here}
+use Rattle.ep_object.proofs.rows.PlaceRows.{output_pushes}
+use Rattle.ep_object.proofs.rows.Rows.{RowPushes, push_pushes}
+use Rattle.ep_object.proofs.rows.TextRows.{RowFails, chars_pushes, form_integer, form_boolean, form_wide_integer, form_wide_boolean, form_wide_text, form_negative_integer, form_negative_boolean, form_negative_text}
 use Rattle.ep_typed.specs.Steady.{IsSteadyHandler}
 use Rattle.ep_typed.specs.Calls.{Handler}
 use Rattle.ep_typed.proofs.Steady.{steady_give, steady_spend, steady_write_items, steady_bind, steady_eval, steady_write_piece, steady_write_wide}

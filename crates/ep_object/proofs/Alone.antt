@@ -4,7 +4,7 @@ use Rattle.ep_object.specs.Placing.{Placement, CodeStands, Stands, HasDistinctNa
 use Rattle.std.proofs.lemmas.Slice.Eq.{bytes_eq-Decides}
 use Rattle.ep_object.specs.declared.code.Instr.{Instr}
 use Rattle.ep_object.specs.declared.code.Object.{Object}
-use Rattle.ep_object.proofs.Beginning.{map_at}
+use Rattle.ep_object.proofs.matching.Beginning.{map_at}
 
 -- what stands behind other elements
 get_behind : {A B : Type 0} (f : A → B) (front : List A) (x : A) (rest : List A) → slice_get (map f (front ++ x ∷ rest)) (length front) ≡ Some (f x)

@@ -1,31 +1,12 @@
 pub mod Alone
-pub mod Answers
-pub mod Beginning
-pub mod Bind
-pub mod ChangeRows
-pub mod Changes
-pub mod Choices
 pub mod Effects
-pub mod Elements
 mod Examples
-pub mod Fragments
-pub mod Growing
-pub mod HiddenWords
+pub mod following
 pub mod Grows
 pub mod Limits
-pub mod Losing
-pub mod MakeRow
-pub mod Making
-pub mod NewTypes
-pub mod Pieces
-pub mod PlaceRows
-pub mod Promising
-pub mod Rows
-pub mod Simulating
+pub mod matching
+pub mod rows
 mod Spinning
-pub mod Standing
 pub mod Tells
-pub mod TextRows
 pub mod Ticks
 pub mod Views
-pub mod Weights

@@ -1,5 +1,5 @@
 use Rattle.std.proofs.Common.{arith}
-use Rattle.ep_object.proofs.Fragments.{fragment_credit}
+use Rattle.ep_object.proofs.following.Fragments.{fragment_credit}
 use Rattle.ep_gen_expr.proofs.Following.{place_follows, expression_follows}
 use Rattle.ep_gen_expr.proofs.laws.laws_of_following.Goals as goal
 

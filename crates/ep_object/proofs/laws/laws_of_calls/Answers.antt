@@ -1,4 +1,4 @@
-use Rattle.ep_object.proofs.Promising.{calls_answer}
+use Rattle.ep_object.proofs.following.Promising.{calls_answer}
 use Rattle.ep_object.proofs.laws.laws_of_calls.Goals as goal
 
 pub returns : goal.returns

@@ -1,4 +1,4 @@
-use Rattle.ep_object.proofs.Simulating.{simulation_answers}
+use Rattle.ep_object.proofs.following.Simulating.{simulation_answers}
 use Rattle.ep_object.proofs.laws.laws_of_simulations.Goals as goal
 
 pub returns : goal.returns

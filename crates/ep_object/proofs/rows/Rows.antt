@@ -14,8 +14,8 @@ use Rattle.ep_object.specs.WordRows.{integer_row, div_of}
 pub use Rattle.ep_object.specs.Table.{instr}
 use Rattle.ep_object.specs.declared.code.Image.{Image}
 use Rattle.ep_object.specs.declared.code.Instr.{Instr}
-use Rattle.ep_object.proofs.Answers.{is_integer-same, is_zero-same, is_zero-true, bit-same, is_boolean-same}
-use Rattle.ep_object.proofs.Choices.{going_of}
+use Rattle.ep_object.proofs.rows.Answers.{is_integer-same, is_zero-same, is_zero-true, bit-same, is_boolean-same}
+use Rattle.ep_object.proofs.following.Choices.{going_of}
 use Rattle.ep_typed.specs.Events.{Trace}
 use Rattle.ep_typed.specs.Operations.{Answer, Number, Fault, integer, is_integer, ordinal_of, is_same, is_true, unary_answer, binary_answer, step_answer, within}
 use Rattle.ep_typed.specs.Hosts.{is_of_host}

@@ -6,9 +6,9 @@ use Rattle.ep_object.specs.Operands.{Operand, Word, Text}
 use Rattle.ep_object.specs.Operands as operand
 use Rattle.ep_object.specs.State.{output_place}
 use Rattle.ep_object.specs.declared.code.Image.{Image}
-use Rattle.ep_object.proofs.ChangeRows.{put_does}
-use Rattle.ep_object.proofs.Fragments.{fragment_less, fragment_paid, fragment_change}
-use Rattle.ep_object.proofs.Rows.{instr, RowPushes}
+use Rattle.ep_object.proofs.rows.ChangeRows.{put_does}
+use Rattle.ep_object.proofs.following.Fragments.{fragment_less, fragment_paid, fragment_change}
+use Rattle.ep_object.proofs.rows.Rows.{instr, RowPushes}
 use Rattle.ep_typed.specs.Calls.{Handler}
 use Rattle.ep_typed.specs.Meaning.{write_piece}
 use Rattle.ep_typed.specs.Printing.{piece_events}

@@ -10,12 +10,12 @@ use Rattle.ep_object.specs.Texts.{written}
 use Rattle.ep_object.specs.Types.{ordinal_entry}
 use Rattle.ep_object.specs.declared.code.Image.{Image}
 use Rattle.ep_object.specs.declared.state.Place.{Place}
-use Rattle.ep_object.proofs.Changes.{storing, matches_events, grown_storing, matches_assigned}
-use Rattle.ep_object.proofs.Fragments.{Does, FailsWith}
-use Rattle.ep_object.proofs.Growing.{slice_get-prefix, grown_refl, same_routine-refl, inside_here}
-use Rattle.ep_object.proofs.Rows.{instr, in_one, outcome_at}
-use Rattle.ep_object.proofs.Standing.{Stands, allocated, place_stands, described-same}
-use Rattle.ep_object.proofs.TextRows.{written-same}
+use Rattle.ep_object.proofs.matching.Changes.{storing, matches_events, grown_storing, matches_assigned}
+use Rattle.ep_object.proofs.following.Fragments.{Does, FailsWith}
+use Rattle.ep_object.proofs.matching.Growing.{slice_get-prefix, grown_refl, same_routine-refl, inside_here}
+use Rattle.ep_object.proofs.rows.Rows.{instr, in_one, outcome_at}
+use Rattle.ep_object.proofs.matching.Standing.{Stands, allocated, place_stands, described-same}
+use Rattle.ep_object.proofs.rows.TextRows.{written-same}
 use Rattle.ep_typed.specs.Events.{Trace}
 use Rattle.ep_typed.specs.Operations.{is_integer}
 use Rattle.ep_typed.specs.Printing.{piece_events}

@@ -7,9 +7,9 @@ use Rattle.ep_object.specs.Operands.{Operand, Word}
 use Rattle.ep_object.specs.Runs.{outcome}
 use Rattle.ep_object.specs.State.{State, Going, Running, Stopped, Error}
 use Rattle.ep_object.specs.declared.code.Image.{Image}
-use Rattle.ep_object.proofs.Bind.{Met, follows_paid, follows_stop, follows_give, follows_changed}
-use Rattle.ep_object.proofs.Fragments.{Does, FailsWith, landed, fragment_bind_number, fragment_bind_bare, fragment_less, fragment_waits, fragment_one, fragment_move, fragment_give, fragment_cut, fragment_stop}
-use Rattle.ep_object.proofs.Growing.{grown_trans, not_left-here, same_routine-trans, inside_here}
+use Rattle.ep_object.proofs.following.Bind.{Met, follows_paid, follows_stop, follows_give, follows_changed}
+use Rattle.ep_object.proofs.following.Fragments.{Does, FailsWith, landed, fragment_bind_number, fragment_bind_bare, fragment_less, fragment_waits, fragment_one, fragment_move, fragment_give, fragment_cut, fragment_stop}
+use Rattle.ep_object.proofs.matching.Growing.{grown_trans, not_left-here, same_routine-trans, inside_here}
 use Rattle.ep_typed.proofs.Steady.{steady_if, steady_bind, steady_spend, steady_give, steady_turns}
 use Rattle.ep_typed.specs.Calls.{Handler}
 use Rattle.ep_typed.specs.Events.{Trace}

@@ -9,11 +9,11 @@ use Rattle.ep_object.specs.Runs.{run, trace_of, unit_in, outcome}
 use Rattle.ep_object.specs.Simulates.{EndsAfter, StaysAfter}
 use Rattle.ep_object.specs.State.{State, Running, Stopped}
 use Rattle.ep_object.specs.declared.code.Image.{Image}
-use Rattle.ep_object.proofs.Bind.{Met, follows_post, one_state, stays_waiting, stays_join, run_then, run_instruction}
-use Rattle.ep_object.proofs.Fragments.{fragment_post}
-use Rattle.ep_object.proofs.Growing.{before_or_not, since_here, since_holds}
+use Rattle.ep_object.proofs.following.Bind.{Met, follows_post, one_state, stays_waiting, stays_join, run_then, run_instruction}
+use Rattle.ep_object.proofs.following.Fragments.{fragment_post}
+use Rattle.ep_object.proofs.matching.Growing.{before_or_not, since_here, since_holds}
 use Rattle.ep_object.proofs.Grows.{is_prefix}
-use Rattle.ep_object.proofs.Simulating.{stays_in}
+use Rattle.ep_object.proofs.following.Simulating.{stays_in}
 use Rattle.ep_object.proofs.Tells.{events_between, ends_after}
 use Rattle.ep_outside.specs.Known.{IsPrefix}
 use Rattle.ep_typed.specs.Calls.{Argument, entered, left_from, given_back, in_call}

@@ -1,36 +1,26 @@
--- A variable is made: the machine goes on matching, or ends for want of storage where room was lost.
-use Rattle.std.proofs.Common.{length-append, leb, cond, ◌≡◌, ℕ, ℤ, zero, suc, pos, ◌+◌, ◌≤◌, ◌<◌, ◌⊎◌, inl, inr, Bool, true, false, ◌&&◌, IsTrue, List, [], ◌∷◌, ◌++◌, length, Option, Some, None, slice_get, slice_set, refl, sym, ap, ◌∙◌, subst, arith}
+-- A variable is made: the machine goes on matching with one more segment.
+use Rattle.std.proofs.Common.{length-append, ◌≡◌, ℕ, ℤ, zero, suc, ◌+◌, ◌≤◌, ◌<◌, ◌⊎◌, inl, inr, Bool, true, false, ◌&&◌, IsTrue, List, [], ◌∷◌, ◌++◌, length, Option, Some, None, slice_get, slice_set, refl, sym, ap, ◌∙◌, subst, arith}
 use Rattle.std.specs.Prelude.{nat_le, if◌then◌else◌}
 use Rattle.std.specs.Str.{bytes_eq}
 use Rattle.std.proofs.lemmas.Bool.Decides.{nat_tests}
-use Rattle.std.proofs.lemmas.Bool.{lt-ltb}
 use Rattle.std.proofs.lemmas.Option.{slice_get_within, same_Some}
 use Rattle.std.proofs.lemmas.Slice.Eq.{bytes_eq-Decides}
 use native.Mathlib.Decide.{ℕ_discrete}
-use Rattle.ep_object.specs.Follows.{GivesUp, Facts, Lasts, Bare, Inside}
-use Rattle.ep_object.specs.Matching.{Memory, at, Injection, IsIn, IsPlaceOf, Describes, IsHidden, Slots, slot_of_frame, slot_in, MatchesSlot, MatchesInjection, MatchesFrame, MatchesCounts, hidden_words, Represents, HasType, Matches, Grown}
-use Rattle.ep_object.specs.Operands.{Operand, Word}
+use Rattle.ep_object.specs.Matching.{Memory, Injection, IsIn, IsPlaceOf, Describes, IsHidden, Slots, slot_in, MatchesSlot, MatchesInjection, MatchesFrame, MatchesCounts, hidden_words, Represents, HasType, Matches, Grown}
 use Rattle.ep_object.specs.Placing.{HasDistinctNames}
-use Rattle.ep_object.specs.Runs.{outcome, unit_in}
 use Rattle.ep_object.specs.Scene.{HaveValidTypes}
-use Rattle.ep_object.specs.State.{Frames, Running, Stopped, Error, live_limit, undefined}
+use Rattle.ep_object.specs.State.{Frames, undefined}
 use Rattle.ep_object.specs.Table.{with_slots}
-use Rattle.ep_object.specs.Types.{ordinal_entry}
 use Rattle.ep_object.specs.declared.code.Image.{Image}
 use Rattle.ep_object.specs.declared.code.ImageUnit.{ImageUnit}
 use Rattle.ep_object.specs.declared.state.Place.{Place}
 use Rattle.ep_object.specs.declared.state.Segment.{Segment}
-use Rattle.ep_object.proofs.Bind.{gives_up}
-use Rattle.ep_object.proofs.Changes.{matches_frame-grown}
-use Rattle.ep_object.proofs.Elements.{slice_get-push, slice_get-pushed, slice_get-set-same, slice_get-set-other, length-set}
-use Rattle.ep_object.proofs.Fragments.{Does}
-use Rattle.ep_object.proofs.Growing.{slice_get-prefix, is_in-longer}
+use Rattle.ep_object.proofs.matching.Changes.{matches_frame-grown}
+use Rattle.ep_object.proofs.matching.Elements.{slice_get-push, slice_get-pushed, slice_get-set-same, slice_get-set-other, length-set}
+use Rattle.ep_object.proofs.matching.Growing.{slice_get-prefix, is_in-longer}
 use Rattle.ep_object.proofs.Grows.{is_prefix}
-use Rattle.ep_object.proofs.HiddenWords.{hidden_words-pushed}
-use Rattle.ep_object.proofs.Making.{lost_words, past_limit, live_bounded}
-use Rattle.ep_object.proofs.Rows.{instr, in_one, outcome_at}
-use Rattle.ep_object.proofs.Standing.{slice_get-some, both, instance_valid}
-use Rattle.ep_typed.specs.Events.{Trace}
+use Rattle.ep_object.proofs.matching.HiddenWords.{hidden_words-pushed}
+use Rattle.ep_object.proofs.matching.Standing.{slice_get-some, both, instance_valid}
 use Rattle.ep_typed.specs.Operations.{is_integer}
 use Rattle.ep_typed.specs.Steps.{Undefined, Allocation, Resources, allocation_at, type_in, type_at, bound, counted, made}
 use Rattle.ep_typed.specs.Steps as meaning
@@ -39,8 +29,6 @@ use Rattle.ep_typed.specs.Hosts.{Host}
 use Rattle.ep_typed.specs.declared.value.TypeValue.{TypeValue}
 use Rattle.ep_typed.specs.declared.value.TypeValue.TheVariants as type
 use Rattle.ep_typed.specs.declared.unit.UnitVariable.{UnitVariable}
-use Rattle.ep_object.specs.declared.op.TheConstants as op
-use Rattle.ep_typed.specs.declared.run_error.TheConstants as run_error
 
 -- ---- what is bound
 
@@ -95,27 +83,27 @@ type_more allocations a (suc n) host t valid is = go (slice_get allocations n) r
 -- ---- the memory with one more variable
 
 -- the segment of a new variable
-abbrev new_segment : ℕ → Segment
+abbrev pub new_segment : ℕ → Segment
 new_segment number = record { type_number = number; words = undefined ∷ [] }
 
 -- its place
-abbrev new_place : Memory → ℕ → Place
+abbrev pub new_place : Memory → ℕ → Place
 new_place memory number = record { segment = length memory.segments; offset = 0; type_number = number }
 
 -- one more variable of the type of this number, with these frames
-abbrev with_variable : ℕ → Frames → Memory → Memory
+abbrev pub with_variable : ℕ → Frames → Memory → Memory
 with_variable number frames memory = record memory { frames = frames; segments = memory.segments ++ Some (new_segment number) ∷ []; live = memory.live + 2 }
 
 -- the frames with its place in a slot of the frame that is used
-abbrev with_place : ℕ → ℕ → List (Option Place) → Memory → Frames
+abbrev pub with_place : ℕ → ℕ → List (Option Place) → Memory → Frames
 with_place number k slots memory = with_slots memory.frames (slice_set slots k (Some (new_place memory number)))
 
 -- the injection with its segment
-abbrev with_segment : Injection → Memory → Injection
+abbrev pub with_segment : Injection → Memory → Injection
 with_segment injection memory = injection ++ length memory.segments ∷ []
 
 -- an allocation is one that was there, or the new one
-abbrev IsOldOrNew : Injection → Memory → ℕ → ℕ → Type 0
+abbrev pub IsOldOrNew : Injection → Memory → ℕ → ℕ → Type 0
 IsOldOrNew injection memory n segment = IsIn injection n segment ⊎ ((n ≡ suc (length injection)) × (segment ≡ length memory.segments))
 
 is_in-either : (injection : Injection) (memory : Memory) (n segment : ℕ) → IsIn (with_segment injection memory) n segment → IsOldOrNew injection memory n segment
@@ -128,7 +116,7 @@ is_in-within injection zero segment h = absurd h
 is_in-within injection (suc n) segment h = let w : n < length injection = slice_get_within injection n segment h in omega arith
 
 -- memory grows by the new segment
-grown_making : {untouched : Slots} (injection : Injection) (memory : Memory) (number : ℕ) (frames : Frames) → ((unit k : ℕ) → IsTrue (untouched unit k) → slot_in frames unit k ≡ slot_in memory.frames unit k) → Grown untouched injection memory (with_segment injection memory) (with_variable number frames memory)
+pub grown_making : {untouched : Slots} (injection : Injection) (memory : Memory) (number : ℕ) (frames : Frames) → ((unit k : ℕ) → IsTrue (untouched unit k) → slot_in frames unit k ≡ slot_in memory.frames unit k) → Grown untouched injection memory (with_segment injection memory) (with_variable number frames memory)
 grown_making injection memory number frames kept =
     record {
       larger = record { rest = length memory.segments ∷ []; is = refl };
@@ -163,10 +151,10 @@ grown_same_frames injection memory number = grown_making injection memory number
 
 module _ {declared : Declarations} {G : Image} {injection : Injection} {s : meaning.State} {memory : Memory} (h : Matches declared G injection s memory) (x : ImageUnit) (low high : ℤ) (number k : ℕ) (is_unit : slice_get G.units memory.frames.unit ≡ Some x) (described : Describes memory.types number (type.Ordinal low high)) (low_fits : IsTrue (is_integer low)) (high_fits : IsTrue (is_integer high)) where
   -- the allocation of the new variable
-  abbrev new_allocation : Allocation
+  abbrev pub new_allocation : Allocation
   new_allocation = record { type_value = type.Ordinal low high; value = Undefined }
 
-  abbrev its_segment : Option Segment
+  abbrev pub its_segment : Option Segment
   its_segment = Some (new_segment number)
 
   -- as many allocations as items of the injection
@@ -199,16 +187,16 @@ module _ {declared : Declarations} {G : Image} {injection : Injection} {s : mean
   apart_making m n segment (inr p) (inr q) = p.0 ∙ sym q.0
 
   -- the frame in which the variable is made, where memory has grown
-  frame_here : MatchesFrame declared (with_segment injection memory) s.variables memory.frames.units (memory.segments ++ its_segment ∷ []) memory.frames.unit x
+  pub frame_here : MatchesFrame declared (with_segment injection memory) s.variables memory.frames.units (memory.segments ++ its_segment ∷ []) memory.frames.unit x
   frame_here = let units = h.units in matches_frame-grown {before = s.variables} {after = with_variable number memory.frames memory} memory.frames.unit x (grown_same_frames injection memory number) refl (λ j. refl) (units.frames memory.frames.unit x is_unit)
 
-  abbrev new_slots : List (Option Place)
+  abbrev pub new_slots : List (Option Place)
   new_slots = slice_set frame_here.slots k (Some (new_place memory number))
 
-  abbrev later : Memory
+  abbrev pub later : Memory
   later = with_variable number (with_place number k frame_here.slots memory) memory
 
-  abbrev later_state : meaning.State
+  abbrev pub later_state : meaning.State
   later_state = made x.name k (type.Ordinal low high) (counted (type.Ordinal low high) s)
 
   -- the place in the slot is that of the new allocation
@@ -299,7 +287,7 @@ module _ {declared : Declarations} {G : Image} {injection : Injection} {s : mean
                 subst (λ t. HasType declared unit v t) (sym kept) has_type
 
         -- the machine goes on matching
-        matches_making : Matches declared G (with_segment injection memory) later_state later
+        pub matches_making : Matches declared G (with_segment injection memory) later_state later
         matches_making =
             record {
               injected = injected_making;
@@ -329,59 +317,3 @@ module _ {declared : Declarations} {G : Image} {injection : Injection} {s : mean
                 let counts = h.counts in
                 let same : hidden_words (with_segment injection memory) later.segments ≡ hidden_words injection memory.segments = hidden_words-pushed injection memory.segments (new_segment number) in
                 record { words = omega (arith, counts.words, same); hidden = omega (arith, counts.hidden, same); number = counts.number }
-
--- ---- the row
-
--- what `Make` leads to: one more variable, or an error where too many words would live
-make_outcome : (G : Image) (place line : ℕ) (below : List Operand) (low high : ℤ) (number k : ℕ) (slots : List (Option Place)) (memory : Memory) (trace : Trace) (b : Bool) → slice_get G.instructions place ≡ Some (instr op.MAKE (pos k) 0 line) → slice_get memory.frames.units memory.frames.unit ≡ Some slots → Describes memory.types number (type.Ordinal low high) → k < length slots → leb (memory.live + 2) live_limit ≡ b
-    → outcome G (at place (Word (pos number) ∷ below) memory trace) ≡ cond b (record { weight = 1; to = Running 0 (at (place + 1) below (with_variable number (with_place number k slots memory) memory) trace) }) (in_one (Stopped (Error run_error.STORAGE_LIMIT (unit_in G memory.frames) line) trace))
-make_outcome G place line below low high number k slots memory trace true has frame described within fits =
-    outcome_at G (instr op.MAKE (pos k) 0 line) place (Word (pos number) ∷ below) memory trace has ∙ rw (frame, lt-ltb number (length memory.types) (slice_get_within memory.types number (ordinal_entry low high) described), described, lt-ltb k (length slots) within, fits) refl
-make_outcome G place line below low high number k slots memory trace false has frame described within fits =
-    outcome_at G (instr op.MAKE (pos k) 0 line) place (Word (pos number) ∷ below) memory trace has ∙ rw (frame, lt-ltb number (length memory.types) (slice_get_within memory.types number (ordinal_entry low high) described), described, lt-ltb k (length slots) within, fits) refl
-
--- `Make` of an ordinal type in a slot of the unit's frame, over the number of the type
-pub make_does : {untouched : Slots} {Here : Facts} (declared : Declarations) (G : Image) (place line : ℕ) (below : List Operand) (low high : ℤ) (number k : ℕ) (x : ImageUnit) → slice_get G.instructions place ≡ Some (instr op.MAKE (pos k) 0 line)
-    → HasDistinctNames G → IsTrue (is_integer low) → IsTrue (is_integer high)
-    → HaveValidTypes declared → ((v : UnitVariable) → declared.variables x.name k ≡ Some v → HasType declared x.name v (type.Ordinal low high))
-    → (injection : Injection) (memory : Memory) (s : meaning.State) → slice_get G.units memory.frames.unit ≡ Some x → k < x.slots → (IsTrue (untouched memory.frames.unit k) → ⊥) → Describes memory.types number (type.Ordinal low high) → Lasts untouched Here → Matches declared G injection s memory → Here injection s memory
-    → Does declared G Here (at place (Word (pos number) ∷ below) memory s.trace) 1 (place + 1) (Inside untouched injection memory (Bare below tt)) (made x.name k (type.Ordinal low high) (counted (type.Ordinal low high) s)) ⊎ GivesUp G (at place (Word (pos number) ∷ below) memory s.trace) 0 1 (counted (type.Ordinal low high) s)
-make_does {untouched = untouched} {Here = Here} declared G place line below low high number k x has distinct low_fits high_fits types_valid declared_so injection memory s is_unit within free described lasts matches known = go (leb (memory.live + 2) live_limit) refl
-  where
-    frame : MatchesFrame declared (with_segment injection memory) s.variables memory.frames.units (memory.segments ++ Some (new_segment number) ∷ []) memory.frames.unit x
-    frame = frame_here matches x low high number k is_unit described low_fits high_fits
-
-    -- the slots that are kept are what they were
-    kept : (unit j : ℕ) → IsTrue (untouched unit j) → slot_in (with_place number k frame.slots memory) unit j ≡ slot_in memory.frames unit j
-    kept unit j is_kept = elim (ℕ_discrete memory.frames.unit unit) [ yes e ↦ own e | no e ↦ other e ]
-      where
-        new_slots_here : slice_get (slice_set memory.frames.units memory.frames.unit (slice_set frame.slots k (Some (new_place memory number)))) memory.frames.unit ≡ Some (slice_set frame.slots k (Some (new_place memory number)))
-        new_slots_here = slice_get-set-same memory.frames.units memory.frames.unit (slice_set frame.slots k (Some (new_place memory number))) frame.slots frame.is
-
-        own : memory.frames.unit ≡ unit → slot_in (with_place number k frame.slots memory) unit j ≡ slot_in memory.frames unit j
-        own e =
-            let different : (k ≡ j → ⊥) = λ q. free (subst (λ i. IsTrue (untouched i k)) (sym e) (subst (λ i. IsTrue (untouched unit i)) (sym q) is_kept)) in
-            subst (λ u. slot_in (with_place number k frame.slots memory) u j ≡ slot_in memory.frames u j) e
-            (ap (λ o. slot_of_frame o j) new_slots_here ∙ (slice_get-set-other frame.slots k j (Some (new_place memory number)) different ∙ sym (ap (λ o. slot_of_frame o j) frame.is)))
-
-        other : (memory.frames.unit ≡ unit → ⊥) → slot_in (with_place number k frame.slots memory) unit j ≡ slot_in memory.frames unit j
-        other e = ap (λ o. slot_of_frame o j) (slice_get-set-other memory.frames.units memory.frames.unit unit (slice_set frame.slots k (Some (new_place memory number))) e)
-
-    leads : (b : Bool) → leb (memory.live + 2) live_limit ≡ b → outcome G (at place (Word (pos number) ∷ below) memory s.trace) ≡ cond b (record { weight = 1; to = Running 0 (at (place + 1) below (with_variable number (with_place number k frame.slots memory) memory) s.trace) }) (in_one (Stopped (Error run_error.STORAGE_LIMIT (unit_in G memory.frames) line) s.trace))
-    leads b e = make_outcome G place line below low high number k frame.slots memory s.trace b has frame.is described (omega (arith, within, frame.count)) e
-
-    go : (b : Bool) → leb (memory.live + 2) live_limit ≡ b → Does declared G Here (at place (Word (pos number) ∷ below) memory s.trace) 1 (place + 1) (Inside untouched injection memory (Bare below tt)) (made x.name k (type.Ordinal low high) (counted (type.Ordinal low high) s)) ⊎ GivesUp G (at place (Word (pos number) ∷ below) memory s.trace) 0 1 (counted (type.Ordinal low high) s)
-    go true e =
-        inl (record {
-          injection = with_segment injection memory;
-          memory = with_variable number (with_place number k frame.slots memory) memory;
-          operands = below;
-          does = leads true e;
-          matches = matches_making matches x low high number k is_unit described low_fits high_fits within distinct types_valid declared_so;
-          here = lasts.by injection (with_segment injection memory) s (made x.name k (type.Ordinal low high) (counted (type.Ordinal low high) s)) memory (with_variable number (with_place number k frame.slots memory) memory) (record { grown = grown_making injection memory number (with_place number k frame.slots memory) kept; routine = record { turn = refl; routine = refl; unit = refl }; calls = refl }) known;
-          post = record { grown = grown_making injection memory number (with_place number k frame.slots memory) kept; routine = record { turn = refl; routine = refl; unit = refl }; operands_are = refl };
-        })
-    go false e =
-        let many : live_limit < memory.live + 2 = grind (arith, nat_tests) in
-        let counted_here : Resources = record s.resources { allocated = s.resources.allocated + 2 } in
-        inr (gives_up (leads false e) (inl refl) (is_prefix s.trace) (lost_words counted_here (past_limit (memory.live + 2) counted_here many (omega (arith, live_bounded matches.counts)))))

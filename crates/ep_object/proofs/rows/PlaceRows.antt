@@ -13,10 +13,10 @@ use Rattle.ep_object.specs.Types.{ordinal_entry}
 use Rattle.ep_object.specs.declared.code.Image.{Image}
 use Rattle.ep_object.specs.declared.code.ImageUnit.{ImageUnit}
 use Rattle.ep_object.specs.declared.state.Place.{Place}
-use Rattle.ep_object.proofs.Choices.{Reads, Misses, Finds}
-use Rattle.ep_object.proofs.Growing.{inside_here}
-use Rattle.ep_object.proofs.Rows.{instr, in_one, RowPushes, outcome_at}
-use Rattle.ep_object.proofs.Standing.{slice_get-some, Stands, place_stands, described-same, place_described, one_type, within_host, word_defined}
+use Rattle.ep_object.proofs.following.Choices.{Reads, Misses, Finds}
+use Rattle.ep_object.proofs.matching.Growing.{inside_here}
+use Rattle.ep_object.proofs.rows.Rows.{instr, in_one, RowPushes, outcome_at}
+use Rattle.ep_object.proofs.matching.Standing.{slice_get-some, Stands, place_stands, described-same, place_described, one_type, within_host, word_defined}
 use Rattle.ep_typed.specs.Events.{Trace}
 use Rattle.ep_typed.specs.Printing.{Number}
 use Rattle.ep_typed.specs.Steps.{type_at, Value, Undefined, Allocation, allocation_at, word_of, word_in, word_at, is_within}

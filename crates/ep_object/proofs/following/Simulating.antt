@@ -14,8 +14,8 @@ use Rattle.ep_object.specs.Runs.{run, run_from, trace_of, outcome, outcome_of, a
 use Rattle.ep_object.specs.Simulates.{routine_credit, Enters, Leaves, Simulates, StaysIn, LeavesAfter, EndsAfter, StaysAfter, AnswersInRoom}
 use Rattle.ep_object.specs.State.{State, Frames, Going, Running, Stopped}
 use Rattle.ep_object.specs.declared.code.Image.{Image}
-use Rattle.ep_object.proofs.Bind.{one_state, stays_wider, stays_here, stays_join, Met, gives_up_weaken, follows_moves, run_instruction}
-use Rattle.ep_object.proofs.Growing.{before_or_not, not_left-here}
+use Rattle.ep_object.proofs.following.Bind.{one_state, stays_wider, stays_here, stays_join, Met, gives_up_weaken, follows_moves, run_instruction}
+use Rattle.ep_object.proofs.matching.Growing.{before_or_not, not_left-here}
 use Rattle.ep_object.proofs.Grows.{is_prefix, prefix_then, run_grows}
 use Rattle.ep_object.proofs.Tells.{running_before, events_between, ends_after}
 use Rattle.ep_object.proofs.Views.{runs_extend}

@@ -6,10 +6,10 @@ use Rattle.ep_object.specs.declared.code.Image.{Image}
 use Rattle.ep_object.specs.declared.code.ImageUnit.{ImageUnit}
 use Rattle.ep_object.specs.declared.state.Place.{Place}
 use Rattle.ep_object.specs.declared.state.Segment.{Segment}
-use Rattle.ep_object.proofs.Elements.{length-set, slice_get-set-same, slice_get-set-other}
-use Rattle.ep_object.proofs.Growing.{is_place_of-grown}
+use Rattle.ep_object.proofs.matching.Elements.{length-set, slice_get-set-same, slice_get-set-other}
+use Rattle.ep_object.proofs.matching.Growing.{is_place_of-grown}
 use Rattle.ep_object.proofs.Grows.{is_prefix}
-use Rattle.ep_object.proofs.HiddenWords.{hidden_words-set}
+use Rattle.ep_object.proofs.matching.HiddenWords.{hidden_words-set}
 use Rattle.ep_typed.specs.Events.{Trace}
 use Rattle.ep_typed.specs.Steps.{Value, Undefined, Allocation, allocation_at, assigned_at, assigned, type_in, type_at, with_events, is_within}
 use Rattle.ep_typed.specs.Steps as meaning

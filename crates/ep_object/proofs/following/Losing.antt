@@ -1,12 +1,11 @@
 -- Fragments of code that may end for want of room.
-use Rattle.std.proofs.Common.{◌≡◌, ℕ, suc, ◌+◌, ◌*◌, ◌≤◌, ◌⊎◌, inl, inr, List, sym, arith}
-use Rattle.ep_object.specs.Follows.{Point, state_at, GivesUp, Follows, point, Facts, Fragment, After, Lands, IsNotLeft}
-use Rattle.ep_object.specs.Matching.{Memory, at, Injection, Matches}
-use Rattle.ep_object.specs.Operands.{Operand}
+use Rattle.std.proofs.Common.{◌≡◌, ℕ, suc, ◌+◌, ◌*◌, ◌≤◌, ◌⊎◌, inl, inr, sym, arith}
+use Rattle.ep_object.specs.Follows.{Point, state_at, GivesUp, Follows, Facts, Fragment, After, Lands, IsNotLeft}
+use Rattle.ep_object.specs.Matching.{Matches}
 use Rattle.ep_object.specs.declared.code.Image.{Image}
-use Rattle.ep_object.proofs.Bind.{follows_paid, follows_give, follows_counted, follows_gives_up}
-use Rattle.ep_object.proofs.Fragments.{Does, landed}
-use Rattle.ep_object.proofs.Growing.{not_left-here}
+use Rattle.ep_object.proofs.following.Bind.{follows_paid, follows_give, follows_counted, follows_gives_up}
+use Rattle.ep_object.proofs.following.Fragments.{Does, landed}
+use Rattle.ep_object.proofs.matching.Growing.{not_left-here}
 use Rattle.ep_typed.proofs.Steady.{steady_bind, steady_give, steady_spend, steady_change}
 use Rattle.ep_typed.specs.Steady.{Grows}
 use Rattle.ep_typed.specs.Steps.{give, bind, spend, change}

@@ -13,8 +13,8 @@ use Rattle.ep_object.specs.State.{Running, Stopped, Error}
 use Rattle.ep_object.specs.Texts as rows
 use Rattle.ep_object.specs.WordRows.{is_boolean}
 use Rattle.ep_object.specs.declared.code.Image.{Image}
-use Rattle.ep_object.proofs.Answers.{is_boolean-same}
-use Rattle.ep_object.proofs.Rows.{instr, RowPushes, outcome_at}
+use Rattle.ep_object.proofs.rows.Answers.{is_boolean-same}
+use Rattle.ep_object.proofs.rows.Rows.{instr, RowPushes, outcome_at}
 use Rattle.ep_typed.specs.Operations.{last_char}
 use Rattle.ep_typed.specs.Events.{Trace}
 use Rattle.ep_typed.specs.Printing.{Number, Bytes, boolean_text, plain_text, wide_text, piece_events}

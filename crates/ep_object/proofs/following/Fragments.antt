@@ -7,8 +7,8 @@ use Rattle.ep_object.specs.Runs.{outcome}
 use Rattle.ep_object.specs.State.{State, Running, Stopped, Error}
 use Rattle.ep_object.specs.declared.code.Image.{Image}
 use Rattle.ep_object.specs.declared.state.Place.{Place as PlaceOf}
-use Rattle.ep_object.proofs.Bind.{follows_bind, follows_less, follows_weaken, follows_wider, follows_credit, follows_from, follows_waits, follows_paid, follows_moves, follows_give, follows_changed, follows_cut, follows_stop}
-use Rattle.ep_object.proofs.Growing.{inside_later, not_left-here, not_left-after}
+use Rattle.ep_object.proofs.following.Bind.{follows_bind, follows_less, follows_weaken, follows_wider, follows_credit, follows_from, follows_waits, follows_paid, follows_moves, follows_give, follows_changed, follows_cut, follows_stop}
+use Rattle.ep_object.proofs.matching.Growing.{inside_later, not_left-here, not_left-after}
 use Rattle.ep_typed.specs.Printing.{Result}
 use Rattle.ep_typed.specs.Printing as result
 use Rattle.ep_typed.specs.Steady.{Steady}

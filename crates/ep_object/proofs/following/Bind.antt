@@ -4,10 +4,10 @@ use Rattle.ep_object.specs.Follows.{end_of, Pays, StaysWithin, Meets, GivesUp, F
 use Rattle.ep_object.specs.Runs.{outcome, tick_of, tick, run, run_from}
 use Rattle.ep_object.specs.State.{State, Going, Running, Stopped, Error}
 use Rattle.ep_object.specs.declared.code.Image.{Image}
-use Rattle.ep_object.proofs.Growing.{before_or_not}
+use Rattle.ep_object.proofs.matching.Growing.{before_or_not}
 use Rattle.ep_object.proofs.Grows.{prefix_then}
 use Rattle.ep_object.proofs.Views.{run_more, run_waits, run_acts}
-use Rattle.ep_object.proofs.Weights.{pays_join, pays_weaken, pays_waits}
+use Rattle.ep_object.proofs.following.Weights.{pays_join, pays_weaken, pays_waits}
 use Rattle.ep_outside.specs.Known.{IsPrefix}
 use Rattle.ep_typed.specs.Events.{Trace}
 use Rattle.ep_typed.specs.Steady.{Grows, Steady}

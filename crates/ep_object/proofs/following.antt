@@ -1,0 +1,7 @@
+pub mod Bind
+pub mod Choices
+pub mod Fragments
+pub mod Losing
+pub mod Promising
+pub mod Simulating
+pub mod Weights

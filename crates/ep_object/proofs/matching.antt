@@ -1,0 +1,9 @@
+pub mod Beginning
+pub mod Changes
+pub mod Counts
+pub mod Elements
+pub mod Growing
+pub mod HiddenWords
+pub mod NewVariables
+pub mod Standing
+pub mod TypeTables

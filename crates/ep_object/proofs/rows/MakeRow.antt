@@ -1,0 +1,89 @@
+-- What `Make` leads to: the machine goes on matching, or ends for want of storage where room was lost.
+use Rattle.std.proofs.Common.{leb, cond, ◌≡◌, ℕ, ℤ, pos, ◌+◌, ◌<◌, ◌⊎◌, inl, inr, Bool, true, false, IsTrue, List, [], ◌∷◌, ◌++◌, length, Option, Some, slice_get, slice_set, refl, sym, ap, ◌∙◌, subst, arith}
+use Rattle.std.proofs.lemmas.Bool.Decides.{nat_tests}
+use Rattle.std.proofs.lemmas.Bool.{lt-ltb}
+use Rattle.std.proofs.lemmas.Option.{slice_get_within}
+use native.Mathlib.Decide.{ℕ_discrete}
+use Rattle.ep_object.specs.Follows.{GivesUp, Facts, Lasts, Bare, Inside}
+use Rattle.ep_object.specs.Matching.{Memory, at, Injection, Describes, Slots, slot_of_frame, slot_in, MatchesFrame, HasType, Matches}
+use Rattle.ep_object.specs.Operands.{Operand, Word}
+use Rattle.ep_object.specs.Placing.{HasDistinctNames}
+use Rattle.ep_object.specs.Runs.{outcome, unit_in}
+use Rattle.ep_object.specs.Scene.{HaveValidTypes}
+use Rattle.ep_object.specs.State.{Running, Stopped, Error, live_limit}
+use Rattle.ep_object.specs.Types.{ordinal_entry}
+use Rattle.ep_object.specs.declared.code.Image.{Image}
+use Rattle.ep_object.specs.declared.code.ImageUnit.{ImageUnit}
+use Rattle.ep_object.specs.declared.state.Place.{Place}
+use Rattle.ep_object.proofs.following.Bind.{gives_up}
+use Rattle.ep_object.proofs.matching.Elements.{slice_get-set-same, slice_get-set-other}
+use Rattle.ep_object.proofs.following.Fragments.{Does}
+use Rattle.ep_object.proofs.Grows.{is_prefix}
+use Rattle.ep_object.proofs.matching.Counts.{lost_words, past_limit, live_bounded}
+use Rattle.ep_object.proofs.rows.Rows.{instr, in_one, outcome_at}
+use Rattle.ep_typed.specs.Events.{Trace}
+use Rattle.ep_typed.specs.Operations.{is_integer}
+use Rattle.ep_typed.specs.Steps.{Undefined, Allocation, Resources, allocation_at, type_in, type_at, bound, counted, made}
+use Rattle.ep_typed.specs.Steps as meaning
+use Rattle.ep_typed.specs.Valid.{Declarations}
+use Rattle.ep_typed.specs.declared.value.TypeValue.TheVariants as type
+use Rattle.ep_typed.specs.declared.unit.UnitVariable.{UnitVariable}
+use Rattle.ep_object.specs.declared.op.TheConstants as op
+use Rattle.ep_typed.specs.declared.run_error.TheConstants as run_error
+use Rattle.ep_object.proofs.matching.NewVariables.{new_segment, new_place, with_variable, with_place, with_segment, grown_making, frame_here, matches_making}
+
+-- ---- the row
+
+-- what `Make` leads to: one more variable, or an error where too many words would live
+make_outcome : (G : Image) (place line : ℕ) (below : List Operand) (low high : ℤ) (number k : ℕ) (slots : List (Option Place)) (memory : Memory) (trace : Trace) (b : Bool) → slice_get G.instructions place ≡ Some (instr op.MAKE (pos k) 0 line) → slice_get memory.frames.units memory.frames.unit ≡ Some slots → Describes memory.types number (type.Ordinal low high) → k < length slots → leb (memory.live + 2) live_limit ≡ b
+    → outcome G (at place (Word (pos number) ∷ below) memory trace) ≡ cond b (record { weight = 1; to = Running 0 (at (place + 1) below (with_variable number (with_place number k slots memory) memory) trace) }) (in_one (Stopped (Error run_error.STORAGE_LIMIT (unit_in G memory.frames) line) trace))
+make_outcome G place line below low high number k slots memory trace true has frame described within fits =
+    outcome_at G (instr op.MAKE (pos k) 0 line) place (Word (pos number) ∷ below) memory trace has ∙ rw (frame, lt-ltb number (length memory.types) (slice_get_within memory.types number (ordinal_entry low high) described), described, lt-ltb k (length slots) within, fits) refl
+make_outcome G place line below low high number k slots memory trace false has frame described within fits =
+    outcome_at G (instr op.MAKE (pos k) 0 line) place (Word (pos number) ∷ below) memory trace has ∙ rw (frame, lt-ltb number (length memory.types) (slice_get_within memory.types number (ordinal_entry low high) described), described, lt-ltb k (length slots) within, fits) refl
+
+-- `Make` of an ordinal type in a slot of the unit's frame, over the number of the type
+pub make_does : {untouched : Slots} {Here : Facts} (declared : Declarations) (G : Image) (place line : ℕ) (below : List Operand) (low high : ℤ) (number k : ℕ) (x : ImageUnit) → slice_get G.instructions place ≡ Some (instr op.MAKE (pos k) 0 line)
+    → HasDistinctNames G → IsTrue (is_integer low) → IsTrue (is_integer high)
+    → HaveValidTypes declared → ((v : UnitVariable) → declared.variables x.name k ≡ Some v → HasType declared x.name v (type.Ordinal low high))
+    → (injection : Injection) (memory : Memory) (s : meaning.State) → slice_get G.units memory.frames.unit ≡ Some x → k < x.slots → (IsTrue (untouched memory.frames.unit k) → ⊥) → Describes memory.types number (type.Ordinal low high) → Lasts untouched Here → Matches declared G injection s memory → Here injection s memory
+    → Does declared G Here (at place (Word (pos number) ∷ below) memory s.trace) 1 (place + 1) (Inside untouched injection memory (Bare below tt)) (made x.name k (type.Ordinal low high) (counted (type.Ordinal low high) s)) ⊎ GivesUp G (at place (Word (pos number) ∷ below) memory s.trace) 0 1 (counted (type.Ordinal low high) s)
+make_does {untouched = untouched} {Here = Here} declared G place line below low high number k x has distinct low_fits high_fits types_valid declared_so injection memory s is_unit within free described lasts matches known = go (leb (memory.live + 2) live_limit) refl
+  where
+    frame : MatchesFrame declared (with_segment injection memory) s.variables memory.frames.units (memory.segments ++ Some (new_segment number) ∷ []) memory.frames.unit x
+    frame = frame_here matches x low high number k is_unit described low_fits high_fits
+
+    -- the slots that are kept are what they were
+    kept : (unit j : ℕ) → IsTrue (untouched unit j) → slot_in (with_place number k frame.slots memory) unit j ≡ slot_in memory.frames unit j
+    kept unit j is_kept = elim (ℕ_discrete memory.frames.unit unit) [ yes e ↦ own e | no e ↦ other e ]
+      where
+        new_slots_here : slice_get (slice_set memory.frames.units memory.frames.unit (slice_set frame.slots k (Some (new_place memory number)))) memory.frames.unit ≡ Some (slice_set frame.slots k (Some (new_place memory number)))
+        new_slots_here = slice_get-set-same memory.frames.units memory.frames.unit (slice_set frame.slots k (Some (new_place memory number))) frame.slots frame.is
+
+        own : memory.frames.unit ≡ unit → slot_in (with_place number k frame.slots memory) unit j ≡ slot_in memory.frames unit j
+        own e =
+            let different : (k ≡ j → ⊥) = λ q. free (subst (λ i. IsTrue (untouched i k)) (sym e) (subst (λ i. IsTrue (untouched unit i)) (sym q) is_kept)) in
+            subst (λ u. slot_in (with_place number k frame.slots memory) u j ≡ slot_in memory.frames u j) e
+            (ap (λ o. slot_of_frame o j) new_slots_here ∙ (slice_get-set-other frame.slots k j (Some (new_place memory number)) different ∙ sym (ap (λ o. slot_of_frame o j) frame.is)))
+
+        other : (memory.frames.unit ≡ unit → ⊥) → slot_in (with_place number k frame.slots memory) unit j ≡ slot_in memory.frames unit j
+        other e = ap (λ o. slot_of_frame o j) (slice_get-set-other memory.frames.units memory.frames.unit unit (slice_set frame.slots k (Some (new_place memory number))) e)
+
+    leads : (b : Bool) → leb (memory.live + 2) live_limit ≡ b → outcome G (at place (Word (pos number) ∷ below) memory s.trace) ≡ cond b (record { weight = 1; to = Running 0 (at (place + 1) below (with_variable number (with_place number k frame.slots memory) memory) s.trace) }) (in_one (Stopped (Error run_error.STORAGE_LIMIT (unit_in G memory.frames) line) s.trace))
+    leads b e = make_outcome G place line below low high number k frame.slots memory s.trace b has frame.is described (omega (arith, within, frame.count)) e
+
+    go : (b : Bool) → leb (memory.live + 2) live_limit ≡ b → Does declared G Here (at place (Word (pos number) ∷ below) memory s.trace) 1 (place + 1) (Inside untouched injection memory (Bare below tt)) (made x.name k (type.Ordinal low high) (counted (type.Ordinal low high) s)) ⊎ GivesUp G (at place (Word (pos number) ∷ below) memory s.trace) 0 1 (counted (type.Ordinal low high) s)
+    go true e =
+        inl (record {
+          injection = with_segment injection memory;
+          memory = with_variable number (with_place number k frame.slots memory) memory;
+          operands = below;
+          does = leads true e;
+          matches = matches_making matches x low high number k is_unit described low_fits high_fits within distinct types_valid declared_so;
+          here = lasts.by injection (with_segment injection memory) s (made x.name k (type.Ordinal low high) (counted (type.Ordinal low high) s)) memory (with_variable number (with_place number k frame.slots memory) memory) (record { grown = grown_making injection memory number (with_place number k frame.slots memory) kept; routine = record { turn = refl; routine = refl; unit = refl }; calls = refl }) known;
+          post = record { grown = grown_making injection memory number (with_place number k frame.slots memory) kept; routine = record { turn = refl; routine = refl; unit = refl }; operands_are = refl };
+        })
+    go false e =
+        let many : live_limit < memory.live + 2 = grind (arith, nat_tests) in
+        let counted_here : Resources = record s.resources { allocated = s.resources.allocated + 2 } in
+        inr (gives_up (leads false e) (inl refl) (is_prefix s.trace) (lost_words counted_here (past_limit (memory.live + 2) counted_here many (omega (arith, live_bounded matches.counts)))))
