@@ -1,3 +1,4 @@
+mod Decoding
 mod Ends
 mod Leads
 mod Lifts

@@ -1,17 +1,14 @@
-//! The rows that drop and double operands and that jump.
+//! What rows spend, and the rows that drop operands and that jump.
 
 ghost use Rattle.std.specs.Prelude.{◌≡◌, ◌<◌, ◌≤◌, ◌+◌, ◌*◌, ◌^◌, suc, length, leb, if◌then◌else◌, Option, Some, None, MatchOption};
-ghost use Rattle.ep_object.specs.Effects.{bare, bare_weighed, only_a};
 ghost use Rattle.ep_object.specs.Operands.{one};
-ghost use Rattle.ep_object.specs.Control.{drop_row, dup_row, jump_row, jump_false_row};
+ghost use Rattle.ep_object.specs.Control.{drop_row};
+ghost use Rattle.ep_machine.specs.Decoding.{jump_where_zero};
 ghost use Rattle.ep_machine.specs.Stacks.{text_top, top_weight as weight_on_top};
 ghost use Rattle.ep_machine.specs.Steps.{IsStep, IsDone};
 
 use crate::stack::Stack;
 use crate::step::Step;
-use crate::words;
-use ep_object::Instr;
-use std::alloc::Global;
 
 /// Spends the weight, where the limit allows it and one tick more.
 #[inline(always)]
@@ -41,14 +38,11 @@ pub fn top_weight(stack: &Stack) -> u64
 }
 
 /// The top operand goes.
-pub fn drop_top(instr: &Instr, limit: u64, ticks: &mut u64, stack: &mut Stack) -> Step
+pub fn drop_top(limit: u64, ticks: &mut u64, stack: &mut Stack) -> Step
     requires { ticks.old < limit }
     ensures within { ticks.new < limit }
-    ensures done { IsDone limit (bare_weighed instr.now (drop_row stack.old)) result ticks.old ticks.new stack.old stack.new }
+    ensures done { IsDone limit (drop_row stack.old) result ticks.old ticks.new stack.old stack.new }
 {
-    if !words::is_bare(instr) {
-        return Step::Broken;
-    }
     let weight = top_weight(stack);
     if !spend(limit, ticks, weight) {
         return Step::Full;
@@ -60,39 +54,14 @@ pub fn drop_top(instr: &Instr, limit: u64, ticks: &mut u64, stack: &mut Stack) -
     }
 }
 
-/// On to a place of the code.
-#[inline(always)]
-pub fn jump(instr: &Instr, size: u32, stack: &mut Stack) -> Step
-    ensures { IsStep (only_a instr.now (jump_row size instr.now.a stack.old)) result stack.new }
-{
-    if !words::has_only_a(instr) {
-        return Step::Broken;
-    }
-    match words::index(size, instr.a) {
-        Some(target) => Step::Goto(target),
-        None => Step::Broken,
-    }
-}
-
 /// On to a place of the code where a word is 0.
 #[inline(always)]
-pub fn jump_false(instr: &Instr, size: u32, stack: &mut Stack) -> Step
-    ensures { IsStep (only_a instr.now (jump_false_row size instr.now.a stack.old)) result stack.new }
+pub fn jump_false(target: u32, stack: &mut Stack) -> Step
+    ensures { IsStep (jump_where_zero target stack.old) result stack.new }
 {
-    if !words::has_only_a(instr) {
-        return Step::Broken;
-    }
-    let Some(w) = stack.pop_word() else {
-        return Step::Broken;
-    };
-    match words::index(size, instr.a) {
-        Some(target) => {
-            if w == 0 {
-                Step::Goto(target)
-            } else {
-                Step::Next
-            }
-        }
+    match stack.pop_word() {
+        Some(0) => Step::Goto(target),
+        Some(_) => Step::Next,
         None => Step::Broken,
     }
 }

@@ -4,21 +4,25 @@
 //! `Machine::run` says in the words of specs/Machines.antt. Each row of the table is a function on the part of the
 //! machine that it touches, and its contract is one equation with the row of ep_object's table.
 //!
-//! The frequent rows run in a loop of their own, in which the operand stack, the place and the ticks are local. It
-//! leaves every other row to the whole table, one instruction at a time, so no rare row makes a frequent one slow.
+//! The code is decoded once, before the first instruction, into operations with the operands that their rows have
+//! (specs/Decoding.antt). The frequent ones run in a loop of their own, in which the operand stack, the place and the
+//! ticks are local. It leaves every other one to a dispatch of its own, one instruction at a time, so no rare row
+//! makes a frequent one slow.
 #![tactic(auto)]
 
 mod cell;
+mod code;
 mod control;
 mod end;
+mod fast;
+mod op;
 mod output;
-mod parts;
 mod places;
 mod run;
 mod stack;
 mod start;
+mod state;
 mod step;
-mod table;
 mod texts;
 mod turns;
 mod types;

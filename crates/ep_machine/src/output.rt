@@ -1,7 +1,7 @@
 //! The row that writes.
 
 ghost use Rattle.std.specs.Prelude.{◌≡◌, ◌<◌, ◌≤◌, ◌+◌, List, [], ◌∷◌, Option, Some, None, MatchOption, IfSome};
-ghost use Rattle.ep_object.specs.Effects.{Continues, bare_weighed};
+ghost use Rattle.ep_object.specs.Effects.{Continues};
 ghost use Rattle.ep_object.specs.Operands.{Operand};
 ghost use Rattle.ep_object.specs.Texts.{put_of, put_row, written};
 ghost use Rattle.ep_outside.specs.Known.{Keeps};
@@ -12,8 +12,7 @@ ghost use Rattle.ep_machine.specs.Outputs.{OnNoMemory, IsRefusal, UnlessDone, Is
 use crate::control::spend;
 use crate::stack::Stack;
 use crate::step::{Outward, Step};
-use crate::words;
-use ep_object::{Instr, Kind, OUTPUT_SEGMENT, Place, Segment, TypeEntry};
+use ep_object::{Kind, OUTPUT_SEGMENT, Place, Segment, TypeEntry};
 use ep_outside::{Sink, WriteAnswer};
 use ep_typed::run_error;
 
@@ -68,7 +67,6 @@ fn refusal(segments: &[Option<Segment>], p: Place) -> Option<Step>
 /// A text goes to a text file.
 #[tactic(auto, using(crate::proofs::Outputs::putting))]
 pub fn put<O: Sink>(
-    instr: &Instr,
     types: &[TypeEntry],
     segments: &[Option<Segment>],
     limit: u64,
@@ -82,11 +80,8 @@ pub fn put<O: Sink>(
     ensures fault { OnFault result (O.faults output.old < O.faults output.new) }
     ensures kind { IsWriting result }
     ensures quiet { OnNoMemory result (Keeps (O.held output.old) (O.held output.new)) }
-    ensures done { IsPut limit (bare_weighed instr.now (put_row types.now segments.now stack.old)) result ticks.old ticks.new stack.old stack.new (O.held output.old) (O.held output.new) }
+    ensures done { IsPut limit (put_row types.now segments.now stack.old) result ticks.old ticks.new stack.old stack.new (O.held output.old) (O.held output.new) }
 {
-    if !words::is_bare(instr) {
-        return Outward::Row(Step::Broken);
-    }
     let Some(p) = stack.place_under_text() else {
         return Outward::Row(Step::Broken);
     };

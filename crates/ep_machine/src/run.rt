@@ -9,28 +9,22 @@ ghost use Rattle.ep_machine.specs.Turns.{ended_at};
 ghost use Rattle.ep_machine.specs.declared.end.Ended.TheVariants as ended;
 ghost use Rattle.ep_machine.specs.Turns.{UnlessFailed, OnFailed, OnWriteFault, Ran, RunFailed, is_ready, is_known};
 
+use crate::code::Code;
 use crate::end::{End, Ended};
-use crate::parts::Parts;
-use crate::stack::Stack;
-use crate::{start, turns};
+use crate::start;
+use crate::state::Configuration;
 use ep_base::NoMemory;
-use ep_object::{FIRST_LIVE_WORDS, Image, Segment};
+use ep_object::Image;
 use ep_outside::{Files, Sink, Source};
 use std::alloc::{AllocError, Global};
 
 /// A machine at work on an image.
 #[derive(Drop)]
 pub struct Machine<'a> {
-    image: &'a Image,
-    alloc: Global,
-    pc: u32,
-    ticks: u64,
-    stack: Stack,
-    parts: Parts,
-    segments: Vec<Option<Segment>>,
+    code: Code<'a>,
+    state: Configuration,
     ended: Ended,
-    ghost small: { length image.now.instructions < 2 ^ 32 },
-    ghost ready: { IsTrue (is_ready image.now parts.routine ended) },
+    ghost ready: { IsTrue (is_ready code.image.now state.memory.routine ended) },
 }
 
 impl<'a> Machine<'a> {
@@ -44,35 +38,15 @@ impl<'a> Machine<'a> {
         ensures ticks { IfOk result (λ m. ticks_of m ≡ 0) }
         ensures whole { IfOk result (λ m. ended_of m ≢ ended.WriteFault) }
     {
-        if image.instructions.items().len() > u32::MAX as usize {
-            return Err(AllocError);
-        }
-        let mut parts = Parts {
-            turn: 0,
-            routine: 0,
-            unit: 0,
-            units: start::frames(alloc, image.units.items())?,
-            types: start::types(alloc)?,
-            live: FIRST_LIVE_WORDS,
-        };
-        let segments = start::segments(alloc)?;
-        let mut pc = 0;
-        let ended = match turns::begin(image, 0, &mut parts, &mut pc) {
+        let code = Code::new(alloc, image)?;
+        let mut state = start::state(alloc, image.units.items())?;
+        let ended = match state.begin(image, 0) {
             None => Ended::Budget,
             Some(Ended::Normal) => Ended::Normal,
             Some(Ended::Broken(at)) => Ended::Broken(at),
             Some(_) => return Err(AllocError),
         };
-        Ok(Machine {
-            image,
-            alloc,
-            pc,
-            ticks: 0,
-            stack: Stack::new(alloc),
-            parts,
-            segments,
-            ended,
-        })
+        Ok(Machine { code, state, ended })
     }
 
     /// Goes on for at most so many ticks, unless it has ended.
@@ -91,18 +65,8 @@ impl<'a> Machine<'a> {
             × (ticks_of self.new ≡ ticks_of self.old) × (output.new ≡ output.old) }
     {
         if let Ended::Budget = self.ended {
-            let limit = self.ticks + budget;
-            self.ended = turns::go(
-                self.image,
-                self.alloc,
-                limit,
-                &mut self.pc,
-                &mut self.ticks,
-                &mut self.stack,
-                &mut self.parts,
-                &mut self.segments,
-                output,
-            );
+            let limit = self.state.ticks + budget;
+            self.ended = self.state.go(&self.code, limit, output);
         }
     }
 
@@ -136,7 +100,7 @@ impl<'a> Machine<'a> {
         ensures input { input.new ≡ input.old }
     {
         self.resume(budget, output);
-        match answer(self.image, self.alloc, self.ended) {
+        match answer(self.code.image, self.state.alloc, self.ended) {
             End::NoMemory => {
                 self.ended = Ended::NoMemory;
                 End::NoMemory
@@ -149,7 +113,7 @@ impl<'a> Machine<'a> {
     pub fn ticks(&self) -> u64
         ensures { result ≡ ticks_of self.now }
     {
-        self.ticks
+        self.state.ticks
     }
 }
 

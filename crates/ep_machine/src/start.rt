@@ -1,14 +1,18 @@
 //! What a machine begins with.
 
 ghost use Rattle.std.specs.Prelude.{◌≡◌, List, [], map, take, IfOk};
-ghost use Rattle.ep_object.specs.State.{empty_slots, first_types, first_segments, text_segment as segment_of_text, integer_entry, char_entry, boolean_entry, text_entry, pointer_entry};
+ghost use Rattle.ep_machine.specs.Views.{state_at};
+ghost use Rattle.ep_object.specs.declared.code.Image.{Image};
+ghost use Rattle.ep_object.specs.State.{first_state, empty_slots, first_types, first_segments, text_segment as segment_of_text, integer_entry, char_entry, boolean_entry, text_entry, pointer_entry};
 
+use crate::stack::Stack;
+use crate::state::{Configuration, Memory};
 use ep_base::List;
-use ep_object::{ImageUnit, Kind, Place, Segment, TEXT_TYPE, TypeEntry};
+use ep_object::{FIRST_LIVE_WORDS, ImageUnit, Kind, Place, Segment, TEXT_TYPE, TypeEntry};
 use std::alloc::{AllocError, Global};
 
 /// The slots of the frames of all units, which hold no place yet.
-pub fn frames(alloc: Global, units: &[ImageUnit]) -> Result<Vec<List<Option<Place>>>, AllocError>
+fn frames(alloc: Global, units: &[ImageUnit]) -> Result<Vec<List<Option<Place>>>, AllocError>
     ensures { IfOk result (λ v. v.items ≡ map empty_slots units.now) }
 {
     let mut frames = Vec::new(alloc);
@@ -26,7 +30,7 @@ fn entry(kind: Kind) -> TypeEntry
 }
 
 /// The types from the start.
-pub fn types(alloc: Global) -> Result<Vec<TypeEntry>, AllocError>
+fn types(alloc: Global) -> Result<Vec<TypeEntry>, AllocError>
     ensures { IfOk result (λ v. v.items ≡ first_types) }
 {
     let mut types = Vec::new(alloc);
@@ -50,7 +54,7 @@ fn text_segment(alloc: Global) -> Result<Segment, AllocError>
 }
 
 /// The segments from the start.
-pub fn segments(alloc: Global) -> Result<Vec<Option<Segment>>, AllocError>
+fn segments(alloc: Global) -> Result<Vec<Option<Segment>>, AllocError>
     ensures { IfOk result (λ v. v.items ≡ first_segments) }
 {
     let mut segments = Vec::new(alloc);
@@ -60,4 +64,31 @@ pub fn segments(alloc: Global) -> Result<Vec<Option<Segment>>, AllocError>
     segments.push(Some(input))?;
     segments.push(Some(output))?;
     Ok(segments)
+}
+
+/// The state before the first start.
+pub fn state(alloc: Global, units: &[ImageUnit]) -> Result<Configuration, AllocError>
+    ensures state { (image : Image) → image.units ≡ units.now
+        → IfOk result (λ c. state_at c [] ≡ first_state image) }
+    ensures ticks { IfOk result (λ c. c.ticks ≡ 0) }
+{
+    let units = frames(alloc, units)?;
+    let types = types(alloc)?;
+    let segments = segments(alloc)?;
+    let memory = Memory {
+        turn: 0,
+        routine: 0,
+        unit: 0,
+        units,
+        types,
+        segments,
+        live: FIRST_LIVE_WORDS,
+    };
+    Ok(Configuration {
+        place: 0,
+        ticks: 0,
+        stack: Stack::new(alloc),
+        memory,
+        alloc,
+    })
 }

@@ -1,20 +1,21 @@
 //! The rows on texts.
 
-ghost use Rattle.std.specs.Prelude.{◌≡◌, ℕ, ◌<◌, ◌≤◌, ◌+◌, ◌*◌, ◌^◌, ◌++◌, ◌∷◌, suc, length, leb, slice_get, if◌then◌else◌, Option, Some, None, MatchOption, IfOk, pos, replicate, take};
+ghost use Rattle.std.specs.Prelude.{◌≡◌, ℕ, ◌<◌, ◌≤◌, ◌+◌, ◌*◌, ◌^◌, ◌++◌, ◌∷◌, suc, length, leb, slice_get, if◌then◌else◌, Option, Some, None, MatchOption, MatchBool, IfOk, List, pos, replicate, take};
 ghost use Rattle.std.specs.Fmt.{signed_decimal};
-ghost use Rattle.ep_object.specs.Effects.{Continues, bare_weighed, only_a_weighed, light};
+ghost use Rattle.ep_object.specs.Effects.{Continues};
 ghost use Rattle.ep_object.specs.Control.{dup_row};
-ghost use Rattle.ep_object.specs.Texts.{text_row, chars_row, form_row, form_width_row, form_any_row, formed as formed_of, cut, padded, boolean_text as text_of_boolean};
+ghost use Rattle.ep_object.specs.Texts.{text_row, chars_row, form_row, form_width_row, formed as formed_of, cut, padded, boolean_text as text_of_boolean};
 ghost use Rattle.ep_object.specs.Operands.{Text, Word};
+ghost use Rattle.ep_machine.specs.Decoding.{print_number};
 ghost use Rattle.ep_machine.specs.Printing.{printed_top, IsRestored};
 ghost use Rattle.ep_machine.specs.Steps.{IsDone, IsStep};
 
 use crate::control::{spend, top_weight};
+use crate::op::Print;
 use crate::stack::Stack;
 use crate::step::Step;
 use crate::{places, words};
 use ep_base::{Bytes, List};
-use ep_object::Instr;
 use ep_typed::run_error;
 use itoa::Buffer;
 use std::alloc::{AllocError, Global};
@@ -31,15 +32,12 @@ fn push_text(stack: &mut Stack, text: &[u8]) -> Step
 }
 
 /// A text of the image.
-pub fn text(instr: &Instr, texts: &[Bytes], limit: u64, ticks: &mut u64, stack: &mut Stack) -> Step
+pub fn text(number: usize, texts: &[Bytes], limit: u64, ticks: &mut u64, stack: &mut Stack) -> Step
     requires { ticks.old < limit }
     ensures within { ticks.new < limit }
-    ensures done { IsDone limit (only_a_weighed instr.now (text_row texts.now instr.now.a stack.old)) result ticks.old ticks.new stack.old stack.new }
+    ensures done { IsDone limit (text_row texts.now (pos number) stack.old) result ticks.old ticks.new stack.old stack.new }
 {
-    if !words::has_only_a(instr) || instr.a < 0 {
-        return Step::Broken;
-    }
-    let Some(bytes) = texts.get(instr.a as usize) else {
+    let Some(bytes) = texts.get(number) else {
         return Step::Broken;
     };
     let bytes = bytes.items();
@@ -50,14 +48,11 @@ pub fn text(instr: &Instr, texts: &[Bytes], limit: u64, ticks: &mut u64, stack: 
 }
 
 /// The text of a char.
-pub fn chars(instr: &Instr, limit: u64, ticks: &mut u64, stack: &mut Stack) -> Step
+pub fn chars(limit: u64, ticks: &mut u64, stack: &mut Stack) -> Step
     requires { ticks.old < limit }
     ensures within { ticks.new < limit }
-    ensures done { IsDone limit (bare_weighed instr.now (chars_row stack.old)) result ticks.old ticks.new stack.old stack.new }
+    ensures done { IsDone limit (chars_row stack.old) result ticks.old ticks.new stack.old stack.new }
 {
-    if !words::is_bare(instr) {
-        return Step::Broken;
-    }
     let Some(w) = stack.word_top() else {
         return Step::Broken;
     };
@@ -72,14 +67,11 @@ pub fn chars(instr: &Instr, limit: u64, ticks: &mut u64, stack: &mut Stack) -> S
 }
 
 /// The operand on top stands there twice.
-pub fn dup(instr: &Instr, alloc: Global, limit: u64, ticks: &mut u64, stack: &mut Stack) -> Step
+pub fn dup(alloc: Global, limit: u64, ticks: &mut u64, stack: &mut Stack) -> Step
     requires { ticks.old < limit }
     ensures within { ticks.new < limit }
-    ensures done { IsDone limit (bare_weighed instr.now (dup_row stack.old)) result ticks.old ticks.new stack.old stack.new }
+    ensures done { IsDone limit (dup_row stack.old) result ticks.old ticks.new stack.old stack.new }
 {
-    if !words::is_bare(instr) {
-        return Step::Broken;
-    }
     if let Some(w) = stack.word_top() {
         return words::push_word(stack, w);
     }
@@ -118,15 +110,15 @@ fn integer_text(alloc: Global, w: i64) -> Result<Bytes, AllocError>
 }
 
 /// What is printed of the operand on top.
-fn printed(alloc: Global, a: i64, stack: &Stack) -> Result<Option<Bytes>, AllocError>
-    ensures { IfOk result (λ o. o ≡ printed_top a stack.now) }
+fn printed(alloc: Global, print: Print, stack: &Stack) -> Result<Option<Bytes>, AllocError>
+    ensures { IfOk result (λ o. o ≡ printed_top (print_number print) stack.now) }
 {
-    match a {
-        0 => match stack.word_top() {
+    match print {
+        Print::Integer => match stack.word_top() {
             Some(w) => Ok(Some(integer_text(alloc, w)?)),
             None => Ok(None),
         },
-        1 => match stack.word_top() {
+        Print::Boolean => match stack.word_top() {
             Some(w) => {
                 if words::is_boolean(w) {
                     Ok(Some(List::from_slice(alloc, boolean_text(w))?))
@@ -136,23 +128,34 @@ fn printed(alloc: Global, a: i64, stack: &Stack) -> Result<Option<Bytes>, AllocE
             }
             None => Ok(None),
         },
-        2 => match stack.text_top() {
+        Print::Text => match stack.text_top() {
             Some(bytes) => Ok(Some(List::from_slice(alloc, bytes)?)),
             None => Ok(None),
         },
-        _ => Ok(None),
+    }
+}
+
+/// Whether what is printed is cut where it is wider than its places: all but integers is.
+fn is_cut(print: Print) -> bool
+    ensures { MatchBool result ((width : ℕ) (bytes : List ℕ) → cut (print_number print) width bytes ≡ take width bytes)
+        ((width : ℕ) (bytes : List ℕ) → cut (print_number print) width bytes ≡ bytes) }
+{
+    match print {
+        Print::Integer => false,
+        Print::Boolean => true,
+        Print::Text => true,
     }
 }
 
 /// What is printed in so many places.
-fn formed(alloc: Global, a: i64, width: u64, bytes: &[u8]) -> Result<Vec<u8>, AllocError>
-    ensures { IfOk result (λ v. v.items ≡ formed_of a width bytes.now) }
+fn formed(alloc: Global, print: Print, width: u64, bytes: &[u8]) -> Result<Vec<u8>, AllocError>
+    ensures { IfOk result (λ v. v.items ≡ formed_of (print_number print) width bytes.now) }
 {
     let wide = width as usize;
-    let shown = if a == 0 || bytes.len() <= wide {
-        bytes
-    } else {
+    let shown = if is_cut(print) && wide < bytes.len() {
         &bytes[..wide]
+    } else {
+        bytes
     };
     let mut text = Vec::new(alloc);
     if shown.len() < wide {
@@ -163,20 +166,24 @@ fn formed(alloc: Global, a: i64, width: u64, bytes: &[u8]) -> Result<Vec<u8>, Al
 }
 
 /// How many bytes are printed in so many places.
-fn formed_size(a: i64, width: u64, bytes: &[u8]) -> u64
-    ensures { result ≡ length (formed_of a width bytes.now) }
+fn formed_size(print: Print, width: u64, bytes: &[u8]) -> u64
+    ensures { result ≡ length (formed_of (print_number print) width bytes.now) }
 {
     let size = bytes.len() as u64;
-    if a == 0 && width < size { size } else { width }
+    if is_cut(print) || size <= width {
+        width
+    } else {
+        size
+    }
 }
 
 /// The operand on top as a text.
-fn form_plain(alloc: Global, a: i64, limit: u64, ticks: &mut u64, stack: &mut Stack) -> Step
+pub fn form(print: Print, alloc: Global, limit: u64, ticks: &mut u64, stack: &mut Stack) -> Step
     requires { ticks.old < limit }
     ensures within { ticks.new < limit }
-    ensures done { IsDone limit (form_row a stack.old) result ticks.old ticks.new stack.old stack.new }
+    ensures done { IsDone limit (form_row (print_number print) stack.old) result ticks.old ticks.new stack.old stack.new }
 {
-    let Ok(bytes) = printed(alloc, a, stack) else {
+    let Ok(bytes) = printed(alloc, print, stack) else {
         return Step::NoMemory;
     };
     let Some(bytes) = bytes else {
@@ -202,15 +209,21 @@ fn restored(stack: &mut Stack, width: i64) -> Step
 }
 
 /// The operand below the top as a text, in so many places as the top says.
-fn form_wide(alloc: Global, a: i64, limit: u64, ticks: &mut u64, stack: &mut Stack) -> Step
+pub fn form_wide(
+    print: Print,
+    alloc: Global,
+    limit: u64,
+    ticks: &mut u64,
+    stack: &mut Stack,
+) -> Step
     requires { ticks.old < limit }
     ensures within { ticks.new < limit }
-    ensures done { IsDone limit (form_width_row a stack.old) result ticks.old ticks.new stack.old stack.new }
+    ensures done { IsDone limit (form_width_row (print_number print) stack.old) result ticks.old ticks.new stack.old stack.new }
 {
     let Some(width) = stack.pop_word() else {
         return Step::Broken;
     };
-    let Ok(bytes) = printed(alloc, a, stack) else {
+    let Ok(bytes) = printed(alloc, print, stack) else {
         return Step::NoMemory;
     };
     let Some(bytes) = bytes else {
@@ -224,25 +237,16 @@ fn form_wide(alloc: Global, a: i64, limit: u64, ticks: &mut u64, stack: &mut Sta
         }
         return restored(stack, width);
     }
-    if !spend(limit, ticks, popped + formed_size(a, width as u64, bytes)) {
+    if !spend(
+        limit,
+        ticks,
+        popped + formed_size(print, width as u64, bytes),
+    ) {
         return restored(stack, width);
     }
-    let Ok(text) = formed(alloc, a, width as u64, bytes) else {
+    let Ok(text) = formed(alloc, print, width as u64, bytes) else {
         return Step::NoMemory;
     };
     stack.pop();
     push_text(stack, &text)
-}
-
-/// An operand as a text, in so many places where the second field is 1.
-pub fn form(instr: &Instr, alloc: Global, limit: u64, ticks: &mut u64, stack: &mut Stack) -> Step
-    requires { ticks.old < limit }
-    ensures within { ticks.new < limit }
-    ensures done { IsDone limit (form_any_row instr.now.a instr.now.b stack.old) result ticks.old ticks.new stack.old stack.new }
-{
-    match instr.b {
-        0 => form_plain(alloc, instr.a, limit, ticks, stack),
-        1 => form_wide(alloc, instr.a, limit, ticks, stack),
-        _ => Step::Broken,
-    }
 }

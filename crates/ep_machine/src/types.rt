@@ -1,7 +1,6 @@
 //! The row that makes an ordinal type.
 
 ghost use Rattle.std.specs.Prelude.{◌≡◌, ◌<◌, ◌≤◌, ◌+◌, ◌*◌, ◌^◌, suc, length, Option, Some, None, MatchOption};
-ghost use Rattle.ep_object.specs.Effects.{bare};
 ghost use Rattle.ep_object.specs.Types.{is_ordinal as is_that, ordinal_number as number_of, ord_row, ordinal_of, ordinal_entry as ordinal, added};
 ghost use Rattle.ep_machine.specs.Steps.{IsStep};
 ghost use Rattle.ep_machine.specs.Views.{typing};
@@ -9,7 +8,7 @@ ghost use Rattle.ep_machine.specs.Views.{typing};
 use crate::stack::Stack;
 use crate::step::Step;
 use crate::words;
-use ep_object::{Instr, Kind, TypeEntry, limit};
+use ep_object::{Kind, TypeEntry, limit};
 use ep_typed::run_error;
 
 /// Whether the kind is the ordinal one with these bounds.
@@ -72,12 +71,9 @@ fn intern(lo: i64, hi: i64, types: &mut Vec<TypeEntry>, live: &mut u64, stack: &
 }
 
 /// The ordinal type with two bounds.
-pub fn ord(instr: &Instr, types: &mut Vec<TypeEntry>, live: &mut u64, stack: &mut Stack) -> Step
-    ensures { IsStep (bare instr.now (ord_row (typing stack.old types.old.items live.old))) result (typing stack.new types.new.items live.new) }
+pub fn ord(types: &mut Vec<TypeEntry>, live: &mut u64, stack: &mut Stack) -> Step
+    ensures { IsStep (ord_row (typing stack.old types.old.items live.old)) result (typing stack.new types.new.items live.new) }
 {
-    if !words::is_bare(instr) {
-        return Step::Broken;
-    }
     match words::pop_two_words(stack) {
         Some((lo, hi)) => intern(lo, hi, types, live, stack),
         None => Step::Broken,

@@ -1,34 +1,19 @@
 //! The rows on words.
 
 ghost use Rattle.std.specs.Prelude.{◌≡◌, ◌<◌, ◌≤◌, Option, Some, None, MatchOption, cond, int_le};
-ghost use Rattle.ep_object.specs.Effects.{Fails, bare, only_a, has_no_field, has_one_field, is_zero, index};
+ghost use Rattle.ep_object.specs.Effects.{Fails, is_zero, index};
 ghost use Rattle.ep_object.specs.Operands.{word, two_words, three_words, four_words};
-ghost use Rattle.ep_object.specs.WordRows.{bit as bit_of, compared, is_boolean, is_between, push_row, add_row, sub_row, mul_row, div_row, mod_row, neg_row, abs_row, sqr_row, odd_row, not_row, and_row, or_row, cmp_row, between_row, check_row, step_row, integer_row};
+ghost use Rattle.ep_object.specs.WordRows.{bit as bit_of, compared, is_boolean, is_between, push_row, add_row, sub_row, mul_row, div_row, mod_row, neg_row, abs_row, sqr_row, odd_row, not_row, and_row, or_row, cmp_row, between_row, step_row, integer_row};
+ghost use Rattle.ep_machine.specs.Decoding.{comparison_number, check_with};
 ghost use Rattle.ep_machine.specs.Steps.{IsStep};
 ghost use Rattle.ep_typed.specs.declared.run_error.TheConstants as run_error;
 
+use crate::op::Comparison;
 use crate::stack::Stack;
 use crate::step::Step;
-use ep_object::Instr;
 use ep_typed::run_error;
 
-/// Whether both fields are 0.
-#[inline(always)]
-pub fn is_bare(instr: &Instr) -> bool
-    ensures { result ≡ has_no_field instr.now }
-{
-    instr.a == 0 && instr.b == 0
-}
-
-/// Whether the second field is 0.
-#[inline(always)]
-pub fn has_only_a(instr: &Instr) -> bool
-    ensures { result ≡ has_one_field instr.now }
-{
-    instr.b == 0
-}
-
-/// The place that a field names, of so many.
+/// The number that a word is, of so many.
 #[inline(always)]
 pub fn index(size: u32, a: i64) -> Option<u32>
     ensures { result ≡ index size a }
@@ -109,25 +94,11 @@ fn push_integer(stack: &mut Stack, z: Option<i64>) -> Step
     }
 }
 
-/// The word of the first field.
-#[inline(always)]
-pub fn push(instr: &Instr, stack: &mut Stack) -> Step
-    ensures { IsStep (only_a instr.now (push_row instr.now.a stack.old)) result stack.new }
-{
-    if !has_only_a(instr) {
-        return Step::Broken;
-    }
-    push_word(stack, instr.a)
-}
-
 /// The sum of two words.
 #[inline(always)]
-pub fn add(instr: &Instr, stack: &mut Stack) -> Step
-    ensures { IsStep (bare instr.now (add_row stack.old)) result stack.new }
+pub fn add(stack: &mut Stack) -> Step
+    ensures { IsStep (add_row stack.old) result stack.new }
 {
-    if !is_bare(instr) {
-        return Step::Broken;
-    }
     match pop_two_words(stack) {
         Some((x, y)) => push_integer(stack, x.checked_add(y)),
         None => Step::Broken,
@@ -136,12 +107,9 @@ pub fn add(instr: &Instr, stack: &mut Stack) -> Step
 
 /// The difference of two words.
 #[inline(always)]
-pub fn sub(instr: &Instr, stack: &mut Stack) -> Step
-    ensures { IsStep (bare instr.now (sub_row stack.old)) result stack.new }
+pub fn sub(stack: &mut Stack) -> Step
+    ensures { IsStep (sub_row stack.old) result stack.new }
 {
-    if !is_bare(instr) {
-        return Step::Broken;
-    }
     match pop_two_words(stack) {
         Some((x, y)) => push_integer(stack, x.checked_sub(y)),
         None => Step::Broken,
@@ -150,12 +118,9 @@ pub fn sub(instr: &Instr, stack: &mut Stack) -> Step
 
 /// The product of two words.
 #[inline(always)]
-pub fn mul(instr: &Instr, stack: &mut Stack) -> Step
-    ensures { IsStep (bare instr.now (mul_row stack.old)) result stack.new }
+pub fn mul(stack: &mut Stack) -> Step
+    ensures { IsStep (mul_row stack.old) result stack.new }
 {
-    if !is_bare(instr) {
-        return Step::Broken;
-    }
     match pop_two_words(stack) {
         Some((x, y)) => push_integer(stack, x.checked_mul(y)),
         None => Step::Broken,
@@ -164,12 +129,9 @@ pub fn mul(instr: &Instr, stack: &mut Stack) -> Step
 
 /// The quotient of two words, cut toward zero.
 #[inline(always)]
-pub fn div(instr: &Instr, stack: &mut Stack) -> Step
-    ensures { IsStep (bare instr.now (div_row stack.old)) result stack.new }
+pub fn div(stack: &mut Stack) -> Step
+    ensures { IsStep (div_row stack.old) result stack.new }
 {
-    if !is_bare(instr) {
-        return Step::Broken;
-    }
     match pop_two_words(stack) {
         Some((_, 0)) => Step::Error(run_error::DIVISOR),
         Some((x, y)) => push_integer(stack, x.checked_div(y)),
@@ -179,12 +141,9 @@ pub fn div(instr: &Instr, stack: &mut Stack) -> Step
 
 /// The remainder of two words, which is not negative.
 #[inline(always)]
-pub fn modulo(instr: &Instr, stack: &mut Stack) -> Step
-    ensures { IsStep (bare instr.now (mod_row stack.old)) result stack.new }
+pub fn modulo(stack: &mut Stack) -> Step
+    ensures { IsStep (mod_row stack.old) result stack.new }
 {
-    if !is_bare(instr) {
-        return Step::Broken;
-    }
     match pop_two_words(stack) {
         Some((x, y)) => {
             if y > 0 {
@@ -199,12 +158,9 @@ pub fn modulo(instr: &Instr, stack: &mut Stack) -> Step
 
 /// The negative of a word.
 #[inline(always)]
-pub fn neg(instr: &Instr, stack: &mut Stack) -> Step
-    ensures { IsStep (bare instr.now (neg_row stack.old)) result stack.new }
+pub fn neg(stack: &mut Stack) -> Step
+    ensures { IsStep (neg_row stack.old) result stack.new }
 {
-    if !is_bare(instr) {
-        return Step::Broken;
-    }
     match stack.pop_word() {
         Some(x) => push_integer(stack, x.checked_neg()),
         None => Step::Broken,
@@ -213,12 +169,9 @@ pub fn neg(instr: &Instr, stack: &mut Stack) -> Step
 
 /// The absolute value of a word.
 #[inline(always)]
-pub fn abs(instr: &Instr, stack: &mut Stack) -> Step
-    ensures { IsStep (bare instr.now (abs_row stack.old)) result stack.new }
+pub fn abs(stack: &mut Stack) -> Step
+    ensures { IsStep (abs_row stack.old) result stack.new }
 {
-    if !is_bare(instr) {
-        return Step::Broken;
-    }
     match stack.pop_word() {
         Some(x) => push_integer(stack, x.checked_abs()),
         None => Step::Broken,
@@ -227,12 +180,9 @@ pub fn abs(instr: &Instr, stack: &mut Stack) -> Step
 
 /// The square of a word.
 #[inline(always)]
-pub fn sqr(instr: &Instr, stack: &mut Stack) -> Step
-    ensures { IsStep (bare instr.now (sqr_row stack.old)) result stack.new }
+pub fn sqr(stack: &mut Stack) -> Step
+    ensures { IsStep (sqr_row stack.old) result stack.new }
 {
-    if !is_bare(instr) {
-        return Step::Broken;
-    }
     match stack.pop_word() {
         Some(x) => push_integer(stack, x.checked_mul(x)),
         None => Step::Broken,
@@ -241,12 +191,9 @@ pub fn sqr(instr: &Instr, stack: &mut Stack) -> Step
 
 /// Whether a word is odd.
 #[inline(always)]
-pub fn odd(instr: &Instr, stack: &mut Stack) -> Step
-    ensures { IsStep (bare instr.now (odd_row stack.old)) result stack.new }
+pub fn odd(stack: &mut Stack) -> Step
+    ensures { IsStep (odd_row stack.old) result stack.new }
 {
-    if !is_bare(instr) {
-        return Step::Broken;
-    }
     match stack.pop_word() {
         Some(x) => push_word(stack, (x.unsigned_abs() % 2) as i64),
         None => Step::Broken,
@@ -270,12 +217,9 @@ fn push_bit(stack: &mut Stack, bit: bool) -> Step
 
 /// The other one of 0 and 1.
 #[inline(always)]
-pub fn not(instr: &Instr, stack: &mut Stack) -> Step
-    ensures { IsStep (bare instr.now (not_row stack.old)) result stack.new }
+pub fn not(stack: &mut Stack) -> Step
+    ensures { IsStep (not_row stack.old) result stack.new }
 {
-    if !is_bare(instr) {
-        return Step::Broken;
-    }
     match stack.pop_word() {
         Some(0) => push_word(stack, 1),
         Some(1) => push_word(stack, 0),
@@ -285,12 +229,9 @@ pub fn not(instr: &Instr, stack: &mut Stack) -> Step
 
 /// Whether both of two words of 0 and 1 are 1.
 #[inline(always)]
-pub fn and(instr: &Instr, stack: &mut Stack) -> Step
-    ensures { IsStep (bare instr.now (and_row stack.old)) result stack.new }
+pub fn and(stack: &mut Stack) -> Step
+    ensures { IsStep (and_row stack.old) result stack.new }
 {
-    if !is_bare(instr) {
-        return Step::Broken;
-    }
     match pop_two_words(stack) {
         Some((x, y)) => {
             if is_boolean(x) && is_boolean(y) {
@@ -305,12 +246,9 @@ pub fn and(instr: &Instr, stack: &mut Stack) -> Step
 
 /// Whether one of two words of 0 and 1 is 1.
 #[inline(always)]
-pub fn or(instr: &Instr, stack: &mut Stack) -> Step
-    ensures { IsStep (bare instr.now (or_row stack.old)) result stack.new }
+pub fn or(stack: &mut Stack) -> Step
+    ensures { IsStep (or_row stack.old) result stack.new }
 {
-    if !is_bare(instr) {
-        return Step::Broken;
-    }
     match pop_two_words(stack) {
         Some((x, y)) => {
             if is_boolean(x) && is_boolean(y) {
@@ -323,35 +261,28 @@ pub fn or(instr: &Instr, stack: &mut Stack) -> Step
     }
 }
 
-/// Whether two words compare so: 0 to 5 for = <> < > <= >=.
+/// Whether two words compare so.
 #[inline(always)]
-fn compares(a: i64, x: i64, y: i64) -> Option<bool>
-    ensures { result ≡ compared a x y }
+fn compares(comparison: Comparison, x: i64, y: i64) -> bool
+    ensures { Some result ≡ compared (comparison_number comparison) x y }
 {
-    match a {
-        0 => Some(x == y),
-        1 => Some(x != y),
-        2 => Some(x < y),
-        3 => Some(x > y),
-        4 => Some(x <= y),
-        5 => Some(x >= y),
-        _ => None,
+    match comparison {
+        Comparison::Equal => x == y,
+        Comparison::Unequal => x != y,
+        Comparison::Less => x < y,
+        Comparison::Greater => x > y,
+        Comparison::LessOrEqual => x <= y,
+        Comparison::GreaterOrEqual => x >= y,
     }
 }
 
-/// Whether two words compare as the first field says.
+/// Whether two words compare so, as a word.
 #[inline(always)]
-pub fn compare(instr: &Instr, stack: &mut Stack) -> Step
-    ensures { IsStep (only_a instr.now (cmp_row instr.now.a stack.old)) result stack.new }
+pub fn compare(comparison: Comparison, stack: &mut Stack) -> Step
+    ensures { IsStep (cmp_row (comparison_number comparison) stack.old) result stack.new }
 {
-    if !has_only_a(instr) {
-        return Step::Broken;
-    }
     match pop_two_words(stack) {
-        Some((x, y)) => match compares(instr.a, x, y) {
-            Some(bit) => push_bit(stack, bit),
-            None => Step::Broken,
-        },
+        Some((x, y)) => push_bit(stack, compares(comparison, x, y)),
         None => Step::Broken,
     }
 }
@@ -365,12 +296,9 @@ fn is_between(x: i64, lo: i64, hi: i64) -> bool
 
 /// Whether a word lies from a second to a third.
 #[inline(always)]
-pub fn between(instr: &Instr, stack: &mut Stack) -> Step
-    ensures { IsStep (bare instr.now (between_row stack.old)) result stack.new }
+pub fn between(stack: &mut Stack) -> Step
+    ensures { IsStep (between_row stack.old) result stack.new }
 {
-    if !is_bare(instr) {
-        return Step::Broken;
-    }
     match pop_three_words(stack) {
         Some((x, lo, hi)) => push_bit(stack, is_between(x, lo, hi)),
         None => Step::Broken,
@@ -379,22 +307,15 @@ pub fn between(instr: &Instr, stack: &mut Stack) -> Step
 
 /// A word, or an error where it does not lie from a second to a third.
 #[inline(always)]
-pub fn check(instr: &Instr, stack: &mut Stack) -> Step
-    ensures { IsStep (only_a instr.now (check_row instr.now.a stack.old)) result stack.new }
+pub fn check(error: u8, stack: &mut Stack) -> Step
+    ensures { IsStep (check_with error stack.old) result stack.new }
 {
-    if !has_only_a(instr) {
-        return Step::Broken;
-    }
     match pop_three_words(stack) {
         Some((x, lo, hi)) => {
-            if instr.a < run_error::UNDEFINED_VALUE as i64
-                || instr.a > run_error::CALL_DEPTH as i64
-            {
-                Step::Broken
-            } else if is_between(x, lo, hi) {
+            if is_between(x, lo, hi) {
                 push_word(stack, x)
             } else {
-                Step::Error(instr.a as u8)
+                Step::Error(error)
             }
         }
         None => Step::Broken,
@@ -403,12 +324,9 @@ pub fn check(instr: &Instr, stack: &mut Stack) -> Step
 
 /// The sum of two words, or an error where it does not lie from a third to a fourth.
 #[inline(always)]
-pub fn step(instr: &Instr, stack: &mut Stack) -> Step
-    ensures { IsStep (bare instr.now (step_row stack.old)) result stack.new }
+pub fn step(stack: &mut Stack) -> Step
+    ensures { IsStep (step_row stack.old) result stack.new }
 {
-    if !is_bare(instr) {
-        return Step::Broken;
-    }
     match pop_four_words(stack) {
         Some((x, y, lo, hi)) => match x.checked_add(y) {
             Some(z) => {

@@ -1,5 +1,5 @@
 use Rattle.std.proofs.Common.{◌+◌, refl, arith}
-use Rattle.ep_machine.specs.Views.{state_of}
+use Rattle.ep_machine.specs.Views.{state_at}
 use Rattle.ep_machine.proofs.Ends.{faults_again}
 use Rattle.ep_machine.proofs.Rounds.{stays_ended, fails_again}
 use Rattle.ep_machine.proofs.run.Machine.resume.Goals as goal
@@ -7,8 +7,8 @@ use Rattle.ep_machine.proofs.run.Machine.resume.Goals as goal
 pub returns-in_default : goal.returns-in_default
 returns-in_default g c =
     record {
-      exact = stays_ended c.args.self.now.image.now (c.args.self.now.ticks + c.args.budget) c.args.self.now.ticks (state_of c.args.self.now.pc c.args.self.now.stack c.args.self.now.parts c.args.self.now.segments.items) c.args.self.now.ended (g.O.Sink.held c.args.output.now) c.in_default.not-Budget;
-      failed = fails_again c.args.self.now.image.now (c.args.self.now.ticks + c.args.budget) c.args.self.now.ticks (state_of c.args.self.now.pc c.args.self.now.stack c.args.self.now.parts c.args.self.now.segments.items) c.args.self.now.ended (g.O.Sink.held c.args.output.now) (λ trace. refl);
+      exact = stays_ended c.args.self.now.code.image.now (c.args.self.now.state.ticks + c.args.budget) c.args.self.now.state.ticks (state_at c.args.self.now.state) c.args.self.now.ended (g.O.Sink.held c.args.output.now) c.in_default.not-Budget;
+      failed = fails_again c.args.self.now.code.image.now (c.args.self.now.state.ticks + c.args.budget) c.args.self.now.state.ticks (state_at c.args.self.now.state) c.args.self.now.ended (g.O.Sink.held c.args.output.now) (λ trace. refl);
       image = refl;
       within = omega arith;
       counts = omega arith;
