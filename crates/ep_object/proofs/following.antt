@@ -1,4 +1,5 @@
 pub mod Bind
+pub mod Calling
 pub mod Choices
 pub mod Fragments
 pub mod Losing

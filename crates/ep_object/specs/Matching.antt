@@ -125,9 +125,9 @@ pub record MatchesStore (injection : Injection) (allocations : List Allocation) 
   pub represented : (n segment : ℕ) (allocation : Allocation) → IsIn injection n segment → meaning.allocation_at allocations n ≡ Some allocation → Represents segments types segment allocation
 
 -- the types: each that was elaborated has a number
-pub record MatchesTypes (resources : Resources) (types : TypeTable) : Type 0 where
+pub record MatchesTypes (elaborated : List TypeValue) (types : TypeTable) : Type 0 where
   pub first : IsPrefix first_types types
-  pub known : (low high : ℤ) → IsTrue (list_any (same_type (type.Ordinal low high)) resources.types) → (n : ℕ) × (ordinal_number low high types ≡ Some n)
+  pub known : (low high : ℤ) → IsTrue (list_any (same_type (type.Ordinal low high)) elaborated) → (n : ℕ) × (ordinal_number low high types ≡ Some n)
   pub sized : (n : ℕ) (entry : TypeEntry) → slice_get types n ≡ Some entry → entry.size ≡ 1
 
 -- the frame of a unit has the places of the variables that are declared; its other slots match nothing
@@ -157,7 +157,7 @@ pub record MatchesCounts (injection : Injection) (resources : Resources) (segmen
 pub record Matches (declared : Declarations) (G : Image) (injection : Injection) (s : meaning.State) (memory : Memory) : Type 0 where
   pub injected : MatchesInjection injection s.allocations memory.segments
   pub store : MatchesStore injection s.allocations memory.segments memory.types
-  pub types : MatchesTypes s.resources memory.types
+  pub types : MatchesTypes s.resources.types memory.types
   pub units : MatchesUnits declared G injection s.allocations s.variables memory.frames.units memory.segments
   pub outside : MatchesOutside injection
   pub counts : MatchesCounts injection s.resources memory.segments memory.types memory.live

@@ -92,7 +92,7 @@ gives_up_from : (G : Image) (k k1 : State) {m left t d e : ℕ} (s : meaning.Sta
 gives_up_from G k k1 {t = t} s r p h = record { lost = h.lost; ticks = t + h.ticks; fast = omega (arith, p.fast, p.all, h.fast); number = h.number; is_limit = h.is_limit; unit = h.unit; line = h.line; trace = h.trace; runs = run_then G t h.ticks k k1 r ∙ h.runs; begins = h.begins }
 
 -- and it does so where the state has grown
-gives_up_grown : {G : Image} {k : State} {m d : ℕ} (s t : meaning.State) → Grows s t → GivesUp G k m d s → GivesUp G k m d t
+pub gives_up_grown : {G : Image} {k : State} {m d : ℕ} (s t : meaning.State) → Grows s t → GivesUp G k m d s → GivesUp G k m d t
 gives_up_grown s t g h = record { lost = g.lost h.lost; ticks = h.ticks; fast = h.fast; number = h.number; is_limit = h.is_limit; unit = h.unit; line = h.line; trace = h.trace; runs = h.runs; begins = prefix_then h.begins g.events }
 
 -- with more credit

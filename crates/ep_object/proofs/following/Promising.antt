@@ -1,22 +1,22 @@
 -- Calls of a routine that keeps its promise: what the caller follows, and what runs from a call do.
 use Rattle.std.proofs.Common.{◌≡◌, ℕ, suc, ◌+◌, ◌≤◌, ◌<◌, ◌⊎◌, inl, inr, IsTrue, List, refl, sym, ap, ◌∙◌, subst, arith}
-use Rattle.ep_object.specs.Follows.{end_of, Facts, Since, Lasts, Fragment, After, Lands, Reaches, EndsToo, RunsOn, GivesUp, Follows, IsNotLeft, Inside, Operands, point, state_at}
+use Rattle.ep_object.specs.Follows.{end_of, Facts, Since, Lasts, Fragment, After, Lands, Reaches, EndsToo, RunsOn, GivesUp, IsNotLeft, Inside, Operands, point, state_at}
 use Rattle.ep_object.specs.Laws.{IsRunning}
 use Rattle.ep_object.specs.Matching.{Memory, Injection, Slots, Grown, is_hidden_slot}
 use Rattle.ep_object.specs.Operands.{Operand}
 use Rattle.ep_object.specs.Promises.{Passing, AreArguments, ResultsOnTop, Called, CallsAt, Promises, ComesBackAfter, CallComesTo, CallsAnswer}
-use Rattle.ep_object.specs.Runs.{run, trace_of, unit_in, outcome}
+use Rattle.ep_object.specs.Runs.{run, trace_of, unit_in}
 use Rattle.ep_object.specs.Simulates.{EndsAfter, StaysAfter}
 use Rattle.ep_object.specs.State.{State, Running, Stopped}
 use Rattle.ep_object.specs.declared.code.Image.{Image}
-use Rattle.ep_object.proofs.following.Bind.{Met, follows_post, one_state, stays_waiting, stays_join, run_then, run_instruction}
+use Rattle.ep_object.proofs.following.Bind.{Met, follows_post, one_state}
 use Rattle.ep_object.proofs.following.Fragments.{fragment_post}
 use Rattle.ep_object.proofs.matching.Growing.{before_or_not, since_here, since_holds}
 use Rattle.ep_object.proofs.Grows.{is_prefix}
 use Rattle.ep_object.proofs.following.Simulating.{stays_in}
 use Rattle.ep_object.proofs.Tells.{events_between, ends_after}
 use Rattle.ep_outside.specs.Known.{IsPrefix}
-use Rattle.ep_typed.specs.Calls.{Argument, entered, left_from, given_back, in_call}
+use Rattle.ep_typed.specs.Calls.{Argument}
 use Rattle.ep_typed.specs.Printing.{Result}
 use Rattle.ep_typed.specs.Steps.{Call, Outcome, Gives, Ends, Cut, Computation, state_of}
 use Rattle.ep_typed.specs.Steps as meaning
@@ -51,33 +51,6 @@ pub call_follows : {declared : Declarations} {G : Image} {untouched : Slots} {He
 call_follows promise lasts among place line calls injection memory below operands arguments are =
     fragment_post (λ rs longer after pushed i. record { grown = grown_fewer among i.grown; routine = i.routine; operands_are = i.operands_are })
     (fragment_since (lasts_more among lasts) (λ s. promise.by place line calls injection s memory below operands arguments are))
-
--- ---- the instruction that leaves a routine
-
--- While a call is under way the machine follows what it does; then one instruction leaves the routine, with whatever
--- effect its tick has, and matching is said of what it leads to.
-pub follows_in_call : {A : Type 0} {Within : State → Type 0} {G : Image} {n : ℕ} {k : State} {s : meaning.State} {x : Call} {c : Computation A} {P Q : A → meaning.State → State → Type 0} {d : ℕ} {e : A → ℕ} → Follows Within G n k (entered x s) c P d (λ a. 1 + e a)
-    → ((a : A) (s1 : meaning.State) (k1 : State) → P a s1 k1 → Within k1 × ((next : State) × (outcome G k1 ≡ record { weight = 0; to = Running 0 next }) × Q a (left_from s s1) next)) → Follows Within G n k s (in_call x c) Q d e
-follows_in_call {A = A} {Within = Within} {G = G} {n = n} {k = k} {s = s} {x = x} {c = c} {P = P} {Q = Q} {d = d} {e = e} inner leaves = record { by = λ m l. go m (c m (entered x s)) (inner.by m l) }
-  where
-    go : (m : ℕ) (o : Outcome A) → Met Within G k m P d (λ a. 1 + e a) o → Met Within G k m Q d e (given_back s o)
-    go m (Gives left a s1) (inl h) =
-        let out = leaves a s1 h.to h.post in
-        let next = out.1 in
-        let pays = h.pays in
-        inl (record {
-          ticks = h.ticks + 1;
-          to = next.0;
-          runs = run_then G h.ticks 1 k h.to h.runs ∙ run_instruction G h.to 0 (Running 0 next.0) next.1;
-          within = stays_join {t = h.ticks} {u = 1} h.runs h.within (stays_waiting Within G h.to 0 (Running 0 next.0) next.1 out.0);
-          pays = record { spent = pays.spent; all = pays.all; slow = omega (arith, pays.slow); fast = omega (arith, pays.fast) };
-          post = next.2;
-        })
-    go m (Ends left end s1) (inl h) = inl h
-    go m (Cut s1) (inl h) = inl h
-    go m (Gives left a s1) (inr h) = inr (record { lost = h.lost; ticks = h.ticks; fast = h.fast; number = h.number; is_limit = h.is_limit; unit = h.unit; line = h.line; trace = h.trace; runs = h.runs; begins = h.begins })
-    go m (Ends left end s1) (inr h) = inr h
-    go m (Cut s1) (inr h) = inr h
 
 -- ---- what runs from a call do
 

@@ -9,9 +9,10 @@ use Rattle.ep_object.specs.declared.state.Segment.{Segment}
 use Rattle.ep_object.proofs.matching.Elements.{length-set, slice_get-set-same, slice_get-set-other}
 use Rattle.ep_object.proofs.matching.Growing.{is_place_of-grown}
 use Rattle.ep_object.proofs.Grows.{is_prefix}
-use Rattle.ep_object.proofs.matching.HiddenWords.{hidden_words-set}
+use Rattle.ep_object.proofs.matching.HiddenWords.{hidden_words-set, hidden_words-grown}
+use Rattle.ep_typed.specs.Calls.{entered, left_from}
 use Rattle.ep_typed.specs.Events.{Trace}
-use Rattle.ep_typed.specs.Steps.{Value, Undefined, Allocation, allocation_at, assigned_at, assigned, type_in, type_at, with_events, is_within}
+use Rattle.ep_typed.specs.Steps.{Call, Value, Undefined, Allocation, allocation_at, assigned_at, assigned, type_in, type_at, with_events, is_within}
 use Rattle.ep_typed.specs.Steps as meaning
 use Rattle.ep_typed.specs.Valid.{Declarations}
 
@@ -183,3 +184,18 @@ module _ {declared : Declarations} {G : Image} {injection : Injection} {s : mean
           let now : allocation_at (assigned_at n value s.allocations) n ≡ Some (record a { value = value }) = assigned_same s.allocations n value a is in
           subst (λ j. type_at j (assigned n value s) ≡ type_at j s) e (ap type_in now ∙ sym (ap type_in is))
       type_at_assigned m (inr other) = ap type_in (assigned_other s.allocations n m value a is other)
+
+-- ---- calls
+
+-- a call that is under way is no part of what is matched, and words are set aside for it
+pub matches_entered : {declared : Declarations} {G : Image} {injection : Injection} {s : meaning.State} {memory : Memory} (x : Call) → Matches declared G injection s memory → Matches declared G injection (entered x s) memory
+matches_entered x h =
+    let counts = h.counts in
+    record { injected = h.injected; store = h.store; types = h.types; units = h.units; outside = h.outside; counts = record { words = counts.words; hidden = omega (arith, counts.hidden); number = counts.number } }
+
+-- What was set aside for a call is given back where memory has grown since it began.
+pub matches_left : {untouched : Slots} {declared : Declarations} {G : Image} {injection longer : Injection} {before t : meaning.State} {memory after : Memory} → Grown untouched injection memory longer after → Matches declared G injection before memory → Matches declared G longer t after → Matches declared G longer (left_from before t) after
+matches_left g old h =
+    let counts = h.counts in
+    let first = old.counts in
+    record { injected = h.injected; store = h.store; types = h.types; units = h.units; outside = h.outside; counts = record { words = counts.words; hidden = omega (arith, first.hidden, hidden_words-grown g); number = counts.number } }

@@ -292,7 +292,7 @@ module _ {declared : Declarations} {G : Image} {injection : Injection} {s : mean
             record {
               injected = injected_making;
               store = record { represented = represented_making };
-              types = let types = h.types in record { first = types.first; known = types.known; sized = types.sized };
+              types = h.types;
               units = record { frames = frames_making; typed = typed_making };
               outside = let outside = h.outside in record { output = is_in-longer injection (with_segment injection memory) 2 2 (record { rest = length memory.segments ∷ []; is = refl }) outside.output };
               counts = counts_making;

@@ -42,7 +42,7 @@ ordinal_is low high Pointer t = cc
 ordinal_is low high Text t = cc
 
 -- a number that was found is that of the type
-pub described-found : {r : Resources} {types : TypeTable} (low high : ℤ) (n : ℕ) → MatchesTypes r types → ordinal_number low high types ≡ Some n → Describes types n (type.Ordinal low high)
+pub described-found : {elaborated : List TypeValue} {types : TypeTable} (low high : ℤ) (n : ℕ) → MatchesTypes elaborated types → ordinal_number low high types ≡ Some n → Describes types n (type.Ordinal low high)
 described-found {types = types} low high n m h =
     let d = ordinal_entry low high in
     let p = position-Some (λ (e : TypeEntry). is_ordinal low high e.kind) types n d h in
@@ -111,8 +111,8 @@ pub same_bounds : (low high l h : ℤ) → IsTrue (same_type (type.Ordinal l h) 
 same_bounds low high l h t = let p = both (int_le l low && int_le low l) (int_le h high && int_le high h) t in (same_number l low p.0, same_number h high p.1)
 
 -- the type has a number already
-pub types-found : {r : Resources} {types : TypeTable} (low high : ℤ) (n : ℕ) → MatchesTypes r types → ordinal_number low high types ≡ Some n → MatchesTypes (met (type.Ordinal low high) r) types
-types-found {r = r} {types = types} low high n m found =
+pub types-found : (r : Resources) {types : TypeTable} (low high : ℤ) (n : ℕ) → MatchesTypes r.types types → ordinal_number low high types ≡ Some n → MatchesTypes (met (type.Ordinal low high) r).types types
+types-found r {types = types} low high n m found =
     record {
       first = m.first;
       known = λ l h t. known l h (met_among low high l h r t);
@@ -124,7 +124,7 @@ types-found {r = r} {types = types} low high n m found =
     known l h (inr t) = m.known l h t
 
 -- a type without a number was never met
-pub not_known : {r : Resources} {types : TypeTable} (low high : ℤ) → MatchesTypes r types → ordinal_number low high types ≡ None → IsTrue (list_any (same_type (type.Ordinal low high)) r.types) → ⊥
+pub not_known : {elaborated : List TypeValue} {types : TypeTable} (low high : ℤ) → MatchesTypes elaborated types → ordinal_number low high types ≡ None → IsTrue (list_any (same_type (type.Ordinal low high)) elaborated) → ⊥
 not_known low high m none t = let k = m.known low high t in let e : ◌≡◌ {A = Option ℕ} None (Some k.0) = sym none ∙ k.1 in cc
 
 -- a first type has a number
@@ -150,7 +150,7 @@ first_known low high rest h =
     among before e after t = let k = position_from-new is_this before e t in (k.0, position_from-more is_this (before ++ e ∷ []) after k.0 k.1)
 
 -- a type without a number is none of the first ones, and so it has a word
-pub new_word : {r : Resources} {types : TypeTable} (low high : ℤ) → MatchesTypes r types → ordinal_number low high types ≡ None → words_of_type (type.Ordinal low high) ≡ 1
+pub new_word : {elaborated : List TypeValue} {types : TypeTable} (low high : ℤ) → MatchesTypes elaborated types → ordinal_number low high types ≡ None → words_of_type (type.Ordinal low high) ≡ 1
 new_word {types = types} low high m none = go (list_any (same_type (type.Ordinal low high)) meaning.first_types) first
   where
     first : IsTrue (list_any (same_type (type.Ordinal low high)) meaning.first_types) → ⊥
@@ -164,8 +164,8 @@ new_word {types = types} low high m none = go (list_any (same_type (type.Ordinal
     go false f = refl
 
 -- the type gets a new number
-pub types-added : {r : Resources} {types : TypeTable} (low high : ℤ) → MatchesTypes r types → ordinal_number low high types ≡ None → MatchesTypes (met (type.Ordinal low high) r) (types ++ ordinal_entry low high ∷ [])
-types-added {r = r} {types = types} low high m none =
+pub types-added : (r : Resources) {types : TypeTable} (low high : ℤ) → MatchesTypes r.types types → ordinal_number low high types ≡ None → MatchesTypes (met (type.Ordinal low high) r).types (types ++ ordinal_entry low high ∷ [])
+types-added r {types = types} low high m none =
     record {
       first = prefix_then m.first (record { rest = ordinal_entry low high ∷ []; is = refl });
       known = λ l h t. known l h (met_among low high l h r t);
@@ -195,7 +195,7 @@ matches_store-types {types = types} {longer = longer} prefix m =
     }
 
 -- Matching with another table of types, where no number changes its type.
-pub matches-types : {declared : Declarations} {G : Image} {injection : Injection} {s : meaning.State} {memory : Memory} (resources : Resources) (types : TypeTable) (live : ℕ) → IsPrefix memory.types types → MatchesTypes resources types → MatchesCounts injection resources memory.segments types live
+pub matches-types : {declared : Declarations} {G : Image} {injection : Injection} {s : meaning.State} {memory : Memory} (resources : Resources) (types : TypeTable) (live : ℕ) → IsPrefix memory.types types → MatchesTypes resources.types types → MatchesCounts injection resources memory.segments types live
     → Matches declared G injection s memory → Matches declared G injection (record s { resources = resources }) (record memory { types = types; live = live })
 matches-types resources types live longer known counts m =
     record { injected = m.injected; store = matches_store-types longer m.store; types = known; units = m.units; outside = m.outside; counts = counts }

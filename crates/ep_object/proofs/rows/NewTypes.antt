@@ -101,7 +101,7 @@ elaborates {untouched} {declared} {G} {injection} {memory} place line low high b
           number = length memory.types;
           final = with_entry (ordinal_entry low high) memory;
           does = ordinal_outcome G place line low high below memory s.trace ordered None none fetch ∙ ap (λ b. record { weight = 0; to = adds G (ordinal_instr line) (before_type place low high below memory s.trace) (ordinal_entry low high) below b }) fits;
-          matches = matches-types (met (type.Ordinal low high) s.resources) (memory.types ++ ordinal_entry low high ∷ []) (memory.live + 1) (record { rest = ordinal_entry low high ∷ []; is = refl }) (types-added low high m.types none)
+          matches = matches-types (met (type.Ordinal low high) s.resources) (memory.types ++ ordinal_entry low high ∷ []) (memory.live + 1) (record { rest = ordinal_entry low high ∷ []; is = refl }) (types-added s.resources low high m.types none)
               (counts_added none) m;
           described = slice_get-pushed memory.types (ordinal_entry low high);
           grown = grown-types injection memory (memory.types ++ ordinal_entry low high ∷ []) (memory.live + 1) (record { rest = ordinal_entry low high ∷ []; is = refl });
@@ -127,7 +127,7 @@ elaborates {untouched} {declared} {G} {injection} {memory} place line low high b
           number = n;
           final = memory;
           does = ordinal_outcome G place line low high below memory s.trace ordered (Some n) found fetch;
-          matches = matches-types (met (type.Ordinal low high) s.resources) memory.types memory.live (record { rest = []; is = sym (append-nil memory.types) }) (types-found low high n m.types found) counts_found m;
+          matches = matches-types (met (type.Ordinal low high) s.resources) memory.types memory.live (record { rest = []; is = sym (append-nil memory.types) }) (types-found s.resources low high n m.types found) counts_found m;
           described = described-found low high n m.types found;
           grown = grown_refl injection memory;
           routine = same_routine-refl memory.frames;
