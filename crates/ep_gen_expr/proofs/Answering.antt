@@ -20,7 +20,8 @@ use Rattle.ep_typed.specs.Hosts.{Host, is_of_host}
 
 -- The machine follows a computation of a result from one place of the code to another, where the result is on top of
 -- the operands; the credit is so many before, and after it so many and the weight of the result.
-abbrev pub Evaluates : Declarations → Image → Slots → Facts → ℕ → Injection → Memory → ℕ → List Operand → Computation Result → ℕ → Kind → List Operand → ℕ → ℕ → Type 0
+abbrev pub Evaluates : Declarations → Image → Slots → Facts → ℕ → Injection → Memory → ℕ → List Operand
+    → Computation Result → ℕ → Kind → List Operand → ℕ → ℕ → Type 0
 Evaluates declared G untouched Here n injection memory from operands c to kind below before after =
     Fragment declared G Here n (point injection memory from operands) c to (λ r. Inside untouched injection memory (OnTop kind below r)) before (λ r. after + weight_of r)
 
@@ -30,10 +31,18 @@ answering call g unit line a = bind (answered call g unit line a) (λ z. spend 1
 
 module _ {declared : Declarations} {G : Image} {untouched : Slots} {Here : Facts} (call : Handler) (g : ℕ) (unit : List ℕ) (line : ℕ) where
   -- an instruction that gives the answer, where the routine is one of the unit
-  pub answer_follows : (n place : ℕ) (operands below : List Operand) (a : Answer) → RowAnswers G place line operands below a → (host : Host) → ((z : ℤ) → a ≡ Number z → IsTrue (is_of_host host z)) → (injection : Injection) (memory : Memory) (d e : ℕ) → unit_in G memory.frames ≡ unit → 1 ≤ d → e ≤ d + 63 → Evaluates declared G untouched Here n injection memory place operands (answering call g unit line a) (place + 1) (Ordinal host) below d e
+  pub answer_follows : (n place : ℕ) (operands below : List Operand) (a : Answer)
+      → RowAnswers G place line operands below a → (host : Host)
+      → ((z : ℤ) → a ≡ Number z → IsTrue (is_of_host host z))
+      → (injection : Injection) (memory : Memory) (d e : ℕ) → unit_in G memory.frames ≡ unit → 1 ≤ d
+      → e ≤ d + 63
+      → Evaluates declared G untouched Here n injection memory place operands (answering call g unit line a) (place + 1) (Ordinal host) below d e
   answer_follows n place operands below a row host of_host injection memory d e unit_is le le2 =
       fragment_less {n = suc n} (omega arith) (fragment_answer {n = n} call g unit line below a (λ z. result.Number z) (λ s matches. row memory s.trace ∙ ap (λ u. record { weight = 0; to = going_of (place + 1) below memory u line s.trace a }) unit_is) (λ z is. inside_here (record { number = z; is_number = refl; of_host = of_host z is; is = refl })) le (λ z. omega (arith, le2)))
 
 -- an instruction of one tick that changes the operands alone, and spends of the credit
-pub row_waits : {A : Type 0} {declared : Declarations} {G : Image} {Here : Facts} {c : Computation A} {n place to d d1 : ℕ} {injection : Injection} {memory : Memory} {operands operands1 : List Operand} {P : A → After} {e : A → ℕ} → RowPushes G place operands 0 operands1 → 1 + d1 ≤ d → Fragment declared G Here n (point injection memory (place + 1) operands1) c to P d1 e → Fragment declared G Here n (point injection memory place operands) c to P d e
+pub row_waits : {A : Type 0} {declared : Declarations} {G : Image} {Here : Facts} {c : Computation A} {n place to d d1 : ℕ} {injection : Injection} {memory : Memory} {operands operands1 : List Operand} {P : A → After} {e : A → ℕ}
+    → RowPushes G place operands 0 operands1 → 1 + d1 ≤ d
+    → Fragment declared G Here n (point injection memory (place + 1) operands1) c to P d1 e
+    → Fragment declared G Here n (point injection memory place operands) c to P d e
 row_waits {memory = memory} row le h = fragment_waits (λ s matches. row memory s.trace) le h

@@ -29,7 +29,10 @@ module _ (declared : Declarations) (G : Image) (untouched : Slots) (Here : Facts
   -- from the value of the operand, the machine follows the operation to the end of its code
   abbrev Operates : ℕ → ℕ → Unary → Host → Host → Type 0
   Operates n at operation operand result =
-      (z : ℤ) → IsTrue (is_of_host operand z) → (injection : Injection) (memory : Memory) (below : List Operand) (d : ℕ) → unit_in G memory.frames ≡ unit → Evaluates declared G untouched Here n injection memory (p.instructions.before + at) (Word z ∷ below) (answering call g unit line (unary_answer operation z)) (p.instructions.before + (at + length (one_code line operation))) (Ordinal result) below (d + 8) (d + 8)
+      (z : ℤ) → IsTrue (is_of_host operand z)
+      → (injection : Injection) (memory : Memory) (below : List Operand) (d : ℕ)
+      → unit_in G memory.frames ≡ unit
+      → Evaluates declared G untouched Here n injection memory (p.instructions.before + at) (Word z ∷ below) (answering call g unit line (unary_answer operation z)) (p.instructions.before + (at + length (one_code line operation))) (Ordinal result) below (d + 8) (d + 8)
 
   -- the same where the kinds of the operand and the result are those
   pub record UnaryFollows (n at : ℕ) (operation : Unary) (operand_kind result_kind : Kind) : Type 0 where
@@ -40,26 +43,36 @@ module _ (declared : Declarations) (G : Image) (untouched : Slots) (Here : Facts
     pub follows : Operates n at operation operand result
 
   -- an operation of one instruction
-  one_instruction : (n at : ℕ) (operation : Unary) (operand result : Host) → length (one_code line operation) ≡ 1 → ((z : ℤ) (below : List Operand) → IsTrue (is_of_host operand z) → RowAnswers G (p.instructions.before + at) line (Word z ∷ below) below (unary_answer operation z)) → ((z w : ℤ) → IsTrue (is_of_host operand z) → unary_answer operation z ≡ Number w → IsTrue (is_of_host result w)) → Operates n at operation operand result
+  one_instruction : (n at : ℕ) (operation : Unary) (operand result : Host)
+      → length (one_code line operation) ≡ 1
+      → ((z : ℤ) (below : List Operand) → IsTrue (is_of_host operand z) → RowAnswers G (p.instructions.before + at) line (Word z ∷ below) below (unary_answer operation z))
+      → ((z w : ℤ) → IsTrue (is_of_host operand z) → unary_answer operation z ≡ Number w → IsTrue (is_of_host result w))
+      → Operates n at operation operand result
   one_instruction n at operation operand result single row answers z of_host injection memory below d unit_is =
       fragment_to (omega (arith, single)) (answer_follows call g unit line n (p.instructions.before + at) (Word z ∷ below) below (unary_answer operation z) (row z below of_host) result (λ w is. answers z w of_host is) injection memory (d + 8) (d + 8) unit_is (omega arith) (omega arith))
 
   -- the number of a value, which `Dup` and `Drop` leave
-  same_follows : (n at : ℕ) (operand : Host) → ((z : ℤ) → IsTrue (is_of_host operand z) → IsTrue (is_of_host host.Integer z)) → CodeStands G ps p references at (one_code line unary.Same) → Operates n at unary.Same operand host.Integer
+  same_follows : (n at : ℕ) (operand : Host)
+      → ((z : ℤ) → IsTrue (is_of_host operand z) → IsTrue (is_of_host host.Integer z))
+      → CodeStands G ps p references at (one_code line unary.Same)
+      → Operates n at unary.Same operand host.Integer
   same_follows n at operand integer stands z of_host injection memory below d unit_is =
       fragment_less {n = suc n} (omega arith) (fragment_to (omega arith) (row_waits {d1 = d + 7} (dup_pushes G (p.instructions.before + at) line below z stands.0) (omega arith)
       (fragment_one {n = n} {d1 = d + 8} (λ s matches. drop_drops G (p.instructions.before + at + 1) line (Word z ∷ below) (Word z) (instr_at G (omega arith) stands.1.0) memory s.trace) (omega arith)
       (fragment_give (omega arith) (inside_here (record { number = z; is_number = refl; of_host = integer z of_host; is = refl }))))))
 
   -- the char of a number, which `Check` checks
-  character_follows : (n at : ℕ) → CodeStands G ps p references at (one_code line unary.Character) → Operates n at unary.Character host.Integer host.Char
+  character_follows : (n at : ℕ) → CodeStands G ps p references at (one_code line unary.Character)
+      → Operates n at unary.Character host.Integer host.Char
   character_follows n at stands z of_host injection memory below d unit_is =
       let place : ℕ = p.instructions.before + at in
       fragment_to (omega arith) (row_waits {d1 = d + 7} (push_pushes G place line (Word z ∷ below) (pos 0) stands.0) (omega arith)
       (row_waits {d1 = d + 6} (push_pushes G (place + 1) line (Word (pos 0) ∷ Word z ∷ below) (pos last_char) (instr_at G (omega arith) stands.1.0)) (omega arith)
       (answer_follows call g unit line n (place + 1 + 1) (Word (pos last_char) ∷ Word (pos 0) ∷ Word z ∷ below) below (unary_answer unary.Character z) (check_answers G (place + 1 + 1) line below z (pos 0) (pos last_char) (instr_at G (omega arith) stands.1.1.0)) host.Char (λ w is. within_answer host.Char run_error.SUCCESSOR z w is) injection memory (d + 6) (d + 8) unit_is (omega arith) (omega arith))))
 
-  pub unary_follows : (n at : ℕ) (operation : Unary) (operand_kind result_kind : Kind) → IsUnary operation operand_kind result_kind → CodeStands G ps p references at (one_code line operation) → UnaryFollows n at operation operand_kind result_kind
+  pub unary_follows : (n at : ℕ) (operation : Unary) (operand_kind result_kind : Kind)
+      → IsUnary operation operand_kind result_kind → CodeStands G ps p references at (one_code line operation)
+      → UnaryFollows n at operation operand_kind result_kind
   unary_follows n at unary.Same operand_kind result_kind (k, r) stands =
       record { operand = k.0; result = host.Integer; operand_is = k.1; result_is = r; follows = same_follows n at k.0 (λ z of_host. host_integer k.0 z k.2 of_host) stands }
   unary_follows n at unary.Negate operand_kind result_kind (k, r) stands =

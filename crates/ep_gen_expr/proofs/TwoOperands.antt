@@ -25,7 +25,10 @@ module _ (declared : Declarations) (G : Image) (untouched : Slots) (Here : Facts
   -- from the values of both operands, the machine follows the operation to the end of its code
   abbrev Operates : ℕ → ℕ → Binary → Host → Host → Type 0
   Operates n at operation operand result =
-      (x y : ℤ) → IsTrue (is_of_host operand x) → IsTrue (is_of_host operand y) → (injection : Injection) (memory : Memory) (below : List Operand) (d : ℕ) → unit_in G memory.frames ≡ unit → Evaluates declared G untouched Here n injection memory (p.instructions.before + at) (Word y ∷ Word x ∷ below) (answering call g unit line (binary_answer operation x y)) (p.instructions.before + (at + 1)) (Ordinal result) below (d + 16) (d + 8)
+      (x y : ℤ) → IsTrue (is_of_host operand x) → IsTrue (is_of_host operand y)
+      → (injection : Injection) (memory : Memory) (below : List Operand) (d : ℕ)
+      → unit_in G memory.frames ≡ unit
+      → Evaluates declared G untouched Here n injection memory (p.instructions.before + at) (Word y ∷ Word x ∷ below) (answering call g unit line (binary_answer operation x y)) (p.instructions.before + (at + 1)) (Ordinal result) below (d + 16) (d + 8)
 
   -- the same where the kinds of the operands and the result are those
   pub record BinaryFollows (n at : ℕ) (operation : Binary) (left right result_kind : Kind) : Type 0 where
@@ -38,29 +41,41 @@ module _ (declared : Declarations) (G : Image) (untouched : Slots) (Here : Facts
 
   -- the instruction gives the answer
   abbrev Rows : ℕ → Binary → Host → Type 0
-  Rows at operation operand = (x y : ℤ) (below : List Operand) → IsTrue (is_of_host operand x) → IsTrue (is_of_host operand y) → RowAnswers G (p.instructions.before + at) line (Word y ∷ Word x ∷ below) below (binary_answer operation x y)
+  Rows at operation operand = (x y : ℤ) (below : List Operand) → IsTrue (is_of_host operand x)
+      → IsTrue (is_of_host operand y)
+      → RowAnswers G (p.instructions.before + at) line (Word y ∷ Word x ∷ below) below (binary_answer operation x y)
 
   -- the answer is a value of the host
   abbrev Answers : Binary → Host → Host → Type 0
-  Answers operation operand result = (x y w : ℤ) → IsTrue (is_of_host operand x) → IsTrue (is_of_host operand y) → binary_answer operation x y ≡ Number w → IsTrue (is_of_host result w)
+  Answers operation operand result = (x y w : ℤ) → IsTrue (is_of_host operand x) → IsTrue (is_of_host operand y)
+      → binary_answer operation x y ≡ Number w → IsTrue (is_of_host result w)
 
-  operates : (n at : ℕ) (operation : Binary) (operand result : Host) → Rows at operation operand → Answers operation operand result → Operates n at operation operand result
+  operates : (n at : ℕ) (operation : Binary) (operand result : Host) → Rows at operation operand
+      → Answers operation operand result → Operates n at operation operand result
   operates n at operation operand result row answers x y of_x of_y injection memory below d unit_is =
       fragment_to (omega arith) (answer_follows call g unit line n (p.instructions.before + at) (Word y ∷ Word x ∷ below) below (binary_answer operation x y) (row x y below of_x of_y) result (λ w is. answers x y w of_x of_y is) injection memory (d + 16) (d + 8) unit_is (omega arith) (omega arith))
 
-  arithmetic : (n at : ℕ) (operation : Binary) (left right result : Kind) → IsArithmetic left right result → Rows at operation host.Integer → Answers operation host.Integer host.Integer → BinaryFollows n at operation left right result
+  arithmetic : (n at : ℕ) (operation : Binary) (left right result : Kind) → IsArithmetic left right result
+      → Rows at operation host.Integer → Answers operation host.Integer host.Integer
+      → BinaryFollows n at operation left right result
   arithmetic n at operation left right result (l, r, e) row answers =
       record { operand = host.Integer; result = host.Integer; left_is = l; right_is = r; result_is = e; follows = operates n at operation host.Integer host.Integer row answers }
 
-  logical : (n at : ℕ) (operation : Binary) (left right result : Kind) → IsLogical left right result → Rows at operation host.Boolean → Answers operation host.Boolean host.Boolean → BinaryFollows n at operation left right result
+  logical : (n at : ℕ) (operation : Binary) (left right result : Kind) → IsLogical left right result
+      → Rows at operation host.Boolean → Answers operation host.Boolean host.Boolean
+      → BinaryFollows n at operation left right result
   logical n at operation left right result (l, r, e) row answers =
       record { operand = host.Boolean; result = host.Boolean; left_is = l; right_is = r; result_is = e; follows = operates n at operation host.Boolean host.Boolean row answers }
 
-  comparison : (n at : ℕ) (operation : Binary) (left right result : Kind) → IsComparison left right result → ((h : Host) → Rows at operation h) → ((h : Host) → Answers operation h host.Boolean) → BinaryFollows n at operation left right result
+  comparison : (n at : ℕ) (operation : Binary) (left right result : Kind) → IsComparison left right result
+      → ((h : Host) → Rows at operation h) → ((h : Host) → Answers operation h host.Boolean)
+      → BinaryFollows n at operation left right result
   comparison n at operation left right result (k, e) row answers =
       record { operand = k.0; result = host.Boolean; left_is = k.1; right_is = k.2; result_is = e; follows = operates n at operation k.0 host.Boolean (row k.0) (answers k.0) }
 
-  pub binary_follows : (n at : ℕ) (operation : Binary) (left right result : Kind) → IsBinary operation left right result → CodeStands G ps p references at (two_code line operation ∷ []) → BinaryFollows n at operation left right result
+  pub binary_follows : (n at : ℕ) (operation : Binary) (left right result : Kind)
+      → IsBinary operation left right result → CodeStands G ps p references at (two_code line operation ∷ [])
+      → BinaryFollows n at operation left right result
   binary_follows n at binary.Add left right result kinds stands =
       arithmetic n at binary.Add left right result kinds (λ x y below of_x of_y. add_answers G (p.instructions.before + at) line below x y stands.0) (λ x y w of_x of_y is. integer_answer (x +ℤ y) w is)
   binary_follows n at binary.Subtract left right result kinds stands =

@@ -39,31 +39,42 @@ use Rattle.ep_typed.specs.declared.unit.UnitVariable.{UnitVariable}
 use Rattle.ep_object.specs.declared.op.TheConstants as op
 
 -- in the frame of the unit, while the same routine runs
-same_frame : (G : Image) (x : ImageUnit) (before after : Frames) → SameRoutine before after → slice_get G.units before.unit ≡ Some x → slice_get G.units after.unit ≡ Some x
+same_frame : (G : Image) (x : ImageUnit) (before after : Frames) → SameRoutine before after
+    → slice_get G.units before.unit ≡ Some x → slice_get G.units after.unit ≡ Some x
 same_frame G x before after r h = ap (λ k. slice_get G.units k) r.unit ∙ h
 
 -- a frame of the unit has the slots of its variables, which are none of those that are untouched
 abbrev pub VariablesAreFree : Declarations → Image → Slots → ImageUnit → Type 0
-VariablesAreFree declared G untouched x = (unit : ℕ) → slice_get G.units unit ≡ Some x → (k : ℕ) (v : UnitVariable) → declared.variables x.name k ≡ Some v → IsTrue (untouched unit k) → ⊥
+VariablesAreFree declared G untouched x = (unit : ℕ) → slice_get G.units unit ≡ Some x
+    → (k : ℕ) (v : UnitVariable) → declared.variables x.name k ≡ Some v → IsTrue (untouched unit k) → ⊥
 
 -- from a place of the object to another one, the machine follows the computation in a frame of the unit and leaves the
 -- operands as they were
-abbrev pub MovesIn : Declarations → Image → Slots → Facts → Placement → ℕ → ImageUnit → ℕ → ℕ → Computation (Unit {0}) → Type 0
+abbrev pub MovesIn : Declarations → Image → Slots → Facts → Placement → ℕ → ImageUnit → ℕ → ℕ
+    → Computation (Unit {0}) → Type 0
 MovesIn declared G untouched Here p n x at to c =
-    (injection : Injection) (memory : Memory) (below : List Operand) (d : ℕ) → least_credit ≤ d → slice_get G.units memory.frames.unit ≡ Some x
+    (injection : Injection) (memory : Memory) (below : List Operand) (d : ℕ) → least_credit ≤ d
+    → slice_get G.units memory.frames.unit ≡ Some x
     → Fragment declared G Here n (point injection memory (p.instructions.before + at) below) c (p.instructions.before + to) (λ a. Inside untouched injection memory (Bare below a)) d (λ a. d)
 
 module _ (declared : Declarations) (G : Image) (untouched : Slots) (Here : Facts) (lasts : Lasts untouched Here) (ps : List Placement) (p : Placement) (references : List Reference) (call : Handler) (steady_call : IsSteadyHandler call) (n : ℕ) (x : ImageUnit) (free : VariablesAreFree declared G untouched x) (distinct : HasDistinctNames G) (types_valid : HaveValidTypes declared) where
   module _ (number line at : ℕ) (v : UnitVariable) (is_declared : declared.variables x.name number ≡ Some v) (within : number < x.slots) where
     -- `Make`, over the number of the type
-    make_row_moves : (low high : ℤ) (type_number : ℕ) → IsTrue (is_integer low) → IsTrue (is_integer high) → ((v : UnitVariable) → declared.variables x.name number ≡ Some v → HasType declared x.name v (type.Ordinal low high)) → (place : ℕ) → slice_get G.instructions place ≡ Some (instr op.MAKE (pos number) 0 line)
-        → (injection : Injection) (memory : Memory) (below : List Operand) (d : ℕ) → 1 ≤ d → slice_get G.units memory.frames.unit ≡ Some x → Describes memory.types type_number (type.Ordinal low high)
+    make_row_moves : (low high : ℤ) (type_number : ℕ) → IsTrue (is_integer low) → IsTrue (is_integer high)
+        → ((v : UnitVariable) → declared.variables x.name number ≡ Some v → HasType declared x.name v (type.Ordinal low high))
+        → (place : ℕ) → slice_get G.instructions place ≡ Some (instr op.MAKE (pos number) 0 line)
+        → (injection : Injection) (memory : Memory) (below : List Operand) (d : ℕ) → 1 ≤ d
+        → slice_get G.units memory.frames.unit ≡ Some x
+        → Describes memory.types type_number (type.Ordinal low high)
         → Fragment declared G Here n (point injection memory place (Word (pos type_number) ∷ below)) (allocate x.name number (type.Ordinal low high)) (place + 1) (λ a. Inside untouched injection memory (Bare below a)) d (λ a. d)
     make_row_moves low high type_number low_fits high_fits declared_so place has injection memory below d enough home described =
         fragment_less {n = suc n} (omega arith) (fragment_counted {weight = 1} 0 (counted (type.Ordinal low high)) (made x.name number (type.Ordinal low high)) tt (λ s. refl) (grows_made x.name number (type.Ordinal low high)) (λ s matches here. make_does declared G place line below low high type_number number x has distinct low_fits high_fits types_valid declared_so injection memory s home within (free memory.frames.unit home number v is_declared) described lasts matches here) enough (omega arith) (omega arith) (omega arith))
 
     -- the code that makes a variable of a type
-    make_typed : (g : ℕ) (t : TypeValue) (host : Host) → IsTypeOf host t → IsValueOf t Undefined → ((v : UnitVariable) → declared.variables x.name number ≡ Some v → HasType declared x.name v t) → CodeStands G ps p references at (type_code line t ++ instr op.MAKE (pos number) 0 line ∷ []) → MovesIn declared G untouched Here p n x at (at + length (type_code line t ++ instr op.MAKE (pos number) 0 line ∷ [])) (bind (elaborated call g x.name (Some t)) (λ a. allocate x.name number a))
+    make_typed : (g : ℕ) (t : TypeValue) (host : Host) → IsTypeOf host t → IsValueOf t Undefined
+        → ((v : UnitVariable) → declared.variables x.name number ≡ Some v → HasType declared x.name v t)
+        → CodeStands G ps p references at (type_code line t ++ instr op.MAKE (pos number) 0 line ∷ [])
+        → MovesIn declared G untouched Here p n x at (at + length (type_code line t ++ instr op.MAKE (pos number) 0 line ∷ [])) (bind (elaborated call g x.name (Some t)) (λ a. allocate x.name number a))
     make_typed g type.Text host valid fits declared_so stands injection memory below d enough home = absurd valid
     make_typed g (type.Ordinal low high) host valid fits declared_so stands injection memory below d enough home =
         let second : p.instructions.before + at + 1 ≡ p.instructions.before + (at + 1) = omega arith in
@@ -80,22 +91,29 @@ module _ (declared : Declarations) (G : Image) (untouched : Slots) (Here : Facts
         (fragment_from fourth (fragment_to last (make_row_moves low high top.number fits.0 fits.1 declared_so (p.instructions.before + (at + 1 + 1 + 1)) stands.1.1.1.0 longer after below d (omega (arith, enough)) (same_frame G x memory.frames after.frames routine home) top.described)))))))))
 
   -- a variable is made in its slot
-  one_moves : (g number at : ℕ) (v : UnitVariable) → declared.variables x.name number ≡ Some v → number < x.slots → CodeStands G ps p references at (make_code (declared.types x.name) number v) → MovesIn declared G untouched Here p n x at (at + length (make_code (declared.types x.name) number v)) (make call g x.name (declared.types x.name) number v)
+  one_moves : (g number at : ℕ) (v : UnitVariable) → declared.variables x.name number ≡ Some v
+      → number < x.slots → CodeStands G ps p references at (make_code (declared.types x.name) number v)
+      → MovesIn declared G untouched Here p n x at (at + length (make_code (declared.types x.name) number v)) (make call g x.name (declared.types x.name) number v)
   one_moves g number at v is_declared within stands =
       subst (λ o. CodeStands G ps p references at (elaborating_code v.line o ++ instr op.MAKE (pos number) 0 v.line ∷ []) → MovesIn declared G untouched Here p n x at (at + length (elaborating_code v.line o ++ instr op.MAKE (pos number) 0 v.line ∷ [])) (bind (elaborated call g x.name o) (λ a. allocate x.name number a))) (sym valid.has_type) typed stands
     where
       valid : IsDenoter (declared.types x.name) (denoter_of v.denoter)
       valid = types_valid x.name number v is_declared
 
-      has_type : (w : UnitVariable) → declared.variables x.name number ≡ Some w → HasType declared x.name w valid.type_value
+      has_type : (w : UnitVariable) → declared.variables x.name number ≡ Some w
+          → HasType declared x.name w valid.type_value
       has_type w e = subst (λ (u : UnitVariable). HasType declared x.name u valid.type_value) (same_Some v w (sym is_declared ∙ e)) (types_are_instances (declared.types x.name) (denoter_of v.denoter) valid.type_value valid.has_type)
 
-      typed : CodeStands G ps p references at (type_code v.line valid.type_value ++ instr op.MAKE (pos number) 0 v.line ∷ []) → MovesIn declared G untouched Here p n x at (at + length (type_code v.line valid.type_value ++ instr op.MAKE (pos number) 0 v.line ∷ [])) (bind (elaborated call g x.name (Some valid.type_value)) (λ a. allocate x.name number a))
+      typed : CodeStands G ps p references at (type_code v.line valid.type_value ++ instr op.MAKE (pos number) 0 v.line ∷ [])
+          → MovesIn declared G untouched Here p n x at (at + length (type_code v.line valid.type_value ++ instr op.MAKE (pos number) 0 v.line ∷ [])) (bind (elaborated call g x.name (Some valid.type_value)) (λ a. allocate x.name number a))
       typed s =
           make_typed number v.line at v is_declared within g valid.type_value valid.host valid.is_type (integer_bounds valid.host valid.type_value valid.is_type) has_type s
 
   -- and so are the variables from this number on
-  all_moves : (g number at : ℕ) (vs : List UnitVariable) → AreDeclared declared x.name number vs → number + length vs ≤ x.slots → CodeStands G ps p references at (make_all_code (declared.types x.name) number vs) → MovesIn declared G untouched Here p n x at (at + length (make_all_code (declared.types x.name) number vs)) (make_all call g x.name (declared.types x.name) number vs)
+  all_moves : (g number at : ℕ) (vs : List UnitVariable) → AreDeclared declared x.name number vs
+      → number + length vs ≤ x.slots
+      → CodeStands G ps p references at (make_all_code (declared.types x.name) number vs)
+      → MovesIn declared G untouched Here p n x at (at + length (make_all_code (declared.types x.name) number vs)) (make_all call g x.name (declared.types x.name) number vs)
   all_moves g number at [] are_declared within stands injection memory below d enough home = fragment_to (omega arith) (fragment_give (omega arith) (inside_here refl))
   all_moves g number at (v ∷ vs) are_declared within stands injection memory below d enough home =
       let types = declared.types x.name in
@@ -107,7 +125,10 @@ module _ (declared : Declarations) (G : Image) (untouched : Slots) (Here : Facts
       all_moves g (suc number) (at + length (make_code types number v)) vs (λ i w e. subst (λ k. declared.variables x.name k ≡ Some w) (omega arith) (are_declared (suc i) w e)) (omega (arith, within)) parts.1 longer after below d enough (same_frame G x memory.frames after.frames routine home)))
 
   -- the machine follows the making of the variables of a unit with these types, from this number on
-  pub make_all_moves : (unit : List ℕ) → x.name ≡ unit → (types : List UnitType) → declared.types unit ≡ types → (g number at : ℕ) (vs : List UnitVariable) → AreDeclared declared unit number vs → number + length vs ≤ x.slots → CodeStands G ps p references at (make_all_code types number vs) → MovesIn declared G untouched Here p n x at (at + length (make_all_code types number vs)) (make_all call g unit types number vs)
+  pub make_all_moves : (unit : List ℕ) → x.name ≡ unit → (types : List UnitType) → declared.types unit ≡ types
+      → (g number at : ℕ) (vs : List UnitVariable) → AreDeclared declared unit number vs
+      → number + length vs ≤ x.slots → CodeStands G ps p references at (make_all_code types number vs)
+      → MovesIn declared G untouched Here p n x at (at + length (make_all_code types number vs)) (make_all call g unit types number vs)
   make_all_moves unit named types same g number at vs are_declared within stands =
       subst (λ ts. CodeStands G ps p references at (make_all_code ts number vs) → MovesIn declared G untouched Here p n x at (at + length (make_all_code ts number vs)) (make_all call g unit ts number vs)) same
       (subst (λ u. CodeStands G ps p references at (make_all_code (declared.types u) number vs) → MovesIn declared G untouched Here p n x at (at + length (make_all_code (declared.types u) number vs)) (make_all call g u (declared.types u) number vs)) named

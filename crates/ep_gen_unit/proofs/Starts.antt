@@ -28,13 +28,15 @@ module _ (declared : Declarations) (G : Image) (untouched : Slots) (Here : Facts
   -- the machine makes the variables of the unit, in the unit's frame
   abbrev pub MakesFollow : Type 0
   MakesFollow =
-      (injection : Injection) (memory : Memory) (below : List Operand) (d : ℕ) → least_credit ≤ d → unit_in G memory.frames ≡ u.name → memory.frames.unit ≡ p.unit
+      (injection : Injection) (memory : Memory) (below : List Operand) (d : ℕ) → least_credit ≤ d
+      → unit_in G memory.frames ≡ u.name → memory.frames.unit ≡ p.unit
       → Fragment declared G Here n (point injection memory (p.instructions.before + 0) below) (make_all call n u.name u.types 0 u.variables) (p.instructions.before + length (make_all_code u.types 0 u.variables)) (λ a. Inside untouched injection memory (Bare below a)) d (λ a. d)
 
 module _ {declared : Declarations} {G : Image} {untouched : Slots} {Here : Facts} (lasts : Lasts untouched Here) (ps : List Placement) (p : Placement) (call : Handler) (steady_call : IsSteadyHandler call) (n : ℕ) (u : TypedUnit) (o : Object) (is : IsProgramCode u o) (stands : CodeStands G ps p o.references 0 o.instructions) (room : p.instructions.before + p.instructions.own ≤ length G.instructions) (own : p.instructions.own ≡ length o.instructions) (scene : Scene declared G ps p o.texts)
     (expressions : ExpressionsFollow declared G untouched Here ps p o.texts o.references call n u.name) (places : PlacesFollow declared G untouched Here ps p o.texts o.references call n u.name) (valid : IsStmt declared (stmt_of u.start)) (makes : MakesFollow declared G untouched Here p call n u) where
   -- after the step of its call the start makes the variables and runs the block, up to the `Return` behind it
-  pub body_follows : (injection : Injection) (memory : Memory) (below : List Operand) (d : ℕ) → statement_credit ≤ d → unit_in G memory.frames ≡ u.name → memory.frames.unit ≡ p.unit
+  pub body_follows : (injection : Injection) (memory : Memory) (below : List Operand) (d : ℕ)
+      → statement_credit ≤ d → unit_in G memory.frames ≡ u.name → memory.frames.unit ≡ p.unit
       → Fragment declared G Here n (point injection memory (p.instructions.before + 0) below) (bind (make_all call n u.name u.types 0 u.variables) (λ a. exec call n u.name (stmt_of u.start))) (p.instructions.before + (length (make_all_code u.types 0 u.variables) + length is.code)) (λ a. Inside untouched injection memory (Bare below a)) d (λ a. d)
   body_follows injection memory below d enough home framed =
       let parts = code_stands-parts G ps p o.references 0 (make_all_code u.types 0 u.variables) (is.code ++ return_code ∷ return_code ∷ []) (subst (λ k. CodeStands G ps p o.references 0 k) is.instructions stands) in

@@ -76,21 +76,26 @@ module _ (u : TypedUnit) (o : Object) (is : IsProgramCode u o) (G : Image) (ps :
       omega (arith, instructions_own, within)
 
   -- a routine of the object is one of the image
-  routine_there : (n : ℕ) (r : CodeRoutine) → slice_get o.routines n ≡ Some r → routine_of G (moved p.routines n) ≡ Some (placed_routine p r)
+  routine_there : (n : ℕ) (r : CodeRoutine) → slice_get o.routines n ≡ Some r
+      → routine_of G (moved p.routines n) ≡ Some (placed_routine p r)
   routine_there n r h =
       let whole = of_object in
       let within = slice_get_within o.routines n r h in
       rw (moved_own p.routines n (omega (arith, whole.routines, within)), stands.routines n r h, stands.unit) refl
 
   -- while it runs errors tell the unit's name
-  home : (n : ℕ) (r : CodeRoutine) → slice_get o.routines n ≡ Some r → (frames : Frames) → frames.routine ≡ moved p.routines n → unit_in G frames ≡ u.name
+  home : (n : ℕ) (r : CodeRoutine) → slice_get o.routines n ≡ Some r → (frames : Frames)
+      → frames.routine ≡ moved p.routines n → unit_in G frames ≡ u.name
   home n r h frames runs =
       let whole = of_object in
       let within = slice_get_within o.routines n r h in
       rw (runs, moved_own p.routines n (omega (arith, whole.routines, within)), stands.routines n r h, stands.unit) is.name
 
   -- the machine enters a routine of the object at the place of its entry
-  at_entry : {declared : Declarations} {injection : Injection} {memory : Memory} {below : List Operand} {s : meaning.State} {k : State} (n : ℕ) (r : CodeRoutine) → slice_get o.routines n ≡ Some r → r.entry < p.instructions.own → Enters declared G p.unit (moved p.routines n) injection memory below s k → k ≡ standing (p.instructions.before + r.entry) below memory s.trace
+  at_entry : {declared : Declarations} {injection : Injection} {memory : Memory} {below : List Operand} {s : meaning.State} {k : State} (n : ℕ) (r : CodeRoutine)
+      → slice_get o.routines n ≡ Some r → r.entry < p.instructions.own
+      → Enters declared G p.unit (moved p.routines n) injection memory below s k
+      → k ≡ standing (p.instructions.before + r.entry) below memory s.trace
   at_entry {memory = memory} {below = below} {s = s} n r has inside enters =
       let same : enters.image_routine ≡ placed_routine p r = same_Some enters.image_routine (placed_routine p r) (sym enters.there ∙ routine_there n r has) in
       enters.is ∙ (ap (λ (x : ImageRoutine). standing x.entry below memory s.trace) same ∙ ap (λ place. standing place below memory s.trace) (moved_own p.instructions r.entry inside))
@@ -102,7 +107,8 @@ module _ (u : TypedUnit) (o : Object) (is : IsProgramCode u o) (G : Image) (ps :
   stop_is = rw (is.stop, is.routines) refl
 
   -- the stop does nothing
-  pub stop_simulates : (declared : Declarations) (n : ℕ) → Simulates declared G p.unit (moved p.routines o.stop) n idle_stop Bare
+  pub stop_simulates : (declared : Declarations) (n : ℕ)
+      → Simulates declared G p.unit (moved p.routines o.stop) n idle_stop Bare
   stop_simulates declared n =
       record {
         image_routine = placed_routine p (routine_at (ends_block + 1));
@@ -129,7 +135,8 @@ module _ (u : TypedUnit) (o : Object) (is : IsProgramCode u o) (G : Image) (ps :
         not_hidden h = cc
 
     -- the machine makes the variables of the unit
-    makes : {Here : Facts} → Lasts (is_hidden_slot declared G) Here → MakesFollow declared G (is_hidden_slot declared G) Here p call n u
+    makes : {Here : Facts} → Lasts (is_hidden_slot declared G) Here
+        → MakesFollow declared G (is_hidden_slot declared G) Here p call n u
     makes {Here = Here} lasts injection memory below d enough home framed =
         let there : slice_get G.units memory.frames.unit ≡ Some (placed_object_unit p o) = ap (slice_get G.units) framed ∙ stands.unit in
         fragment_to {to = p.instructions.before + (0 + begins_block)} (omega arith) (make_all_moves declared G (is_hidden_slot declared G) Here lasts ps p o.references call steady_call n (placed_object_unit p o) free distinct scene.types_valid u.name is.name u.types types n 0 0 u.variables are_declared (omega (arith, is.unit_slots)) makes_stand injection memory below d enough there)
@@ -154,7 +161,8 @@ module _ (u : TypedUnit) (o : Object) (is : IsProgramCode u o) (G : Image) (ps :
         }
 
   -- the variables of the unit have their slots
-  variable_stands : (unit : List ℕ) (k : ℕ) (v : UnitVariable) → (own u).variables unit k ≡ Some v → VariableStands G ps unit k
+  variable_stands : (unit : List ℕ) (k : ℕ) (v : UnitVariable) → (own u).variables unit k ≡ Some v
+      → VariableStands G ps unit k
   variable_stands unit k v h =
       let w = own_is u unit k v h in
       let whole = of_object in
@@ -179,5 +187,6 @@ module _ (u : TypedUnit) (o : Object) (is : IsProgramCode u o) (G : Image) (ps :
         types_valid = own_valid u variables;
       }
 
-  pub unit_simulates : IsValid u → HasDistinctNames G → (call : Handler) → IsSteadyHandler call → (n : ℕ) → Simulates (own u) G p.unit (moved p.routines o.start) n (start_of call n u) Bare
+  pub unit_simulates : IsValid u → HasDistinctNames G → (call : Handler) → IsSteadyHandler call → (n : ℕ)
+      → Simulates (own u) G p.unit (moved p.routines o.start) n (start_of call n u) Bare
   unit_simulates valid distinct call steady_call n = start_simulates (own u) (own_types u) (own_declared u) valid.start distinct (scene_of valid.variables) call steady_call n

@@ -18,7 +18,8 @@ use Rattle.ep_typed.specs.declared.unit.Unit.{Unit as TypedUnit}
 
 -- these variables of a unit are declared, from this number on
 abbrev pub AreDeclared : Declarations → List ℕ → ℕ → List UnitVariable → Type 0
-AreDeclared declared unit number vs = (i : ℕ) (v : UnitVariable) → slice_get vs i ≡ Some v → declared.variables unit (number + i) ≡ Some v
+AreDeclared declared unit number vs = (i : ℕ) (v : UnitVariable) → slice_get vs i ≡ Some v
+    → declared.variables unit (number + i) ≡ Some v
 
 -- a stop that does nothing spends the step of its call
 abbrev pub idle_stop : Computation (Unit {0})
@@ -27,18 +28,24 @@ idle_stop = spend 1 (give tt)
 -- Wherever the object of a valid unit stands in an image whose units have names of their own, its start routine simulates the meaning of the start, whatever calls do, with any number of steps.
 abbrev pub StartsAreSimulated : Type 0
 StartsAreSimulated =
-    (u : TypedUnit) (o : Object) → IsProgramCode u o → IsValid u → (G : Image) (ps : List Placement) (p : Placement) → Stands G ps p o → HasDistinctNames G
-    → (call : Handler) → IsSteadyHandler call → (n : ℕ) → Simulates (own u) G p.unit (moved p.routines o.start) n (start_of call n u) Bare
+    (u : TypedUnit) (o : Object) → IsProgramCode u o → IsValid u
+    → (G : Image) (ps : List Placement) (p : Placement) → Stands G ps p o → HasDistinctNames G
+    → (call : Handler) → IsSteadyHandler call → (n : ℕ)
+    → Simulates (own u) G p.unit (moved p.routines o.start) n (start_of call n u) Bare
 
 -- The same under any declarations that have the types and the variables of the unit, where all that is declared stands in the image and the block is valid under them.
 abbrev pub StartsAreSimulatedUnder : Type 0
 StartsAreSimulatedUnder =
-    (declared : Declarations) (u : TypedUnit) (o : Object) → IsProgramCode u o → declared.types u.name ≡ u.types → AreDeclared declared u.name 0 u.variables → IsStmt declared (stmt_of u.start)
-    → (G : Image) (ps : List Placement) (p : Placement) → Stands G ps p o → HasDistinctNames G → Scene declared G ps p o.texts
-    → (call : Handler) → IsSteadyHandler call → (n : ℕ) → Simulates declared G p.unit (moved p.routines o.start) n (start_of call n u) Bare
+    (declared : Declarations) (u : TypedUnit) (o : Object) → IsProgramCode u o → declared.types u.name ≡ u.types
+    → AreDeclared declared u.name 0 u.variables → IsStmt declared (stmt_of u.start)
+    → (G : Image) (ps : List Placement) (p : Placement) → Stands G ps p o → HasDistinctNames G
+    → Scene declared G ps p o.texts
+    → (call : Handler) → IsSteadyHandler call → (n : ℕ)
+    → Simulates declared G p.unit (moved p.routines o.start) n (start_of call n u) Bare
 
 -- Its stop routine simulates a stop that does nothing, under any declarations.
 abbrev pub StopsAreSimulated : Type 0
 StopsAreSimulated =
-    (declared : Declarations) (u : TypedUnit) (o : Object) → IsProgramCode u o → (G : Image) (ps : List Placement) (p : Placement) → Stands G ps p o
+    (declared : Declarations) (u : TypedUnit) (o : Object) → IsProgramCode u o
+    → (G : Image) (ps : List Placement) (p : Placement) → Stands G ps p o
     → (n : ℕ) → Simulates declared G p.unit (moved p.routines o.stop) n idle_stop Bare

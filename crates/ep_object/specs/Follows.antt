@@ -36,7 +36,8 @@ pub record StaysWithin (Within : State → Type 0) (G : Image) (k : State) (tick
   pub each : (t wait : ℕ) (s : State) → t < ticks → run G t 0 k ≡ Running wait s → Within s
 
 -- the machine comes to a state of which this holds, and is in such states before
-pub record Reaches (Within : State → Type 0) (G : Image) (k : State) (m left d e : ℕ) (Post : State → Type 0) : Type 0 where
+pub record Reaches (Within : State → Type 0) (G : Image) (k : State) (m left d e : ℕ)
+    (Post : State → Type 0) : Type 0 where
   pub ticks : ℕ
   pub to : State
   pub runs : run G ticks 0 k ≡ Running 0 to
@@ -45,7 +46,8 @@ pub record Reaches (Within : State → Type 0) (G : Image) (k : State) (m left d
   pub post : Post to
 
 -- The machine ends so, and is in such states until then. Of m steps all but those left were spent; the last tick pays for none of them.
-pub record EndsToo (Within : State → Type 0) (G : Image) (k : State) (m left d : ℕ) (e : meaning.End) (trace : Trace) : Type 0 where
+pub record EndsToo (Within : State → Type 0) (G : Image) (k : State) (m left d : ℕ) (e : meaning.End)
+    (trace : Trace) : Type 0 where
   pub ticks : ℕ
   pub wait : ℕ
   pub last : State
@@ -70,7 +72,8 @@ pub record RunsOn (Within : State → Type 0) (G : Image) (k : State) (m d : ℕ
 
 -- What the machine does where the computation comes to this with m steps. The credit after it may depend on what
 -- the computation gives, since a text has a weight.
-abbrev pub Meets : {A : Type 0} → (State → Type 0) → Image → State → ℕ → (A → meaning.State → State → Type 0) → ℕ → (A → ℕ) → Outcome A → Type 0
+abbrev pub Meets : {A : Type 0} → (State → Type 0) → Image → State → ℕ → (A → meaning.State → State → Type 0)
+    → ℕ → (A → ℕ) → Outcome A → Type 0
 Meets Within G k m Post d e (Gives left a s) = Reaches Within G k m left d (e a) (Post a s)
 Meets Within G k m Post d e (Ends left end s) = EndsToo Within G k m left d end s.trace
 Meets Within G k m Post d e (Cut s) = RunsOn Within G k m d s.trace
@@ -89,7 +92,8 @@ pub record GivesUp (G : Image) (k : State) (m d : ℕ) (s : meaning.State) : Typ
   pub begins : IsPrefix trace s.trace
 
 -- The machine follows the computation with up to n steps, and is in such states at each tick until it has given a value, is cut or has ended. That room is lost lets it end within ticks that the steps bound, and nothing else: where it goes on, it follows.
-pub record Follows {A : Type 0} (Within : State → Type 0) (G : Image) (n : ℕ) (k : State) (s : meaning.State) (c : Computation A) (Post : A → meaning.State → State → Type 0) (d : ℕ) (e : A → ℕ) : Type 0 where
+pub record Follows {A : Type 0} (Within : State → Type 0) (G : Image) (n : ℕ) (k : State) (s : meaning.State)
+    (c : Computation A) (Post : A → meaning.State → State → Type 0) (d : ℕ) (e : A → ℕ) : Type 0 where
   pub by : (m : ℕ) → m ≤ n → Meets Within G k m Post d e (c m s) ⊎ GivesUp G k m d (state_of (c m s))
 
 -- Where the machine stands between two instructions, but for its events: the injection by which it matches, the memory,
@@ -117,7 +121,8 @@ abbrev pub After : Type 1
 After = Injection → Memory → List Operand → Type 0
 
 -- the machine stands at a place of the code and matches, the facts of the activation hold, and this holds
-pub record Lands (declared : Declarations) (G : Image) (Here : Facts) (place : ℕ) (Post : After) (s : meaning.State) (k : State) : Type 0 where
+pub record Lands (declared : Declarations) (G : Image) (Here : Facts) (place : ℕ) (Post : After)
+    (s : meaning.State) (k : State) : Type 0 where
   pub injection : Injection
   pub memory : Memory
   pub operands : List Operand
@@ -137,14 +142,16 @@ pub record IsNotLeft (before now : Frames) : Type 0 where
   pub runs : SameRoutine before now
 
 -- The calls under way are the same, memory has grown and these slots are untouched, and the same routine runs.
-pub record HasGrown (untouched : Slots) (injection : Injection) (s : meaning.State) (memory : Memory) (longer : Injection) (t : meaning.State) (after : Memory) : Type 0 where
+pub record HasGrown (untouched : Slots) (injection : Injection) (s : meaning.State) (memory : Memory)
+    (longer : Injection) (t : meaning.State) (after : Memory) : Type 0 where
   pub grown : Grown untouched injection memory longer after
   pub routine : SameRoutine memory.frames after.frames
   pub calls : t.calls ≡ s.calls
 
 -- facts that go on holding where memory has grown so
 pub record Lasts (untouched : Slots) (Here : Facts) : Type 0 where
-  pub by : (injection longer : Injection) (s t : meaning.State) (memory after : Memory) → HasGrown untouched injection s memory longer t after → Here injection s memory → Here longer t after
+  pub by : (injection longer : Injection) (s t : meaning.State) (memory after : Memory)
+      → HasGrown untouched injection s memory longer t after → Here injection s memory → Here longer t after
 
 -- That memory has grown so since then, which lasts. Whatever facts last and held then hold where this does.
 abbrev pub Since : Slots → Injection → meaning.State → Memory → Facts
@@ -152,8 +159,10 @@ Since untouched injection s memory longer t after = HasGrown untouched injection
 
 -- From a point at which the facts of the activation hold, the machine follows the computation, without leaving the routine, to
 -- a place of the code at which they hold again, and this does.
-pub record Fragment {A : Type 0} (declared : Declarations) (G : Image) (Here : Facts) (n : ℕ) (from : Point) (c : Computation A) (to : ℕ) (Post : A → After) (d : ℕ) (e : A → ℕ) : Type 0 where
-  pub by : (s : meaning.State) → Matches declared G from.injection s from.memory → Here from.injection s from.memory
+pub record Fragment {A : Type 0} (declared : Declarations) (G : Image) (Here : Facts) (n : ℕ) (from : Point)
+    (c : Computation A) (to : ℕ) (Post : A → After) (d : ℕ) (e : A → ℕ) : Type 0 where
+  pub by : (s : meaning.State) → Matches declared G from.injection s from.memory
+      → Here from.injection s from.memory
       → Follows (λ k. IsNotLeft from.memory.frames k.frames) G n (state_at from s.trace) s c (λ a. Lands declared G Here to (Post a)) d e
 
 -- ---- what holds after the code of a form
@@ -172,14 +181,16 @@ abbrev pub Bare : List Operand → Unit {0} → Operands
 Bare below a injection memory operands = operands ≡ below
 
 -- a number of the host on top
-pub record NumberOnTop (host : Host) (below : List Operand) (r : Result) (injection : Injection) (memory : Memory) (operands : List Operand) : Type 0 where
+pub record NumberOnTop (host : Host) (below : List Operand) (r : Result) (injection : Injection)
+    (memory : Memory) (operands : List Operand) : Type 0 where
   pub number : ℤ
   pub is_number : r ≡ Number number
   pub of_host : IsTrue (is_of_host host number)
   pub is : operands ≡ Word number ∷ below
 
 -- a text on top
-pub record TextOnTop (below : List Operand) (r : Result) (injection : Injection) (memory : Memory) (operands : List Operand) : Type 0 where
+pub record TextOnTop (below : List Operand) (r : Result) (injection : Injection) (memory : Memory)
+    (operands : List Operand) : Type 0 where
   pub bytes : List ℕ
   pub is_text : r ≡ Bytes bytes
   pub is : operands ≡ Text bytes ∷ below
@@ -190,14 +201,16 @@ OnTop (kind.Ordinal host) below r = NumberOnTop host below r
 OnTop kind.Bytes below r = TextOnTop below r
 
 -- a place of the allocation of this number on top, whose type describes the type value
-pub record PlaceOnTop (type : TypeValue) (below : List Operand) (n : ℕ) (injection : Injection) (memory : Memory) (operands : List Operand) : Type 0 where
+pub record PlaceOnTop (type : TypeValue) (below : List Operand) (n : ℕ) (injection : Injection)
+    (memory : Memory) (operands : List Operand) : Type 0 where
   pub place : PlaceOf
   pub is : operands ≡ Place place ∷ below
   pub place_of : IsPlaceOf injection memory.segments n place
   pub described : Describes memory.types place.type_number type
 
 -- inside of a routine: memory has grown and these slots are untouched, the routine is the same, and the operands are such
-pub record Inside (untouched : Slots) (injection : Injection) (memory : Memory) (Then : Operands) (longer : Injection) (after : Memory) (operands : List Operand) : Type 0 where
+pub record Inside (untouched : Slots) (injection : Injection) (memory : Memory) (Then : Operands)
+    (longer : Injection) (after : Memory) (operands : List Operand) : Type 0 where
   pub grown : Grown untouched injection memory longer after
   pub routine : SameRoutine memory.frames after.frames
   pub operands_are : Then longer after operands

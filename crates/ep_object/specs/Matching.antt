@@ -69,7 +69,8 @@ IsValueOf type.Text Undefined = ⊤
 IsValueOf type.Text (meaning.Word w) = ⊥
 
 -- a segment has the words of an allocation, and its type describes the allocation's
-pub record Represents (segments : Segments) (types : TypeTable) (segment : ℕ) (allocation : Allocation) : Type 0 where
+pub record Represents (segments : Segments) (types : TypeTable) (segment : ℕ)
+    (allocation : Allocation) : Type 0 where
   pub type_number : ℕ
   pub stands : slice_get segments segment ≡ Some (Some (record { type_number = type_number; words = layout allocation.value }))
   pub described : Describes types type_number allocation.type_value
@@ -80,7 +81,8 @@ pub record IsPlaceOf (injection : Injection) (segments : Segments) (n : ℕ) (pl
   pub is_in : IsIn injection n place.segment
   pub within : suc place.segment ≤ length segments
   pub offset : place.offset ≡ 0
-  pub typed : (x : Segment) → slice_get segments place.segment ≡ Some (Some x) → place.type_number ≡ x.type_number
+  pub typed : (x : Segment) → slice_get segments place.segment ≡ Some (Some x)
+      → place.type_number ≡ x.type_number
 
 -- a slot holds the place of a variable once it is made, and none before
 abbrev pub MatchesSlot : Injection → Segments → Option ℕ → Option Place → Type 0
@@ -115,32 +117,43 @@ hidden_words injection segments = hidden_from injection 0 segments
 -- ---- matching, in groups: each is over what it reads, so that it goes on holding where nothing of that changes
 
 -- each allocation that was made is in a segment of its own
-pub record MatchesInjection (injection : Injection) (allocations : List Allocation) (segments : Segments) : Type 0 where
+pub record MatchesInjection (injection : Injection) (allocations : List Allocation)
+    (segments : Segments) : Type 0 where
   pub made : length injection ≡ length allocations
   pub apart : (m n segment : ℕ) → IsIn injection m segment → IsIn injection n segment → m ≡ n
   pub within : (n segment : ℕ) → IsIn injection n segment → suc segment ≤ length segments
 
 -- the store: the segment of an allocation represents it
-pub record MatchesStore (injection : Injection) (allocations : List Allocation) (segments : Segments) (types : TypeTable) : Type 0 where
-  pub represented : (n segment : ℕ) (allocation : Allocation) → IsIn injection n segment → meaning.allocation_at allocations n ≡ Some allocation → Represents segments types segment allocation
+pub record MatchesStore (injection : Injection) (allocations : List Allocation) (segments : Segments)
+    (types : TypeTable) : Type 0 where
+  pub represented : (n segment : ℕ) (allocation : Allocation) → IsIn injection n segment
+      → meaning.allocation_at allocations n ≡ Some allocation → Represents segments types segment allocation
 
 -- the types: each that was elaborated has a number
 pub record MatchesTypes (elaborated : List TypeValue) (types : TypeTable) : Type 0 where
   pub first : IsPrefix first_types types
-  pub known : (low high : ℤ) → IsTrue (list_any (same_type (type.Ordinal low high)) elaborated) → (n : ℕ) × (ordinal_number low high types ≡ Some n)
+  pub known : (low high : ℤ) → IsTrue (list_any (same_type (type.Ordinal low high)) elaborated)
+      → (n : ℕ) × (ordinal_number low high types ≡ Some n)
   pub sized : (n : ℕ) (entry : TypeEntry) → slice_get types n ≡ Some entry → entry.size ≡ 1
 
 -- the frame of a unit has the places of the variables that are declared; its other slots match nothing
-pub record MatchesFrame (declared : Declarations) (injection : Injection) (variables : List ℕ → ℕ → Option ℕ) (units : List (List (Option Place))) (segments : Segments) (unit : ℕ) (u : ImageUnit) : Type 0 where
+pub record MatchesFrame (declared : Declarations) (injection : Injection) (variables : List ℕ → ℕ → Option ℕ)
+    (units : List (List (Option Place))) (segments : Segments) (unit : ℕ) (u : ImageUnit) : Type 0 where
   pub slots : List (Option Place)
   pub is : slice_get units unit ≡ Some slots
   pub count : length slots ≡ u.slots
-  pub matches : (k : ℕ) (v : UnitVariable) (slot : Option Place) → declared.variables u.name k ≡ Some v → slice_get slots k ≡ Some slot → MatchesSlot injection segments (variables u.name k) slot
+  pub matches : (k : ℕ) (v : UnitVariable) (slot : Option Place) → declared.variables u.name k ≡ Some v
+      → slice_get slots k ≡ Some slot → MatchesSlot injection segments (variables u.name k) slot
 
 -- the slots of units: the frame of each unit matches, and an allocation of a variable has the type of its declaration
-pub record MatchesUnits (declared : Declarations) (G : Image) (injection : Injection) (allocations : List Allocation) (variables : List ℕ → ℕ → Option ℕ) (units : List (List (Option Place))) (segments : Segments) : Type 0 where
-  pub frames : (unit : ℕ) (u : ImageUnit) → slice_get G.units unit ≡ Some u → MatchesFrame declared injection variables units segments unit u
-  pub typed : (unit : List ℕ) (k n : ℕ) (v : UnitVariable) → variables unit k ≡ Some n → declared.variables unit k ≡ Some v → HasType declared unit v (meaning.type_in (meaning.allocation_at allocations n))
+pub record MatchesUnits (declared : Declarations) (G : Image) (injection : Injection)
+    (allocations : List Allocation) (variables : List ℕ → ℕ → Option ℕ) (units : List (List (Option Place)))
+    (segments : Segments) : Type 0 where
+  pub frames : (unit : ℕ) (u : ImageUnit) → slice_get G.units unit ≡ Some u
+      → MatchesFrame declared injection variables units segments unit u
+  pub typed : (unit : List ℕ) (k n : ℕ) (v : UnitVariable) → variables unit k ≡ Some n
+      → declared.variables unit k ≡ Some v
+      → HasType declared unit v (meaning.type_in (meaning.allocation_at allocations n))
 
 -- the outside: `output` is the second allocation and the second segment
 pub record MatchesOutside (injection : Injection) : Type 0 where
@@ -148,13 +161,15 @@ pub record MatchesOutside (injection : Injection) : Type 0 where
 
 -- The counts: no more words live than were counted, where a type value counts 4 for each of its words; hidden segments
 -- take no more than was set aside; and no more types were added than were elaborated.
-pub record MatchesCounts (injection : Injection) (resources : Resources) (segments : Segments) (types : TypeTable) (live : ℕ) : Type 0 where
+pub record MatchesCounts (injection : Injection) (resources : Resources) (segments : Segments)
+    (types : TypeTable) (live : ℕ) : Type 0 where
   pub words : live ≤ resources.allocated + hidden_words injection segments + 4 * resources.typed
   pub hidden : hidden_words injection segments ≤ resources.reserved
   pub number : length types ≤ length resources.types + 5
 
 -- the state of the meaning matches the machine's memory by the injection, where these variables are declared
-pub record Matches (declared : Declarations) (G : Image) (injection : Injection) (s : meaning.State) (memory : Memory) : Type 0 where
+pub record Matches (declared : Declarations) (G : Image) (injection : Injection) (s : meaning.State)
+    (memory : Memory) : Type 0 where
   pub injected : MatchesInjection injection s.allocations memory.segments
   pub store : MatchesStore injection s.allocations memory.segments memory.types
   pub types : MatchesTypes s.resources.types memory.types
@@ -186,13 +201,21 @@ is_hidden_slot declared G unit k = is_hidden_in declared (slice_get G.units unit
 
 -- The injection is a longer one, hidden segments are what they were, those that are new have ended, these slots are
 -- untouched, and no segment changes its type.
-pub record Grown (untouched : Slots) (injection : Injection) (memory : Memory) (longer : Injection) (after : Memory) : Type 0 where
+pub record Grown (untouched : Slots) (injection : Injection) (memory : Memory) (longer : Injection)
+    (after : Memory) : Type 0 where
   pub larger : IsPrefix injection longer
   pub types : IsPrefix memory.types after.types
   pub segments : length memory.segments ≤ length after.segments
-  pub hidden : (segment : ℕ) → suc segment ≤ length memory.segments → IsHidden injection segment → IsHidden longer segment
-  pub others : (segment : ℕ) → suc segment ≤ length memory.segments → IsHidden injection segment → slice_get after.segments segment ≡ slice_get memory.segments segment
-  pub allocated : (segment : ℕ) (y : Segment) → length memory.segments ≤ segment → slice_get after.segments segment ≡ Some (Some y) → (n : ℕ) × IsIn longer n segment
-  pub slots : (unit k : ℕ) → IsTrue (untouched unit k) → slot_in after.frames unit k ≡ slot_in memory.frames unit k
-  pub typed : (segment : ℕ) (x y : Segment) → slice_get memory.segments segment ≡ Some (Some x) → slice_get after.segments segment ≡ Some (Some y) → y.type_number ≡ x.type_number
-  pub ended : (segment : ℕ) (y : Segment) → suc segment ≤ length memory.segments → slice_get after.segments segment ≡ Some (Some y) → (x : Segment) × (slice_get memory.segments segment ≡ Some (Some x))
+  pub hidden : (segment : ℕ) → suc segment ≤ length memory.segments → IsHidden injection segment
+      → IsHidden longer segment
+  pub others : (segment : ℕ) → suc segment ≤ length memory.segments → IsHidden injection segment
+      → slice_get after.segments segment ≡ slice_get memory.segments segment
+  pub allocated : (segment : ℕ) (y : Segment) → length memory.segments ≤ segment
+      → slice_get after.segments segment ≡ Some (Some y) → (n : ℕ) × IsIn longer n segment
+  pub slots : (unit k : ℕ) → IsTrue (untouched unit k)
+      → slot_in after.frames unit k ≡ slot_in memory.frames unit k
+  pub typed : (segment : ℕ) (x y : Segment) → slice_get memory.segments segment ≡ Some (Some x)
+      → slice_get after.segments segment ≡ Some (Some y) → y.type_number ≡ x.type_number
+  pub ended : (segment : ℕ) (y : Segment) → suc segment ≤ length memory.segments
+      → slice_get after.segments segment ≡ Some (Some y)
+      → (x : Segment) × (slice_get memory.segments segment ≡ Some (Some x))

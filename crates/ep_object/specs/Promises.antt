@@ -38,7 +38,8 @@ IsArgument injection memory ByReference (Value r) o = ⊥
 IsArgument injection memory ByReference (Variable n) o = (p : PlaceOf) × (o ≡ Place p) × IsPlaceOf injection memory.segments n p
 
 -- the operands are those of the arguments, one for each formal and the first lowest, on the ones below
-abbrev pub AreArguments : Injection → Memory → List Passing → List Argument → List Operand → List Operand → Type 0
+abbrev pub AreArguments : Injection → Memory → List Passing → List Argument → List Operand → List Operand
+    → Type 0
 AreArguments injection memory [] [] below operands = operands ≡ below
 AreArguments injection memory [] (x ∷ xs) below operands = ⊥
 AreArguments injection memory (f ∷ fs) [] below operands = ⊥
@@ -67,16 +68,19 @@ pub record CallsAt (G : Image) (place routine line : ℕ) : Type 0 where
 -- and stands at a `Call` of it with such arguments on the operands below, it follows the call to the next instruction,
 -- where the results are on the operands below. The allocations that the routine made have ended then on both sides, if
 -- they do at all, and what the caller knows of its own activation holds as before. No credit is there before or after.
-pub record Promises (declared : Declarations) (G : Image) (routine n : ℕ) (formals : List Passing) (results : List Kind) (called : Called) : Type 0 where
+pub record Promises (declared : Declarations) (G : Image) (routine n : ℕ) (formals : List Passing)
+    (results : List Kind) (called : Called) : Type 0 where
   pub by : (place line : ℕ) → CallsAt G place routine line
-      → (injection : Injection) (begun : meaning.State) (memory : Memory) (below operands : List Operand) (arguments : List Argument) → AreArguments injection memory formals arguments below operands
+      → (injection : Injection) (begun : meaning.State) (memory : Memory) (below operands : List Operand) (arguments : List Argument)
+      → AreArguments injection memory formals arguments below operands
       → Fragment declared G (Since (is_hidden_slot declared G) injection begun memory) n (point injection memory place operands) (called (unit_in G memory.frames) line arguments) (place + 1)
       (λ rs. Inside (is_hidden_slot declared G) injection memory (ResultsOnTop results below rs)) 0 (λ rs. 0)
 
 -- ---- what this says of runs from a call
 
 -- A call has given its results after so many steps: the machine comes to the instruction after it and matches, its ticks keep pace with the steps, and until then the calling routine is not left.
-pub record ComesBackAfter (declared : Declarations) (G : Image) (injection : Injection) (begun : meaning.State) (memory : Memory) (Then : Operands) (to : ℕ) (k : State) (s : meaning.State) (steps : ℕ) : Type 0 where
+pub record ComesBackAfter (declared : Declarations) (G : Image) (injection : Injection) (begun : meaning.State)
+    (memory : Memory) (Then : Operands) (to : ℕ) (k : State) (s : meaning.State) (steps : ℕ) : Type 0 where
   pub ticks : ℕ
   pub last : State
   pub runs : run G ticks 0 k ≡ Running 0 last
@@ -85,17 +89,22 @@ pub record ComesBackAfter (declared : Declarations) (G : Image) (injection : Inj
   pub until : (t : ℕ) → t ≤ ticks → StaysIn G k t s.trace
 
 -- what a run from a call does where what the call does comes to this with so many steps
-abbrev pub CallComesTo : Declarations → Image → Injection → meaning.State → Memory → (List Result → Operands) → ℕ → State → ℕ → Outcome (List Result) → Type 0
-CallComesTo declared G injection begun memory Then to k steps (Gives left a s) = (spent : ℕ) → left + spent ≡ steps → ComesBackAfter declared G injection begun memory (Then a) to k s spent
-CallComesTo declared G injection begun memory Then to k steps (Ends left end s) = (spent : ℕ) → left + spent ≡ steps → EndsAfter G k (end_of end) s.trace spent
+abbrev pub CallComesTo : Declarations → Image → Injection → meaning.State → Memory → (List Result → Operands)
+    → ℕ → State → ℕ → Outcome (List Result) → Type 0
+CallComesTo declared G injection begun memory Then to k steps (Gives left a s) = (spent : ℕ)
+    → left + spent ≡ steps → ComesBackAfter declared G injection begun memory (Then a) to k s spent
+CallComesTo declared G injection begun memory Then to k steps (Ends left end s) = (spent : ℕ)
+    → left + spent ≡ steps → EndsAfter G k (end_of end) s.trace spent
 CallComesTo declared G injection begun memory Then to k steps (Cut s) = StaysAfter G k s.trace steps
 
 -- Where a routine keeps its promise, every run from a call of it answers what the call does with each number of steps up to n, or ends for want of room within 64 ticks for each of them.
 abbrev pub CallsAnswer : Type 0
 CallsAnswer =
-    (declared : Declarations) (G : Image) (routine n : ℕ) (formals : List Passing) (results : List Kind) (called : Called) → Promises declared G routine n formals results called
+    (declared : Declarations) (G : Image) (routine n : ℕ) (formals : List Passing) (results : List Kind) (called : Called)
+    → Promises declared G routine n formals results called
     → (place line : ℕ) → CallsAt G place routine line
-    → (injection : Injection) (memory : Memory) (below operands : List Operand) (arguments : List Argument) → AreArguments injection memory formals arguments below operands
+    → (injection : Injection) (memory : Memory) (below operands : List Operand) (arguments : List Argument)
+    → AreArguments injection memory formals arguments below operands
     → (s : meaning.State) → Matches declared G injection s memory → (steps : ℕ) → steps ≤ n
     → CallComesTo declared G injection s memory (ResultsOnTop results below) (place + 1) (state_at (point injection memory place operands) s.trace) steps (called (unit_in G memory.frames) line arguments steps s)
     ⊎ GivesUp G (state_at (point injection memory place operands) s.trace) steps 0 (state_of (called (unit_in G memory.frames) line arguments steps s))

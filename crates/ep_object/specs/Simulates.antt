@@ -23,7 +23,8 @@ abbrev pub routine_credit : ℕ
 routine_credit = 41
 
 -- The machine stands at the entry of the routine of this number, in the frame of the unit at this place of the image, with these operands below, and matches the state of the meaning.
-pub record Enters (declared : Declarations) (G : Image) (unit routine : ℕ) (injection : Injection) (memory : Memory) (below : List Operand) (s : meaning.State) (k : State) : Type 0 where
+pub record Enters (declared : Declarations) (G : Image) (unit routine : ℕ) (injection : Injection)
+    (memory : Memory) (below : List Operand) (s : meaning.State) (k : State) : Type 0 where
   pub image_routine : ImageRoutine
   pub there : routine_of G routine ≡ Some image_routine
   pub is : k ≡ at image_routine.entry below memory s.trace
@@ -32,7 +33,8 @@ pub record Enters (declared : Declarations) (G : Image) (unit routine : ℕ) (in
   pub matches : Matches declared G injection s memory
 
 -- The machine stands at an instruction that leaves the routine, in the same unit's frame and with these operands, and matches again by a longer injection; hidden segments and hidden slots are what they were, and the calls under way are those from which it began.
-pub record Leaves (declared : Declarations) (G : Image) (injection : Injection) (begun : meaning.State) (memory : Memory) (Then : Operands) (s : meaning.State) (k : State) : Type 0 where
+pub record Leaves (declared : Declarations) (G : Image) (injection : Injection) (begun : meaning.State)
+    (memory : Memory) (Then : Operands) (s : meaning.State) (k : State) : Type 0 where
   pub place : ℕ
   pub instruction : Instr
   pub stands : slice_get G.instructions place ≡ Some instruction
@@ -40,13 +42,16 @@ pub record Leaves (declared : Declarations) (G : Image) (injection : Injection) 
   pub lands : Lands declared G (Since (is_hidden_slot declared G) injection begun memory) place (Inside (is_hidden_slot declared G) injection memory Then) s k
 
 -- The routine of this number, of the unit at this place of the image, simulates the computation with up to n steps: the computation spends the step of a call and then goes on as a body, and wherever the machine enters the routine it follows the body within the routine, and where that gives a value it leaves the routine with these results on the operands below.
-pub record Simulates {A : Type 0} (declared : Declarations) (G : Image) (unit routine n : ℕ) (c : Computation A) (Results : List Operand → A → Operands) : Type 0 where
+pub record Simulates {A : Type 0} (declared : Declarations) (G : Image) (unit routine n : ℕ) (c : Computation A)
+    (Results : List Operand → A → Operands) : Type 0 where
   pub image_routine : ImageRoutine
   pub there : routine_of G routine ≡ Some image_routine
   pub of_unit : image_routine.unit ≡ unit
   pub body : Computation A
   pub called : c ≡ spend 1 body
-  pub follows : (m : ℕ) → m < n → (injection : Injection) (memory : Memory) (below : List Operand) (s : meaning.State) (k : State) → Enters declared G unit routine injection memory below s k
+  pub follows : (m : ℕ) → m < n
+      → (injection : Injection) (memory : Memory) (below : List Operand) (s : meaning.State) (k : State)
+      → Enters declared G unit routine injection memory below s k
       → Follows (λ l. IsNotLeft memory.frames l.frames) G m k s body (λ a. Leaves declared G injection s memory (Results below a)) routine_credit (λ a. routine_credit)
 
 -- ---- what this says of runs from the entry
@@ -65,7 +70,8 @@ pub record StaysIn (G : Image) (k : State) (ticks : ℕ) (trace : Trace) : Type 
   pub begins : IsPrefix to.trace trace
 
 -- A value is given after so many steps: the machine comes to the instruction that leaves the routine, its ticks with the one of that instruction keep pace with the steps, and until then it stays in the routine.
-pub record LeavesAfter (declared : Declarations) (G : Image) (injection : Injection) (begun : meaning.State) (memory : Memory) (Then : Operands) (k : State) (s : meaning.State) (steps : ℕ) : Type 0 where
+pub record LeavesAfter (declared : Declarations) (G : Image) (injection : Injection) (begun : meaning.State)
+    (memory : Memory) (Then : Operands) (k : State) (s : meaning.State) (steps : ℕ) : Type 0 where
   pub ticks : ℕ
   pub last : State
   pub runs : run G ticks 0 k ≡ Running 0 last
@@ -86,25 +92,34 @@ pub record StaysAfter (G : Image) (k : State) (trace : Trace) (steps : ℕ) : Ty
   pub all : (ticks : ℕ) → 64 * steps ≤ ticks → IsPrefix trace (trace_of (run G ticks 0 k))
 
 -- what a run from the entry does where the computation comes to this with so many steps
-abbrev pub Answers : {A : Type 0} → Declarations → Image → Injection → meaning.State → Memory → (A → Operands) → State → ℕ → Outcome A → Type 0
-Answers declared G injection begun memory Then k steps (Gives left a s) = (spent : ℕ) → left + spent ≡ steps → LeavesAfter declared G injection begun memory (Then a) k s spent
-Answers declared G injection begun memory Then k steps (Ends left end s) = (spent : ℕ) → left + spent ≡ steps → EndsAfter G k (end_of end) s.trace spent
+abbrev pub Answers : {A : Type 0} → Declarations → Image → Injection → meaning.State → Memory → (A → Operands)
+    → State → ℕ → Outcome A → Type 0
+Answers declared G injection begun memory Then k steps (Gives left a s) = (spent : ℕ) → left + spent ≡ steps
+    → LeavesAfter declared G injection begun memory (Then a) k s spent
+Answers declared G injection begun memory Then k steps (Ends left end s) = (spent : ℕ) → left + spent ≡ steps
+    → EndsAfter G k (end_of end) s.trace spent
 Answers declared G injection begun memory Then k steps (Cut s) = StaysAfter G k s.trace steps
 
 -- The same, but where the computation has more words or types than every run has room for within so many steps, the machine may end for want of storage or of depth within 64 ticks for each of them, after a front of the events.
-abbrev pub AnswersInRoom : {A : Type 0} → Declarations → Image → Injection → meaning.State → Memory → (A → Operands) → State → ℕ → Outcome A → Type 0
+abbrev pub AnswersInRoom : {A : Type 0} → Declarations → Image → Injection → meaning.State → Memory
+    → (A → Operands) → State → ℕ → Outcome A → Type 0
 AnswersInRoom declared G injection begun memory Then k steps o = Answers declared G injection begun memory Then k steps o ⊎ GivesUp G k steps 0 (state_of o)
 
 -- Where a routine simulates a computation without a value with up to n steps, every run from its entry answers it with each number of steps up to n.
 abbrev pub ProceduresAnswer : Type 0
 ProceduresAnswer =
-    (declared : Declarations) (G : Image) (unit routine n : ℕ) (c : Computation (Unit {0})) → Simulates declared G unit routine n c Bare
-    → (injection : Injection) (memory : Memory) (below : List Operand) (s : meaning.State) (k : State) → Enters declared G unit routine injection memory below s k
+    (declared : Declarations) (G : Image) (unit routine n : ℕ) (c : Computation (Unit {0}))
+    → Simulates declared G unit routine n c Bare
+    → (injection : Injection) (memory : Memory) (below : List Operand) (s : meaning.State) (k : State)
+    → Enters declared G unit routine injection memory below s k
     → (steps : ℕ) → steps ≤ n → AnswersInRoom declared G injection s memory (Bare below) k steps (c steps s)
 
 -- the same of a computation that gives a result of a kind
 abbrev pub FunctionsAnswer : Type 0
 FunctionsAnswer =
-    (declared : Declarations) (G : Image) (unit routine n : ℕ) (kind : Kind) (c : Computation Result) → Simulates declared G unit routine n c (OnTop kind)
-    → (injection : Injection) (memory : Memory) (below : List Operand) (s : meaning.State) (k : State) → Enters declared G unit routine injection memory below s k
-    → (steps : ℕ) → steps ≤ n → AnswersInRoom declared G injection s memory (OnTop kind below) k steps (c steps s)
+    (declared : Declarations) (G : Image) (unit routine n : ℕ) (kind : Kind) (c : Computation Result)
+    → Simulates declared G unit routine n c (OnTop kind)
+    → (injection : Injection) (memory : Memory) (below : List Operand) (s : meaning.State) (k : State)
+    → Enters declared G unit routine injection memory below s k
+    → (steps : ℕ) → steps ≤ n
+    → AnswersInRoom declared G injection s memory (OnTop kind below) k steps (c steps s)

@@ -15,4 +15,5 @@ pub record Steady {A : Type 0} (c : Computation A) : Type 0 where
 
 -- whatever is called, the state grows
 abbrev pub IsSteadyHandler : Handler → Type 0
-IsSteadyHandler call = (from : List ℕ) (line : ℕ) (unit : List ℕ) (routine : ℕ) (arguments : List Argument) → Steady (call from line unit routine arguments)
+IsSteadyHandler call = (from : List ℕ) (line : ℕ) (unit : List ℕ) (routine : ℕ) (arguments : List Argument)
+    → Steady (call from line unit routine arguments)

@@ -27,29 +27,40 @@ use Rattle.ep_typed.specs.Hosts as host
 
 -- the machine finds what the computation reads, or both end with the error
 pub data Reads {A : Type 0} (declared : Declarations) (G : Image) (Here : Facts) (k : State) (number : ℕ) (unit : List ℕ) (line : ℕ) (to : ℕ) (Post : A → After) (s : meaning.State) (o : Option A) : Type 0 where
-  Misses : (is : o ≡ None) (fails : FailsWith G k 0 number unit line s) → Reads declared G Here k number unit line to Post s o
-  Finds : (a : A) (is : o ≡ Some a) (does : Does declared G Here k 0 to (Post a) s) → Reads declared G Here k number unit line to Post s o
+  Misses : (is : o ≡ None) (fails : FailsWith G k 0 number unit line s)
+      → Reads declared G Here k number unit line to Post s o
+  Finds : (a : A) (is : o ≡ Some a) (does : Does declared G Here k 0 to (Post a) s)
+      → Reads declared G Here k number unit line to Post s o
 
 -- one instruction, with the step of the form
-pub fragment_fetch : {A B : Type 0} {declared : Declarations} {G : Image} {Here : Facts} {n : ℕ} {from : Point} {to : ℕ} {P : B → After} {d : ℕ} {e : B → ℕ} {number line : ℕ} {unit : List ℕ} (h : meaning.State → Option A) (f : A → B) → ((s : meaning.State) → Matches declared G from.injection s from.memory → Here from.injection s from.memory → Reads declared G Here (state_at from s.trace) number unit line to (λ a. P (f a)) s (h s)) → 1 ≤ d → ((a : A) → e (f a) ≤ d + 63) → Fragment declared G Here (suc n) from (bind (fetch (meaning.Error number unit line) h) (λ a. spend 1 (give (f a)))) to P d e
+pub fragment_fetch : {A B : Type 0} {declared : Declarations} {G : Image} {Here : Facts} {n : ℕ} {from : Point} {to : ℕ} {P : B → After} {d : ℕ} {e : B → ℕ} {number line : ℕ} {unit : List ℕ} (h : meaning.State → Option A) (f : A → B)
+    → ((s : meaning.State) → Matches declared G from.injection s from.memory → Here from.injection s from.memory → Reads declared G Here (state_at from s.trace) number unit line to (λ a. P (f a)) s (h s))
+    → 1 ≤ d → ((a : A) → e (f a) ≤ d + 63)
+    → Fragment declared G Here (suc n) from (bind (fetch (meaning.Error number unit line) h) (λ a. spend 1 (give (f a)))) to P d e
 fragment_fetch {A = A} {B = B} {declared = declared} {G = G} {Here = Here} {n = n} {from = from} {to = to} {P = P} {d = d} {e = e} {number = number} {line = line} {unit = unit} h f reads le le2 =
     record { by = λ s matches here. record { by = λ m l. by_option s m (h s) refl (go s m l (h s) (reads s matches here)) } }
   where
     read : Option A → Computation B
     read o = bind (found (meaning.Error number unit line) o) (λ a. spend 1 (give (f a)))
 
-    by_option : (s : meaning.State) (m : ℕ) (o : Option A) → h s ≡ o → Met (λ k. IsNotLeft from.memory.frames k.frames) G (state_at from s.trace) m (λ a. Lands declared G Here to (P a)) d e (bind (found (meaning.Error number unit line) o) (λ a. spend 1 (give (f a))) m s) → Met (λ k. IsNotLeft from.memory.frames k.frames) G (state_at from s.trace) m (λ a. Lands declared G Here to (P a)) d e (bind (fetch (meaning.Error number unit line) h) (λ a. spend 1 (give (f a))) m s)
+    by_option : (s : meaning.State) (m : ℕ) (o : Option A) → h s ≡ o
+        → Met (λ k. IsNotLeft from.memory.frames k.frames) G (state_at from s.trace) m (λ a. Lands declared G Here to (P a)) d e (bind (found (meaning.Error number unit line) o) (λ a. spend 1 (give (f a))) m s)
+        → Met (λ k. IsNotLeft from.memory.frames k.frames) G (state_at from s.trace) m (λ a. Lands declared G Here to (P a)) d e (bind (fetch (meaning.Error number unit line) h) (λ a. spend 1 (give (f a))) m s)
     by_option s m o q x = subst (λ y. Met (λ k. IsNotLeft from.memory.frames k.frames) G (state_at from s.trace) m (λ a. Lands declared G Here to (P a)) d e (bind (found (meaning.Error number unit line) y) (λ a. spend 1 (give (f a))) m s)) (sym q) x
 
-    missed : (s : meaning.State) → FailsWith G (state_at from s.trace) 0 number unit line s → Follows (λ k. IsNotLeft from.memory.frames k.frames) G (suc n) (state_at from s.trace) s (stop {A = B} (meaning.Error number unit line)) (λ a. Lands declared G Here to (P a)) d e
+    missed : (s : meaning.State) → FailsWith G (state_at from s.trace) 0 number unit line s
+        → Follows (λ k. IsNotLeft from.memory.frames k.frames) G (suc n) (state_at from s.trace) s (stop {A = B} (meaning.Error number unit line)) (λ a. Lands declared G Here to (P a)) d e
     missed s fails = follows_stop (not_left-here from.memory.frames) fails.fails le
 
-    met : (s : meaning.State) (a : A) → Does declared G Here (state_at from s.trace) 0 to (P (f a)) s → Follows (λ k. IsNotLeft from.memory.frames k.frames) G (suc n) (state_at from s.trace) s (spend 1 (give (f a))) (λ b. Lands declared G Here to (P b)) d e
+    met : (s : meaning.State) (a : A) → Does declared G Here (state_at from s.trace) 0 to (P (f a)) s
+        → Follows (λ k. IsNotLeft from.memory.frames k.frames) G (suc n) (state_at from s.trace) s (spend 1 (give (f a))) (λ b. Lands declared G Here to (P b)) d e
     met s a does =
         let small : e (f a) ≤ d + 63 = le2 a in
         follows_paid {v = 0} {w = 0} {d1 = d + 63} (not_left-here from.memory.frames) refl does.does (omega arith) (omega arith) (omega arith) (follows_give (f a) small (landed does))
 
-    go : (s : meaning.State) (m : ℕ) → m ≤ suc n → (o : Option A) → Reads declared G Here (state_at from s.trace) number unit line to (λ a. P (f a)) s o → Met (λ k. IsNotLeft from.memory.frames k.frames) G (state_at from s.trace) m (λ a. Lands declared G Here to (P a)) d e (bind (found (meaning.Error number unit line) o) (λ a. spend 1 (give (f a))) m s)
+    go : (s : meaning.State) (m : ℕ) → m ≤ suc n → (o : Option A)
+        → Reads declared G Here (state_at from s.trace) number unit line to (λ a. P (f a)) s o
+        → Met (λ k. IsNotLeft from.memory.frames k.frames) G (state_at from s.trace) m (λ a. Lands declared G Here to (P a)) d e (bind (found (meaning.Error number unit line) o) (λ a. spend 1 (give (f a))) m s)
     go s m l o (Misses is fails) =
         let z = missed s fails in
         subst (λ y. Met (λ k. IsNotLeft from.memory.frames k.frames) G (state_at from s.trace) m (λ a. Lands declared G Here to (P a)) d e (bind (found (meaning.Error number unit line) y) (λ a. spend 1 (give (f a))) m s)) (sym is) (z.by m l)
@@ -65,7 +76,11 @@ going_of to below memory unit line trace (Number z) = Running 0 (at to (Word z �
 going_of to below memory unit line trace (Fault error) = Stopped (Error error unit line) trace
 
 -- one instruction, with the step of the form
-pub fragment_answer : {B : Type 0} {declared : Declarations} {G : Image} {Here : Facts} {n : ℕ} {from : Point} {to : ℕ} {P : B → After} {d : ℕ} {e : B → ℕ} (call : Handler) (g : ℕ) (unit : List ℕ) (line : ℕ) (below : List Operand) (a : Answer) (f : ℤ → B) → ((s : meaning.State) → Matches declared G from.injection s from.memory → outcome G (state_at from s.trace) ≡ record { weight = 0; to = going_of to below from.memory unit line s.trace a }) → ((z : ℤ) → a ≡ Number z → P (f z) from.injection from.memory (Word z ∷ below)) → 1 ≤ d → ((z : ℤ) → e (f z) ≤ d + 63) → Fragment declared G Here (suc n) from (bind (answered call g unit line a) (λ z. spend 1 (give (f z)))) to P d e
+pub fragment_answer : {B : Type 0} {declared : Declarations} {G : Image} {Here : Facts} {n : ℕ} {from : Point} {to : ℕ} {P : B → After} {d : ℕ} {e : B → ℕ} (call : Handler) (g : ℕ) (unit : List ℕ) (line : ℕ) (below : List Operand) (a : Answer) (f : ℤ → B)
+    → ((s : meaning.State) → Matches declared G from.injection s from.memory → outcome G (state_at from s.trace) ≡ record { weight = 0; to = going_of to below from.memory unit line s.trace a })
+    → ((z : ℤ) → a ≡ Number z → P (f z) from.injection from.memory (Word z ∷ below)) → 1 ≤ d
+    → ((z : ℤ) → e (f z) ≤ d + 63)
+    → Fragment declared G Here (suc n) from (bind (answered call g unit line a) (λ z. spend 1 (give (f z)))) to P d e
 fragment_answer {d = d} {e = e} call g unit line below (Number z) f does post le le2 =
     let small : e (f z) ≤ d + 63 = le2 z in
     fragment_one {d1 = d + 63} does (omega arith) (fragment_give small (post z refl))
@@ -74,17 +89,25 @@ fragment_answer call g unit line below (Fault error) f does post le le2 = fragme
 -- ---- a change of the state that is checked first
 
 -- the instruction checks what the computation checks, and changes the state with a step, or ends with the error
-pub fragment_checked : {declared : Declarations} {G : Image} {Here : Facts} {n : ℕ} {from : Point} {to : ℕ} {P : Unit {0} → After} {d : ℕ} {e : Unit {0} → ℕ} {number line : ℕ} {unit : List ℕ} (b : meaning.State → Bool) (f : meaning.State → meaning.State) → ((s : meaning.State) → Matches declared G from.injection s from.memory → Here from.injection s from.memory → b s ≡ true → Does declared G Here (state_at from s.trace) 0 to (P tt) (f s)) → ((s : meaning.State) → Matches declared G from.injection s from.memory → b s ≡ false → FailsWith G (state_at from s.trace) 0 number unit line s) → 1 ≤ d → e tt ≤ d + 63 → Fragment declared G Here (suc n) from (λ m s. (if b s then spend 1 (change f) else stop (meaning.Error number unit line)) m s) to P d e
+pub fragment_checked : {declared : Declarations} {G : Image} {Here : Facts} {n : ℕ} {from : Point} {to : ℕ} {P : Unit {0} → After} {d : ℕ} {e : Unit {0} → ℕ} {number line : ℕ} {unit : List ℕ} (b : meaning.State → Bool) (f : meaning.State → meaning.State)
+    → ((s : meaning.State) → Matches declared G from.injection s from.memory → Here from.injection s from.memory → b s ≡ true → Does declared G Here (state_at from s.trace) 0 to (P tt) (f s))
+    → ((s : meaning.State) → Matches declared G from.injection s from.memory → b s ≡ false → FailsWith G (state_at from s.trace) 0 number unit line s)
+    → 1 ≤ d → e tt ≤ d + 63
+    → Fragment declared G Here (suc n) from (λ m s. (if b s then spend 1 (change f) else stop (meaning.Error number unit line)) m s) to P d e
 fragment_checked {declared = declared} {G = G} {Here = Here} {n = n} {from = from} {to = to} {P = P} {d = d} {e = e} {number = number} {line = line} {unit = unit} b f passes refuses le le2 =
     record { by = λ s matches here. record { by = λ m l. go s matches here m l (b s) refl } }
   where
-    holds : (s : meaning.State) → Does declared G Here (state_at from s.trace) 0 to (P tt) (f s) → Follows (λ k. IsNotLeft from.memory.frames k.frames) G (suc n) (state_at from s.trace) s (spend 1 (change f)) (λ a. Lands declared G Here to (P a)) d e
+    holds : (s : meaning.State) → Does declared G Here (state_at from s.trace) 0 to (P tt) (f s)
+        → Follows (λ k. IsNotLeft from.memory.frames k.frames) G (suc n) (state_at from s.trace) s (spend 1 (change f)) (λ a. Lands declared G Here to (P a)) d e
     holds s does = follows_paid {v = 0} {w = 0} {d1 = d + 63} (not_left-here from.memory.frames) refl does.does (omega arith) (omega arith) (omega arith) (follows_changed {n = n} f {P = λ a. Lands declared G Here to (P a)} {d = d + 63} {e = e} le2 (landed does))
 
-    fails : (s : meaning.State) → FailsWith G (state_at from s.trace) 0 number unit line s → Follows (λ k. IsNotLeft from.memory.frames k.frames) G (suc n) (state_at from s.trace) s (stop {A = Unit {0}} (meaning.Error number unit line)) (λ a. Lands declared G Here to (P a)) d e
+    fails : (s : meaning.State) → FailsWith G (state_at from s.trace) 0 number unit line s
+        → Follows (λ k. IsNotLeft from.memory.frames k.frames) G (suc n) (state_at from s.trace) s (stop {A = Unit {0}} (meaning.Error number unit line)) (λ a. Lands declared G Here to (P a)) d e
     fails s x = follows_stop (not_left-here from.memory.frames) x.fails le
 
-    go : (s : meaning.State) → Matches declared G from.injection s from.memory → Here from.injection s from.memory → (m : ℕ) → m ≤ suc n → (x : Bool) → b s ≡ x → Met (λ k. IsNotLeft from.memory.frames k.frames) G (state_at from s.trace) m (λ a. Lands declared G Here to (P a)) d e ((if b s then spend 1 (change f) else stop (meaning.Error number unit line)) m s)
+    go : (s : meaning.State) → Matches declared G from.injection s from.memory
+        → Here from.injection s from.memory → (m : ℕ) → m ≤ suc n → (x : Bool) → b s ≡ x
+        → Met (λ k. IsNotLeft from.memory.frames k.frames) G (state_at from s.trace) m (λ a. Lands declared G Here to (P a)) d e ((if b s then spend 1 (change f) else stop (meaning.Error number unit line)) m s)
     go s matches here m l true q =
         let z = holds s (passes s matches here q) in
         subst (λ y. Met (λ k. IsNotLeft from.memory.frames k.frames) G (state_at from s.trace) m (λ a. Lands declared G Here to (P a)) d e ((if y then spend 1 (change f) else stop (meaning.Error number unit line)) m s)) (sym q) (z.by m l)
@@ -95,7 +118,12 @@ fragment_checked {declared = declared} {G = G} {Here = Here} {n = n} {from = fro
 -- ---- one of two ways
 
 -- an instruction, without a step, that goes one of two ways
-pub fragment_branch : {A : Type 0} {declared : Declarations} {G : Image} {Here : Facts} {n : ℕ} {from : Point} {then_place else_place to : ℕ} {operands1 : List Operand} {x y : Computation A} {P : A → After} {d d1 : ℕ} {e : A → ℕ} (b : Bool) → ((s : meaning.State) → Matches declared G from.injection s from.memory → outcome G (state_at from s.trace) ≡ record { weight = 0; to = Running 0 (at (if b then then_place else else_place) operands1 from.memory s.trace) }) → 1 + d1 ≤ d → (b ≡ true → Fragment declared G Here n (point from.injection from.memory then_place operands1) x to P d1 e) → (b ≡ false → Fragment declared G Here n (point from.injection from.memory else_place operands1) y to P d1 e) → Fragment declared G Here n from (if b then x else y) to P d e
+pub fragment_branch : {A : Type 0} {declared : Declarations} {G : Image} {Here : Facts} {n : ℕ} {from : Point} {then_place else_place to : ℕ} {operands1 : List Operand} {x y : Computation A} {P : A → After} {d d1 : ℕ} {e : A → ℕ} (b : Bool)
+    → ((s : meaning.State) → Matches declared G from.injection s from.memory → outcome G (state_at from s.trace) ≡ record { weight = 0; to = Running 0 (at (if b then then_place else else_place) operands1 from.memory s.trace) })
+    → 1 + d1 ≤ d
+    → (b ≡ true → Fragment declared G Here n (point from.injection from.memory then_place operands1) x to P d1 e)
+    → (b ≡ false → Fragment declared G Here n (point from.injection from.memory else_place operands1) y to P d1 e)
+    → Fragment declared G Here n from (if b then x else y) to P d e
 fragment_branch true does le then_way else_way = fragment_waits does le (then_way refl)
 fragment_branch false does le then_way else_way = fragment_waits does le (else_way refl)
 
@@ -103,12 +131,15 @@ fragment_branch false does le then_way else_way = fragment_waits does le (else_w
 
 -- At `place` stands the test and behind it, at `test_end`, the instruction that leads out of the loop; the body is from
 -- `body_place` to `body_end`, where an instruction leads back.
-pub fragment_turns : {untouched : Slots} {declared : Declarations} {G : Image} {Here : Facts} {n : ℕ} {place test_end body_place body_end to : ℕ} {below : List Operand} {test : Computation Result} {body : Computation (Unit {0})} (call : Handler) (h : ℕ) (unit : List ℕ) (d : ℕ) → Steady test → Steady body → (first : Injection) (start : Memory) →
+pub fragment_turns : {untouched : Slots} {declared : Declarations} {G : Image} {Here : Facts} {n : ℕ} {place test_end body_place body_end to : ℕ} {below : List Operand} {test : Computation Result} {body : Computation (Unit {0})} (call : Handler) (h : ℕ) (unit : List ℕ) (d : ℕ)
+    → Steady test → Steady body → (first : Injection) (start : Memory) →
     ((injection : Injection) (memory : Memory) → Grown untouched first start injection memory → SameRoutine start.frames memory.frames → Fragment declared G Here n (point injection memory place below) test test_end (λ r. Inside untouched injection memory (OnTop (kind.Ordinal host.Boolean) below r)) d (λ r. d + 2)) →
     ((z : ℤ) (memory : Memory) (trace : Trace) → SameRoutine start.frames memory.frames → outcome G (at test_end (Word z ∷ below) memory trace) ≡ record { weight = 0; to = Running 0 (at (if is_true z then body_place else to) below memory trace) }) →
     ((injection : Injection) (memory : Memory) → Grown untouched first start injection memory → SameRoutine start.frames memory.frames → Fragment declared G Here n (point injection memory body_place below) body body_end (λ a. Inside untouched injection memory (Bare below a)) (d + 1) (λ a. d + 1)) →
     ((memory : Memory) (trace : Trace) → SameRoutine start.frames memory.frames → outcome G (at body_end below memory trace) ≡ record { weight = 0; to = Running 0 (at place below memory trace) }) →
-    (k : ℕ) → k ≤ n → (injection : Injection) (memory : Memory) → Grown untouched first start injection memory → SameRoutine start.frames memory.frames → Fragment declared G Here k (point injection memory place below) (turns call h unit k test body) to (λ a. Inside untouched injection memory (Bare below a)) d (λ a. d)
+    (k : ℕ) → k ≤ n → (injection : Injection) (memory : Memory) → Grown untouched first start injection memory
+    → SameRoutine start.frames memory.frames
+    → Fragment declared G Here k (point injection memory place below) (turns call h unit k test body) to (λ a. Inside untouched injection memory (Bare below a)) d (λ a. d)
 fragment_turns call h unit d steady_test steady_body first start tests leads_out bodies leads_back zero le injection memory grown routine = fragment_cut
 fragment_turns call h unit d steady_test steady_body first start tests leads_out bodies leads_back (suc k) le injection memory grown routine =
     fragment_bind_number {e = λ r. d + 2} (λ r. steady_if (is_true (number_of r)) (steady_bind steady_body (λ a. steady_spend 1 (steady_turns call h k unit steady_test steady_body))) (steady_spend 1 (steady_give tt))) (fragment_less le (tests injection memory grown routine)) (λ z v1 m1 of_host grown1 routine1.

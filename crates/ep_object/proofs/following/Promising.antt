@@ -25,8 +25,10 @@ use Rattle.ep_typed.specs.Valid.{Declarations, Kind}
 -- ---- what the caller follows
 
 -- What is followed with the fact that memory has grown since is followed with any facts that last.
-pub fragment_since : {A : Type 0} {declared : Declarations} {G : Image} {untouched : Slots} {Here : Facts} {n : ℕ} {injection : Injection} {memory : Memory} {place to d : ℕ} {operands : List Operand} {c : Computation A} {P : A → After} {e : A → ℕ} → Lasts untouched Here
-    → ((s : meaning.State) → Fragment declared G (Since untouched injection s memory) n (point injection memory place operands) c to P d e) → Fragment declared G Here n (point injection memory place operands) c to P d e
+pub fragment_since : {A : Type 0} {declared : Declarations} {G : Image} {untouched : Slots} {Here : Facts} {n : ℕ} {injection : Injection} {memory : Memory} {place to d : ℕ} {operands : List Operand} {c : Computation A} {P : A → After} {e : A → ℕ}
+    → Lasts untouched Here
+    → ((s : meaning.State) → Fragment declared G (Since untouched injection s memory) n (point injection memory place operands) c to P d e)
+    → Fragment declared G Here n (point injection memory place operands) c to P d e
 fragment_since {declared = declared} {G = G} {Here = Here} {injection = injection} {memory = memory} {to = to} {P = P} lasts since =
     record {
       by = λ s matches held.
@@ -35,18 +37,26 @@ fragment_since {declared = declared} {G = G} {Here = Here} {injection = injectio
     }
 
 -- Where fewer slots are named, memory has grown with these untouched.
-pub grown_fewer : {untouched fewer : Slots} {injection longer : Injection} {memory after : Memory} → ((unit k : ℕ) → IsTrue (fewer unit k) → IsTrue (untouched unit k)) → Grown untouched injection memory longer after → Grown fewer injection memory longer after
+pub grown_fewer : {untouched fewer : Slots} {injection longer : Injection} {memory after : Memory}
+    → ((unit k : ℕ) → IsTrue (fewer unit k) → IsTrue (untouched unit k))
+    → Grown untouched injection memory longer after → Grown fewer injection memory longer after
 grown_fewer among g =
     record { larger = g.larger; types = g.types; segments = g.segments; hidden = g.hidden; others = g.others; allocated = g.allocated; slots = λ unit k h. g.slots unit k (among unit k h); typed = g.typed; ended = g.ended }
 
 -- Facts that last with fewer slots untouched last with more.
-pub lasts_more : {untouched fewer : Slots} {Here : Facts} → ((unit k : ℕ) → IsTrue (fewer unit k) → IsTrue (untouched unit k)) → Lasts fewer Here → Lasts untouched Here
+pub lasts_more : {untouched fewer : Slots} {Here : Facts}
+    → ((unit k : ℕ) → IsTrue (fewer unit k) → IsTrue (untouched unit k)) → Lasts fewer Here
+    → Lasts untouched Here
 lasts_more among lasts = record { by = λ injection longer s t memory after g held. lasts.by injection longer s t memory after (record { grown = grown_fewer among g.grown; routine = g.routine; calls = g.calls }) held }
 
 -- A caller that knows what lasts and names hidden slots alone follows the call, and knows it again behind it.
-pub call_follows : {declared : Declarations} {G : Image} {untouched : Slots} {Here : Facts} {routine n : ℕ} {formals : List Passing} {results : List Kind} {called : Called} → Promises declared G routine n formals results called
-    → Lasts untouched Here → ((unit k : ℕ) → IsTrue (untouched unit k) → IsTrue (is_hidden_slot declared G unit k))
-    → (place line : ℕ) → CallsAt G place routine line → (injection : Injection) (memory : Memory) (below operands : List Operand) (arguments : List Argument) → AreArguments injection memory formals arguments below operands
+pub call_follows : {declared : Declarations} {G : Image} {untouched : Slots} {Here : Facts} {routine n : ℕ} {formals : List Passing} {results : List Kind} {called : Called}
+    → Promises declared G routine n formals results called
+    → Lasts untouched Here
+    → ((unit k : ℕ) → IsTrue (untouched unit k) → IsTrue (is_hidden_slot declared G unit k))
+    → (place line : ℕ) → CallsAt G place routine line
+    → (injection : Injection) (memory : Memory) (below operands : List Operand) (arguments : List Argument)
+    → AreArguments injection memory formals arguments below operands
     → Fragment declared G Here n (point injection memory place operands) (called (unit_in G memory.frames) line arguments) (place + 1) (λ rs. Inside untouched injection memory (ResultsOnTop results below rs)) 0 (λ rs. 0)
 call_follows promise lasts among place line calls injection memory below operands arguments are =
     fragment_post (λ rs longer after pushed i. record { grown = grown_fewer among i.grown; routine = i.routine; operands_are = i.operands_are })
@@ -65,7 +75,9 @@ module _ (declared : Declarations) (G : Image) (injection : Injection) (s : mean
   Back a = Lands declared G (Since (is_hidden_slot declared G) injection s memory) to (Inside (is_hidden_slot declared G) injection memory (Then a))
 
   -- where the call gives its results the caller goes on
-  comes_back : (m left : ℕ) (a : List Result) (t : meaning.State) → Reaches InCaller G from_call m left 0 0 (Back a t) → (spent : ℕ) → left + spent ≡ m → ComesBackAfter declared G injection s memory (Then a) to from_call t spent
+  comes_back : (m left : ℕ) (a : List Result) (t : meaning.State)
+      → Reaches InCaller G from_call m left 0 0 (Back a t) → (spent : ℕ) → left + spent ≡ m
+      → ComesBackAfter declared G injection s memory (Then a) to from_call t spent
   comes_back m left a t x spent is =
       let lands = x.post in
       let pays = x.pays in
@@ -78,7 +90,8 @@ module _ (declared : Declarations) (G : Image) (injection : Injection) (s : mean
         until = λ u le. stays_in G from_call u x.ticks 0 x.to t.trace le x.runs (λ v l runs. still_in u v l le runs (before_or_not x.ticks u)) (subst (λ (l : State). IsPrefix l.trace t.trace) (sym lands.is) (is_prefix t.trace));
       }
     where
-      still_in : (u v : ℕ) (l : State) → u ≤ x.ticks → run G u 0 from_call ≡ Running v l → (x.ticks ≤ u) ⊎ (u < x.ticks) → InCaller l
+      still_in : (u v : ℕ) (l : State) → u ≤ x.ticks → run G u 0 from_call ≡ Running v l
+          → (x.ticks ≤ u) ⊎ (u < x.ticks) → InCaller l
       still_in u v l le runs (inr early) = let stays = x.within in stays.each u v l early runs
       still_in u v l le runs (inl late) =
           let lands = x.post in
@@ -86,7 +99,9 @@ module _ (declared : Declarations) (G : Image) (injection : Injection) (s : mean
           subst InCaller (one_state (sym x.runs ∙ here)) (subst (λ (l : State). IsNotLeft memory.frames l.frames) (sym lands.is) (record { runs = lands.post.routine }))
 
   -- where it ends the run, it ends
-  ends_in_call : (m left : ℕ) (end : meaning.End) (t : meaning.State) → EndsToo InCaller G from_call m left 0 end t.trace → (spent : ℕ) → left + spent ≡ m → EndsAfter G from_call (end_of end) t.trace spent
+  ends_in_call : (m left : ℕ) (end : meaning.End) (t : meaning.State)
+      → EndsToo InCaller G from_call m left 0 end t.trace → (spent : ℕ) → left + spent ≡ m
+      → EndsAfter G from_call (end_of end) t.trace spent
   ends_in_call m left end t x spent is =
       let ended : run G (x.ticks + 1) 0 from_call ≡ Stopped (end_of end) t.trace = ends_after G from_call x.ticks x.wait x.last (end_of end) t.trace x.runs x.ends in
       let at_end : run G (suc x.ticks) 0 from_call ≡ Stopped (end_of end) t.trace = ap (λ u. run G u 0 from_call) {x = suc x.ticks} {y = x.ticks + 1} (omega arith) ∙ ended in
@@ -98,14 +113,16 @@ module _ (declared : Declarations) (G : Image) (injection : Injection) (s : mean
       }
 
   -- where it is cut the caller is not left
-  cut_in_call : (m : ℕ) (t : meaning.State) → RunsOn InCaller G from_call m 0 t.trace → StaysAfter G from_call t.trace m
+  cut_in_call : (m : ℕ) (t : meaning.State) → RunsOn InCaller G from_call m 0 t.trace
+      → StaysAfter G from_call t.trace m
   cut_in_call m t x =
       record {
         until = λ ticks few. stays_in G from_call ticks x.ticks x.wait x.to t.trace (omega (arith, x.slow)) x.runs (λ v l runs. let stays = x.within in stays.each ticks v l (omega (arith, x.slow)) runs) (subst (λ y. IsPrefix y t.trace) (sym x.same) (is_prefix t.trace));
         all = λ ticks many. subst (λ y. IsPrefix y (trace_of (run G ticks 0 from_call))) x.same (events_between G from_call x.ticks ticks (Running x.wait x.to) (run G ticks 0 from_call) (omega (arith, x.fast)) x.runs refl);
       }
 
-  comes_to : (m : ℕ) (o : Outcome (List Result)) → Met InCaller G from_call m Back 0 (λ a. 0) o → CallComesTo declared G injection s memory Then to from_call m o ⊎ GivesUp G from_call m 0 (state_of o)
+  comes_to : (m : ℕ) (o : Outcome (List Result)) → Met InCaller G from_call m Back 0 (λ a. 0) o
+      → CallComesTo declared G injection s memory Then to from_call m o ⊎ GivesUp G from_call m 0 (state_of o)
   comes_to m (Gives left a t) (inl x) = inl (comes_back m left a t x)
   comes_to m (Ends left end t) (inl x) = inl (ends_in_call m left end t x)
   comes_to m (Cut t) (inl x) = inl (cut_in_call m t x)

@@ -22,7 +22,9 @@ use Rattle.ep_object.proofs.Views.{runs_extend}
 
 module _ (G : Image) (k : State) where
   -- a run that still goes on stays in the routine at a tick at which all its states are in it
-  pub stays_in : (t u wait : ℕ) (last : State) (trace : Trace) → t ≤ u → run G u 0 k ≡ Running wait last → ((v : ℕ) (s : State) → run G t 0 k ≡ Running v s → IsNotLeft k.frames s.frames) → IsPrefix last.trace trace → StaysIn G k t trace
+  pub stays_in : (t u wait : ℕ) (last : State) (trace : Trace) → t ≤ u → run G u 0 k ≡ Running wait last
+      → ((v : ℕ) (s : State) → run G t 0 k ≡ Running v s → IsNotLeft k.frames s.frames)
+      → IsPrefix last.trace trace → StaysIn G k t trace
   stays_in t u wait last trace le runs same begins = go (run G t 0 k) refl
     where
       go : (g : Going) → run G t 0 k ≡ g → StaysIn G k t trace
@@ -51,14 +53,18 @@ module _ {A : Type 0} {declared : Declarations} {G : Image} {unit routine n : �
   from_entry l same = subst (λ f. IsNotLeft f l.frames) (sym in_frames) same
 
   -- where it is left it is still the routine
-  is_left : (a : A) (t : meaning.State) (l : State) → Leaves declared G injection s memory (Results below a) t l → In l
+  is_left : (a : A) (t : meaning.State) (l : State) → Leaves declared G injection s memory (Results below a) t l
+      → In l
   is_left a t l post = let lands = post.lands in subst (λ (l : State). IsNotLeft memory.frames l.frames) (sym lands.is) (record { runs = lands.post.routine })
 
   at_home : In k
   at_home = subst (λ (f : Frames). IsNotLeft memory.frames f) (sym in_frames) (not_left-here memory.frames)
 
   -- where the body gives a value the routine is left
-  leaves : (m left : ℕ) (a : A) (t : meaning.State) → Reaches In G k m left routine_credit routine_credit (Leaves declared G injection s memory (Results below a) t) → (spent : ℕ) → left + spent ≡ suc m → LeavesAfter declared G injection s memory (Results below a) k t spent
+  leaves : (m left : ℕ) (a : A) (t : meaning.State)
+      → Reaches In G k m left routine_credit routine_credit (Leaves declared G injection s memory (Results below a) t)
+      → (spent : ℕ) → left + spent ≡ suc m
+      → LeavesAfter declared G injection s memory (Results below a) k t spent
   leaves m left a t x spent is =
       let post = x.post in
       let lands = post.lands in
@@ -73,14 +79,16 @@ module _ {A : Type 0} {declared : Declarations} {G : Image} {unit routine n : �
       }
     where
       -- at the tick at which it comes to the instruction that leaves the routine, and at those before
-      still_in : (u v : ℕ) (l : State) → u ≤ x.ticks → run G u 0 k ≡ Running v l → (x.ticks ≤ u) ⊎ (u < x.ticks) → In l
+      still_in : (u v : ℕ) (l : State) → u ≤ x.ticks → run G u 0 k ≡ Running v l → (x.ticks ≤ u) ⊎ (u < x.ticks)
+          → In l
       still_in u v l le runs (inr early) = let stays = x.within in stays.each u v l early runs
       still_in u v l le runs (inl late) =
           let here : run G x.ticks 0 k ≡ Running v l = ap (λ i. run G i 0 k) {x = x.ticks} {y = u} (omega (arith, le, late)) ∙ runs in
           subst In (one_state (sym x.runs ∙ here)) (is_left a t x.to x.post)
 
   -- where the body ends the run, it ends
-  ends : (m left : ℕ) (end : meaning.End) (t : meaning.State) → EndsToo In G k m left routine_credit end t.trace → (spent : ℕ) → left + spent ≡ suc m → EndsAfter G k (end_of end) t.trace spent
+  ends : (m left : ℕ) (end : meaning.End) (t : meaning.State) → EndsToo In G k m left routine_credit end t.trace
+      → (spent : ℕ) → left + spent ≡ suc m → EndsAfter G k (end_of end) t.trace spent
   ends m left end t x spent is =
       let ended : run G (x.ticks + 1) 0 k ≡ Stopped (end_of end) t.trace = ends_after G k x.ticks x.wait x.last (end_of end) t.trace x.runs x.ends in
       let at_end : run G (suc x.ticks) 0 k ≡ Stopped (end_of end) t.trace = ap (λ u. run G u 0 k) {x = suc x.ticks} {y = x.ticks + 1} (omega arith) ∙ ended in
@@ -108,22 +116,27 @@ module _ {A : Type 0} {declared : Declarations} {G : Image} {unit routine n : �
       }
 
   -- a run from the entry answers the computation with each number of steps
-  answers : (steps : ℕ) → steps ≤ n → AnswersInRoom declared G injection s memory (Results below) k steps (spend 1 sim.body steps s)
+  answers : (steps : ℕ) → steps ≤ n
+      → AnswersInRoom declared G injection s memory (Results below) k steps (spend 1 sim.body steps s)
   answers zero le = inl begins
   answers (suc m) le =
       let follows = sim.follows m (omega arith) injection memory below s k enters in go (sim.body m s) (follows.by m (omega arith))
     where
-      go : (o : Outcome A) → Met In G k m (λ a. Leaves declared G injection s memory (Results below a)) routine_credit (λ a. routine_credit) o → AnswersInRoom declared G injection s memory (Results below) k (suc m) o
+      go : (o : Outcome A)
+          → Met In G k m (λ a. Leaves declared G injection s memory (Results below a)) routine_credit (λ a. routine_credit) o
+          → AnswersInRoom declared G injection s memory (Results below) k (suc m) o
       go (Gives left a t) (inl x) = inl (leaves m left a t x)
       go (Ends left end t) (inl x) = inl (ends m left end t x)
       go (Cut t) (inl x) = inl (stays m t x)
       go o (inr x) = inr (gives_up_weaken (omega arith) x)
 
-  pub simulation_answers : (steps : ℕ) → steps ≤ n → AnswersInRoom declared G injection s memory (Results below) k steps (c steps s)
+  pub simulation_answers : (steps : ℕ) → steps ≤ n
+      → AnswersInRoom declared G injection s memory (Results below) k steps (c steps s)
   simulation_answers steps le = subst (λ (d : Computation A). AnswersInRoom declared G injection s memory (Results below) k steps (d steps s)) (sym sim.called) (answers steps le)
 
   -- the machine follows the computation, with the step of its call
-  body_follows : (m : ℕ) → m ≤ n → Met In G k m (λ a. Leaves declared G injection s memory (Results below a)) (1 + routine_credit) (λ a. routine_credit) (spend 1 sim.body m s)
+  body_follows : (m : ℕ) → m ≤ n
+      → Met In G k m (λ a. Leaves declared G injection s memory (Results below a)) (1 + routine_credit) (λ a. routine_credit) (spend 1 sim.body m s)
   body_follows zero le = inl (record { ticks = 0; wait = 0; to = k; runs = refl; within = stays_here In G k at_home; same = in_trace; slow = omega arith; fast = omega arith })
   body_follows (suc m) le =
       let whole = follows_moves 1 at_home in_trace (sim.follows m (omega arith) injection memory below s k enters) in whole.by (suc m) (omega arith)
@@ -132,13 +145,17 @@ module _ {A : Type 0} {declared : Declarations} {G : Image} {unit routine n : �
   simulation_follows = record { by = λ m le. subst (λ (d : Computation A). Met In G k m (λ a. Leaves declared G injection s memory (Results below a)) (1 + routine_credit) (λ a. routine_credit) (d m s)) (sym sim.called) (body_follows m le) }
 
   -- the body, and the instruction that leaves the routine for a next one
-  passes : {Wider : State → Type 0} {Post : A → meaning.State → State → Type 0} → ((l : State) → In l → Wider l) → ((a : A) (t : meaning.State) (l : State) → Leaves declared G injection s memory (Results below a) t l → (next : State) × (outcome G l ≡ record { weight = 0; to = Running 0 next }) × Post a t next)
-      → (m : ℕ) → m ≤ n → Met Wider G k m Post (1 + routine_credit) (λ a. 64 + routine_credit) (spend 1 sim.body m s)
+  passes : {Wider : State → Type 0} {Post : A → meaning.State → State → Type 0} → ((l : State) → In l → Wider l)
+      → ((a : A) (t : meaning.State) (l : State) → Leaves declared G injection s memory (Results below a) t l → (next : State) × (outcome G l ≡ record { weight = 0; to = Running 0 next }) × Post a t next)
+      → (m : ℕ) → m ≤ n
+      → Met Wider G k m Post (1 + routine_credit) (λ a. 64 + routine_credit) (spend 1 sim.body m s)
   passes {Wider = Wider} wider then zero le = inl (record { ticks = 0; wait = 0; to = k; runs = refl; within = stays_here Wider G k (wider k at_home); same = in_trace; slow = omega arith; fast = omega arith })
   passes {Wider = Wider} {Post = Post} wider then (suc m) le =
       let follows = sim.follows m (omega arith) injection memory below s k enters in go (sim.body m s) (follows.by m (omega arith))
     where
-      go : (o : Outcome A) → Met In G k m (λ a. Leaves declared G injection s memory (Results below a)) routine_credit (λ a. routine_credit) o → Met Wider G k (suc m) Post (1 + routine_credit) (λ a. 64 + routine_credit) o
+      go : (o : Outcome A)
+          → Met In G k m (λ a. Leaves declared G injection s memory (Results below a)) routine_credit (λ a. routine_credit) o
+          → Met Wider G k (suc m) Post (1 + routine_credit) (λ a. 64 + routine_credit) o
       go (Gives left a t) (inl x) =
           let next = then a t x.to x.post in
           let pays = x.pays in
@@ -155,12 +172,16 @@ module _ {A : Type 0} {declared : Declarations} {G : Image} {unit routine n : �
       go o (inr x) = inr (gives_up_weaken (omega arith) x)
 
   -- the machine follows the computation up to where the routine is left for a next one, and gains credit
-  pub simulation_passes : {Wider : State → Type 0} {Post : A → meaning.State → State → Type 0} → ((l : State) → In l → Wider l) → ((a : A) (t : meaning.State) (l : State) → Leaves declared G injection s memory (Results below a) t l → (next : State) × (outcome G l ≡ record { weight = 0; to = Running 0 next }) × Post a t next)
+  pub simulation_passes : {Wider : State → Type 0} {Post : A → meaning.State → State → Type 0}
+      → ((l : State) → In l → Wider l)
+      → ((a : A) (t : meaning.State) (l : State) → Leaves declared G injection s memory (Results below a) t l → (next : State) × (outcome G l ≡ record { weight = 0; to = Running 0 next }) × Post a t next)
       → Follows Wider G n k s c Post (1 + routine_credit) (λ a. 64 + routine_credit)
   simulation_passes {Wider = Wider} {Post = Post} wider then = record { by = λ m le. subst (λ (d : Computation A). Met Wider G k m Post (1 + routine_credit) (λ a. 64 + routine_credit) (d m s)) (sym sim.called) (passes wider then m le) }
 
 -- what the instruction that leaves a routine leads to
-pub leaves_enters : {declared : Declarations} {G : Image} {injection : Injection} {begun : meaning.State} {memory : Memory} {Then : Operands} {s : meaning.State} {k : State} → Leaves declared G injection begun memory Then s k → outcome G k ≡ record { weight = 0; to = enter G (k.frames.turn + 1) k }
+pub leaves_enters : {declared : Declarations} {G : Image} {injection : Injection} {begun : meaning.State} {memory : Memory} {Then : Operands} {s : meaning.State} {k : State}
+    → Leaves declared G injection begun memory Then s k
+    → outcome G k ≡ record { weight = 0; to = enter G (k.frames.turn + 1) k }
 leaves_enters {G = G} {k = k} leaves =
     let lands = leaves.lands in
     let has : slice_get G.instructions k.place ≡ Some leaves.instruction = ap (λ (l : State). slice_get G.instructions l.place) lands.is ∙ leaves.stands in

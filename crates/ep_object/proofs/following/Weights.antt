@@ -3,7 +3,8 @@ use Rattle.std.proofs.Common.{ℕ, ◌+◌, ◌*◌, ◌≤◌, arith}
 use Rattle.ep_object.specs.Follows.{Pays}
 
 -- one run after another, where the credit after the first is the one before the second
-pub pays_join : {m left t d e left2 t2 f : ℕ} → Pays m left t d e → Pays left left2 t2 e f → Pays m left2 (t + t2) d f
+pub pays_join : {m left t d e left2 t2 f : ℕ} → Pays m left t d e → Pays left left2 t2 e f
+    → Pays m left2 (t + t2) d f
 pays_join p q = record { spent = p.spent + q.spent; all = omega (arith, p.all, q.all); slow = omega (arith, p.slow, q.slow); fast = omega (arith, p.fast, q.fast) }
 
 -- more credit before, or less after

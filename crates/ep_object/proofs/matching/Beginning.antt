@@ -20,7 +20,8 @@ abbrev pub first_injection : Injection
 first_injection = 1 ∷ 2 ∷ []
 
 -- an element of a list is mapped in its place
-pub map_at : {A B : Type 0} (f : A → B) (xs : List A) (k : ℕ) (x : A) → slice_get xs k ≡ Some x → slice_get (map f xs) k ≡ Some (f x)
+pub map_at : {A B : Type 0} (f : A → B) (xs : List A) (k : ℕ) (x : A) → slice_get xs k ≡ Some x
+    → slice_get (map f xs) k ≡ Some (f x)
 map_at f [] k x h = cc
 map_at f (y ∷ ys) zero x h = let e : y ≡ x = cc in ap (λ z. Some (f z)) e
 map_at f (y ∷ ys) (suc k) x h = map_at f ys k x h
@@ -35,7 +36,8 @@ length-replicate zero x = refl
 length-replicate (suc n) x = ap suc (length-replicate n x)
 
 -- no slot holds a place yet
-empty_slot : (segments : Segments) (slot : Option Place) → ◌≡◌ {A = Option Place} None slot → MatchesSlot first_injection segments None slot
+empty_slot : (segments : Segments) (slot : Option Place) → ◌≡◌ {A = Option Place} None slot
+    → MatchesSlot first_injection segments None slot
 empty_slot segments None h = tt
 empty_slot segments (Some place) h = cc
 
@@ -74,7 +76,9 @@ input_represented = record { type_number = 3; stands = refl; described = refl; v
 output_represented : Represents first_segments first_types 2 file
 output_represented = record { type_number = 3; stands = refl; described = refl; value = tt }
 
-first_represented : (n segment : ℕ) (allocation : Allocation) → IsIn first_injection n segment → meaning.allocation_at meaning.first_state.allocations n ≡ Some allocation → Represents first_segments first_types segment allocation
+first_represented : (n segment : ℕ) (allocation : Allocation) → IsIn first_injection n segment
+    → meaning.allocation_at meaning.first_state.allocations n ≡ Some allocation
+    → Represents first_segments first_types segment allocation
 first_represented zero segment a h k = absurd h
 first_represented (suc zero) segment a h k = let e : 1 ≡ segment = cc in let f : file ≡ a = cc in subst (λ x. Represents first_segments first_types x a) e (subst (λ x. Represents first_segments first_types 1 x) f input_represented)
 first_represented (suc (suc zero)) segment a h k = let e : 2 ≡ segment = cc in let f : file ≡ a = cc in subst (λ x. Represents first_segments first_types x a) e (subst (λ x. Represents first_segments first_types 2 x) f output_represented)
@@ -84,7 +88,9 @@ nothing : (n : ℕ) → ◌≡◌ {A = Option ℕ} None (Some n) → ⊥
 nothing n h = cc
 
 -- no variable is made, no type is met, and nothing is written
-pub first_matches : (declared : Declarations) (G : Image) (frames : Frames) → frames.units ≡ map empty_slots G.units → Matches declared G first_injection meaning.first_state (first_memory frames)
+pub first_matches : (declared : Declarations) (G : Image) (frames : Frames)
+    → frames.units ≡ map empty_slots G.units
+    → Matches declared G first_injection meaning.first_state (first_memory frames)
 first_matches declared G frames empty =
     record {
       injected = record { made = refl; apart = first_apart; within = first_within };

@@ -26,15 +26,20 @@ same_or_not (suc m) (suc n) = elim (same_or_not m n) [ inl e ↦ inl (ap suc e) 
 -- ---- frames in a memory that grows
 
 -- a slot goes on matching
-slot-grown : {untouched : Slots} {injection longer : Injection} {memory after : Memory} (o : Option ℕ) (slot : Option Place) → Grown untouched injection memory longer after → MatchesSlot injection memory.segments o slot → MatchesSlot longer after.segments o slot
+slot-grown : {untouched : Slots} {injection longer : Injection} {memory after : Memory} (o : Option ℕ) (slot : Option Place)
+    → Grown untouched injection memory longer after → MatchesSlot injection memory.segments o slot
+    → MatchesSlot longer after.segments o slot
 slot-grown None None g h = tt
 slot-grown None (Some p) g h = h
 slot-grown (Some n) None g h = h
 slot-grown (Some n) (Some p) g h = is_place_of-grown g h
 
 -- a frame that stays what it is goes on matching
-pub matches_frame-grown : {untouched : Slots} {declared : Declarations} {injection longer : Injection} {before later : List ℕ → ℕ → Option ℕ} {memory after : Memory} (unit : ℕ) (u : ImageUnit) → Grown untouched injection memory longer after → after.frames ≡ memory.frames → ((k : ℕ) → later u.name k ≡ before u.name k)
-    → MatchesFrame declared injection before memory.frames.units memory.segments unit u → MatchesFrame declared longer later after.frames.units after.segments unit u
+pub matches_frame-grown : {untouched : Slots} {declared : Declarations} {injection longer : Injection} {before later : List ℕ → ℕ → Option ℕ} {memory after : Memory} (unit : ℕ) (u : ImageUnit)
+    → Grown untouched injection memory longer after → after.frames ≡ memory.frames
+    → ((k : ℕ) → later u.name k ≡ before u.name k)
+    → MatchesFrame declared injection before memory.frames.units memory.segments unit u
+    → MatchesFrame declared longer later after.frames.units after.segments unit u
 matches_frame-grown {longer = longer} {before = before} {after = after} unit u g same variables h =
     record {
       slots = h.slots;
@@ -44,8 +49,11 @@ matches_frame-grown {longer = longer} {before = before} {after = after} unit u g
     }
 
 -- the units go on matching where memory grows, frames and variables stay, and no allocation changes its type
-pub matches_units-grown : {untouched : Slots} {declared : Declarations} {G : Image} {injection longer : Injection} {allocations others : List Allocation} {variables : List ℕ → ℕ → Option ℕ} {memory after : Memory} → Grown untouched injection memory longer after → after.frames ≡ memory.frames → ((n : ℕ) → type_in (allocation_at others n) ≡ type_in (allocation_at allocations n))
-    → MatchesUnits declared G injection allocations variables memory.frames.units memory.segments → MatchesUnits declared G longer others variables after.frames.units after.segments
+pub matches_units-grown : {untouched : Slots} {declared : Declarations} {G : Image} {injection longer : Injection} {allocations others : List Allocation} {variables : List ℕ → ℕ → Option ℕ} {memory after : Memory}
+    → Grown untouched injection memory longer after → after.frames ≡ memory.frames
+    → ((n : ℕ) → type_in (allocation_at others n) ≡ type_in (allocation_at allocations n))
+    → MatchesUnits declared G injection allocations variables memory.frames.units memory.segments
+    → MatchesUnits declared G longer others variables after.frames.units after.segments
 matches_units-grown {declared = declared} {variables = variables} g same types h =
     record {
       frames = λ unit u e. matches_frame-grown {before = variables} unit u g same (λ k. refl) (h.frames unit u e);
@@ -55,25 +63,31 @@ matches_units-grown {declared = declared} {variables = variables} g same types h
 -- ---- events
 
 -- events are no part of what is matched
-pub matches_events : {declared : Declarations} {G : Image} {injection : Injection} {s : meaning.State} {memory : Memory} (events : Trace) → Matches declared G injection s memory → Matches declared G injection (with_events events s) memory
+pub matches_events : {declared : Declarations} {G : Image} {injection : Injection} {s : meaning.State} {memory : Memory} (events : Trace)
+    → Matches declared G injection s memory → Matches declared G injection (with_events events s) memory
 matches_events events h =
     record { injected = h.injected; store = h.store; types = h.types; units = h.units; outside = h.outside; counts = h.counts }
 
 -- ---- a value that is assigned
 
 -- the allocation that a value is assigned to, and the others
-assigned_same : (allocations : List Allocation) (n : ℕ) (value : Value) (a : Allocation) → allocation_at allocations n ≡ Some a → allocation_at (assigned_at n value allocations) n ≡ Some (record a { value = value })
+assigned_same : (allocations : List Allocation) (n : ℕ) (value : Value) (a : Allocation)
+    → allocation_at allocations n ≡ Some a
+    → allocation_at (assigned_at n value allocations) n ≡ Some (record a { value = value })
 assigned_same allocations zero value a h = cc
 assigned_same allocations (suc n) value a h = rw h (slice_get-set-same allocations n (record a { value = value }) a h)
 
 -- the others stay what they are
-assigned_other : (allocations : List Allocation) (n m : ℕ) (value : Value) (a : Allocation) → allocation_at allocations n ≡ Some a → (n ≡ m → ⊥) → allocation_at (assigned_at n value allocations) m ≡ allocation_at allocations m
+assigned_other : (allocations : List Allocation) (n m : ℕ) (value : Value) (a : Allocation)
+    → allocation_at allocations n ≡ Some a → (n ≡ m → ⊥)
+    → allocation_at (assigned_at n value allocations) m ≡ allocation_at allocations m
 assigned_other allocations zero m value a h other = refl
 assigned_other allocations (suc n) zero value a h other = refl
 assigned_other allocations (suc n) (suc m) value a h other = rw h (slice_get-set-other allocations n m (record a { value = value }) (λ e. other (ap suc e)))
 
 -- and as many as before
-assigned_length : (allocations : List Allocation) (n : ℕ) (value : Value) (a : Allocation) → allocation_at allocations n ≡ Some a → length (assigned_at n value allocations) ≡ length allocations
+assigned_length : (allocations : List Allocation) (n : ℕ) (value : Value) (a : Allocation)
+    → allocation_at allocations n ≡ Some a → length (assigned_at n value allocations) ≡ length allocations
 assigned_length allocations zero value a h = refl
 assigned_length allocations (suc n) value a h = rw h (length-set allocations n (record a { value = value }))
 
@@ -88,7 +102,8 @@ is_in-same injection (suc n) x y p q = same_Some x y (sym p ∙ q)
 
 module _ {declared : Declarations} {G : Image} {injection : Injection} {s : meaning.State} {memory : Memory} (h : Matches declared G injection s memory) (n segment : ℕ) (a : Allocation) (value : Value) (is_in : IsIn injection n segment) (is : allocation_at s.allocations n ≡ Some a) (r : Represents memory.segments memory.types segment a) where
   -- no other segment changes, and this one keeps its type
-  pub grown_storing : {untouched : Slots} → Grown untouched injection memory injection (storing memory segment r.type_number value)
+  pub grown_storing : {untouched : Slots}
+      → Grown untouched injection memory injection (storing memory segment r.type_number value)
   grown_storing =
       record {
         larger = is_prefix injection;
@@ -108,23 +123,29 @@ module _ {declared : Declarations} {G : Image} {injection : Injection} {s : mean
       old : Segment
       old = record { type_number = r.type_number; words = layout a.value }
 
-      number : (x y : Segment) → ◌≡◌ {A = Option (Option Segment)} (Some (Some x)) (Some (Some y)) → x.type_number ≡ y.type_number
+      number : (x y : Segment) → ◌≡◌ {A = Option (Option Segment)} (Some (Some x)) (Some (Some y))
+          → x.type_number ≡ y.type_number
       number x y e =
           let z : x ≡ y = cc in ap (λ (s : Segment). s.type_number) z
 
-      typed_at : (k : ℕ) (x y : Segment) → slice_get memory.segments k ≡ Some (Some x) → slice_get (slice_set memory.segments segment (Some new)) k ≡ Some (Some y) → (segment ≡ k) ⊎ (segment ≡ k → ⊥) → y.type_number ≡ x.type_number
+      typed_at : (k : ℕ) (x y : Segment) → slice_get memory.segments k ≡ Some (Some x)
+          → slice_get (slice_set memory.segments segment (Some new)) k ≡ Some (Some y)
+          → (segment ≡ k) ⊎ (segment ≡ k → ⊥) → y.type_number ≡ x.type_number
       typed_at k x y p q (inl e) =
           let now : slice_get (slice_set memory.segments segment (Some new)) k ≡ Some (Some new) = subst (λ j. slice_get (slice_set memory.segments segment (Some new)) j ≡ Some (Some new)) e (slice_get-set-same memory.segments segment (Some new) (Some old) r.stands) in
           let before : slice_get memory.segments k ≡ Some (Some old) = subst (λ j. slice_get memory.segments j ≡ Some (Some old)) e r.stands in
           number y new (sym q ∙ now) ∙ number old x (sym before ∙ p)
       typed_at k x y p q (inr other) = number y x (sym q ∙ (slice_get-set-other memory.segments segment k (Some new) other ∙ p))
 
-      ended_at : (k : ℕ) (y : Segment) → slice_get (slice_set memory.segments segment (Some new)) k ≡ Some (Some y) → (segment ≡ k) ⊎ (segment ≡ k → ⊥) → (x : Segment) × (slice_get memory.segments k ≡ Some (Some x))
+      ended_at : (k : ℕ) (y : Segment)
+          → slice_get (slice_set memory.segments segment (Some new)) k ≡ Some (Some y)
+          → (segment ≡ k) ⊎ (segment ≡ k → ⊥) → (x : Segment) × (slice_get memory.segments k ≡ Some (Some x))
       ended_at k y q (inl e) = (old, subst (λ j. slice_get memory.segments j ≡ Some (Some old)) e r.stands)
       ended_at k y q (inr other) = (y, sym (slice_get-set-other memory.segments segment k (Some new) other) ∙ q)
 
   -- the assigned value is represented, and all else as before
-  pub matches_assigned : IsValueOf a.type_value value → Matches declared G injection (assigned n value s) (storing memory segment r.type_number value)
+  pub matches_assigned : IsValueOf a.type_value value
+      → Matches declared G injection (assigned n value s) (storing memory segment r.type_number value)
   matches_assigned of_type =
       record {
         injected = injected;
@@ -166,7 +187,9 @@ module _ {declared : Declarations} {G : Image} {injection : Injection} {s : mean
           let same : hidden_words injection (slice_set memory.segments segment (Some new)) ≡ hidden_words injection memory.segments = hidden_words-set injection memory.segments segment old new (one_word value a.value) r.stands in
           record { words = omega (arith, c.words, same); hidden = omega (arith, c.hidden, same); number = c.number }
 
-      represented_at : (m k : ℕ) (b : Allocation) → IsIn injection m k → allocation_at (assigned_at n value s.allocations) m ≡ Some b → (n ≡ m) ⊎ (n ≡ m → ⊥) → Represents (slice_set memory.segments segment (Some new)) memory.types k b
+      represented_at : (m k : ℕ) (b : Allocation) → IsIn injection m k
+          → allocation_at (assigned_at n value s.allocations) m ≡ Some b → (n ≡ m) ⊎ (n ≡ m → ⊥)
+          → Represents (slice_set memory.segments segment (Some new)) memory.types k b
       represented_at m k b p q (inl e) =
           let there : IsIn injection n k = subst (λ j. IsIn injection j k) (sym e) p in
           let seg : segment ≡ k = is_in-same injection n segment k is_in there in
@@ -188,13 +211,16 @@ module _ {declared : Declarations} {G : Image} {injection : Injection} {s : mean
 -- ---- calls
 
 -- a call that is under way is no part of what is matched, and words are set aside for it
-pub matches_entered : {declared : Declarations} {G : Image} {injection : Injection} {s : meaning.State} {memory : Memory} (x : Call) → Matches declared G injection s memory → Matches declared G injection (entered x s) memory
+pub matches_entered : {declared : Declarations} {G : Image} {injection : Injection} {s : meaning.State} {memory : Memory} (x : Call)
+    → Matches declared G injection s memory → Matches declared G injection (entered x s) memory
 matches_entered x h =
     let counts = h.counts in
     record { injected = h.injected; store = h.store; types = h.types; units = h.units; outside = h.outside; counts = record { words = counts.words; hidden = omega (arith, counts.hidden); number = counts.number } }
 
 -- What was set aside for a call is given back where memory has grown since it began.
-pub matches_left : {untouched : Slots} {declared : Declarations} {G : Image} {injection longer : Injection} {before t : meaning.State} {memory after : Memory} → Grown untouched injection memory longer after → Matches declared G injection before memory → Matches declared G longer t after → Matches declared G longer (left_from before t) after
+pub matches_left : {untouched : Slots} {declared : Declarations} {G : Image} {injection longer : Injection} {before t : meaning.State} {memory after : Memory}
+    → Grown untouched injection memory longer after → Matches declared G injection before memory
+    → Matches declared G longer t after → Matches declared G longer (left_from before t) after
 matches_left g old h =
     let counts = h.counts in
     let first = old.counts in

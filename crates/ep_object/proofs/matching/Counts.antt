@@ -14,15 +14,18 @@ use Rattle.ep_typed.specs.declared.value.TypeValue.{TypeValue}
 pub met-typed : (t : TypeValue) (r : Resources) → r.typed ≤ (met t r).typed
 met-typed t r = go (list_any (same_type t) r.types)
   where
-    go : (b : Bool) → r.typed ≤ (watched (if b then r else record r { types = t ∷ r.types; typed = r.typed + words_of_type t })).typed
+    go : (b : Bool)
+        → r.typed ≤ (watched (if b then r else record r { types = t ∷ r.types; typed = r.typed + words_of_type t })).typed
     go true = omega arith
     go false = omega arith
 
 -- what is held stays the same where a type is met
-pub met-held : (t : TypeValue) (r : Resources) → ((met t r).allocated ≡ r.allocated) × ((met t r).reserved ≡ r.reserved)
+pub met-held : (t : TypeValue) (r : Resources)
+    → ((met t r).allocated ≡ r.allocated) × ((met t r).reserved ≡ r.reserved)
 met-held t r = go (list_any (same_type t) r.types)
   where
-    go : (b : Bool) → ((watched (if b then r else record r { types = t ∷ r.types; typed = r.typed + words_of_type t })).allocated ≡ r.allocated) × ((watched (if b then r else record r { types = t ∷ r.types; typed = r.typed + words_of_type t })).reserved ≡ r.reserved)
+    go : (b : Bool)
+        → ((watched (if b then r else record r { types = t ∷ r.types; typed = r.typed + words_of_type t })).allocated ≡ r.allocated) × ((watched (if b then r else record r { types = t ∷ r.types; typed = r.typed + words_of_type t })).reserved ≡ r.reserved)
     go true = (refl, refl)
     go false = (refl, refl)
 
@@ -30,15 +33,18 @@ met-held t r = go (list_any (same_type t) r.types)
 pub met_types-le : (t : TypeValue) (r : Resources) → length r.types ≤ length (met t r).types
 met_types-le t r = go (list_any (same_type t) r.types)
   where
-    go : (b : Bool) → length r.types ≤ length (watched (if b then r else record r { types = t ∷ r.types; typed = r.typed + words_of_type t })).types
+    go : (b : Bool)
+        → length r.types ≤ length (watched (if b then r else record r { types = t ∷ r.types; typed = r.typed + words_of_type t })).types
     go true = omega arith
     go false = omega arith
 
 -- a type that is not among them is counted
-pub met_new : (t : TypeValue) (r : Resources) → (IsTrue (list_any (same_type t) r.types) → ⊥) → (suc (length r.types) ≤ length (met t r).types) × (r.typed + words_of_type t ≤ (met t r).typed)
+pub met_new : (t : TypeValue) (r : Resources) → (IsTrue (list_any (same_type t) r.types) → ⊥)
+    → (suc (length r.types) ≤ length (met t r).types) × (r.typed + words_of_type t ≤ (met t r).typed)
 met_new t r n = go (list_any (same_type t) r.types) n
   where
-    go : (b : Bool) → (IsTrue b → ⊥) → (suc (length r.types) ≤ length (watched (if b then r else record r { types = t ∷ r.types; typed = r.typed + words_of_type t })).types) × (r.typed + words_of_type t ≤ (watched (if b then r else record r { types = t ∷ r.types; typed = r.typed + words_of_type t })).typed)
+    go : (b : Bool) → (IsTrue b → ⊥)
+        → (suc (length r.types) ≤ length (watched (if b then r else record r { types = t ∷ r.types; typed = r.typed + words_of_type t })).types) × (r.typed + words_of_type t ≤ (watched (if b then r else record r { types = t ∷ r.types; typed = r.typed + words_of_type t })).typed)
     go true f = absurd (f refl)
     go false f = (omega arith, omega arith)
 
@@ -62,24 +68,30 @@ lost_types r h = let full : nat_le (length r.types) meaning.room_for_types ≡ f
 
 -- Where more words would live than may at most, the meaning has passed what every run has: a word of a type value counts
 -- 4, and the limit is 4 times as high.
-pub past_limit : (live : ℕ) (r : Resources) → live_limit < live → live ≤ held r + 4 * r.typed → 4194305 ≤ held r + r.typed
+pub past_limit : (live : ℕ) (r : Resources) → live_limit < live → live ≤ held r + 4 * r.typed
+    → 4194305 ≤ held r + r.typed
 past_limit live r full bounded = omega (arith, full, bounded)
 
 -- no more words live than what is held and 4 for each word of a type value
-pub live_bounded : {injection : Injection} {r : Resources} {segments : Segments} {types : TypeTable} {live : ℕ} → MatchesCounts injection r segments types live → live ≤ held r + 4 * r.typed
+pub live_bounded : {injection : Injection} {r : Resources} {segments : Segments} {types : TypeTable} {live : ℕ}
+    → MatchesCounts injection r segments types live → live ≤ held r + 4 * r.typed
 live_bounded c = omega (arith, c.words, c.hidden)
 
 -- the limits are not met, or room is lost
-pub full_lost : (a b : ℕ) (r : Resources) → (ltb a type_limit && ltb b live_limit) ≡ false → a ≤ length r.types + 5 → b + 1 ≤ held r + 4 * r.typed → IsTrue (watched r).lost
+pub full_lost : (a b : ℕ) (r : Resources) → (ltb a type_limit && ltb b live_limit) ≡ false
+    → a ≤ length r.types + 5 → b + 1 ≤ held r + 4 * r.typed → IsTrue (watched r).lost
 full_lost a b r full few live = go (ltb a type_limit) refl
   where
     go : (x : Bool) → ltb a type_limit ≡ x → IsTrue (watched r).lost
     go true e = lost_words r (let f : ltb b live_limit ≡ false = sym (ap (λ y. y && ltb b live_limit) e) ∙ full in past_limit (b + 1) r (grind (arith, nat_tests)) live)
     go false e = lost_types r (grind (arith, nat_tests))
 
-pub met_lost : (a b : ℕ) (t : TypeValue) (r : Resources) → (IsTrue (list_any (same_type t) r.types) → ⊥) → (ltb a type_limit && ltb b live_limit) ≡ false → a ≤ length r.types + 5 → b ≤ held r + 4 * r.typed → words_of_type t ≡ 1 → IsTrue (met t r).lost
+pub met_lost : (a b : ℕ) (t : TypeValue) (r : Resources) → (IsTrue (list_any (same_type t) r.types) → ⊥)
+    → (ltb a type_limit && ltb b live_limit) ≡ false → a ≤ length r.types + 5 → b ≤ held r + 4 * r.typed
+    → words_of_type t ≡ 1 → IsTrue (met t r).lost
 met_lost a b t r new full few live word = go (list_any (same_type t) r.types) new
   where
-    go : (x : Bool) → (IsTrue x → ⊥) → IsTrue (watched (if x then r else record r { types = t ∷ r.types; typed = r.typed + words_of_type t })).lost
+    go : (x : Bool) → (IsTrue x → ⊥)
+        → IsTrue (watched (if x then r else record r { types = t ∷ r.types; typed = r.typed + words_of_type t })).lost
     go true n = absurd (n refl)
     go false n = full_lost a b (record r { types = t ∷ r.types; typed = r.typed + words_of_type t }) full (omega (arith, few)) (omega (arith, live, word))

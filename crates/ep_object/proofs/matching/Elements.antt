@@ -3,7 +3,8 @@ use Rattle.std.proofs.Common.{◌≡◌, ◌≢◌, ℕ, zero, suc, List, [], �
 use Rattle.std.proofs.lemmas.Grind.{common_steps}
 
 -- an element of a longer list is one of the list, or the new one
-pub slice_get-push : {A : Type 0} (xs : List A) (x y : A) (i : ℕ) → slice_get (xs ++ x ∷ []) i ≡ Some y → (slice_get xs i ≡ Some y) ⊎ ((i ≡ length xs) × (y ≡ x))
+pub slice_get-push : {A : Type 0} (xs : List A) (x y : A) (i : ℕ) → slice_get (xs ++ x ∷ []) i ≡ Some y
+    → (slice_get xs i ≡ Some y) ⊎ ((i ≡ length xs) × (y ≡ x))
 slice_get-push [] x y zero h = inr (refl, cc)
 slice_get-push [] x y (suc i) h = inl h
 slice_get-push (z ∷ xs) x y zero h = inl h
@@ -15,13 +16,15 @@ slice_get-pushed [] x = refl
 slice_get-pushed (z ∷ xs) x = slice_get-pushed xs x
 
 -- the element that is put in a place stands there
-pub slice_get-set-same : {A : Type 0} (xs : List A) (i : ℕ) (x y : A) → slice_get xs i ≡ Some y → slice_get (slice_set xs i x) i ≡ Some x
+pub slice_get-set-same : {A : Type 0} (xs : List A) (i : ℕ) (x y : A) → slice_get xs i ≡ Some y
+    → slice_get (slice_set xs i x) i ≡ Some x
 slice_get-set-same [] i x y h = cc
 slice_get-set-same (z ∷ xs) zero x y h = refl
 slice_get-set-same (z ∷ xs) (suc i) x y h = slice_get-set-same xs i x y h
 
 -- and the others stay
-pub slice_get-set-other : {A : Type 0} (xs : List A) (i j : ℕ) (x : A) → i ≢ j → slice_get (slice_set xs i x) j ≡ slice_get xs j
+pub slice_get-set-other : {A : Type 0} (xs : List A) (i j : ℕ) (x : A) → i ≢ j
+    → slice_get (slice_set xs i x) j ≡ slice_get xs j
 slice_get-set-other [] i j x n = refl
 slice_get-set-other (z ∷ xs) zero zero x n = absurd (n refl)
 slice_get-set-other (z ∷ xs) zero (suc j) x n = refl

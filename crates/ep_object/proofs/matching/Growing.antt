@@ -17,7 +17,8 @@ use Rattle.ep_typed.specs.declared.value.TypeValue.{TypeValue}
 use Rattle.ep_typed.specs.declared.value.TypeValue.TheVariants as type
 
 -- an element of a front is the same one of the whole
-pub slice_get-prefix : {A : Type 0} (xs ys : List A) (i : ℕ) (x : A) → IsPrefix xs ys → slice_get xs i ≡ Some x → slice_get ys i ≡ Some x
+pub slice_get-prefix : {A : Type 0} (xs ys : List A) (i : ℕ) (x : A) → IsPrefix xs ys → slice_get xs i ≡ Some x
+    → slice_get ys i ≡ Some x
 slice_get-prefix {A = A} xs ys i x p h = subst (λ l. slice_get l i ≡ Some x) (sym p.is) (go xs i h)
   where
     go : (l : List A) (i : ℕ) → slice_get l i ≡ Some x → slice_get (l ++ p.rest) i ≡ Some x
@@ -26,7 +27,8 @@ slice_get-prefix {A = A} xs ys i x p h = subst (λ l. slice_get l i ≡ Some x) 
     go (y ∷ l) (suc i) h = go l i h
 
 -- allocations stay where they are
-pub is_in-longer : (injection longer : Injection) (n segment : ℕ) → IsPrefix injection longer → IsIn injection n segment → IsIn longer n segment
+pub is_in-longer : (injection longer : Injection) (n segment : ℕ) → IsPrefix injection longer
+    → IsIn injection n segment → IsIn longer n segment
 is_in-longer injection longer zero segment p h = h
 is_in-longer injection longer (suc n) segment p h = slice_get-prefix injection longer n segment p h
 
@@ -35,7 +37,8 @@ pub before_or_not : (a b : ℕ) → (a ≤ b) ⊎ (b < a)
 before_or_not a b = grind arith
 
 -- memory has grown from itself
-pub grown_refl : {untouched : Slots} (injection : Injection) (memory : Memory) → Grown untouched injection memory injection memory
+pub grown_refl : {untouched : Slots} (injection : Injection) (memory : Memory)
+    → Grown untouched injection memory injection memory
 grown_refl injection memory =
     record {
       larger = is_prefix injection;
@@ -49,12 +52,15 @@ grown_refl injection memory =
       ended = λ segment y le h. (y, h);
     }
   where
-    same_type : (segment : ℕ) (x y : Segment) → ◌≡◌ {A = Option (Option Segment)} (Some (Some x)) (Some (Some y)) → y.type_number ≡ x.type_number
+    same_type : (segment : ℕ) (x y : Segment)
+        → ◌≡◌ {A = Option (Option Segment)} (Some (Some x)) (Some (Some y)) → y.type_number ≡ x.type_number
     same_type segment x y h =
         let e : y ≡ x = cc in ap (λ (z : Segment). z.type_number) e
 
 -- what has grown from what has grown
-pub grown_trans : {untouched : Slots} {injection longer last : Injection} {memory after final : Memory} → Grown untouched injection memory longer after → Grown untouched longer after last final → Grown untouched injection memory last final
+pub grown_trans : {untouched : Slots} {injection longer last : Injection} {memory after final : Memory}
+    → Grown untouched injection memory longer after → Grown untouched longer after last final
+    → Grown untouched injection memory last final
 grown_trans {longer = longer} {last = last} {memory = memory} {after = after} {final = final} p q =
     record {
       larger = prefix_then p.larger q.larger;
@@ -74,14 +80,19 @@ grown_trans {longer = longer} {last = last} {memory = memory} {after = after} {f
     }
   where
     -- a new segment that lives is that of an allocation, which was made in the first part or in the second
-    allocated : (segment : ℕ) (z : Segment) → length memory.segments ≤ segment → slice_get final.segments segment ≡ Some (Some z) → (length after.segments ≤ segment) ⊎ (segment < length after.segments) → (n : ℕ) × IsIn last n segment
+    allocated : (segment : ℕ) (z : Segment) → length memory.segments ≤ segment
+        → slice_get final.segments segment ≡ Some (Some z)
+        → (length after.segments ≤ segment) ⊎ (segment < length after.segments)
+        → (n : ℕ) × IsIn last n segment
     allocated segment z le hz (inl new) = q.allocated segment z new hz
     allocated segment z le hz (inr old) =
         let y = q.ended segment z (omega (arith, old)) hz in
         let n = p.allocated segment y.0 le y.1 in (n.0, is_in-longer longer last n.0 segment q.larger n.1)
 
 -- the place of an allocation stays its place
-pub is_place_of-grown : {untouched : Slots} {injection longer : Injection} {memory after : Memory} {n : ℕ} {place : Place} → Grown untouched injection memory longer after → IsPlaceOf injection memory.segments n place → IsPlaceOf longer after.segments n place
+pub is_place_of-grown : {untouched : Slots} {injection longer : Injection} {memory after : Memory} {n : ℕ} {place : Place}
+    → Grown untouched injection memory longer after → IsPlaceOf injection memory.segments n place
+    → IsPlaceOf longer after.segments n place
 is_place_of-grown {injection = injection} {longer = longer} {n = n} {place = place} g h =
     record {
       is_in = is_in-longer injection longer n place.segment g.larger h.is_in;
@@ -93,7 +104,9 @@ is_place_of-grown {injection = injection} {longer = longer} {n = n} {place = pla
     }
 
 -- a type stays what it is
-pub describes-grown : {untouched : Slots} {injection longer : Injection} {memory after : Memory} (n : ℕ) (type_value : TypeValue) → Grown untouched injection memory longer after → Describes memory.types n type_value → Describes after.types n type_value
+pub describes-grown : {untouched : Slots} {injection longer : Injection} {memory after : Memory} (n : ℕ) (type_value : TypeValue)
+    → Grown untouched injection memory longer after → Describes memory.types n type_value
+    → Describes after.types n type_value
 describes-grown {memory = memory} {after = after} n (type.Ordinal low high) g h = slice_get-prefix memory.types after.types n (ordinal_entry low high) g.types h
 describes-grown {memory = memory} {after = after} n type.Text g h = slice_get-prefix memory.types after.types n text_entry g.types h
 
@@ -114,25 +127,34 @@ pub not_left-after : {a b c : Frames} → SameRoutine a b → IsNotLeft b c → 
 not_left-after p q = record { runs = same_routine-trans p q.runs }
 
 -- while the same routine runs, errors tell the same unit
-pub unit_in-same : (G : Image) {before after : Frames} → SameRoutine before after → unit_in G after ≡ unit_in G before
+pub unit_in-same : (G : Image) {before after : Frames} → SameRoutine before after
+    → unit_in G after ≡ unit_in G before
 unit_in-same G h = ap (λ r. name_of (unit_of G (slice_get G.routines r))) h.routine
 
 -- where nothing has grown yet
-pub inside_here : {untouched : Slots} {injection : Injection} {memory : Memory} {Then : Operands} {operands : List Operand} → Then injection memory operands → Inside untouched injection memory Then injection memory operands
+pub inside_here : {untouched : Slots} {injection : Injection} {memory : Memory} {Then : Operands} {operands : List Operand}
+    → Then injection memory operands → Inside untouched injection memory Then injection memory operands
 inside_here {injection = injection} {memory = memory} h = record { grown = grown_refl injection memory; routine = same_routine-refl memory.frames; operands_are = h }
 
 -- what is inside of a later memory is inside of an earlier one
-pub inside_later : {untouched : Slots} {injection longer last : Injection} {memory after final : Memory} {Then : Operands} {operands : List Operand} → Grown untouched injection memory longer after → SameRoutine memory.frames after.frames → Inside untouched longer after Then last final operands → Inside untouched injection memory Then last final operands
+pub inside_later : {untouched : Slots} {injection longer last : Injection} {memory after final : Memory} {Then : Operands} {operands : List Operand}
+    → Grown untouched injection memory longer after → SameRoutine memory.frames after.frames
+    → Inside untouched longer after Then last final operands
+    → Inside untouched injection memory Then last final operands
 inside_later g r h = record { grown = grown_trans g h.grown; routine = same_routine-trans r h.routine; operands_are = h.operands_are }
 
 -- memory has grown so since now
-pub since_here : {untouched : Slots} (injection : Injection) (s : meaning.State) (memory : Memory) → HasGrown untouched injection s memory injection s memory
+pub since_here : {untouched : Slots} (injection : Injection) (s : meaning.State) (memory : Memory)
+    → HasGrown untouched injection s memory injection s memory
 since_here injection s memory = record { grown = grown_refl injection memory; routine = same_routine-refl memory.frames; calls = refl }
 
 -- and that lasts
-pub since_lasts : {untouched : Slots} {injection : Injection} {s : meaning.State} {memory : Memory} → Lasts untouched (Since untouched injection s memory)
+pub since_lasts : {untouched : Slots} {injection : Injection} {s : meaning.State} {memory : Memory}
+    → Lasts untouched (Since untouched injection s memory)
 since_lasts = record { by = λ longer last t u after final more h. record { grown = grown_trans h.grown more.grown; routine = same_routine-trans h.routine more.routine; calls = more.calls ∙ h.calls } }
 
 -- Whatever lasts and held then holds where memory has grown so since.
-pub since_holds : {untouched : Slots} {Here : Facts} {injection longer : Injection} {s t : meaning.State} {memory after : Memory} → Lasts untouched Here → Here injection s memory → Since untouched injection s memory longer t after → Here longer t after
+pub since_holds : {untouched : Slots} {Here : Facts} {injection longer : Injection} {s t : meaning.State} {memory after : Memory}
+    → Lasts untouched Here → Here injection s memory → Since untouched injection s memory longer t after
+    → Here longer t after
 since_holds {injection = injection} {longer = longer} {s = s} {t = t} {memory = memory} {after = after} lasts held since = lasts.by injection longer s t memory after since held

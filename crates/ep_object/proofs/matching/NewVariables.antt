@@ -49,32 +49,39 @@ module _ (unit : List ℕ) (number n : ℕ) (variables : List ℕ → ℕ → Op
       rw (name, self) refl
 
   -- a variable of another name or of another number stays what it is
-  pub bound-other : (u : List ℕ) (k : ℕ) → (unit ≡ u → number ≡ k → ⊥) → bound unit number n variables u k ≡ variables u k
+  pub bound-other : (u : List ℕ) (k : ℕ) → (unit ≡ u → number ≡ k → ⊥)
+      → bound unit number n variables u k ≡ variables u k
   bound-other u k other = by_name (bytes_eq unit u) refl
     where
-      by_number : (number ≡ k → ⊥) → (b : Bool) → (nat_le number k && nat_le k number) ≡ b → (if b then Some n else variables u k) ≡ variables u k
+      by_number : (number ≡ k → ⊥) → (b : Bool) → (nat_le number k && nat_le k number) ≡ b
+          → (if b then Some n else variables u k) ≡ variables u k
       by_number different true e =
           let p = both (nat_le number k) (nat_le k number) e in
           let same : number ≡ k = let x = p.0 in let y = p.1 in grind (arith, nat_tests) in
           absurd (different same)
       by_number different false e = refl
 
-      by_name : (b : Bool) → bytes_eq unit u ≡ b → (if b && (nat_le number k && nat_le k number) then Some n else variables u k) ≡ variables u k
+      by_name : (b : Bool) → bytes_eq unit u ≡ b
+          → (if b && (nat_le number k && nat_le k number) then Some n else variables u k) ≡ variables u k
       by_name true e = by_number (other ((bytes_eq-Decides unit u).0 e)) (nat_le number k && nat_le k number) refl
       by_name false e = refl
 
 -- ---- a list with one more element
 
 -- the elements before it are the same
-slice_get-before : {A : Type 0} (xs : List A) (x : A) (i : ℕ) → i < length xs → slice_get (xs ++ x ∷ []) i ≡ slice_get xs i
+slice_get-before : {A : Type 0} (xs : List A) (x : A) (i : ℕ) → i < length xs
+    → slice_get (xs ++ x ∷ []) i ≡ slice_get xs i
 slice_get-before xs x i h = let y = slice_get-some xs i h in slice_get-prefix xs (xs ++ x ∷ []) i y.0 (record { rest = x ∷ []; is = refl }) y.1 ∙ sym y.1
 
 -- an allocation keeps its type, which is that of a host and so not a text
-type_more : (allocations : List Allocation) (a : Allocation) (n : ℕ) (host : Host) (t : TypeValue) → IsTypeOf host t → type_in (allocation_at allocations n) ≡ t → type_in (allocation_at (allocations ++ a ∷ []) n) ≡ t
+type_more : (allocations : List Allocation) (a : Allocation) (n : ℕ) (host : Host) (t : TypeValue)
+    → IsTypeOf host t → type_in (allocation_at allocations n) ≡ t
+    → type_in (allocation_at (allocations ++ a ∷ []) n) ≡ t
 type_more allocations a zero host t valid is = is
 type_more allocations a (suc n) host t valid is = go (slice_get allocations n) refl
   where
-    go : (o : Option Allocation) → slice_get allocations n ≡ o → type_in (slice_get (allocations ++ a ∷ []) n) ≡ t
+    go : (o : Option Allocation) → slice_get allocations n ≡ o
+        → type_in (slice_get (allocations ++ a ∷ []) n) ≡ t
     go None e =
         let text : type.Text ≡ t = sym (ap type_in e) ∙ is in
         let none : ⊥ = subst (λ y. IsTypeOf host y) (sym text) valid in absurd none
@@ -106,7 +113,8 @@ with_segment injection memory = injection ++ length memory.segments ∷ []
 abbrev pub IsOldOrNew : Injection → Memory → ℕ → ℕ → Type 0
 IsOldOrNew injection memory n segment = IsIn injection n segment ⊎ ((n ≡ suc (length injection)) × (segment ≡ length memory.segments))
 
-is_in-either : (injection : Injection) (memory : Memory) (n segment : ℕ) → IsIn (with_segment injection memory) n segment → IsOldOrNew injection memory n segment
+is_in-either : (injection : Injection) (memory : Memory) (n segment : ℕ)
+    → IsIn (with_segment injection memory) n segment → IsOldOrNew injection memory n segment
 is_in-either injection memory zero segment h = absurd h
 is_in-either injection memory (suc n) segment h = elim (slice_get-push injection (length memory.segments) segment n h) [ inl p ↦ inl p | inr p ↦ inr (ap suc p.0, p.1) ]
 
@@ -116,7 +124,9 @@ is_in-within injection zero segment h = absurd h
 is_in-within injection (suc n) segment h = let w : n < length injection = slice_get_within injection n segment h in omega arith
 
 -- memory grows by the new segment
-pub grown_making : {untouched : Slots} (injection : Injection) (memory : Memory) (number : ℕ) (frames : Frames) → ((unit k : ℕ) → IsTrue (untouched unit k) → slot_in frames unit k ≡ slot_in memory.frames unit k) → Grown untouched injection memory (with_segment injection memory) (with_variable number frames memory)
+pub grown_making : {untouched : Slots} (injection : Injection) (memory : Memory) (number : ℕ) (frames : Frames)
+    → ((unit k : ℕ) → IsTrue (untouched unit k) → slot_in frames unit k ≡ slot_in memory.frames unit k)
+    → Grown untouched injection memory (with_segment injection memory) (with_variable number frames memory)
 grown_making injection memory number frames kept =
     record {
       larger = record { rest = length memory.segments ∷ []; is = refl };
@@ -131,22 +141,27 @@ grown_making injection memory number frames kept =
     }
   where
     -- the only new segment is that of the new allocation
-    new_allocated : (segment : ℕ) → length memory.segments ≤ segment → segment < length (memory.segments ++ Some (new_segment number) ∷ []) → (n : ℕ) × IsIn (with_segment injection memory) n segment
+    new_allocated : (segment : ℕ) → length memory.segments ≤ segment
+        → segment < length (memory.segments ++ Some (new_segment number) ∷ [])
+        → (n : ℕ) × IsIn (with_segment injection memory) n segment
     new_allocated segment le less =
         let same : length memory.segments ≡ segment = omega (arith, le, less, length-append memory.segments (Some (new_segment number) ∷ [])) in
         (suc (length injection), slice_get-pushed injection (length memory.segments) ∙ ap Some same)
 
-    stays_hidden : (segment : ℕ) → suc segment ≤ length memory.segments → IsHidden injection segment → (n : ℕ) → IsOldOrNew injection memory n segment → ⊥
+    stays_hidden : (segment : ℕ) → suc segment ≤ length memory.segments → IsHidden injection segment → (n : ℕ)
+        → IsOldOrNew injection memory n segment → ⊥
     stays_hidden segment le hidden n (inl h) = hidden n h
     stays_hidden segment le hidden n (inr h) = absurd (omega (arith, h.1))
 
-    same_type : (segment : ℕ) (x y : Segment) → slice_get memory.segments segment ≡ Some (Some x) → slice_get memory.segments segment ≡ Some (Some y) → y.type_number ≡ x.type_number
+    same_type : (segment : ℕ) (x y : Segment) → slice_get memory.segments segment ≡ Some (Some x)
+        → slice_get memory.segments segment ≡ Some (Some y) → y.type_number ≡ x.type_number
     same_type segment x y p q =
         let e : ◌≡◌ {A = Option (Option Segment)} (Some (Some x)) (Some (Some y)) = sym p ∙ q in
         let z : y ≡ x = cc in ap (λ (s : Segment). s.type_number) z
 
 -- the same where the frames stay what they are
-grown_same_frames : (injection : Injection) (memory : Memory) (number : ℕ) → Grown (λ unit k. true) injection memory (with_segment injection memory) (with_variable number memory.frames memory)
+grown_same_frames : (injection : Injection) (memory : Memory) (number : ℕ)
+    → Grown (λ unit k. true) injection memory (with_segment injection memory) (with_variable number memory.frames memory)
 grown_same_frames injection memory number = grown_making injection memory number memory.frames (λ unit k kept. refl)
 
 module _ {declared : Declarations} {G : Image} {injection : Injection} {s : meaning.State} {memory : Memory} (h : Matches declared G injection s memory) (x : ImageUnit) (low high : ℤ) (number k : ℕ) (is_unit : slice_get G.units memory.frames.unit ≡ Some x) (described : Describes memory.types number (type.Ordinal low high)) (low_fits : IsTrue (is_integer low)) (high_fits : IsTrue (is_integer high)) where
@@ -162,11 +177,15 @@ module _ {declared : Declarations} {G : Image} {injection : Injection} {s : mean
   made_same = let injected = h.injected in injected.made
 
   -- the new segment represents the new allocation, and those before are as they were
-  represented_making : (n segment : ℕ) (a : Allocation) → IsIn (with_segment injection memory) n segment → allocation_at (s.allocations ++ new_allocation ∷ []) n ≡ Some a → Represents (memory.segments ++ its_segment ∷ []) memory.types segment a
+  represented_making : (n segment : ℕ) (a : Allocation) → IsIn (with_segment injection memory) n segment
+      → allocation_at (s.allocations ++ new_allocation ∷ []) n ≡ Some a
+      → Represents (memory.segments ++ its_segment ∷ []) memory.types segment a
   represented_making zero segment a is_in is = absurd is_in
   represented_making (suc n) segment a is_in is = go (is_in-either injection memory (suc n) segment is_in) (slice_get-push s.allocations new_allocation a n is)
     where
-      go : IsOldOrNew injection memory (suc n) segment → (slice_get s.allocations n ≡ Some a) ⊎ ((n ≡ length s.allocations) × (a ≡ new_allocation)) → Represents (memory.segments ++ its_segment ∷ []) memory.types segment a
+      go : IsOldOrNew injection memory (suc n) segment
+          → (slice_get s.allocations n ≡ Some a) ⊎ ((n ≡ length s.allocations) × (a ≡ new_allocation))
+          → Represents (memory.segments ++ its_segment ∷ []) memory.types segment a
       go (inl old) (inl before) =
           let store = h.store in
           let injected = h.injected in
@@ -180,7 +199,8 @@ module _ {declared : Declarations} {G : Image} {injection : Injection} {s : mean
           (record { type_number = number; stands = slice_get-pushed memory.segments its_segment; described = described; value = (low_fits, high_fits) }))
 
   -- no two allocations are in one segment
-  apart_making : (m n segment : ℕ) → IsOldOrNew injection memory m segment → IsOldOrNew injection memory n segment → m ≡ n
+  apart_making : (m n segment : ℕ) → IsOldOrNew injection memory m segment
+      → IsOldOrNew injection memory n segment → m ≡ n
   apart_making m n segment (inl p) (inl q) = let injected = h.injected in injected.apart m n segment p q
   apart_making m n segment (inl p) (inr q) = absurd (let injected = h.injected in omega (arith, injected.within m segment p, q.1))
   apart_making m n segment (inr p) (inl q) = absurd (let injected = h.injected in omega (arith, injected.within n segment q, p.1))
@@ -209,15 +229,19 @@ module _ {declared : Declarations} {G : Image} {injection : Injection} {s : mean
         typed = λ y q. number_of y (sym (slice_get-pushed memory.segments its_segment) ∙ q);
       }
     where
-      number_of : (y : Segment) → ◌≡◌ {A = Option (Option Segment)} (Some its_segment) (Some (Some y)) → number ≡ y.type_number
+      number_of : (y : Segment) → ◌≡◌ {A = Option (Option Segment)} (Some its_segment) (Some (Some y))
+          → number ≡ y.type_number
       number_of y e = let z : new_segment number ≡ y = cc in ap (λ (t : Segment). t.type_number) z
 
   module _ (within : k < x.slots) where
     -- the slot has the place of the new variable, and the others have theirs
-    slot_making : (j : ℕ) (v : UnitVariable) (slot : Option Place) → declared.variables x.name j ≡ Some v → slice_get new_slots j ≡ Some slot → MatchesSlot (with_segment injection memory) later.segments (later_state.variables x.name j) slot
+    slot_making : (j : ℕ) (v : UnitVariable) (slot : Option Place) → declared.variables x.name j ≡ Some v
+        → slice_get new_slots j ≡ Some slot
+        → MatchesSlot (with_segment injection memory) later.segments (later_state.variables x.name j) slot
     slot_making number_at v slot is_declared q = elim (ℕ_discrete k number_at) [ yes e ↦ same number_at slot q e | no e ↦ other number_at slot is_declared q e ]
       where
-        same : (j : ℕ) (slot : Option Place) → slice_get new_slots j ≡ Some slot → k ≡ j → MatchesSlot (with_segment injection memory) later.segments (later_state.variables x.name j) slot
+        same : (j : ℕ) (slot : Option Place) → slice_get new_slots j ≡ Some slot → k ≡ j
+            → MatchesSlot (with_segment injection memory) later.segments (later_state.variables x.name j) slot
         same j slot q e =
             let old = slice_get-some frame_here.slots k (omega (arith, within, frame_here.count)) in
             let now = slice_get-set-same frame_here.slots k (Some (new_place memory number)) old.0 old.1 in
@@ -228,7 +252,9 @@ module _ {declared : Declarations} {G : Image} {injection : Injection} {s : mean
             (subst (λ o. MatchesSlot (with_segment injection memory) later.segments (later_state.variables x.name k) o) slot_is
             (subst (λ o. MatchesSlot (with_segment injection memory) later.segments o (Some (new_place memory number))) (sym bound_here) new_place_of))
 
-        other : (j : ℕ) (slot : Option Place) → declared.variables x.name j ≡ Some v → slice_get new_slots j ≡ Some slot → (k ≡ j → ⊥) → MatchesSlot (with_segment injection memory) later.segments (later_state.variables x.name j) slot
+        other : (j : ℕ) (slot : Option Place) → declared.variables x.name j ≡ Some v
+            → slice_get new_slots j ≡ Some slot → (k ≡ j → ⊥)
+            → MatchesSlot (with_segment injection memory) later.segments (later_state.variables x.name j) slot
         other j slot is_declared q e =
             let before : slice_get frame_here.slots j ≡ Some slot = sym (slice_get-set-other frame_here.slots k j (Some (new_place memory number)) e) ∙ q in
             subst (λ o. MatchesSlot (with_segment injection memory) later.segments o slot) (sym (bound-other x.name k (suc (length s.allocations)) s.variables x.name j (λ p. e))) (frame_here.matches j v slot is_declared before)
@@ -245,15 +271,18 @@ module _ {declared : Declarations} {G : Image} {injection : Injection} {s : mean
 
     module _ (distinct : HasDistinctNames G) where
       -- the frames of other units stay what they are
-      frames_making : (unit : ℕ) (u : ImageUnit) → slice_get G.units unit ≡ Some u → MatchesFrame declared (with_segment injection memory) later_state.variables later.frames.units later.segments unit u
+      frames_making : (unit : ℕ) (u : ImageUnit) → slice_get G.units unit ≡ Some u
+          → MatchesFrame declared (with_segment injection memory) later_state.variables later.frames.units later.segments unit u
       frames_making unit u there = elim (ℕ_discrete memory.frames.unit unit) [ yes e ↦ same e | no e ↦ other e ]
         where
-          same : memory.frames.unit ≡ unit → MatchesFrame declared (with_segment injection memory) later_state.variables later.frames.units later.segments unit u
+          same : memory.frames.unit ≡ unit
+              → MatchesFrame declared (with_segment injection memory) later_state.variables later.frames.units later.segments unit u
           same e =
               let is_x : x ≡ u = same_Some x u (sym is_unit ∙ subst (λ i. slice_get G.units i ≡ Some u) (sym e) there) in
               subst (λ i. MatchesFrame declared (with_segment injection memory) later_state.variables later.frames.units later.segments i u) e (subst (λ v. MatchesFrame declared (with_segment injection memory) later_state.variables later.frames.units later.segments memory.frames.unit v) is_x frame_making)
 
-          other : (memory.frames.unit ≡ unit → ⊥) → MatchesFrame declared (with_segment injection memory) later_state.variables later.frames.units later.segments unit u
+          other : (memory.frames.unit ≡ unit → ⊥)
+              → MatchesFrame declared (with_segment injection memory) later_state.variables later.frames.units later.segments unit u
           other e =
               let units = h.units in
               let f : MatchesFrame declared (with_segment injection memory) later_state.variables memory.frames.units later.segments unit u =
@@ -267,7 +296,8 @@ module _ {declared : Declarations} {G : Image} {injection : Injection} {s : mean
 
       module _ (types_valid : HaveValidTypes declared) (declared_so : (v : UnitVariable) → declared.variables x.name k ≡ Some v → HasType declared x.name v (type.Ordinal low high)) where
         -- the new allocation has the type of its declaration, and the others keep theirs
-        typed_making : (unit : List ℕ) (j n : ℕ) (v : UnitVariable) → later_state.variables unit j ≡ Some n → declared.variables unit j ≡ Some v → HasType declared unit v (type_at n later_state)
+        typed_making : (unit : List ℕ) (j n : ℕ) (v : UnitVariable) → later_state.variables unit j ≡ Some n
+            → declared.variables unit j ≡ Some v → HasType declared unit v (type_at n later_state)
         typed_making unit j n v is is_declared = elim (same_name x.name unit) [ inl p ↦ elim (ℕ_discrete k j) [ yes q ↦ same p q | no q ↦ other (λ a b. q b) ] | inr p ↦ other (λ a b. p a) ]
           where
             same : x.name ≡ unit → k ≡ j → HasType declared unit v (type_at n later_state)
@@ -298,7 +328,8 @@ module _ {declared : Declarations} {G : Image} {injection : Injection} {s : mean
               counts = counts_making;
             }
           where
-            within_making : (n segment : ℕ) → IsOldOrNew injection memory n segment → suc segment ≤ length later.segments
+            within_making : (n segment : ℕ) → IsOldOrNew injection memory n segment
+                → suc segment ≤ length later.segments
             within_making n segment (inl p) = let injected = h.injected in omega (arith, injected.within n segment p, length-append memory.segments (its_segment ∷ []))
             within_making n segment (inr p) = omega (arith, p.1, length-append memory.segments (its_segment ∷ []))
 

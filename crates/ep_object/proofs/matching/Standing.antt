@@ -35,14 +35,18 @@ pub record Stands (s : meaning.State) (memory : Memory) (n : ℕ) (place : Place
   pub type_number : place.type_number ≡ represents.type_number
 
 -- an allocation that is somewhere has been made
-pub allocated : (injection : Injection) (s : meaning.State) (n segment : ℕ) → length injection ≡ length s.allocations → IsIn injection n segment → (a : Allocation) × (allocation_at s.allocations n ≡ Some a)
+pub allocated : (injection : Injection) (s : meaning.State) (n segment : ℕ)
+    → length injection ≡ length s.allocations → IsIn injection n segment
+    → (a : Allocation) × (allocation_at s.allocations n ≡ Some a)
 allocated injection s zero segment made h = absurd h
 allocated injection s (suc n) segment made h =
     let w : n < length injection = slice_get_within injection n segment h in
     slice_get-some s.allocations n (omega arith)
 
 -- at the place of an allocation stands that allocation
-pub place_stands : {declared : Declarations} {G : Image} {injection : Injection} {s : meaning.State} {memory : Memory} {n : ℕ} {place : Place} → Matches declared G injection s memory → IsPlaceOf injection memory.segments n place → Stands s memory n place
+pub place_stands : {declared : Declarations} {G : Image} {injection : Injection} {s : meaning.State} {memory : Memory} {n : ℕ} {place : Place}
+    → Matches declared G injection s memory → IsPlaceOf injection memory.segments n place
+    → Stands s memory n place
 place_stands {injection = injection} {s = s} {memory = memory} {n = n} {place = place} matches place_of =
     let injected = matches.injected in
     let store = matches.store in
@@ -51,7 +55,8 @@ place_stands {injection = injection} {s = s} {memory = memory} {n = n} {place = 
     record { allocation = a.0; is = a.1; represents = r; type_number = place_of.typed (record { type_number = r.type_number; words = _ }) r.stands }
 
 -- a type describes one type value
-pub described-same : (types : TypeTable) (n : ℕ) (t : TypeValue) (low high : ℤ) → Describes types n t → Describes types n (type.Ordinal low high) → t ≡ type.Ordinal low high
+pub described-same : (types : TypeTable) (n : ℕ) (t : TypeValue) (low high : ℤ) → Describes types n t
+    → Describes types n (type.Ordinal low high) → t ≡ type.Ordinal low high
 described-same types n (type.Ordinal l h) low high p q =
     let e : ordinal_entry l h ≡ ordinal_entry low high = same_Some (ordinal_entry l h) (ordinal_entry low high) (sym p ∙ q) in
     let k : (ordinal_entry l h).kind ≡ (ordinal_entry low high).kind = ap (λ (x : TypeEntry). x.kind) e in
@@ -62,7 +67,9 @@ described-same types n type.Text low high p q =
     cc
 
 -- the type of a place of a variable describes the type of its declaration
-pub place_described : {declared : Declarations} {G : Image} {injection : Injection} {s : meaning.State} {memory : Memory} {n : ℕ} {place : Place} (t : TypeValue) → Matches declared G injection s memory → IsPlaceOf injection memory.segments n place → meaning.type_at n s ≡ t → Describes memory.types place.type_number t
+pub place_described : {declared : Declarations} {G : Image} {injection : Injection} {s : meaning.State} {memory : Memory} {n : ℕ} {place : Place} (t : TypeValue)
+    → Matches declared G injection s memory → IsPlaceOf injection memory.segments n place
+    → meaning.type_at n s ≡ t → Describes memory.types place.type_number t
 place_described {s = s} {memory = memory} {n = n} {place = place} t matches place_of typed =
     let x : Stands s memory n place = place_stands matches place_of in
     let a : Allocation = x.allocation in
@@ -88,15 +95,18 @@ both true false h = cc
 both false b h = cc
 
 -- a denoter has at most one type value
-pub one_type : {types : List UnitType} {d : Denoter} {t u : TypeValue} → IsInstance types d t → IsInstance types d u → t ≡ u
+pub one_type : {types : List UnitType} {d : Denoter} {t u : TypeValue} → IsInstance types d t
+    → IsInstance types d u → t ≡ u
 one_type {types = types} {d = d} {t = t} {u = u} p q = instances_are_one types d t u p q
 
 -- the type value of a valid denoter is one of its host
-pub instance_valid : {types : List UnitType} {d : Denoter} (valid : IsDenoter types d) (t : TypeValue) → IsInstance types d t → IsTypeOf valid.host t
+pub instance_valid : {types : List UnitType} {d : Denoter} (valid : IsDenoter types d) (t : TypeValue)
+    → IsInstance types d t → IsTypeOf valid.host t
 instance_valid {types = types} {d = d} valid t h = subst (λ u. IsTypeOf valid.host u) (one_type (types_are_instances types d valid.type_value valid.has_type) h) valid.is_type
 
 -- a value of a type is one of its host
-pub within_host : (h : Host) (low high w : ℤ) → IsTypeOf h (type.Ordinal low high) → IsTrue (is_within (type.Ordinal low high) w) → IsTrue (is_of_host h w)
+pub within_host : (h : Host) (low high w : ℤ) → IsTypeOf h (type.Ordinal low high)
+    → IsTrue (is_within (type.Ordinal low high) w) → IsTrue (is_of_host h w)
 within_host h low high w t p =
     let x = both (int_le low w) (int_le w high) p in
     let l = both (int_le (least h) low) (int_le low (greatest h)) t.1 in
@@ -104,7 +114,8 @@ within_host h low high w t p =
     rw (int_le-trans (least h) low w l.0 x.0, int_le-trans w high (greatest h) x.1 g.1) refl
 
 -- a word of a type is not the undefined one
-pub word_defined : (low high w : ℤ) → IsTrue (is_integer low) → IsTrue (is_within (type.Ordinal low high) w) → int_lt undefined w ≡ true
+pub word_defined : (low high w : ℤ) → IsTrue (is_integer low) → IsTrue (is_within (type.Ordinal low high) w)
+    → int_lt undefined w ≡ true
 word_defined low high (pos n) i p = refl
 word_defined low high (negsuc n) i p =
     let x = both (int_le low (negsuc n)) (int_le (negsuc n) high) p in

@@ -42,7 +42,9 @@ ordinal_is low high Pointer t = cc
 ordinal_is low high Text t = cc
 
 -- a number that was found is that of the type
-pub described-found : {elaborated : List TypeValue} {types : TypeTable} (low high : ℤ) (n : ℕ) → MatchesTypes elaborated types → ordinal_number low high types ≡ Some n → Describes types n (type.Ordinal low high)
+pub described-found : {elaborated : List TypeValue} {types : TypeTable} (low high : ℤ) (n : ℕ)
+    → MatchesTypes elaborated types → ordinal_number low high types ≡ Some n
+    → Describes types n (type.Ordinal low high)
 described-found {types = types} low high n m h =
     let d = ordinal_entry low high in
     let p = position-Some (λ (e : TypeEntry). is_ordinal low high e.kind) types n d h in
@@ -56,15 +58,19 @@ same_type-refl : (low high : ℤ) → IsTrue (same_type (type.Ordinal low high) 
 same_type-refl low high = grind (arith, ints)
 
 -- how far the first element is that passes, or the length
-place_more : {A : Type 0} (p : A → Bool) (xs ys : List A) → position_or_len p xs < length xs → position_or_len p (xs ++ ys) ≡ position_or_len p xs
+place_more : {A : Type 0} (p : A → Bool) (xs ys : List A) → position_or_len p xs < length xs
+    → position_or_len p (xs ++ ys) ≡ position_or_len p xs
 place_more p [] ys h = absurd (omega arith)
 place_more p (x ∷ xs) ys h = step (p x) h (λ k. place_more p xs ys k)
   where
-    step : (b : Bool) → (if not b then 1 + (position_or_len p xs) else 0) < suc (length xs) → (position_or_len p xs < length xs → position_or_len p (xs ++ ys) ≡ position_or_len p xs) → (if not b then 1 + (position_or_len p (xs ++ ys)) else 0) ≡ (if not b then 1 + (position_or_len p xs) else 0)
+    step : (b : Bool) → (if not b then 1 + (position_or_len p xs) else 0) < suc (length xs)
+        → (position_or_len p xs < length xs → position_or_len p (xs ++ ys) ≡ position_or_len p xs)
+        → (if not b then 1 + (position_or_len p (xs ++ ys)) else 0) ≡ (if not b then 1 + (position_or_len p xs) else 0)
     step true k f = refl
     step false k f = ap (λ k. 1 + k) (f (omega arith))
 
-place_new : {A : Type 0} (p : A → Bool) (xs : List A) (x : A) → IsTrue (p x) → position_or_len p (xs ++ x ∷ []) < length (xs ++ x ∷ [])
+place_new : {A : Type 0} (p : A → Bool) (xs : List A) (x : A) → IsTrue (p x)
+    → position_or_len p (xs ++ x ∷ []) < length (xs ++ x ∷ [])
 place_new p [] x h = step (p x) h
   where
     step : (b : Bool) → IsTrue b → (if not b then 1 else 0) < 1
@@ -72,25 +78,29 @@ place_new p [] x h = step (p x) h
     step false k = cc
 place_new p (y ∷ xs) x h = step (p y) (place_new p xs x h)
   where
-    step : (b : Bool) → position_or_len p (xs ++ x ∷ []) < length (xs ++ x ∷ []) → (if not b then 1 + (position_or_len p (xs ++ x ∷ [])) else 0) < suc (length (xs ++ x ∷ []))
+    step : (b : Bool) → position_or_len p (xs ++ x ∷ []) < length (xs ++ x ∷ [])
+        → (if not b then 1 + (position_or_len p (xs ++ x ∷ [])) else 0) < suc (length (xs ++ x ∷ []))
     step true k = omega arith
     step false k = omega arith
 
-position_of : {A : Type 0} (p : A → Bool) (xs : List A) → position_or_len p xs < length xs → position p xs ≡ Some (position_or_len p xs)
+position_of : {A : Type 0} (p : A → Bool) (xs : List A) → position_or_len p xs < length xs
+    → position p xs ≡ Some (position_or_len p xs)
 position_of p xs h = let less : nat_lt (position_or_len p xs) (length xs) ≡ true = grind (arith, nat_tests) in ap (λ b. cond b (Some (position_or_len p xs)) None) less
 
 position_within : (b : Bool) (k n : ℕ) → cond b (Some k) None ≡ Some n → (b ≡ true) × (k ≡ n)
 position_within true k n h = (refl, cc)
 position_within false k n h = cc
 
-position_from-more : {A : Type 0} (p : A → Bool) (xs ys : List A) (n : ℕ) → position p xs ≡ Some n → position p (xs ++ ys) ≡ Some n
+position_from-more : {A : Type 0} (p : A → Bool) (xs ys : List A) (n : ℕ) → position p xs ≡ Some n
+    → position p (xs ++ ys) ≡ Some n
 position_from-more p xs ys n h =
     let w = position_within (nat_lt (position_or_len p xs) (length xs)) (position_or_len p xs) n h in
     let within : position_or_len p xs < length xs = let t = w.0 in grind (arith, nat_tests) in
     let same = place_more p xs ys within in
     position_of p (xs ++ ys) (omega (arith, same, length-append xs ys)) ∙ ap Some (same ∙ w.1)
 
-position_from-new : {A : Type 0} (p : A → Bool) (xs : List A) (x : A) → IsTrue (p x) → (n : ℕ) × (position p (xs ++ x ∷ []) ≡ Some n)
+position_from-new : {A : Type 0} (p : A → Bool) (xs : List A) (x : A) → IsTrue (p x)
+    → (n : ℕ) × (position p (xs ++ x ∷ []) ≡ Some n)
 position_from-new p xs x h = (position_or_len p (xs ++ x ∷ []), position_of p (xs ++ x ∷ []) (place_new p xs x h))
 
 -- one of two tests
@@ -99,19 +109,25 @@ either true b t = inl refl
 either false b t = inr t
 
 -- what is among the types that are counted after one is met
-met_among : (low high l h : ℤ) (r : Resources) → IsTrue (list_any (same_type (type.Ordinal l h)) (met (type.Ordinal low high) r).types) → IsTrue (same_type (type.Ordinal l h) (type.Ordinal low high)) ⊎ IsTrue (list_any (same_type (type.Ordinal l h)) r.types)
+met_among : (low high l h : ℤ) (r : Resources)
+    → IsTrue (list_any (same_type (type.Ordinal l h)) (met (type.Ordinal low high) r).types)
+    → IsTrue (same_type (type.Ordinal l h) (type.Ordinal low high)) ⊎ IsTrue (list_any (same_type (type.Ordinal l h)) r.types)
 met_among low high l h r = go (list_any (same_type (type.Ordinal low high)) r.types)
   where
-    go : (b : Bool) → IsTrue (list_any (same_type (type.Ordinal l h)) (watched (if b then r else record r { types = type.Ordinal low high ∷ r.types; typed = r.typed + words_of_type (type.Ordinal low high) })).types) → IsTrue (same_type (type.Ordinal l h) (type.Ordinal low high)) ⊎ IsTrue (list_any (same_type (type.Ordinal l h)) r.types)
+    go : (b : Bool)
+        → IsTrue (list_any (same_type (type.Ordinal l h)) (watched (if b then r else record r { types = type.Ordinal low high ∷ r.types; typed = r.typed + words_of_type (type.Ordinal low high) })).types)
+        → IsTrue (same_type (type.Ordinal l h) (type.Ordinal low high)) ⊎ IsTrue (list_any (same_type (type.Ordinal l h)) r.types)
     go true t = inr t
     go false t = either (same_type (type.Ordinal l h) (type.Ordinal low high)) (list_any (same_type (type.Ordinal l h)) r.types) t
 
 -- the same bounds
-pub same_bounds : (low high l h : ℤ) → IsTrue (same_type (type.Ordinal l h) (type.Ordinal low high)) → (l ≡ low) × (h ≡ high)
+pub same_bounds : (low high l h : ℤ) → IsTrue (same_type (type.Ordinal l h) (type.Ordinal low high))
+    → (l ≡ low) × (h ≡ high)
 same_bounds low high l h t = let p = both (int_le l low && int_le low l) (int_le h high && int_le high h) t in (same_number l low p.0, same_number h high p.1)
 
 -- the type has a number already
-pub types-found : (r : Resources) {types : TypeTable} (low high : ℤ) (n : ℕ) → MatchesTypes r.types types → ordinal_number low high types ≡ Some n → MatchesTypes (met (type.Ordinal low high) r).types types
+pub types-found : (r : Resources) {types : TypeTable} (low high : ℤ) (n : ℕ) → MatchesTypes r.types types
+    → ordinal_number low high types ≡ Some n → MatchesTypes (met (type.Ordinal low high) r).types types
 types-found r {types = types} low high n m found =
     record {
       first = m.first;
@@ -119,16 +135,22 @@ types-found r {types = types} low high n m found =
       sized = m.sized;
     }
   where
-    known : (l h : ℤ) → IsTrue (same_type (type.Ordinal l h) (type.Ordinal low high)) ⊎ IsTrue (list_any (same_type (type.Ordinal l h)) r.types) → (k : ℕ) × (ordinal_number l h types ≡ Some k)
+    known : (l h : ℤ)
+        → IsTrue (same_type (type.Ordinal l h) (type.Ordinal low high)) ⊎ IsTrue (list_any (same_type (type.Ordinal l h)) r.types)
+        → (k : ℕ) × (ordinal_number l h types ≡ Some k)
     known l h (inl t) = let e = same_bounds low high l h t in (n, (λ i. ordinal_number (e.0 i) (e.1 i) types) ∙ found)
     known l h (inr t) = m.known l h t
 
 -- a type without a number was never met
-pub not_known : {elaborated : List TypeValue} {types : TypeTable} (low high : ℤ) → MatchesTypes elaborated types → ordinal_number low high types ≡ None → IsTrue (list_any (same_type (type.Ordinal low high)) elaborated) → ⊥
+pub not_known : {elaborated : List TypeValue} {types : TypeTable} (low high : ℤ) → MatchesTypes elaborated types
+    → ordinal_number low high types ≡ None → IsTrue (list_any (same_type (type.Ordinal low high)) elaborated)
+    → ⊥
 not_known low high m none t = let k = m.known low high t in let e : ◌≡◌ {A = Option ℕ} None (Some k.0) = sym none ∙ k.1 in cc
 
 -- a first type has a number
-first_known : (low high : ℤ) (rest : TypeTable) → IsTrue (list_any (same_type (type.Ordinal low high)) meaning.first_types) → (n : ℕ) × (ordinal_number low high (first_types ++ rest) ≡ Some n)
+first_known : (low high : ℤ) (rest : TypeTable)
+    → IsTrue (list_any (same_type (type.Ordinal low high)) meaning.first_types)
+    → (n : ℕ) × (ordinal_number low high (first_types ++ rest) ≡ Some n)
 first_known low high rest h =
     elim (either (is_this integer_entry) (is_this char_entry || (is_this boolean_entry || (false || false))) h) [
       | inl t ↦ among [] integer_entry (char_entry ∷ boolean_entry ∷ text_entry ∷ pointer_entry ∷ rest) t
@@ -146,11 +168,13 @@ first_known low high rest h =
     is_this : TypeEntry → Bool
     is_this e = is_ordinal low high e.kind
 
-    among : (before : List TypeEntry) (e : TypeEntry) (after : List TypeEntry) → IsTrue (is_this e) → (n : ℕ) × (ordinal_number low high ((before ++ e ∷ []) ++ after) ≡ Some n)
+    among : (before : List TypeEntry) (e : TypeEntry) (after : List TypeEntry) → IsTrue (is_this e)
+        → (n : ℕ) × (ordinal_number low high ((before ++ e ∷ []) ++ after) ≡ Some n)
     among before e after t = let k = position_from-new is_this before e t in (k.0, position_from-more is_this (before ++ e ∷ []) after k.0 k.1)
 
 -- a type without a number is none of the first ones, and so it has a word
-pub new_word : {elaborated : List TypeValue} {types : TypeTable} (low high : ℤ) → MatchesTypes elaborated types → ordinal_number low high types ≡ None → words_of_type (type.Ordinal low high) ≡ 1
+pub new_word : {elaborated : List TypeValue} {types : TypeTable} (low high : ℤ) → MatchesTypes elaborated types
+    → ordinal_number low high types ≡ None → words_of_type (type.Ordinal low high) ≡ 1
 new_word {types = types} low high m none = go (list_any (same_type (type.Ordinal low high)) meaning.first_types) first
   where
     first : IsTrue (list_any (same_type (type.Ordinal low high)) meaning.first_types) → ⊥
@@ -164,7 +188,9 @@ new_word {types = types} low high m none = go (list_any (same_type (type.Ordinal
     go false f = refl
 
 -- the type gets a new number
-pub types-added : (r : Resources) {types : TypeTable} (low high : ℤ) → MatchesTypes r.types types → ordinal_number low high types ≡ None → MatchesTypes (met (type.Ordinal low high) r).types (types ++ ordinal_entry low high ∷ [])
+pub types-added : (r : Resources) {types : TypeTable} (low high : ℤ) → MatchesTypes r.types types
+    → ordinal_number low high types ≡ None
+    → MatchesTypes (met (type.Ordinal low high) r).types (types ++ ordinal_entry low high ∷ [])
 types-added r {types = types} low high m none =
     record {
       first = prefix_then m.first (record { rest = ordinal_entry low high ∷ []; is = refl });
@@ -172,21 +198,27 @@ types-added r {types = types} low high m none =
       sized = λ n e at_n. sized n e (slice_get-push types (ordinal_entry low high) e n at_n);
     }
   where
-    known : (l h : ℤ) → IsTrue (same_type (type.Ordinal l h) (type.Ordinal low high)) ⊎ IsTrue (list_any (same_type (type.Ordinal l h)) r.types) → (k : ℕ) × (ordinal_number l h (types ++ ordinal_entry low high ∷ []) ≡ Some k)
+    known : (l h : ℤ)
+        → IsTrue (same_type (type.Ordinal l h) (type.Ordinal low high)) ⊎ IsTrue (list_any (same_type (type.Ordinal l h)) r.types)
+        → (k : ℕ) × (ordinal_number l h (types ++ ordinal_entry low high ∷ []) ≡ Some k)
     known l h (inl t) = position_from-new (λ (e : TypeEntry). is_ordinal l h e.kind) types (ordinal_entry low high) t
     known l h (inr t) = let k = m.known l h t in (k.0, position_from-more (λ (e : TypeEntry). is_ordinal l h e.kind) types (ordinal_entry low high ∷ []) k.0 k.1)
 
-    sized : (n : ℕ) (e : TypeEntry) → (slice_get types n ≡ Some e) ⊎ ((n ≡ length types) × (e ≡ ordinal_entry low high)) → e.size ≡ 1
+    sized : (n : ℕ) (e : TypeEntry)
+        → (slice_get types n ≡ Some e) ⊎ ((n ≡ length types) × (e ≡ ordinal_entry low high)) → e.size ≡ 1
     sized n e (inl h) = m.sized n e h
     sized n e (inr h) = ap (λ (x : TypeEntry). x.size) h.1
 
 -- a number keeps its type in a longer table
-pub described-longer : (types longer : TypeTable) (n : ℕ) (t : TypeValue) → IsPrefix types longer → Describes types n t → Describes longer n t
+pub described-longer : (types longer : TypeTable) (n : ℕ) (t : TypeValue) → IsPrefix types longer
+    → Describes types n t → Describes longer n t
 described-longer types longer n (type.Ordinal low high) p h = slice_get-prefix types longer n (ordinal_entry low high) p h
 described-longer types longer n type.Text p h = slice_get-prefix types longer n text_entry p h
 
 -- the store goes on matching with a longer table of types
-pub matches_store-types : {injection : Injection} {allocations : List Allocation} {segments : Segments} {types longer : TypeTable} → IsPrefix types longer → MatchesStore injection allocations segments types → MatchesStore injection allocations segments longer
+pub matches_store-types : {injection : Injection} {allocations : List Allocation} {segments : Segments} {types longer : TypeTable}
+    → IsPrefix types longer → MatchesStore injection allocations segments types
+    → MatchesStore injection allocations segments longer
 matches_store-types {types = types} {longer = longer} prefix m =
     record {
       represented = λ n segment allocation is_in at_n.
@@ -195,13 +227,18 @@ matches_store-types {types = types} {longer = longer} prefix m =
     }
 
 -- Matching with another table of types, where no number changes its type.
-pub matches-types : {declared : Declarations} {G : Image} {injection : Injection} {s : meaning.State} {memory : Memory} (resources : Resources) (types : TypeTable) (live : ℕ) → IsPrefix memory.types types → MatchesTypes resources.types types → MatchesCounts injection resources memory.segments types live
-    → Matches declared G injection s memory → Matches declared G injection (record s { resources = resources }) (record memory { types = types; live = live })
+pub matches-types : {declared : Declarations} {G : Image} {injection : Injection} {s : meaning.State} {memory : Memory} (resources : Resources) (types : TypeTable) (live : ℕ)
+    → IsPrefix memory.types types → MatchesTypes resources.types types
+    → MatchesCounts injection resources memory.segments types live
+    → Matches declared G injection s memory
+    → Matches declared G injection (record s { resources = resources }) (record memory { types = types; live = live })
 matches-types resources types live longer known counts m =
     record { injected = m.injected; store = matches_store-types longer m.store; types = known; units = m.units; outside = m.outside; counts = counts }
 
 -- grown by a longer table alone
-pub grown-types : {untouched : Slots} (injection : Injection) (memory : Memory) (types : TypeTable) (live : ℕ) → IsPrefix memory.types types → Grown untouched injection memory injection (record memory { types = types; live = live })
+pub grown-types : {untouched : Slots} (injection : Injection) (memory : Memory) (types : TypeTable) (live : ℕ)
+    → IsPrefix memory.types types
+    → Grown untouched injection memory injection (record memory { types = types; live = live })
 grown-types {untouched = untouched} injection memory types live longer =
     let g = grown_refl {untouched = untouched} injection memory in
     record { larger = g.larger; types = longer; segments = g.segments; hidden = g.hidden; others = g.others; allocated = g.allocated; slots = g.slots; typed = g.typed; ended = g.ended }

@@ -27,13 +27,18 @@ use Rattle.ep_object.specs.declared.op.TheConstants as op
 use Rattle.ep_typed.specs.declared.run_error.TheConstants as run_error
 
 -- the bounds of an ordinal type are integers
-bounds : (low high : ℤ) (value : Value) → IsValueOf (type.Ordinal low high) value → IsTrue (is_integer low) × IsTrue (is_integer high)
+bounds : (low high : ℤ) (value : Value) → IsValueOf (type.Ordinal low high) value
+    → IsTrue (is_integer low) × IsTrue (is_integer high)
 bounds low high Undefined h = (h.0, h.1)
 bounds low high (meaning.Word w) h = (h.0, h.1)
 
 module _ (declared : Declarations) (G : Image) (place line : ℕ) (below : List Operand) where
   -- `Put` of a text to `output`
-  pub put_does : {untouched : Slots} {Here : Facts} (bytes : List ℕ) → slice_get G.instructions place ≡ Some (instr op.PUT (pos 0) 0 line) → Lasts untouched Here → (injection : Injection) (memory : Memory) (s : meaning.State) → Matches declared G injection s memory → Here injection s memory → Does declared G Here (at place (Text bytes ∷ operand.Place output_place ∷ below) memory s.trace) (length bytes) (place + 1) (Inside untouched injection memory (Bare below tt)) (with_events (piece_events bytes) s)
+  pub put_does : {untouched : Slots} {Here : Facts} (bytes : List ℕ)
+      → slice_get G.instructions place ≡ Some (instr op.PUT (pos 0) 0 line) → Lasts untouched Here
+      → (injection : Injection) (memory : Memory) (s : meaning.State) → Matches declared G injection s memory
+      → Here injection s memory
+      → Does declared G Here (at place (Text bytes ∷ operand.Place output_place ∷ below) memory s.trace) (length bytes) (place + 1) (Inside untouched injection memory (Bare below tt)) (with_events (piece_events bytes) s)
   put_does bytes has lasts injection memory s matches here =
       let injected = matches.injected in
       let store = matches.store in
@@ -51,12 +56,19 @@ module _ (declared : Declarations) (G : Image) (place line : ℕ) (below : List 
         post = inside_here refl;
       }
     where
-      go : (value : Value) (type_number : ℕ) → slice_get memory.types 3 ≡ Some text_entry → slice_get memory.segments 2 ≡ Some (Some (record { type_number = type_number; words = layout value })) → outcome G (at place (Text bytes ∷ operand.Place output_place ∷ below) memory s.trace) ≡ record { weight = length bytes; to = Running 0 (at (place + 1) below memory (s.trace ++ written bytes)) }
+      go : (value : Value) (type_number : ℕ) → slice_get memory.types 3 ≡ Some text_entry
+          → slice_get memory.segments 2 ≡ Some (Some (record { type_number = type_number; words = layout value }))
+          → outcome G (at place (Text bytes ∷ operand.Place output_place ∷ below) memory s.trace) ≡ record { weight = length bytes; to = Running 0 (at (place + 1) below memory (s.trace ++ written bytes)) }
       go Undefined type_number typed stands = outcome_at G (instr op.PUT (pos 0) 0 line) place (Text bytes ∷ operand.Place output_place ∷ below) memory s.trace has ∙ rw (typed, stands) refl
       go (meaning.Word w) type_number typed stands = outcome_at G (instr op.PUT (pos 0) 0 line) place (Text bytes ∷ operand.Place output_place ∷ below) memory s.trace has ∙ rw (typed, stands) refl
 
   -- `Store` of a word, which is checked as the assignment is
-  store_outcome : (memory : Memory) (trace : Trace) (p : Place) (low high z : ℤ) (type_number : ℕ) (value : Value) (b : Bool) → slice_get G.instructions place ≡ Some (instr op.STORE (pos 0) 0 line) → slice_get memory.types p.type_number ≡ Some (ordinal_entry low high) → slice_get memory.segments p.segment ≡ Some (Some (record { type_number = type_number; words = layout value })) → p.offset ≡ 0 → is_within (type.Ordinal low high) z ≡ b → outcome G (at place (Word z ∷ operand.Place p ∷ below) memory trace) ≡ in_one (cond b (Running 0 (at (place + 1) below (storing memory p.segment type_number (meaning.Word z)) trace)) (Stopped (Error run_error.OUTSIDE_TYPE (unit_in G memory.frames) line) trace))
+  store_outcome : (memory : Memory) (trace : Trace) (p : Place) (low high z : ℤ) (type_number : ℕ) (value : Value) (b : Bool)
+      → slice_get G.instructions place ≡ Some (instr op.STORE (pos 0) 0 line)
+      → slice_get memory.types p.type_number ≡ Some (ordinal_entry low high)
+      → slice_get memory.segments p.segment ≡ Some (Some (record { type_number = type_number; words = layout value }))
+      → p.offset ≡ 0 → is_within (type.Ordinal low high) z ≡ b
+      → outcome G (at place (Word z ∷ operand.Place p ∷ below) memory trace) ≡ in_one (cond b (Running 0 (at (place + 1) below (storing memory p.segment type_number (meaning.Word z)) trace)) (Stopped (Error run_error.OUTSIDE_TYPE (unit_in G memory.frames) line) trace))
   store_outcome memory trace p low high z type_number Undefined true has typed stands offset within =
       outcome_at G (instr op.STORE (pos 0) 0 line) place (Word z ∷ operand.Place p ∷ below) memory trace has ∙ rw (typed, stands, offset, within) refl
   store_outcome memory trace p low high z type_number Undefined false has typed stands offset within =
@@ -78,7 +90,9 @@ module _ (declared : Declarations) (G : Image) (place line : ℕ) (below : List 
     type_is : type_at n s ≡ type.Ordinal low high
     type_is = ap type_in here.is ∙ its_type
 
-    pub store_does : {untouched : Slots} {Here : Facts} → Lasts untouched Here → Here injection s memory → is_within (type_at n s) z ≡ true → Does declared G Here (at place (Word z ∷ operand.Place p ∷ below) memory s.trace) 0 (place + 1) (Inside untouched injection memory (Bare below tt)) (assigned n (meaning.Word z) s)
+    pub store_does : {untouched : Slots} {Here : Facts} → Lasts untouched Here → Here injection s memory
+        → is_within (type_at n s) z ≡ true
+        → Does declared G Here (at place (Word z ∷ operand.Place p ∷ below) memory s.trace) 0 (place + 1) (Inside untouched injection memory (Bare below tt)) (assigned n (meaning.Word z) s)
     store_does {untouched = untouched} lasts known within =
         let a : Allocation = here.allocation in
         let r : Represents memory.segments memory.types p.segment a = here.represents in
@@ -95,7 +109,8 @@ module _ (declared : Declarations) (G : Image) (place line : ℕ) (below : List 
           post = record { grown = grown_storing matches n p.segment a (meaning.Word z) place_of.is_in here.is r; routine = same_routine-refl memory.frames; operands_are = refl };
         }
 
-    pub store_fails : is_within (type_at n s) z ≡ false → FailsWith G (at place (Word z ∷ operand.Place p ∷ below) memory s.trace) 0 2 (unit_in G memory.frames) line s
+    pub store_fails : is_within (type_at n s) z ≡ false
+        → FailsWith G (at place (Word z ∷ operand.Place p ∷ below) memory s.trace) 0 2 (unit_in G memory.frames) line s
     store_fails within =
         let r : Represents memory.segments memory.types p.segment here.allocation = here.represents in
         let outside : is_within (type.Ordinal low high) z ≡ false = ap (λ t. is_within t z) (sym type_is) ∙ within in

@@ -35,7 +35,11 @@ use Rattle.ep_object.proofs.matching.NewVariables.{new_segment, new_place, with_
 -- ---- the row
 
 -- what `Make` leads to: one more variable, or an error where too many words would live
-make_outcome : (G : Image) (place line : ℕ) (below : List Operand) (low high : ℤ) (number k : ℕ) (slots : List (Option Place)) (memory : Memory) (trace : Trace) (b : Bool) → slice_get G.instructions place ≡ Some (instr op.MAKE (pos k) 0 line) → slice_get memory.frames.units memory.frames.unit ≡ Some slots → Describes memory.types number (type.Ordinal low high) → k < length slots → leb (memory.live + 2) live_limit ≡ b
+make_outcome : (G : Image) (place line : ℕ) (below : List Operand) (low high : ℤ) (number k : ℕ) (slots : List (Option Place)) (memory : Memory) (trace : Trace) (b : Bool)
+    → slice_get G.instructions place ≡ Some (instr op.MAKE (pos k) 0 line)
+    → slice_get memory.frames.units memory.frames.unit ≡ Some slots
+    → Describes memory.types number (type.Ordinal low high) → k < length slots
+    → leb (memory.live + 2) live_limit ≡ b
     → outcome G (at place (Word (pos number) ∷ below) memory trace) ≡ cond b (record { weight = 1; to = Running 0 (at (place + 1) below (with_variable number (with_place number k slots memory) memory) trace) }) (in_one (Stopped (Error run_error.STORAGE_LIMIT (unit_in G memory.frames) line) trace))
 make_outcome G place line below low high number k slots memory trace true has frame described within fits =
     outcome_at G (instr op.MAKE (pos k) 0 line) place (Word (pos number) ∷ below) memory trace has ∙ rw (frame, lt-ltb number (length memory.types) (slice_get_within memory.types number (ordinal_entry low high) described), described, lt-ltb k (length slots) within, fits) refl
@@ -43,10 +47,16 @@ make_outcome G place line below low high number k slots memory trace false has f
     outcome_at G (instr op.MAKE (pos k) 0 line) place (Word (pos number) ∷ below) memory trace has ∙ rw (frame, lt-ltb number (length memory.types) (slice_get_within memory.types number (ordinal_entry low high) described), described, lt-ltb k (length slots) within, fits) refl
 
 -- `Make` of an ordinal type in a slot of the unit's frame, over the number of the type
-pub make_does : {untouched : Slots} {Here : Facts} (declared : Declarations) (G : Image) (place line : ℕ) (below : List Operand) (low high : ℤ) (number k : ℕ) (x : ImageUnit) → slice_get G.instructions place ≡ Some (instr op.MAKE (pos k) 0 line)
+pub make_does : {untouched : Slots} {Here : Facts} (declared : Declarations) (G : Image) (place line : ℕ) (below : List Operand) (low high : ℤ) (number k : ℕ) (x : ImageUnit)
+    → slice_get G.instructions place ≡ Some (instr op.MAKE (pos k) 0 line)
     → HasDistinctNames G → IsTrue (is_integer low) → IsTrue (is_integer high)
-    → HaveValidTypes declared → ((v : UnitVariable) → declared.variables x.name k ≡ Some v → HasType declared x.name v (type.Ordinal low high))
-    → (injection : Injection) (memory : Memory) (s : meaning.State) → slice_get G.units memory.frames.unit ≡ Some x → k < x.slots → (IsTrue (untouched memory.frames.unit k) → ⊥) → Describes memory.types number (type.Ordinal low high) → Lasts untouched Here → Matches declared G injection s memory → Here injection s memory
+    → HaveValidTypes declared
+    → ((v : UnitVariable) → declared.variables x.name k ≡ Some v → HasType declared x.name v (type.Ordinal low high))
+    → (injection : Injection) (memory : Memory) (s : meaning.State)
+    → slice_get G.units memory.frames.unit ≡ Some x → k < x.slots
+    → (IsTrue (untouched memory.frames.unit k) → ⊥)
+    → Describes memory.types number (type.Ordinal low high) → Lasts untouched Here
+    → Matches declared G injection s memory → Here injection s memory
     → Does declared G Here (at place (Word (pos number) ∷ below) memory s.trace) 1 (place + 1) (Inside untouched injection memory (Bare below tt)) (made x.name k (type.Ordinal low high) (counted (type.Ordinal low high) s)) ⊎ GivesUp G (at place (Word (pos number) ∷ below) memory s.trace) 0 1 (counted (type.Ordinal low high) s)
 make_does {untouched = untouched} {Here = Here} declared G place line below low high number k x has distinct low_fits high_fits types_valid declared_so injection memory s is_unit within free described lasts matches known = go (leb (memory.live + 2) live_limit) refl
   where
@@ -54,25 +64,30 @@ make_does {untouched = untouched} {Here = Here} declared G place line below low 
     frame = frame_here matches x low high number k is_unit described low_fits high_fits
 
     -- the slots that are kept are what they were
-    kept : (unit j : ℕ) → IsTrue (untouched unit j) → slot_in (with_place number k frame.slots memory) unit j ≡ slot_in memory.frames unit j
+    kept : (unit j : ℕ) → IsTrue (untouched unit j)
+        → slot_in (with_place number k frame.slots memory) unit j ≡ slot_in memory.frames unit j
     kept unit j is_kept = elim (ℕ_discrete memory.frames.unit unit) [ yes e ↦ own e | no e ↦ other e ]
       where
         new_slots_here : slice_get (slice_set memory.frames.units memory.frames.unit (slice_set frame.slots k (Some (new_place memory number)))) memory.frames.unit ≡ Some (slice_set frame.slots k (Some (new_place memory number)))
         new_slots_here = slice_get-set-same memory.frames.units memory.frames.unit (slice_set frame.slots k (Some (new_place memory number))) frame.slots frame.is
 
-        own : memory.frames.unit ≡ unit → slot_in (with_place number k frame.slots memory) unit j ≡ slot_in memory.frames unit j
+        own : memory.frames.unit ≡ unit
+            → slot_in (with_place number k frame.slots memory) unit j ≡ slot_in memory.frames unit j
         own e =
             let different : (k ≡ j → ⊥) = λ q. free (subst (λ i. IsTrue (untouched i k)) (sym e) (subst (λ i. IsTrue (untouched unit i)) (sym q) is_kept)) in
             subst (λ u. slot_in (with_place number k frame.slots memory) u j ≡ slot_in memory.frames u j) e
             (ap (λ o. slot_of_frame o j) new_slots_here ∙ (slice_get-set-other frame.slots k j (Some (new_place memory number)) different ∙ sym (ap (λ o. slot_of_frame o j) frame.is)))
 
-        other : (memory.frames.unit ≡ unit → ⊥) → slot_in (with_place number k frame.slots memory) unit j ≡ slot_in memory.frames unit j
+        other : (memory.frames.unit ≡ unit → ⊥)
+            → slot_in (with_place number k frame.slots memory) unit j ≡ slot_in memory.frames unit j
         other e = ap (λ o. slot_of_frame o j) (slice_get-set-other memory.frames.units memory.frames.unit unit (slice_set frame.slots k (Some (new_place memory number))) e)
 
-    leads : (b : Bool) → leb (memory.live + 2) live_limit ≡ b → outcome G (at place (Word (pos number) ∷ below) memory s.trace) ≡ cond b (record { weight = 1; to = Running 0 (at (place + 1) below (with_variable number (with_place number k frame.slots memory) memory) s.trace) }) (in_one (Stopped (Error run_error.STORAGE_LIMIT (unit_in G memory.frames) line) s.trace))
+    leads : (b : Bool) → leb (memory.live + 2) live_limit ≡ b
+        → outcome G (at place (Word (pos number) ∷ below) memory s.trace) ≡ cond b (record { weight = 1; to = Running 0 (at (place + 1) below (with_variable number (with_place number k frame.slots memory) memory) s.trace) }) (in_one (Stopped (Error run_error.STORAGE_LIMIT (unit_in G memory.frames) line) s.trace))
     leads b e = make_outcome G place line below low high number k frame.slots memory s.trace b has frame.is described (omega (arith, within, frame.count)) e
 
-    go : (b : Bool) → leb (memory.live + 2) live_limit ≡ b → Does declared G Here (at place (Word (pos number) ∷ below) memory s.trace) 1 (place + 1) (Inside untouched injection memory (Bare below tt)) (made x.name k (type.Ordinal low high) (counted (type.Ordinal low high) s)) ⊎ GivesUp G (at place (Word (pos number) ∷ below) memory s.trace) 0 1 (counted (type.Ordinal low high) s)
+    go : (b : Bool) → leb (memory.live + 2) live_limit ≡ b
+        → Does declared G Here (at place (Word (pos number) ∷ below) memory s.trace) 1 (place + 1) (Inside untouched injection memory (Bare below tt)) (made x.name k (type.Ordinal low high) (counted (type.Ordinal low high) s)) ⊎ GivesUp G (at place (Word (pos number) ∷ below) memory s.trace) 0 1 (counted (type.Ordinal low high) s)
     go true e =
         inl (record {
           injection = with_segment injection memory;

@@ -32,7 +32,9 @@ abbrev pub with_entry : TypeEntry → Memory → Memory
 with_entry e memory = record memory { types = memory.types ++ e ∷ []; live = memory.live + 1 }
 
 -- what TOrd leads to: the type's number on top, and the state that has met the type
-pub record Elaborates (untouched : Slots) (declared : Declarations) (G : Image) (injection : Injection) (memory : Memory) (place : ℕ) (below : List Operand) (t : TypeValue) (k : State) (s : meaning.State) : Type 0 where
+pub record Elaborates (untouched : Slots) (declared : Declarations) (G : Image) (injection : Injection)
+    (memory : Memory) (place : ℕ) (below : List Operand) (t : TypeValue) (k : State)
+    (s : meaning.State) : Type 0 where
   pub number : ℕ
   pub final : Memory
   pub does : outcome G k ≡ record { weight = 0; to = Running 0 (at (place + 1) (Word (pos number) ∷ below) final s.trace) }
@@ -58,7 +60,8 @@ adds G i k e below b = after G i k (mapped (with_typing k) (cond b (Continues (r
 
 module _ (G : Image) (place line : ℕ) (low high : ℤ) (below : List Operand) (memory : Memory) (trace : Trace) where
   -- by what number the type has
-  ordinal_outcome : IsTrue (int_le low high) → (o : Option ℕ) → ordinal_number low high memory.types ≡ o → slice_get G.instructions place ≡ Some (ordinal_instr line)
+  ordinal_outcome : IsTrue (int_le low high) → (o : Option ℕ) → ordinal_number low high memory.types ≡ o
+      → slice_get G.instructions place ≡ Some (ordinal_instr line)
       → outcome G (before_type place low high below memory trace) ≡ record { weight = 0; to = after G (ordinal_instr line) (before_type place low high below memory trace) (mapped (with_typing (before_type place low high below memory trace)) (interned o (ordinal_entry low high) below (typing (before_type place low high below memory trace)))) }
   ordinal_outcome ordered o is fetch =
       let k = before_type place low high below memory trace in
@@ -67,7 +70,9 @@ module _ (G : Image) (place line : ℕ) (low high : ℤ) (below : List Operand) 
       ∙ ap (λ x. record { weight = 0; to = after G (ordinal_instr line) k (mapped (with_typing k) (interned x (ordinal_entry low high) below (typing k))) }) is
 
 -- The type is met, or the machine ends for want of storage where room is lost.
-pub elaborates : {untouched : Slots} {declared : Declarations} {G : Image} {injection : Injection} {memory : Memory} (place line : ℕ) (low high : ℤ) (below : List Operand) (s : meaning.State) → IsTrue (int_le low high) → slice_get G.instructions place ≡ Some (ordinal_instr line) → Matches declared G injection s memory
+pub elaborates : {untouched : Slots} {declared : Declarations} {G : Image} {injection : Injection} {memory : Memory} (place line : ℕ) (low high : ℤ) (below : List Operand) (s : meaning.State)
+    → IsTrue (int_le low high) → slice_get G.instructions place ≡ Some (ordinal_instr line)
+    → Matches declared G injection s memory
     → Elaborates untouched declared G injection memory place below (type.Ordinal low high) (before_type place low high below memory s.trace) s ⊎ GivesUp G (before_type place low high below memory s.trace) 0 1 (meaning.with_type (type.Ordinal low high) s)
 elaborates {untouched} {declared} {G} {injection} {memory} place line low high below s ordered fetch m = by_number (ordinal_number low high memory.types) refl
   where
@@ -75,7 +80,8 @@ elaborates {untouched} {declared} {G} {injection} {memory} place line low high b
     numbers = m.counts
 
     -- one more type was added, and one word is counted for it
-    counts_added : ordinal_number low high memory.types ≡ None → MatchesCounts injection (met (type.Ordinal low high) s.resources) memory.segments (memory.types ++ ordinal_entry low high ∷ []) (memory.live + 1)
+    counts_added : ordinal_number low high memory.types ≡ None
+        → MatchesCounts injection (met (type.Ordinal low high) s.resources) memory.segments (memory.types ++ ordinal_entry low high ∷ []) (memory.live + 1)
     counts_added none =
         let new = met_new (type.Ordinal low high) s.resources (not_known low high m.types none) in
         let same = met-held (type.Ordinal low high) s.resources in
@@ -95,7 +101,9 @@ elaborates {untouched} {declared} {G} {injection} {memory} place line low high b
           number = omega (arith, numbers.number, met_types-le (type.Ordinal low high) s.resources);
         }
 
-    added : (b : Bool) → fits_one_more (before_type place low high below memory s.trace) ≡ b → ordinal_number low high memory.types ≡ None → Elaborates untouched declared G injection memory place below (type.Ordinal low high) (before_type place low high below memory s.trace) s ⊎ GivesUp G (before_type place low high below memory s.trace) 0 1 (meaning.with_type (type.Ordinal low high) s)
+    added : (b : Bool) → fits_one_more (before_type place low high below memory s.trace) ≡ b
+        → ordinal_number low high memory.types ≡ None
+        → Elaborates untouched declared G injection memory place below (type.Ordinal low high) (before_type place low high below memory s.trace) s ⊎ GivesUp G (before_type place low high below memory s.trace) 0 1 (meaning.with_type (type.Ordinal low high) s)
     added true fits none =
         inl (record {
           number = length memory.types;
@@ -121,7 +129,8 @@ elaborates {untouched} {declared} {G} {injection} {memory} place line low high b
           begins = record { rest = []; is = sym (append-nil s.trace) };
         })
 
-    by_number : (o : Option ℕ) → ordinal_number low high memory.types ≡ o → Elaborates untouched declared G injection memory place below (type.Ordinal low high) (before_type place low high below memory s.trace) s ⊎ GivesUp G (before_type place low high below memory s.trace) 0 1 (meaning.with_type (type.Ordinal low high) s)
+    by_number : (o : Option ℕ) → ordinal_number low high memory.types ≡ o
+        → Elaborates untouched declared G injection memory place below (type.Ordinal low high) (before_type place low high below memory s.trace) s ⊎ GivesUp G (before_type place low high below memory s.trace) 0 1 (meaning.with_type (type.Ordinal low high) s)
     by_number (Some n) found =
         inl (record {
           number = n;
@@ -135,17 +144,23 @@ elaborates {untouched} {declared} {G} {injection} {memory} place line low high b
     by_number None none = added (fits_one_more (before_type place low high below memory s.trace)) refl none
 
 -- the type value is given, and the number of a type that describes it is on top
-pub record TypeOnTop (t : TypeValue) (below : List Operand) (given : TypeValue) (injection : Injection) (memory : Memory) (operands : List Operand) : Type 0 where
+pub record TypeOnTop (t : TypeValue) (below : List Operand) (given : TypeValue) (injection : Injection)
+    (memory : Memory) (operands : List Operand) : Type 0 where
   pub type_is : given ≡ t
   pub number : ℕ
   pub is : operands ≡ Word (pos number) ∷ below
   pub described : Describes memory.types number t
 
 -- `TOrd`, over its bounds
-pub ord_does : {untouched : Slots} {Here : Facts} (declared : Declarations) (G : Image) (place line : ℕ) (below : List Operand) (low high : ℤ) → IsTrue (int_le low high) → slice_get G.instructions place ≡ Some (instr op.T_ORD (pos 0) 0 line) → Lasts untouched Here → (injection : Injection) (memory : Memory) (s : meaning.State) → Matches declared G injection s memory → Here injection s memory → Does declared G Here (at place (Word high ∷ Word low ∷ below) memory s.trace) 0 (place + 1) (Inside untouched injection memory (TypeOnTop (type.Ordinal low high) below (type.Ordinal low high))) (with_type (type.Ordinal low high) s) ⊎ GivesUp G (at place (Word high ∷ Word low ∷ below) memory s.trace) 0 1 (with_type (type.Ordinal low high) s)
+pub ord_does : {untouched : Slots} {Here : Facts} (declared : Declarations) (G : Image) (place line : ℕ) (below : List Operand) (low high : ℤ)
+    → IsTrue (int_le low high) → slice_get G.instructions place ≡ Some (instr op.T_ORD (pos 0) 0 line)
+    → Lasts untouched Here → (injection : Injection) (memory : Memory) (s : meaning.State)
+    → Matches declared G injection s memory → Here injection s memory
+    → Does declared G Here (at place (Word high ∷ Word low ∷ below) memory s.trace) 0 (place + 1) (Inside untouched injection memory (TypeOnTop (type.Ordinal low high) below (type.Ordinal low high))) (with_type (type.Ordinal low high) s) ⊎ GivesUp G (at place (Word high ∷ Word low ∷ below) memory s.trace) 0 1 (with_type (type.Ordinal low high) s)
 ord_does {untouched = untouched} {Here = Here} declared G place line below low high ordered has lasts injection memory s matches known = go (elaborates place line low high below s ordered has matches)
   where
-    go : Elaborates untouched declared G injection memory place below (type.Ordinal low high) (at place (Word high ∷ Word low ∷ below) memory s.trace) s ⊎ GivesUp G (at place (Word high ∷ Word low ∷ below) memory s.trace) 0 1 (with_type (type.Ordinal low high) s) → Does declared G Here (at place (Word high ∷ Word low ∷ below) memory s.trace) 0 (place + 1) (Inside untouched injection memory (TypeOnTop (type.Ordinal low high) below (type.Ordinal low high))) (with_type (type.Ordinal low high) s) ⊎ GivesUp G (at place (Word high ∷ Word low ∷ below) memory s.trace) 0 1 (with_type (type.Ordinal low high) s)
+    go : Elaborates untouched declared G injection memory place below (type.Ordinal low high) (at place (Word high ∷ Word low ∷ below) memory s.trace) s ⊎ GivesUp G (at place (Word high ∷ Word low ∷ below) memory s.trace) 0 1 (with_type (type.Ordinal low high) s)
+        → Does declared G Here (at place (Word high ∷ Word low ∷ below) memory s.trace) 0 (place + 1) (Inside untouched injection memory (TypeOnTop (type.Ordinal low high) below (type.Ordinal low high))) (with_type (type.Ordinal low high) s) ⊎ GivesUp G (at place (Word high ∷ Word low ∷ below) memory s.trace) 0 1 (with_type (type.Ordinal low high) s)
     go (inl x) =
         inl (record {
           injection = injection;

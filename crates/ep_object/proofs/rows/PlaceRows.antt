@@ -31,11 +31,17 @@ use Rattle.ep_object.specs.declared.op.TheConstants as op
 
 module _ (declared : Declarations) (G : Image) (place line : ℕ) (below : List Operand) where
   -- `Unit`, for `output`
-  pub output_pushes : slice_get G.instructions place ≡ Some (instr op.UNIT (negsuc 0) 1 line) → RowPushes G place below 0 (operand.Place output_place ∷ below)
+  pub output_pushes : slice_get G.instructions place ≡ Some (instr op.UNIT (negsuc 0) 1 line)
+      → RowPushes G place below 0 (operand.Place output_place ∷ below)
   output_pushes has memory trace = outcome_at G (instr op.UNIT (negsuc 0) 1 line) place below memory trace has
 
   -- `Unit`, for a variable that is declared
-  pub unit_reads : {untouched : Slots} {Here : Facts} (u k : ℕ) (unit : ImageUnit) (v : UnitVariable) (t : TypeValue) → slice_get G.instructions place ≡ Some (instr op.UNIT (pos u) k line) → slice_get G.units u ≡ Some unit → k < unit.slots → declared.variables unit.name k ≡ Some v → HasType declared unit.name v t → (injection : Injection) (memory : Memory) (s : meaning.State) → Matches declared G injection s memory → Here injection s memory → Reads declared G Here (at place below memory s.trace) 1 (unit_in G memory.frames) line (place + 1) (λ n. Inside untouched injection memory (PlaceOnTop t below n)) s (s.variables unit.name k)
+  pub unit_reads : {untouched : Slots} {Here : Facts} (u k : ℕ) (unit : ImageUnit) (v : UnitVariable) (t : TypeValue)
+      → slice_get G.instructions place ≡ Some (instr op.UNIT (pos u) k line) → slice_get G.units u ≡ Some unit
+      → k < unit.slots → declared.variables unit.name k ≡ Some v → HasType declared unit.name v t
+      → (injection : Injection) (memory : Memory) (s : meaning.State) → Matches declared G injection s memory
+      → Here injection s memory
+      → Reads declared G Here (at place below memory s.trace) 1 (unit_in G memory.frames) line (place + 1) (λ n. Inside untouched injection memory (PlaceOnTop t below n)) s (s.variables unit.name k)
   unit_reads {untouched = untouched} {Here = Here} u k unit v t has there inside is_declared has_type injection memory s matches known =
       let units = matches.units in
       let f : MatchesFrame declared injection s.variables memory.frames.units memory.segments u unit = units.frames u unit there in
@@ -45,7 +51,10 @@ module _ (declared : Declarations) (G : Image) (place line : ℕ) (below : List 
       typed : (n : ℕ) → s.variables unit.name k ≡ Some n → HasType declared unit.name v (type_at n s)
       typed n e = let units = matches.units in units.typed unit.name k n v e is_declared
 
-      go : (slots : List (Option Place)) → slice_get memory.frames.units u ≡ Some slots → (slot : Option Place) → slice_get slots k ≡ Some slot → (o : Option ℕ) → s.variables unit.name k ≡ o → MatchesSlot injection memory.segments o slot → Reads declared G Here (at place below memory s.trace) 1 (unit_in G memory.frames) line (place + 1) (λ n. Inside untouched injection memory (PlaceOnTop t below n)) s (s.variables unit.name k)
+      go : (slots : List (Option Place)) → slice_get memory.frames.units u ≡ Some slots → (slot : Option Place)
+          → slice_get slots k ≡ Some slot → (o : Option ℕ) → s.variables unit.name k ≡ o
+          → MatchesSlot injection memory.segments o slot
+          → Reads declared G Here (at place below memory s.trace) 1 (unit_in G memory.frames) line (place + 1) (λ n. Inside untouched injection memory (PlaceOnTop t below n)) s (s.variables unit.name k)
       go slots is None slot_is None o_is h =
           Misses o_is (record { fails = outcome_at G (instr op.UNIT (pos u) k line) place below memory s.trace has ∙ rw (is, slot_is) refl })
       go slots is (Some p) slot_is None o_is h = absurd h
@@ -62,12 +71,23 @@ module _ (declared : Declarations) (G : Image) (place line : ℕ) (below : List 
           })
 
   -- what `Load` finds
-  load_outcome : (memory : Memory) (trace : Trace) (p : Place) (low high : ℤ) (type_number : ℕ) (w : ℤ) → slice_get G.instructions place ≡ Some (instr op.LOAD (pos 0) 0 line) → slice_get memory.types p.type_number ≡ Some (ordinal_entry low high) → slice_get memory.segments p.segment ≡ Some (Some (record { type_number = type_number; words = w ∷ [] })) → p.offset ≡ 0 → outcome G (at place (operand.Place p ∷ below) memory trace) ≡ in_one (after G (instr op.LOAD (pos 0) 0 line) (at place (operand.Place p ∷ below) memory trace) (on_operands (at place (operand.Place p ∷ below) memory trace) (loaded w below)))
+  load_outcome : (memory : Memory) (trace : Trace) (p : Place) (low high : ℤ) (type_number : ℕ) (w : ℤ)
+      → slice_get G.instructions place ≡ Some (instr op.LOAD (pos 0) 0 line)
+      → slice_get memory.types p.type_number ≡ Some (ordinal_entry low high)
+      → slice_get memory.segments p.segment ≡ Some (Some (record { type_number = type_number; words = w ∷ [] }))
+      → p.offset ≡ 0
+      → outcome G (at place (operand.Place p ∷ below) memory trace) ≡ in_one (after G (instr op.LOAD (pos 0) 0 line) (at place (operand.Place p ∷ below) memory trace) (on_operands (at place (operand.Place p ∷ below) memory trace) (loaded w below)))
   load_outcome memory trace p low high type_number w has typed stands offset =
       outcome_at G (instr op.LOAD (pos 0) 0 line) place (operand.Place p ∷ below) memory trace has ∙ rw (typed, stands, offset) refl
 
   -- `Load`, of a variable of an ordinal type of the host
-  pub load_reads : {untouched : Slots} {Here : Facts} (host : Host) (low high : ℤ) (n : ℕ) (p : Place) → IsTypeOf host (type.Ordinal low high) → slice_get G.instructions place ≡ Some (instr op.LOAD (pos 0) 0 line) → (injection : Injection) (memory : Memory) → IsPlaceOf injection memory.segments n p → Describes memory.types p.type_number (type.Ordinal low high) → (s : meaning.State) → Matches declared G injection s memory → Here injection s memory → Reads declared G Here (at place (operand.Place p ∷ below) memory s.trace) 1 (unit_in G memory.frames) line (place + 1) (λ w. Inside untouched injection memory (OnTop (kind.Ordinal host) below (Number w))) s (word_at n s)
+  pub load_reads : {untouched : Slots} {Here : Facts} (host : Host) (low high : ℤ) (n : ℕ) (p : Place)
+      → IsTypeOf host (type.Ordinal low high)
+      → slice_get G.instructions place ≡ Some (instr op.LOAD (pos 0) 0 line)
+      → (injection : Injection) (memory : Memory) → IsPlaceOf injection memory.segments n p
+      → Describes memory.types p.type_number (type.Ordinal low high) → (s : meaning.State)
+      → Matches declared G injection s memory → Here injection s memory
+      → Reads declared G Here (at place (operand.Place p ∷ below) memory s.trace) 1 (unit_in G memory.frames) line (place + 1) (λ w. Inside untouched injection memory (OnTop (kind.Ordinal host) below (Number w))) s (word_at n s)
   load_reads {untouched = untouched} {Here = Here} host low high n p of_host has injection memory place_of described s matches known =
       let x : Stands s memory n p = place_stands matches place_of in
       let a : Allocation = x.allocation in
@@ -75,7 +95,11 @@ module _ (declared : Declarations) (G : Image) (place line : ℕ) (below : List 
       let e : a.type_value ≡ type.Ordinal low high = described-same memory.types r.type_number a.type_value low high r.described (subst (λ k. Describes memory.types k (type.Ordinal low high)) x.type_number described) in
       go a x.is r.type_number a.value refl r.stands (subst (λ t. IsValueOf t a.value) e r.value)
     where
-      go : (a : Allocation) → allocation_at s.allocations n ≡ Some a → (type_number : ℕ) (value : Value) → a.value ≡ value → slice_get memory.segments p.segment ≡ Some (Some (record { type_number = type_number; words = layout value })) → IsValueOf (type.Ordinal low high) value → Reads declared G Here (at place (operand.Place p ∷ below) memory s.trace) 1 (unit_in G memory.frames) line (place + 1) (λ w. Inside untouched injection memory (OnTop (kind.Ordinal host) below (Number w))) s (word_at n s)
+      go : (a : Allocation) → allocation_at s.allocations n ≡ Some a → (type_number : ℕ) (value : Value)
+          → a.value ≡ value
+          → slice_get memory.segments p.segment ≡ Some (Some (record { type_number = type_number; words = layout value }))
+          → IsValueOf (type.Ordinal low high) value
+          → Reads declared G Here (at place (operand.Place p ∷ below) memory s.trace) 1 (unit_in G memory.frames) line (place + 1) (λ w. Inside untouched injection memory (OnTop (kind.Ordinal host) below (Number w))) s (word_at n s)
       go a is type_number Undefined value_is stands of_type =
           Misses (ap word_in is ∙ ap word_of value_is) (record { fails = load_outcome memory s.trace p low high type_number undefined has described stands place_of.offset })
       go a is type_number (meaning.Word w) value_is stands of_type =
