@@ -35,7 +35,8 @@ abbrev pub IsArgument : Injection → Memory → Passing → Argument → Operan
 IsArgument injection memory (ByValue k) (Value r) o = IsOfKind k r × (o ≡ operand_of r)
 IsArgument injection memory (ByValue k) (Variable n) o = ⊥
 IsArgument injection memory ByReference (Value r) o = ⊥
-IsArgument injection memory ByReference (Variable n) o = (p : PlaceOf) × (o ≡ Place p) × IsPlaceOf injection memory.segments n p
+IsArgument injection memory ByReference (Variable n) o =
+    (p : PlaceOf) × (o ≡ Place p) × IsPlaceOf injection memory.segments n p
 
 -- the operands are those of the arguments, one for each formal and the first lowest, on the ones below
 abbrev pub AreArguments : Injection → Memory → List Passing → List Argument → List Operand → List Operand
@@ -43,25 +44,28 @@ abbrev pub AreArguments : Injection → Memory → List Passing → List Argumen
 AreArguments injection memory [] [] below operands = operands ≡ below
 AreArguments injection memory [] (x ∷ xs) below operands = ⊥
 AreArguments injection memory (f ∷ fs) [] below operands = ⊥
-AreArguments injection memory (f ∷ fs) (x ∷ xs) below operands = (o : Operand) × IsArgument injection memory f x o × AreArguments injection memory fs xs (o ∷ below) operands
+AreArguments injection memory (f ∷ fs) (x ∷ xs) below operands =
+    (o : Operand) × IsArgument injection memory f x o × AreArguments injection memory fs xs (o ∷ below) operands
 
 -- Results of these kinds lie on the operands below, the first lowest. A procedure has none, and a function has one.
 abbrev pub ResultsOnTop : List Kind → List Operand → List Result → Operands
 ResultsOnTop [] below [] injection memory operands = operands ≡ below
 ResultsOnTop [] below (r ∷ rs) injection memory operands = ⊥
 ResultsOnTop (k ∷ ks) below [] injection memory operands = ⊥
-ResultsOnTop (k ∷ ks) below (r ∷ rs) injection memory operands = IsOfKind k r × ResultsOnTop ks (operand_of r ∷ below) rs injection memory operands
+ResultsOnTop (k ∷ ks) below (r ∷ rs) injection memory operands =
+    IsOfKind k r × ResultsOnTop ks (operand_of r ∷ below) rs injection memory operands
 
 -- what a call of one routine does, by the unit and the line of what makes the call and by the arguments
 abbrev pub Called : Type 0
 Called = List ℕ → ℕ → List Argument → Computation (List Result)
 
--- at this place of the code stands a `Call` of the routine of this number
+-- at this place of the code stands a `Call` of the routine of this number, with its unit's frame as the parent
 pub record CallsAt (G : Image) (place routine line : ℕ) : Type 0 where
   pub instruction : Instr
   pub stands : slice_get G.instructions place ≡ Some instruction
   pub is_call : op_of instruction.op ≡ Some table.Call
   pub names : instruction.a ≡ pos routine
+  pub parent : instruction.b ≡ 0
   pub at_line : instruction.line ≡ line
 
 -- The routine of this number keeps its promise for what calls of it do, with up to n steps. Wherever the machine matches
@@ -71,20 +75,24 @@ pub record CallsAt (G : Image) (place routine line : ℕ) : Type 0 where
 pub record Promises (declared : Declarations) (G : Image) (routine n : ℕ) (formals : List Passing)
     (results : List Kind) (called : Called) : Type 0 where
   pub by : (place line : ℕ) → CallsAt G place routine line
-      → (injection : Injection) (begun : meaning.State) (memory : Memory) (below operands : List Operand) (arguments : List Argument)
+      → (injection : Injection) (begun : meaning.State) (memory : Memory)
+      → (below operands : List Operand) (arguments : List Argument)
       → AreArguments injection memory formals arguments below operands
-      → Fragment declared G (Since (is_hidden_slot declared G) injection begun memory) n (point injection memory place operands) (called (unit_in G memory.frames) line arguments) (place + 1)
+      → Fragment declared G (Since (is_hidden_slot declared G) injection begun memory) n
+      (point injection memory place operands) (called (unit_in G memory.frames) line arguments) (place + 1)
       (λ rs. Inside (is_hidden_slot declared G) injection memory (ResultsOnTop results below rs)) 0 (λ rs. 0)
 
 -- ---- what this says of runs from a call
 
--- A call has given its results after so many steps: the machine comes to the instruction after it and matches, its ticks keep pace with the steps, and until then the calling routine is not left.
+-- A call has given its results after so many steps: the machine comes to the instruction after it and matches, its ticks
+-- keep pace with the steps, and until then the calling routine is not left.
 pub record ComesBackAfter (declared : Declarations) (G : Image) (injection : Injection) (begun : meaning.State)
     (memory : Memory) (Then : Operands) (to : ℕ) (k : State) (s : meaning.State) (steps : ℕ) : Type 0 where
   pub ticks : ℕ
   pub last : State
   pub runs : run G ticks 0 k ≡ Running 0 last
-  pub lands : Lands declared G (Since (is_hidden_slot declared G) injection begun memory) to (Inside (is_hidden_slot declared G) injection memory Then) s last
+  pub lands : Lands declared G (Since (is_hidden_slot declared G) injection begun memory) to
+      (Inside (is_hidden_slot declared G) injection memory Then) s last
   pub pace : KeepPace steps ticks
   pub until : (t : ℕ) → t ≤ ticks → StaysIn G k t s.trace
 
@@ -97,14 +105,18 @@ CallComesTo declared G injection begun memory Then to k steps (Ends left end s) 
     → left + spent ≡ steps → EndsAfter G k (end_of end) s.trace spent
 CallComesTo declared G injection begun memory Then to k steps (Cut s) = StaysAfter G k s.trace steps
 
--- Where a routine keeps its promise, every run from a call of it answers what the call does with each number of steps up to n, or ends for want of room within 64 ticks for each of them.
+-- Where a routine keeps its promise, every run from a call of it answers what the call does with each number of steps up
+-- to n, or ends for want of room within 64 ticks for each of them.
 abbrev pub CallsAnswer : Type 0
 CallsAnswer =
-    (declared : Declarations) (G : Image) (routine n : ℕ) (formals : List Passing) (results : List Kind) (called : Called)
-    → Promises declared G routine n formals results called
+    (declared : Declarations) (G : Image) (routine n : ℕ)
+    → (formals : List Passing) (results : List Kind) (called : Called) → Promises declared G routine n formals results called
     → (place line : ℕ) → CallsAt G place routine line
-    → (injection : Injection) (memory : Memory) (below operands : List Operand) (arguments : List Argument)
-    → AreArguments injection memory formals arguments below operands
+    → (injection : Injection) (memory : Memory) (below operands : List Operand)
+    → (arguments : List Argument) → AreArguments injection memory formals arguments below operands
     → (s : meaning.State) → Matches declared G injection s memory → (steps : ℕ) → steps ≤ n
-    → CallComesTo declared G injection s memory (ResultsOnTop results below) (place + 1) (state_at (point injection memory place operands) s.trace) steps (called (unit_in G memory.frames) line arguments steps s)
-    ⊎ GivesUp G (state_at (point injection memory place operands) s.trace) steps 0 (state_of (called (unit_in G memory.frames) line arguments steps s))
+    → CallComesTo declared G injection s memory (ResultsOnTop results below) (place + 1)
+    (state_at (point injection memory place operands) s.trace) steps
+    (called (unit_in G memory.frames) line arguments steps s)
+    ⊎ GivesUp G (state_at (point injection memory place operands) s.trace) steps 0
+    (state_of (called (unit_in G memory.frames) line arguments steps s))
