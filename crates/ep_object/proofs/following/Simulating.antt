@@ -6,14 +6,15 @@ use Rattle.ep_typed.specs.Steps.{Outcome, Gives, Ends, Cut, Computation, spend, 
 use Rattle.ep_typed.specs.Steps as meaning
 use Rattle.ep_typed.specs.Valid.{Declarations}
 use Rattle.ep_object.specs.Effects.{Work}
-use Rattle.ep_object.specs.Follows.{end_of, Reaches, EndsToo, RunsOn, Follows, Operands, IsNotLeft}
+use Rattle.ep_object.specs.Follows.{end_of, Reaches, EndsToo, RunsOn, Follows, Operands, IsNotLeft, Bare}
 use Rattle.ep_object.specs.Laws.{IsRunning}
-use Rattle.ep_object.specs.Matching.{Memory, Injection}
+use Rattle.ep_object.specs.Matching.{at, Memory, Injection}
 use Rattle.ep_object.specs.Operands.{Operand}
-use Rattle.ep_object.specs.Runs.{run, run_from, trace_of, outcome, outcome_of, after, enter}
+use Rattle.ep_object.specs.Runs.{Activation, activation, routine_of, entering, entering_next, run, run_from, trace_of, outcome, outcome_of, after, enter}
 use Rattle.ep_object.specs.Simulates.{routine_credit, Enters, Leaves, Simulates, StaysIn, LeavesAfter, EndsAfter, StaysAfter, AnswersInRoom}
 use Rattle.ep_object.specs.State.{State, Frames, Going, Running, Stopped}
 use Rattle.ep_object.specs.declared.code.Image.{Image}
+use Rattle.ep_object.specs.declared.code.ImageRoutine.{ImageRoutine}
 use Rattle.ep_object.proofs.following.Bind.{one_state, stays_wider, stays_here, stays_join, Met, gives_up_weaken, follows_moves, run_instruction}
 use Rattle.ep_object.proofs.matching.Growing.{before_or_not, not_left-here}
 use Rattle.ep_object.proofs.Grows.{is_prefix, prefix_then, run_grows}
@@ -186,3 +187,38 @@ leaves_enters {G = G} {k = k} leaves =
     let lands = leaves.lands in
     let has : slice_get G.instructions k.place ≡ Some leaves.instruction = ap (λ (l : State). slice_get G.instructions l.place) lands.is ∙ leaves.stands in
     ap (λ o. outcome_of G o k) has ∙ ap (λ (w : Work State). record { weight = w.weight; to = after G leaves.instruction k w.effect }) leaves.returns
+
+-- the frames when a start or a stop begins after so many
+abbrev pub next_frames : ℕ → Activation → Frames → Frames
+next_frames turn x frames = record frames { turn = turn; routine = x.routine; unit = x.unit }
+
+-- The instruction that leaves a start or a stop leads to the entry of the next one, and the machine matches there: nothing
+-- of the match reads which of them runs.
+pub enters_next : {declared : Declarations} {G : Image} {injection : Injection} {begun : meaning.State} {memory : Memory} {below : List Operand} {s : meaning.State} {k : State}
+    → (leaves : Leaves declared G injection begun memory (Bare below tt) s k) (x : Activation) (r : ImageRoutine)
+    → activation G (k.frames.turn + 1) ≡ Some x → routine_of G x.routine ≡ Some r
+    → (longer : Injection) × ((after : Memory) × ((next : State) × (outcome G k ≡ record { weight = 0; to = Running 0 next }) × Enters declared G x.unit x.routine longer after below s next))
+enters_next {G = G} {below = below} {s = s} {k = k} leaves x r is_next there =
+    let lands = leaves.lands in
+    let inside = lands.post in
+    let frames : Frames = next_frames (k.frames.turn + 1) x k.frames in
+    let next : State = record k { place = r.entry; frames = frames } in
+    let after : Memory = record lands.memory { frames = next_frames (k.frames.turn + 1) x lands.memory.frames } in
+    let enters : enter G (k.frames.turn + 1) k ≡ Running 0 next = ap (λ o. entering_next G (k.frames.turn + 1) o k) is_next ∙ ap (λ o. entering (k.frames.turn + 1) x o k) there in (
+      lands.injection,
+      (
+        after,
+        (
+          next,
+          leaves_enters leaves ∙ ap (λ g. record { weight = 0; to = g }) enters,
+          record {
+            image_routine = r;
+            there = there;
+            is = ap (λ (l : State). record l { place = r.entry; frames = next_frames (k.frames.turn + 1) x l.frames }) lands.is ∙ ap (λ o. at r.entry o after s.trace) inside.operands_are;
+            runs = refl;
+            in_unit = refl;
+            matches = let m = lands.matches in record { injected = m.injected; store = m.store; types = m.types; units = m.units; outside = m.outside; counts = m.counts };
+          },
+        ),
+      ),
+    )
