@@ -1,5 +1,6 @@
 mod Decoding
 mod Ends
+mod Fusion
 mod Leads
 mod Lifts
 mod Making

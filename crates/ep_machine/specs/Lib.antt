@@ -2,6 +2,7 @@ pub mod Answers
 pub mod Decoding
 pub mod Machines
 pub mod Outputs
+pub mod Pairs
 pub mod Printing
 pub mod Stacks
 pub mod Steps

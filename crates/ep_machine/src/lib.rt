@@ -17,6 +17,7 @@ mod end;
 mod fast;
 mod op;
 mod output;
+mod pairs;
 mod places;
 mod run;
 mod stack;

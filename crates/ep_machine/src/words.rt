@@ -263,7 +263,7 @@ pub fn or(stack: &mut Stack) -> Step
 
 /// Whether two words compare so.
 #[inline(always)]
-fn compares(comparison: Comparison, x: i64, y: i64) -> bool
+pub fn compares(comparison: Comparison, x: i64, y: i64) -> bool
     ensures { Some result ≡ compared (comparison_number comparison) x y }
 {
     match comparison {
