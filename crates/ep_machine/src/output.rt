@@ -80,7 +80,8 @@ pub fn put<O: Sink>(
     ensures fault { OnFault result (O.faults output.old < O.faults output.new) }
     ensures kind { IsWriting result }
     ensures quiet { OnNoMemory result (Keeps (O.held output.old) (O.held output.new)) }
-    ensures done { IsPut limit (put_row types.now segments.now stack.old) result ticks.old ticks.new stack.old stack.new (O.held output.old) (O.held output.new) }
+    ensures done { IsPut limit (put_row types.now segments.now stack.old) result ticks.old ticks.new
+        stack.old stack.new (O.held output.old) (O.held output.new) }
 {
     let Some(p) = stack.place_under_text() else {
         return Outward::Row(Step::Broken);

@@ -52,9 +52,11 @@ impl<'a> Machine<'a> {
     /// Goes on for at most so many ticks, unless it has ended.
     fn resume<O: Sink>(&mut self, budget: u64, output: &mut O)
         requires { ticks_of self.old + budget < 2 ^ 61 }
-        ensures exact { UnlessFailed (ended_of self.new) (Ran (image_of self.old) (ticks_of self.old + budget)
+        ensures exact { UnlessFailed (ended_of self.new) (Ran (image_of self.old)
+            (ticks_of self.old + budget)
             (standing self.old) (standing self.new) (O.held output.old) (O.held output.new)) }
-        ensures failed { OnFailed (ended_of self.new) (RunFailed (image_of self.old) (ticks_of self.old + budget)
+        ensures failed { OnFailed (ended_of self.new) (RunFailed (image_of self.old)
+            (ticks_of self.old + budget)
             (standing self.old) (O.held output.old) (O.held output.new)) }
         ensures image { image_of self.new ≡ image_of self.old }
         ensures within { ticks_of self.new < 2 ^ 61 }
@@ -83,11 +85,14 @@ impl<'a> Machine<'a> {
     ) -> End
         requires { ticks_of self.old + budget < 2 ^ 61 }
         ensures exact { UnlessStopped result (GoesOnTo self.old budget self.new
-            (outside (O.held output.old) (F.files files.old)) (outside (O.held output.new) (F.files files.new))) }
+            (outside (O.held output.old) (F.files files.old))
+            (outside (O.held output.new) (F.files files.new))) }
         ensures part { OnWriteFaultEnd result (DoesPart (events_within self.old budget)
-            (outside (O.held output.old) (F.files files.old)) (outside (O.held output.new) (F.files files.new))) }
+            (outside (O.held output.old) (F.files files.old))
+            (outside (O.held output.new) (F.files files.new))) }
         ensures whole { OnNoMemoryEnd result (DoesFront (events_within self.old budget)
-            (outside (O.held output.old) (F.files files.old)) (outside (O.held output.new) (F.files files.new))) }
+            (outside (O.held output.old) (F.files files.old))
+            (outside (O.held output.new) (F.files files.new))) }
         ensures end { (trace : Trace) → IsEnd result (standing self.new trace).going }
         ensures image { image_of self.new ≡ image_of self.old }
         ensures within { ticks_of self.new < 2 ^ 61 }
@@ -95,7 +100,8 @@ impl<'a> Machine<'a> {
         ensures fault { OnWriteFaultEnd result
             ((ended_of self.old ≡ ended.WriteFault) ⊎ (O.faults output.old < O.faults output.new)) }
         ensures again { ended_of self.old ≢ ended.Budget
-            → Answers (ended_of self.old) result × (ticks_of self.new ≡ ticks_of self.old) × (output.new ≡ output.old) }
+            → Answers (ended_of self.old) result × (ticks_of self.new ≡ ticks_of self.old)
+            × (output.new ≡ output.old) }
         ensures files { files.new ≡ files.old }
         ensures input { input.new ≡ input.old }
     {

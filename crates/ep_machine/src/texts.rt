@@ -35,7 +35,8 @@ fn push_text(stack: &mut Stack, text: &[u8]) -> Step
 pub fn text(number: usize, texts: &[Bytes], limit: u64, ticks: &mut u64, stack: &mut Stack) -> Step
     requires { ticks.old < limit }
     ensures within { ticks.new < limit }
-    ensures done { IsDone limit (text_row texts.now (pos number) stack.old) result ticks.old ticks.new stack.old stack.new }
+    ensures done { IsDone limit (text_row texts.now (pos number) stack.old) result ticks.old
+        ticks.new stack.old stack.new }
 {
     let Some(bytes) = texts.get(number) else {
         return Step::Broken;
@@ -137,7 +138,8 @@ fn printed(alloc: Global, print: Print, stack: &Stack) -> Result<Option<Bytes>, 
 
 /// Whether what is printed is cut where it is wider than its places: all but integers is.
 fn is_cut(print: Print) -> bool
-    ensures { MatchBool result ((width : ℕ) (bytes : List ℕ) → cut (print_number print) width bytes ≡ take width bytes)
+    ensures { MatchBool result ((width : ℕ) (bytes : List ℕ) → cut (print_number print) width bytes
+        ≡ take width bytes)
         ((width : ℕ) (bytes : List ℕ) → cut (print_number print) width bytes ≡ bytes) }
 {
     match print {
@@ -181,7 +183,8 @@ fn formed_size(print: Print, width: u64, bytes: &[u8]) -> u64
 pub fn form(print: Print, alloc: Global, limit: u64, ticks: &mut u64, stack: &mut Stack) -> Step
     requires { ticks.old < limit }
     ensures within { ticks.new < limit }
-    ensures done { IsDone limit (form_row (print_number print) stack.old) result ticks.old ticks.new stack.old stack.new }
+    ensures done { IsDone limit (form_row (print_number print) stack.old) result ticks.old ticks.new
+        stack.old stack.new }
 {
     let Ok(bytes) = printed(alloc, print, stack) else {
         return Step::NoMemory;
@@ -218,7 +221,8 @@ pub fn form_wide(
 ) -> Step
     requires { ticks.old < limit }
     ensures within { ticks.new < limit }
-    ensures done { IsDone limit (form_width_row (print_number print) stack.old) result ticks.old ticks.new stack.old stack.new }
+    ensures done { IsDone limit (form_width_row (print_number print) stack.old) result ticks.old
+        ticks.new stack.old stack.new }
 {
     let Some(width) = stack.pop_word() else {
         return Step::Broken;

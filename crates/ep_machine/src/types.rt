@@ -41,7 +41,8 @@ fn ordinal_entry(lo: i64, hi: i64) -> TypeEntry
 
 /// A new type.
 fn add(entry: TypeEntry, types: &mut Vec<TypeEntry>, live: &mut u64, stack: &mut Stack) -> Step
-    ensures { IsStep (added entry stack.old (typing stack.old types.old.items live.old)) result (typing stack.new types.new.items live.new) }
+    ensures { IsStep (added entry stack.old (typing stack.old types.old.items live.old)) result
+        (typing stack.new types.new.items live.new) }
 {
     let number = types.len();
     if number as u64 >= limit::TYPES {
@@ -59,7 +60,8 @@ fn add(entry: TypeEntry, types: &mut Vec<TypeEntry>, live: &mut u64, stack: &mut
 
 /// The number that the ordinal type has, or a new one.
 fn intern(lo: i64, hi: i64, types: &mut Vec<TypeEntry>, live: &mut u64, stack: &mut Stack) -> Step
-    ensures { IsStep (ordinal_of lo hi stack.old (typing stack.old types.old.items live.old)) result (typing stack.new types.new.items live.new) }
+    ensures { IsStep (ordinal_of lo hi stack.old (typing stack.old types.old.items live.old)) result
+        (typing stack.new types.new.items live.new) }
 {
     if lo > hi {
         return Step::Error(run_error::OUTSIDE_DOMAIN);
@@ -72,7 +74,8 @@ fn intern(lo: i64, hi: i64, types: &mut Vec<TypeEntry>, live: &mut u64, stack: &
 
 /// The ordinal type with two bounds.
 pub fn ord(types: &mut Vec<TypeEntry>, live: &mut u64, stack: &mut Stack) -> Step
-    ensures { IsStep (ord_row (typing stack.old types.old.items live.old)) result (typing stack.new types.new.items live.new) }
+    ensures { IsStep (ord_row (typing stack.old types.old.items live.old)) result
+        (typing stack.new types.new.items live.new) }
 {
     match words::pop_two_words(stack) {
         Some((lo, hi)) => intern(lo, hi, types, live, stack),

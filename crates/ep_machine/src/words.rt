@@ -28,7 +28,8 @@ pub fn index(size: u32, a: i64) -> Option<u32>
 /// Two words, the lower one first.
 #[inline(always)]
 pub fn pop_two_words(stack: &mut Stack) -> Option<(i64, i64)>
-    ensures { MatchOption result (two_words stack.old ≡ None) (λ p. two_words stack.old ≡ Some (p.0, p.1, stack.new)) }
+    ensures { MatchOption result (two_words stack.old ≡ None)
+        (λ p. two_words stack.old ≡ Some (p.0, p.1, stack.new)) }
 {
     match stack.pop_word() {
         Some(y) => match stack.pop_word() {
@@ -41,7 +42,8 @@ pub fn pop_two_words(stack: &mut Stack) -> Option<(i64, i64)>
 
 #[inline(always)]
 fn pop_three_words(stack: &mut Stack) -> Option<(i64, i64, i64)>
-    ensures { MatchOption result (three_words stack.old ≡ None) (λ p. three_words stack.old ≡ Some (p.0, p.1, p.2, stack.new)) }
+    ensures { MatchOption result (three_words stack.old ≡ None)
+        (λ p. three_words stack.old ≡ Some (p.0, p.1, p.2, stack.new)) }
 {
     match stack.pop_word() {
         Some(z) => match pop_two_words(stack) {
@@ -54,7 +56,8 @@ fn pop_three_words(stack: &mut Stack) -> Option<(i64, i64, i64)>
 
 #[inline(always)]
 fn pop_four_words(stack: &mut Stack) -> Option<(i64, i64, i64, i64)>
-    ensures { MatchOption result (four_words stack.old ≡ None) (λ p. four_words stack.old ≡ Some (p.0, p.1, p.2, p.3, stack.new)) }
+    ensures { MatchOption result (four_words stack.old ≡ None)
+        (λ p. four_words stack.old ≡ Some (p.0, p.1, p.2, p.3, stack.new)) }
 {
     match stack.pop_word() {
         Some(z) => match pop_three_words(stack) {
@@ -80,7 +83,8 @@ pub fn push_word(stack: &mut Stack, w: i64) -> Step
 /// One more word, or an overflow where it is no integer.
 #[inline(always)]
 fn push_integer(stack: &mut Stack, z: Option<i64>) -> Step
-    ensures { MatchOption z (IsStep (Fails run_error.OVERFLOW) result stack.new) (λ w. IsStep (integer_row w stack.old) result stack.new) }
+    ensures { MatchOption z (IsStep (Fails run_error.OVERFLOW) result stack.new)
+        (λ w. IsStep (integer_row w stack.old) result stack.new) }
 {
     match z {
         Some(w) => {
