@@ -28,7 +28,6 @@ use Rattle.ep_tree.specs.declared.operator.RelationalOperator.TheVariants as rel
 use Rattle.ep_tree.specs.declared.operator.AddingOperator.{AddingOperator}
 use Rattle.ep_tree.specs.declared.operator.AddingOperator.TheVariants as adding_is
 use Rattle.ep_tree.specs.declared.operator.MultiplyingOperator.{MultiplyingOperator}
-use Rattle.ep_tree.specs.declared.operator.MultiplyingOperator.TheVariants as multiplying_is
 use Rattle.ep_tree.specs.declared.expression.ComponentValue.TheOpen.{ComponentValue-F, Element-F, Factor-F, Selector-F, Access-F, Addend-F, Argument-F, Comparison-F, Expression-F, Label-F, Multiplier-F, Simple-F, Term-F, Values-F}
 use Rattle.ep_tree.specs.declared.expression.ComponentValue.{ComponentValue, fold-ComponentValue}
 use Rattle.ep_tree.specs.declared.expression.Element.{Element, fold-Element}
@@ -182,15 +181,13 @@ abbrev pub built_relation : RelationalOperator → Bool
 built_relation relation_is.In = false
 built_relation _ = true
 
--- all adding operators but `><` and `or_else`
+-- all adding operators but `><`
 abbrev pub built_adding : AddingOperator → Bool
 built_adding adding_is.SymmetricDifference = false
-built_adding adding_is.OrElse = false
 built_adding _ = true
 
--- all multiplying operators but `and_then`
+-- all multiplying operators
 abbrev pub built_multiplying : MultiplyingOperator → Bool
-built_multiplying multiplying_is.AndThen = false
 built_multiplying _ = true
 
 -- a character string of length one

@@ -13,6 +13,7 @@ use Rattle.ep_typed.specs.Hosts.{is_of_host}
 use Rattle.ep_typed.specs.Trees.{Expr, Constant}
 use Rattle.ep_typed.specs.declared.operations.Unary.{Unary}
 use Rattle.ep_typed.specs.declared.operations.Binary.{Binary}
+use Rattle.ep_typed.specs.declared.operations.ShortOperation.{ShortOperation}
 use Rattle.ep_scope.specs.Required.{look_up, required_of}
 use Rattle.ep_scope.specs.Scopes.{Entries, Region, Meant, Declares, Requires, Nothing, as_required, as_thing, look_up_if, look_up_in, meant, meant_in, or_outside, unless_hidden}
 use Rattle.ep_scope.specs.Scopes as meaning
@@ -35,7 +36,7 @@ use Rattle.ep_check_expr.specs.Functions.{applied_one, applied_two, ordinal_by, 
 use Rattle.ep_check_expr.specs.Hosts.{typed_host}
 use Rattle.ep_check_expr.specs.Judgements.{Judged, Accepts, Breaks, Typed, unbuilt}
 use Rattle.ep_check_expr.specs.Names.{leaf, value_declared, value_named, value_required}
-use Rattle.ep_check_expr.specs.Operators.{added, are_compatible, arithmetic, binary_typed, boolean, compared, comparison, integer, is_boolean, is_integer, is_string, logical, misfit, multiplied, sign_of, signed, unary_typed, unbuilt_typed, within_depth}
+use Rattle.ep_check_expr.specs.Operators.{added, are_compatible, arithmetic, binary_typed, boolean, compared, comparison, integer, is_boolean, is_integer, is_string, logical, misfit, multiplied, short_circuit, short_typed, sign_of, signed, unary_typed, unbuilt_typed, within_depth}
 use Rattle.ep_check_expr.specs.Origins.{DeclaresHost, EntriesHaveHost, HasHost, InterfacesHaveHost, IsKnownHost, IsKnownKind, ScopesHaveHost, ThingHasHost}
 use Rattle.ep_check_expr.proofs.Keeping.{IsKept, Satisfies, if-satisfies}
 
@@ -170,19 +171,22 @@ module _ (scopes : List Region) where
   logical_comes : (operation : Binary) (x y : Typed) → Comes (logical operation x y)
   logical_comes operation x y = binary_comes (is_boolean x.kind && is_boolean y.kind) operation boolean x y misfit (inl tt) tt
 
+  short_comes : (operation : ShortOperation) (x y : Typed) → Comes (short_circuit operation x y)
+  short_comes operation x y = if-satisfies IsKnown (is_boolean x.kind && is_boolean y.kind) (short_typed operation boolean x y) misfit (λ e. depth_comes _ boolean _ (inl tt)) tt
+
   added_comes : (o : AddingOperator) (x y : Typed) → Comes (added o x y)
   added_comes adding.Plus x y = unbuilt_comes (is_string x.kind && is_string y.kind) kind.Text x y (arithmetic _ x y) tt (arithmetic_comes _ x y)
   added_comes adding.Minus x y = arithmetic_comes _ x y
   added_comes adding.Or x y = logical_comes _ x y
   added_comes adding.SymmetricDifference x y = tt
-  added_comes adding.OrElse x y = tt
+  added_comes adding.OrElse x y = short_comes _ x y
 
   multiplied_comes : (o : MultiplyingOperator) (x y : Typed) → Comes (multiplied o x y)
   multiplied_comes multiplying.Times x y = arithmetic_comes _ x y
   multiplied_comes multiplying.Div x y = arithmetic_comes _ x y
   multiplied_comes multiplying.Mod x y = arithmetic_comes _ x y
   multiplied_comes multiplying.And x y = logical_comes _ x y
-  multiplied_comes multiplying.AndThen x y = tt
+  multiplied_comes multiplying.AndThen x y = short_comes _ x y
 
   comparison_comes : (operation : Binary) (x y : Typed) → Comes (comparison operation x y)
   comparison_comes operation x y =

@@ -4,14 +4,15 @@ use Rattle.std.proofs.lemmas.Bool.Decides.{nat_tests}
 use Rattle.std.specs.Prelude.{⊤, if◌then◌else◌, ◌-ℤ◌, unsigned_abs}
 use Rattle.ep_typed.specs.Hosts.{Host, least, greatest, is_of_host}
 use Rattle.ep_typed.specs.Hosts as host
-use Rattle.ep_typed.specs.Operations.{Answer, Number, Fault, is_integer, within, ordinal_of, unary_answer, binary_answer, step_answer}
-use Rattle.ep_typed.specs.Trees.{Expr, Constant, Text, Read, One, Two, Step}
+use Rattle.ep_typed.specs.Operations.{Answer, Number, Fault, is_integer, decides, within, ordinal_of, unary_answer, binary_answer, step_answer}
+use Rattle.ep_typed.specs.Trees.{Expr, Constant, Text, Read, One, Two, Short, Step}
 use Rattle.ep_typed.specs.Valid.{Declarations, IsExpr, IsUnary, IsBinary}
 use Rattle.ep_typed.specs.Valid as valid
 use Rattle.ep_typed.specs.declared.operations.Unary.{Unary}
 use Rattle.ep_typed.specs.declared.operations.Unary.TheVariants as unary
 use Rattle.ep_typed.specs.declared.operations.Binary.{Binary}
 use Rattle.ep_typed.specs.declared.operations.Binary.TheVariants as binary
+use Rattle.ep_typed.specs.declared.operations.ShortOperation.{ShortOperation}
 use Rattle.ep_typed.specs.declared.run_error.TheConstants as run_error
 use Rattle.ep_scope.specs.declared.kind.Host as scope
 use Rattle.ep_scope.specs.declared.kind.Kind.TheVariants as kind
@@ -21,7 +22,7 @@ use Rattle.ep_check_expr.specs.Constants.{constant_of, constant_folded}
 use Rattle.ep_check_expr.specs.Hosts.{typed_host}
 use Rattle.ep_check_expr.specs.Judgements.{Judged, Accepts, Breaks}
 use Rattle.ep_check_expr.specs.declared.constants.ConstantForm.{ConstantForm}
-use Rattle.ep_check_expr.specs.Folding.{answered, one_folded, two_folded, folded}
+use Rattle.ep_check_expr.specs.Folding.{answered, one_folded, two_folded, short_folded, folded}
 use Rattle.ep_check_expr.specs.declared.folding.Folded.{Folded}
 use Rattle.ep_check_expr.specs.declared.folding.Folded.TheVariants.{Known, Varies, Errs}
 
@@ -126,6 +127,24 @@ two_folded-known f Errs (Known y) z e = cc
 two_folded-known f Errs Varies z e = cc
 two_folded-known f Errs Errs z e = cc
 
+-- what is known of an operation whose right operand may not be evaluated is what is known of one of both
+short_folded-known : (P : ℤ → Type 0) (operation : ShortOperation) (r s : Folded) (z : ℤ) → ((y : ℤ) → r ≡ Known y → P y) → ((y : ℤ) → s ≡ Known y → P y) → short_folded operation r s ≡ Known z → P z
+short_folded-known P operation (Known x) (Known y) z f g e = chosen (decides operation x) e
+  where
+    chosen : (b : Bool) → Known (if b then x else y) ≡ Known z → P z
+    chosen true e = f z e
+    chosen false e = g z e
+short_folded-known P operation (Known x) Errs z f g e = chosen (decides operation x) e
+  where
+    chosen : (b : Bool) → (if b then Known x else Errs) ≡ Known z → P z
+    chosen true e = f z e
+    chosen false e = cc
+short_folded-known P operation (Known x) Varies z f g e = cc
+short_folded-known P operation Varies s z f g e = cc
+short_folded-known P operation Errs (Known y) z f g e = cc
+short_folded-known P operation Errs Varies z f g e = cc
+short_folded-known P operation Errs Errs z f g e = cc
+
 one_folded-known : (operation : Unary) (k : valid.Kind) (h : Host) (r : Folded) (z : ℤ) → IsUnary operation k (valid.Ordinal h) → ((y : ℤ) → r ≡ Known y → OfKind k y) → one_folded (unary_answer operation) r ≡ Known z → IsTrue (is_of_host h z)
 one_folded-known operation k h (Known y) z u s e = one-of_host operation k h y z u (s y refl) (answered-known (unary_answer operation y) z e)
 one_folded-known operation k h Varies z u s e = cc
@@ -142,6 +161,8 @@ module _ (declared : Declarations) where
   known-of_kind (Read place) (valid.Ordinal h) z v f = cc
   known-of_kind (One operation x) (valid.Ordinal h) z v f = one_folded-known operation v.0 h (folded x) z v.1 (λ y e. known-of_kind x v.0 y v.2 e) f
   known-of_kind (Two operation x y) (valid.Ordinal h) z v f = let p = two_folded-known (binary_answer operation) (folded x) (folded y) z f in two-of_host operation v.0 v.1 h p.left p.right z v.2 p.is_answer
+  known-of_kind (Short operation x y) (valid.Ordinal h) z v f =
+      as_host h host.Boolean z v.0 (short_folded-known (λ z. IsTrue (is_of_host host.Boolean z)) operation (folded x) (folded y) z (λ w e. known-of_kind x (valid.Ordinal host.Boolean) w v.1 e) (λ w e. known-of_kind y (valid.Ordinal host.Boolean) w v.2 e) f)
   known-of_kind (Step down low high x y) (valid.Ordinal h) z v f = let p = two_folded-known (step_answer down low high) (folded x) (folded y) z f in step-of_host down low high h v.0 p.left p.right z v.1 v.2 v.3 p.is_answer
 
   -- of a valid form of a host it is a value of the host
@@ -200,6 +221,7 @@ module _ (declared : Declarations) where
   constant-fits (kind.Ordinal h) (Some (Read place)) s = tt
   constant-fits (kind.Ordinal h) (Some (One operation x)) s = folded-constant h (One operation x) (folded (One operation x)) refl s.0 s.1
   constant-fits (kind.Ordinal h) (Some (Two operation x y)) s = folded-constant h (Two operation x y) (folded (Two operation x y)) refl s.0 s.1
+  constant-fits (kind.Ordinal h) (Some (Short operation x y)) s = folded-constant h (Short operation x y) (folded (Short operation x y)) refl s.0 s.1
   constant-fits (kind.Ordinal h) (Some (Step down low high x y)) s = folded-constant h (Step down low high x y) (folded (Step down low high x y)) refl s.0 s.1
   constant-fits kind.Text None s = tt
   constant-fits kind.Text (Some (Text bytes)) s = tt
@@ -207,6 +229,7 @@ module _ (declared : Declarations) where
   constant-fits kind.Text (Some (Read place)) s = tt
   constant-fits kind.Text (Some (One operation x)) s = absurd (unary-bytes operation s.0 s.1)
   constant-fits kind.Text (Some (Two operation x y)) s = absurd (binary-bytes operation s.0 s.1 s.2)
+  constant-fits kind.Text (Some (Short operation x y)) s = let e = s.0 in cc
   constant-fits kind.Text (Some (Step down low high x y)) s = let e = s.1 in cc
   constant-fits kind.File None s = absurd s
   constant-fits kind.File (Some (Text bytes)) s = absurd s
@@ -214,4 +237,5 @@ module _ (declared : Declarations) where
   constant-fits kind.File (Some (Read place)) s = tt
   constant-fits kind.File (Some (One operation x)) s = absurd s
   constant-fits kind.File (Some (Two operation x y)) s = absurd s
+  constant-fits kind.File (Some (Short operation x y)) s = absurd s
   constant-fits kind.File (Some (Step down low high x y)) s = absurd s

@@ -12,13 +12,15 @@ use Rattle.ep_tree.specs.declared.operator.MultiplyingOperator.TheVariants as mu
 use Rattle.ep_tree.specs.declared.operator.RelationalOperator.{RelationalOperator}
 use Rattle.ep_tree.specs.declared.operator.RelationalOperator.TheVariants as relation
 use Rattle.ep_typed.specs.Hosts.{least, greatest}
-use Rattle.ep_typed.specs.Trees.{Expr, One, Two, Step}
+use Rattle.ep_typed.specs.Trees.{Expr, One, Two, Short, Step}
 use Rattle.ep_typed.specs.Valid.{Declarations, IsExpr, IsUnary, IsBinary}
 use Rattle.ep_typed.specs.Valid as valid
 use Rattle.ep_typed.specs.declared.operations.Unary.{Unary}
 use Rattle.ep_typed.specs.declared.operations.Unary.TheVariants as unary
 use Rattle.ep_typed.specs.declared.operations.Binary.{Binary}
 use Rattle.ep_typed.specs.declared.operations.Binary.TheVariants as binary
+use Rattle.ep_typed.specs.declared.operations.ShortOperation.{ShortOperation}
+use Rattle.ep_typed.specs.declared.operations.ShortOperation.TheVariants as short
 use Rattle.ep_scope.specs.declared.kind.Enumeration.{Enumeration}
 use Rattle.ep_scope.specs.declared.kind.Host.{Host}
 use Rattle.ep_scope.specs.declared.kind.Host.TheVariants as host
@@ -30,7 +32,7 @@ use Rattle.ep_check_expr.specs.Agreement.{IsHost, IsFormOf}
 use Rattle.ep_check_expr.specs.Functions.{of_integer, ordinal_by, step_typed, stepped_by, one, applied_one, applied_two}
 use Rattle.ep_check_expr.specs.Hosts.{typed_host}
 use Rattle.ep_check_expr.specs.Judgements.{Judged, Accepts, Breaks, Typed}
-use Rattle.ep_check_expr.specs.Operators.{integer, boolean, is_integer, is_boolean, is_string, are_compatible, map_both, within_depth, unary_typed, binary_typed, unbuilt_typed, signed, negated, arithmetic, logical, added, multiplied, comparison, compared}
+use Rattle.ep_check_expr.specs.Operators.{integer, boolean, is_integer, is_boolean, is_string, are_compatible, map_both, within_depth, unary_typed, binary_typed, short_typed, unbuilt_typed, signed, negated, arithmetic, logical, short_circuit, added, multiplied, comparison, compared}
 use Rattle.ep_check_expr.specs.declared.forms.TheConstants as limit
 use Rattle.ep_check_expr.proofs.Keeping.{Satisfies}
 
@@ -118,6 +120,17 @@ module _ (declared : Declarations) where
       if-fits (is_boolean x.kind && is_boolean y.kind) (binary_typed operation boolean x y) (Breaks (32 ∷ []))
       (λ e. binary-fits operation host.Boolean host.Boolean host.Boolean u refl x y (as_boolean x.kind x.form (and_first (is_boolean x.kind) (is_boolean y.kind) e) f) (as_boolean y.kind y.form (and_second (is_boolean x.kind) (is_boolean y.kind) e) g)) tt
 
+  short-form : (operation : ShortOperation) (x y : Option Expr) → IsFormOf declared boolean x → IsFormOf declared boolean y → IsFormOf declared boolean (map_both (Short operation) x y)
+  short-form operation None None f g = refl
+  short-form operation None (Some y) f g = refl
+  short-form operation (Some x) None f g = refl
+  short-form operation (Some x) (Some y) f g = (refl, (refl, f.1, g.1))
+
+  short_circuit-fits : (operation : ShortOperation) (x y : Typed) → IsFormOf declared x.kind x.form → IsFormOf declared y.kind y.form → Fits (short_circuit operation x y)
+  short_circuit-fits operation x y f g =
+      if-fits (is_boolean x.kind && is_boolean y.kind) (short_typed operation boolean x y) (Breaks (32 ∷ []))
+      (λ e. within_depth-fits (map_both (Short operation) x.form y.form) boolean (suc (max x.depth y.depth)) (short-form operation x.form y.form (as_boolean x.kind x.form (and_first (is_boolean x.kind) (is_boolean y.kind) e) f) (as_boolean y.kind y.form (and_second (is_boolean x.kind) (is_boolean y.kind) e) g))) tt
+
   joined-fits : (x y : Typed) → Fits (unbuilt_typed kind.Text x y)
   joined-fits x y = within_depth-fits None kind.Text (suc (max x.depth y.depth)) tt
 
@@ -127,14 +140,14 @@ module _ (declared : Declarations) where
   added-fits adding.Minus x y f g = arithmetic-fits binary.Subtract (refl, refl, refl) x y f g
   added-fits adding.Or x y f g = logical-fits binary.Or (refl, refl, refl) x y f g
   added-fits adding.SymmetricDifference x y f g = tt
-  added-fits adding.OrElse x y f g = tt
+  added-fits adding.OrElse x y f g = short_circuit-fits short.OrElse x y f g
 
   pub multiplied-fits : (operator : MultiplyingOperator) (x y : Typed) → IsFormOf declared x.kind x.form → IsFormOf declared y.kind y.form → Fits (multiplied operator x y)
   multiplied-fits multiplying.Times x y f g = arithmetic-fits binary.Multiply (refl, refl, refl) x y f g
   multiplied-fits multiplying.Div x y f g = arithmetic-fits binary.Divide (refl, refl, refl) x y f g
   multiplied-fits multiplying.Mod x y f g = arithmetic-fits binary.Modulo (refl, refl, refl) x y f g
   multiplied-fits multiplying.And x y f g = logical-fits binary.And (refl, refl, refl) x y f g
-  multiplied-fits multiplying.AndThen x y f g = tt
+  multiplied-fits multiplying.AndThen x y f g = short_circuit-fits short.AndThen x y f g
 
   -- two values of one host
   pub record OneHost (x y : Typed) : Type 0 where

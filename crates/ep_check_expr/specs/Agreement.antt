@@ -2,7 +2,7 @@
 use Rattle.std.specs.Prelude.{ℕ, pos, List, [], ◌∷◌, Option, Some, None, IsTrue, int_le, ⊤}
 use Rattle.ep_typed.specs.Hosts.{greatest, is_of_host}
 use Rattle.ep_typed.specs.Operations.{maxint}
-use Rattle.ep_typed.specs.Trees.{Expr, Constant, Text, Read, One, Two, Step, Variable}
+use Rattle.ep_typed.specs.Trees.{Expr, Constant, Text, Read, One, Two, Short, Step, Variable}
 use Rattle.ep_typed.specs.Valid.{Declarations, IsPlace, IsExpr}
 use Rattle.ep_typed.specs.Valid as valid
 use Rattle.ep_typed.specs.declared.value.Value.{Value}
@@ -37,6 +37,7 @@ IsFile (Text bytes) = ⊥
 IsFile (Read place) = ⊤
 IsFile (One operation x) = ⊥
 IsFile (Two operation x y) = ⊥
+IsFile (Short operation x y) = ⊥
 IsFile (Step down low high x y) = ⊥
 
 module _ (declared : Declarations) where

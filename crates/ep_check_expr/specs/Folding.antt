@@ -1,7 +1,8 @@
 -- What is known of a typed form as a constant, by the operations that a run has (ISO 10206, 6.8.2).
 use Rattle.std.specs.Prelude.{◌≡◌, ℤ, Result, Ok, Err, if◌then◌else◌}
-use Rattle.ep_typed.specs.Operations.{Answer, Number, Fault, is_integer, unary_answer, binary_answer, step_answer}
-use Rattle.ep_typed.specs.Trees.{Expr, Constant, Text, Read, One, Two, Step}
+use Rattle.ep_typed.specs.Operations.{Answer, Number, Fault, is_integer, decides, unary_answer, binary_answer, step_answer}
+use Rattle.ep_typed.specs.Trees.{Expr, Constant, Text, Read, One, Two, Short, Step}
+use Rattle.ep_typed.specs.declared.operations.ShortOperation.{ShortOperation}
 use Rattle.ep_check_expr.specs.declared.folding.Folded.{Folded}
 use Rattle.ep_check_expr.specs.declared.folding.Folded.TheVariants.{Known, Varies, Errs}
 
@@ -25,6 +26,16 @@ two_folded f Errs (Known z) = Errs
 two_folded f Errs Varies = Varies
 two_folded f Errs Errs = Errs
 
+-- where the left number decides, an error of the right operand counts for nothing; a variable in it does
+abbrev pub short_folded : ShortOperation → Folded → Folded → Folded
+short_folded operation (Known y) (Known z) = Known (if decides operation y then y else z)
+short_folded operation (Known y) Varies = Varies
+short_folded operation (Known y) Errs = if decides operation y then Known y else Errs
+short_folded operation Varies right = Varies
+short_folded operation Errs (Known z) = Errs
+short_folded operation Errs Varies = Varies
+short_folded operation Errs Errs = Errs
+
 -- a number, or that a variable is read, or else that there would be an error
 abbrev pub folded : Expr → Folded
 folded (Constant z) = Known z
@@ -32,6 +43,7 @@ folded (Text bytes) = Errs
 folded (Read place) = Varies
 folded (One operation x) = one_folded (unary_answer operation) (folded x)
 folded (Two operation x y) = two_folded (binary_answer operation) (folded x) (folded y)
+folded (Short operation x y) = short_folded operation (folded x) (folded y)
 folded (Step down low high x count) = two_folded (step_answer down low high) (folded x) (folded count)
 
 -- two numbers, or what is known of a form of the two

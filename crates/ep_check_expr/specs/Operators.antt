@@ -9,11 +9,13 @@ use Rattle.ep_tree.specs.declared.operator.MultiplyingOperator.{MultiplyingOpera
 use Rattle.ep_tree.specs.declared.operator.MultiplyingOperator.TheVariants as multiplying
 use Rattle.ep_tree.specs.declared.operator.RelationalOperator.{RelationalOperator}
 use Rattle.ep_tree.specs.declared.operator.RelationalOperator.TheVariants as relation
-use Rattle.ep_typed.specs.Trees.{Expr, One, Two}
+use Rattle.ep_typed.specs.Trees.{Expr, One, Two, Short}
 use Rattle.ep_typed.specs.declared.operations.Unary.{Unary}
 use Rattle.ep_typed.specs.declared.operations.Unary.TheVariants as unary
 use Rattle.ep_typed.specs.declared.operations.Binary.{Binary}
 use Rattle.ep_typed.specs.declared.operations.Binary.TheVariants as binary
+use Rattle.ep_typed.specs.declared.operations.ShortOperation.{ShortOperation}
+use Rattle.ep_typed.specs.declared.operations.ShortOperation.TheVariants as short
 use Rattle.ep_scope.specs.Kinds.{same_host}
 use Rattle.ep_scope.specs.declared.kind.Host.TheVariants as host
 use Rattle.ep_scope.specs.declared.kind.Kind.{Kind}
@@ -65,6 +67,9 @@ unary_typed operation kind x = within_depth (option_map (One operation) x.form) 
 abbrev pub binary_typed : Binary → Kind → Typed → Typed → Judged Typed
 binary_typed operation kind x y = within_depth (map_both (Two operation) x.form y.form) kind (suc (max x.depth y.depth))
 
+abbrev pub short_typed : ShortOperation → Kind → Typed → Typed → Judged Typed
+short_typed operation kind x y = within_depth (map_both (Short operation) x.form y.form) kind (suc (max x.depth y.depth))
+
 -- accepted, but its code is not built yet
 abbrev pub unbuilt_typed : Kind → Typed → Typed → Judged Typed
 unbuilt_typed kind x y = within_depth None kind (suc (max x.depth y.depth))
@@ -94,6 +99,10 @@ arithmetic operation x y = if is_integer x.kind && is_integer y.kind then binary
 abbrev pub logical : Binary → Typed → Typed → Judged Typed
 logical operation x y = if is_boolean x.kind && is_boolean y.kind then binary_typed operation boolean x y else misfit
 
+-- so do `and_then` and `or_else`, whose right operand may not be evaluated (ISO 10206, 6.8.3.3)
+abbrev pub short_circuit : ShortOperation → Typed → Typed → Judged Typed
+short_circuit operation x y = if is_boolean x.kind && is_boolean y.kind then short_typed operation boolean x y else misfit
+
 -- `+` besides joins two strings (ISO 10206, 6.8.3.6)
 abbrev pub sum_typed : Typed → Typed → Judged Typed
 sum_typed x y = if is_string x.kind && is_string y.kind then unbuilt_typed Text x y else arithmetic binary.Add x y
@@ -103,14 +112,14 @@ added adding.Plus = sum_typed
 added adding.Minus = arithmetic binary.Subtract
 added adding.Or = logical binary.Or
 added adding.SymmetricDifference = λ x y. unbuilt
-added adding.OrElse = λ x y. unbuilt
+added adding.OrElse = short_circuit short.OrElse
 
 abbrev pub multiplied : MultiplyingOperator → Typed → Typed → Judged Typed
 multiplied multiplying.Times = arithmetic binary.Multiply
 multiplied multiplying.Div = arithmetic binary.Divide
 multiplied multiplying.Mod = arithmetic binary.Modulo
 multiplied multiplying.And = logical binary.And
-multiplied multiplying.AndThen = λ x y. unbuilt
+multiplied multiplying.AndThen = short_circuit short.AndThen
 
 -- two values of one host give a Boolean, and so do two strings (ISO 10206, 6.8.3.5)
 abbrev pub comparison : Binary → Typed → Typed → Judged Typed

@@ -1,13 +1,13 @@
 //! What is known of typed forms as constants, by the operations that a run has.
 
 ghost use Rattle.std.specs.Prelude.{◌≡◌, MatchOption};
-ghost use Rattle.ep_typed.specs.Operations.{Number, ordinal_of, within, modulo, unary_answer, binary_answer, step_answer};
+ghost use Rattle.ep_typed.specs.Operations.{Number, ordinal_of, within, modulo, decides, unary_answer, binary_answer, step_answer};
 ghost use Rattle.ep_typed.specs.declared.run_error.TheConstants as run_error;
 ghost use Rattle.ep_typed.specs.Viewed.{expr_of};
-ghost use Rattle.ep_check_expr.specs.Folding.{AnswersPair, answered, folded};
+ghost use Rattle.ep_check_expr.specs.Folding.{AnswersPair, answered, folded, short_folded};
 ghost use Rattle.ep_check_expr.specs.declared.folding.Folded.TheVariants.{Errs};
 
-use ep_typed::{Binary, TypedExpr, Unary};
+use ep_typed::{Binary, ShortOperation, TypedExpr, Unary};
 
 /// What a typed form is as a constant.
 #[derive(Clone, Copy, Drop)]
@@ -41,6 +41,13 @@ pub fn folded_form(e: &TypedExpr) -> Folded
                 Err(other) => other,
             }
         }
+        TypedExpr::Short(operation, left, right) => {
+            short(
+                *operation,
+                folded_form(left.get()),
+                folded_form(right.get()),
+            )
+        }
         TypedExpr::Step(down, low, high, value, count) => {
             match pair(folded_form(value.get()), folded_form(count.get())) {
                 Ok((x, n)) => step(*down, *low, *high, x, n),
@@ -59,6 +66,37 @@ fn pair(left: Folded, right: Folded) -> Result<(i64, i64), Folded>
         (Folded::Varies, _) => Err(Folded::Varies),
         (_, Folded::Varies) => Err(Folded::Varies),
         _ => Err(Folded::Errs),
+    }
+}
+
+/// What is known where the right operand may not be evaluated.
+fn short(operation: ShortOperation, left: Folded, right: Folded) -> Folded
+    ensures { result ≡ short_folded operation left right }
+{
+    match (left, right) {
+        (Folded::Known(x), Folded::Known(y)) => {
+            Folded::Known(if decides(operation, x) { x } else { y })
+        }
+        (Folded::Known(x), Folded::Errs) => {
+            if decides(operation, x) {
+                left
+            } else {
+                Folded::Errs
+            }
+        }
+        (Folded::Varies, _) => Folded::Varies,
+        (_, Folded::Varies) => Folded::Varies,
+        _ => Folded::Errs,
+    }
+}
+
+/// Whether the left operand decides.
+fn decides(operation: ShortOperation, x: i64) -> bool
+    ensures { result ≡ decides operation x }
+{
+    match operation {
+        ShortOperation::AndThen => x == 0,
+        ShortOperation::OrElse => x != 0,
     }
 }
 

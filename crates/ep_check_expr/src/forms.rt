@@ -4,7 +4,7 @@ ghost use Rattle.std.specs.Prelude.{◌≡◌, IsTrue, Some};
 ghost use Rattle.ep_typed.specs.Trees.{Constant};
 ghost use Rattle.ep_check_expr.specs.Answers.{typed_of, AnswersTyped, AnswersDepth};
 ghost use Rattle.ep_check_expr.specs.Expressions.{spelled};
-ghost use Rattle.ep_check_expr.specs.Operators.{unary_typed, binary_typed, unbuilt_typed};
+ghost use Rattle.ep_check_expr.specs.Operators.{unary_typed, binary_typed, short_typed, unbuilt_typed};
 ghost use Rattle.ep_check_expr.specs.Functions.{step_typed};
 ghost use Rattle.ep_check_expr.specs.Names.{leaf, reading, value_form};
 ghost use Rattle.ep_check_expr.specs.Hosts.{typed_host};
@@ -15,7 +15,7 @@ ghost use Rattle.ep_typed.specs.Trees.{Read, Text};
 
 use ep_base::{Boxed, Bytes, NoMemory};
 use ep_scope::{Host, Kind, rule};
-use ep_typed::{Binary, TypedExpr, TypedPlace, Unary, Value};
+use ep_typed::{Binary, ShortOperation, TypedExpr, TypedPlace, Unary, Value};
 use std::alloc::{AllocError, Global};
 
 /// The greatest number of typed nodes of an expression that stand one below the other.
@@ -169,6 +169,26 @@ impl Typed {
         let form = match (x.into_form(), y.into_form()) {
             (Some(left), Some(right)) => {
                 Some(Boxed::new(alloc, TypedExpr::Binary(operation, left, right))?)
+            }
+            _ => None,
+        };
+        Ok(Typed { form, kind, depth })
+    }
+
+    /// An operation of two operands, of which the right one may not be evaluated.
+    pub(crate) fn short(
+        alloc: Global,
+        operation: ShortOperation,
+        kind: Kind,
+        x: Typed,
+        y: Typed,
+    ) -> Result<Typed, Refusal>
+        ensures { AnswersTyped result (short_typed operation kind (typed_of x) (typed_of y)) }
+    {
+        let depth = above(x.depth.max(y.depth))?;
+        let form = match (x.into_form(), y.into_form()) {
+            (Some(left), Some(right)) => {
+                Some(Boxed::new(alloc, TypedExpr::Short(operation, left, right))?)
             }
             _ => None,
         };

@@ -4,12 +4,12 @@ ghost use Rattle.std.specs.Prelude.{◌≡◌, true};
 ghost use Rattle.ep_built.specs.Built.{built_adding, built_multiplying, built_relation};
 ghost use Rattle.ep_check_expr.specs.Answers.{typed_of, AnswersTyped};
 ghost use Rattle.ep_check_expr.specs.Operators as spec;
-ghost use Rattle.ep_check_expr.specs.Operators.{signed, negated, arithmetic, logical, sum_typed, comparison, added, multiplied, compared, are_compatible};
+ghost use Rattle.ep_check_expr.specs.Operators.{signed, negated, arithmetic, logical, short_circuit, sum_typed, comparison, added, multiplied, compared, are_compatible};
 
 use crate::forms::{Refusal, Typed};
 use ep_scope::{Host, Kind, rule, same_host};
 use ep_tree::{AddingOperator, MultiplyingOperator, RelationalOperator, Sign};
-use ep_typed::{Binary, Unary};
+use ep_typed::{Binary, ShortOperation, Unary};
 use std::alloc::Global;
 
 /// Whether a value is an integer.
@@ -103,6 +103,22 @@ fn logical(alloc: Global, operation: Binary, x: Typed, y: Typed) -> Result<Typed
     }
 }
 
+/// `and_then` and `or_else`, which take and give Booleans.
+fn short_circuit(
+    alloc: Global,
+    operation: ShortOperation,
+    x: Typed,
+    y: Typed,
+) -> Result<Typed, Refusal>
+    ensures { AnswersTyped result (short_circuit operation (typed_of x) (typed_of y)) }
+{
+    if is_boolean(x.kind) && is_boolean(y.kind) {
+        Typed::short(alloc, operation, Kind::Ordinal(Host::Boolean), x, y)
+    } else {
+        Err(Refusal::Rule(rule::OPERANDS))
+    }
+}
+
 /// `+`, which besides joins strings.
 fn sum(alloc: Global, x: Typed, y: Typed) -> Result<Typed, Refusal>
     ensures { AnswersTyped result (sum_typed (typed_of x) (typed_of y)) }
@@ -142,7 +158,7 @@ pub(crate) fn added(
         AddingOperator::Minus => arithmetic(alloc, Binary::Subtract, x, y),
         AddingOperator::Or => logical(alloc, Binary::Or, x, y),
         AddingOperator::SymmetricDifference => unreachable!(),
-        AddingOperator::OrElse => unreachable!(),
+        AddingOperator::OrElse => short_circuit(alloc, ShortOperation::OrElse, x, y),
     }
 }
 
@@ -161,7 +177,7 @@ pub(crate) fn multiplied(
         MultiplyingOperator::Div => arithmetic(alloc, Binary::Divide, x, y),
         MultiplyingOperator::Mod => arithmetic(alloc, Binary::Modulo, x, y),
         MultiplyingOperator::And => logical(alloc, Binary::And, x, y),
-        MultiplyingOperator::AndThen => unreachable!(),
+        MultiplyingOperator::AndThen => short_circuit(alloc, ShortOperation::AndThen, x, y),
     }
 }
 

@@ -1,16 +1,20 @@
 -- The machine follows an operation, by the instruction that gives its answer.
-use Rattle.std.proofs.Common.{◌≡◌, ℕ, ℤ, suc, ◌+◌, ◌≤◌, IsTrue, List, refl, ap, ◌∙◌, arith}
+use Rattle.std.proofs.Common.{◌≡◌, ℕ, ℤ, suc, ◌+◌, ◌≤◌, IsTrue, List, length, refl, ap, ◌∙◌, arith}
 use Rattle.ep_object.specs.Follows.{point, Facts, Fragment, After, OnTop, Inside}
 use Rattle.ep_object.specs.Matching.{Slots, Memory, Injection}
-use Rattle.ep_object.specs.Operands.{Operand}
 use Rattle.ep_object.specs.Runs.{unit_in}
+use Rattle.ep_object.specs.Operands.{Operand}
+use Rattle.ep_object.specs.Placing.{Placement}
 use Rattle.ep_object.specs.declared.code.Image.{Image}
+use Rattle.ep_object.specs.declared.code.Instr.{Instr}
 use Rattle.ep_object.proofs.following.Choices.{going_of, fragment_answer}
 use Rattle.ep_object.proofs.following.Fragments.{fragment_less, fragment_waits}
 use Rattle.ep_object.proofs.matching.Growing.{inside_here}
 use Rattle.ep_object.proofs.rows.Rows.{RowAnswers, RowPushes}
 use Rattle.ep_typed.specs.Calls.{Handler}
-use Rattle.ep_typed.specs.Meaning.{answered, weight_of}
+use Rattle.ep_gen_expr.specs.Following.{least_credit}
+use Rattle.ep_typed.specs.Meaning.{answered, eval, weight_of}
+use Rattle.ep_typed.specs.Trees.{Expr}
 use Rattle.ep_typed.specs.Operations.{Answer, Number}
 use Rattle.ep_typed.specs.Printing.{Result}
 use Rattle.ep_typed.specs.Printing as result
@@ -24,6 +28,12 @@ abbrev pub Evaluates : Declarations → Image → Slots → Facts → ℕ → In
     → Computation Result → ℕ → Kind → List Operand → ℕ → ℕ → Type 0
 Evaluates declared G untouched Here n injection memory from operands c to kind below before after =
     Fragment declared G Here n (point injection memory from operands) c to (λ r. Inside untouched injection memory (OnTop kind below r)) before (λ r. after + weight_of r)
+
+-- From each memory of a routine of the unit, the machine follows the expression through this code, which begins at this
+-- place of the object, with a credit that rises by 8.
+abbrev pub IsFollowed : Declarations → Image → Slots → Facts → Placement → Handler → ℕ → List ℕ → ℕ → Kind → Expr → ℕ → ℕ → List Instr → Type 0
+IsFollowed declared G untouched Here p call g unit n kind x line at code =
+    (injection : Injection) (memory : Memory) (below : List Operand) (d : ℕ) → least_credit ≤ d → unit_in G memory.frames ≡ unit → Evaluates declared G untouched Here n injection memory (p.instructions.before + at) below (eval call g unit line x) (p.instructions.before + (at + length code)) kind below d (d + 8)
 
 -- the computation that gives an answer, with the step of the form
 abbrev pub answering : Handler → ℕ → List ℕ → ℕ → Answer → Computation Result

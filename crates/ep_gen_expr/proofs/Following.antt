@@ -1,5 +1,5 @@
 -- The machine follows the meaning of an expression through the code of the expression.
-use Rattle.std.proofs.Common.{◌≡◌, ℕ, ℤ, pos, suc, ◌+◌, ◌≤◌, Bool, IsTrue, List, [], ◌∷◌, ◌++◌, length, Some, slice_get, refl, sym, ap, ◌∙◌, subst, arith, length-append}
+use Rattle.std.proofs.Common.{◌≡◌, ℕ, ℤ, pos, suc, ◌+◌, ◌<◌, ◌≤◌, Bool, IsTrue, List, [], ◌∷◌, ◌++◌, length, Some, slice_get, refl, sym, ap, ◌∙◌, subst, arith, append_assoc, length-append}
 use Rattle.ep_object.specs.Follows.{point, Facts, Fragment, OnTop, PlaceOnTop, Inside}
 use Rattle.ep_object.specs.Matching.{Slots, Memory, at, Injection, IsPlaceOf, Describes, HasType, Matches}
 use Rattle.ep_object.specs.Operands.{Operand}
@@ -21,15 +21,18 @@ use Rattle.std.proofs.lemmas.Option.{same_Some}
 use Rattle.ep_typed.specs.Steady.{IsSteadyHandler}
 use Rattle.ep_typed.specs.Calls.{Handler}
 use Rattle.ep_typed.proofs.Denoters.{types_are_instances}
-use Rattle.ep_typed.proofs.Steady.{steady_bind, steady_fetch, steady_spend, steady_give, steady_answered, steady_eval}
+use Rattle.ep_typed.proofs.Steady.{steady_bind, steady_if, steady_fetch, steady_spend, steady_give, steady_answered, steady_eval}
 use Rattle.ep_typed.specs.Meaning.{eval, place, weight_of}
+use Rattle.ep_typed.specs.Operations.{decides}
+use Rattle.ep_typed.specs.Printing.{number_of}
 use Rattle.ep_typed.specs.Printing as result
 use Rattle.ep_typed.specs.Steps.{word_at}
 use Rattle.ep_typed.specs.Steps as meaning
-use Rattle.ep_typed.specs.Trees.{Variable, Standard, Expr, Constant, Text, Read, One, Two, Step}
+use Rattle.ep_typed.specs.Trees.{Variable, Standard, Expr, Constant, Text, Read, One, Two, Short, Step}
 use Rattle.ep_typed.specs.Valid.{Declarations, Kind, Ordinal, Bytes, IsUnary, IsBinary, IsTypeOf, IsPlace, IsExpr}
 use Rattle.ep_typed.specs.Viewed.{denoter_of}
 use Rattle.ep_typed.specs.declared.operations.Binary.{Binary}
+use Rattle.ep_typed.specs.declared.operations.ShortOperation.{ShortOperation}
 use Rattle.ep_typed.specs.declared.operations.Unary.{Unary}
 use Rattle.ep_typed.specs.Hosts.{Host, least, greatest, is_of_host}
 use Rattle.ep_typed.specs.Hosts as host
@@ -37,8 +40,9 @@ use Rattle.ep_typed.specs.declared.value.TypeValue.{TypeValue}
 use Rattle.ep_typed.specs.declared.value.TypeValue.TheVariants as type
 use Rattle.ep_typed.specs.declared.unit.UnitVariable.{UnitVariable}
 use Rattle.ep_gen_expr.specs.Following.{least_credit}
-use Rattle.ep_gen_expr.specs.ExprCode.{IsPlaceCode, IsExprCode, instr, push, bare, one_code, two_code, step_code}
-use Rattle.ep_gen_expr.proofs.Answering.{Evaluates}
+use Rattle.ep_gen_expr.specs.ExprCode.{IsPlaceCode, IsExprCode, instr, push, bare, one_code, two_code, keep_code, step_code}
+use Rattle.ep_gen_expr.proofs.Answering.{Evaluates, IsFollowed}
+use Rattle.ep_gen_expr.proofs.ShortCircuit.{kept_follows}
 use Rattle.ep_gen_expr.proofs.OneOperand.{UnaryFollows, unary_follows}
 use Rattle.ep_gen_expr.proofs.Placed.{code_front, code_back, text_at, variable_at}
 use Rattle.ep_gen_expr.proofs.Stepping.{step_follows}
@@ -54,8 +58,7 @@ pub record IsTyped (declared : Declarations) (unit : List ℕ) (k : ℕ) (h : Ho
   pub of_host : IsTypeOf h type_value
 
 -- a place of a host is a variable of a type of it
-pub typed_variable : (declared : Declarations) → HaveValidTypes declared → (h : Host) (unit : List ℕ) (k : ℕ)
-    → IsPlace declared h (Variable unit k) → IsTyped declared unit k h
+pub typed_variable : (declared : Declarations) → HaveValidTypes declared → (h : Host) (unit : List ℕ) (k : ℕ) → IsPlace declared h (Variable unit k) → IsTyped declared unit k h
 typed_variable declared types_valid h unit k (v, is_declared, is_host) =
     let valid = types_valid unit k v is_declared in
     record {
@@ -66,79 +69,41 @@ typed_variable declared types_valid h unit k (v, is_declared, is_host) =
       of_host = subst (λ h. IsTypeOf h valid.type_value) (same_Some valid.host h (sym valid.has_host ∙ is_host)) valid.is_type;
     }
 
--- From each memory of a routine of the unit, the machine follows the expression through this code, which begins at this
--- place of the object, with a credit that rises by 8.
-abbrev pub IsFollowed : Declarations → Image → Slots → Facts → Placement → Handler → ℕ → List ℕ → ℕ → Kind
-    → Expr → ℕ → ℕ → List Instr → Type 0
-IsFollowed declared G untouched Here p call g unit n kind x line at code =
-    (injection : Injection) (memory : Memory) (below : List Operand) (d : ℕ) → least_credit ≤ d
-    → unit_in G memory.frames ≡ unit
-    → Evaluates declared G untouched Here n injection memory (p.instructions.before + at) below (eval call g unit line x) (p.instructions.before + (at + length code)) kind below d (d + 8)
-
 module _ {declared : Declarations} {G : Image} {untouched : Slots} {Here : Facts} (ps : List Placement) (p : Placement) (texts : List (List ℕ)) (references : List Reference) (scene : Scene declared G ps p texts) (call : Handler) (steady_call : IsSteadyHandler call) (g : ℕ) (unit : List ℕ) where
   -- a constant, by `Push`
-  constant_follows : (n : ℕ) (host : Host) (z : ℤ) → IsTrue (is_of_host host z) → (line at : ℕ)
-      → CodeStands G ps p references at (push line z ∷ [])
-      → (injection : Injection) (memory : Memory) (below : List Operand) (d : ℕ)
-      → Fragment declared G Here n (point injection memory (p.instructions.before + at) below) (eval call g unit line (Constant z)) (p.instructions.before + (at + 1)) (λ r. Inside untouched injection memory (OnTop (Ordinal host) below r)) d (λ r. d + 8 + weight_of r)
+  constant_follows : (n : ℕ) (host : Host) (z : ℤ) → IsTrue (is_of_host host z) → (line at : ℕ) → CodeStands G ps p references at (push line z ∷ []) → (injection : Injection) (memory : Memory) (below : List Operand) (d : ℕ) → Fragment declared G Here n (point injection memory (p.instructions.before + at) below) (eval call g unit line (Constant z)) (p.instructions.before + (at + 1)) (λ r. Inside untouched injection memory (OnTop (Ordinal host) below r)) d (λ r. d + 8 + weight_of r)
   constant_follows n host z of_host line at stands injection memory below d =
       fragment_less {n = suc n} (omega arith) (fragment_to (omega arith) (fragment_one {n = n} {d1 = d + 8} (λ s matches. push_pushes G (p.instructions.before + at) line below z stands.0 memory s.trace) (omega arith)
       (fragment_give (omega arith) (inside_here (record { number = z; is_number = refl; of_host = of_host; is = refl })))))
 
   -- a text, by `Text`, which spends its length
-  text_follows : (n k : ℕ) (bytes : List ℕ) → slice_get texts k ≡ Some bytes → (line at : ℕ)
-      → CodeStands G ps p references at (instr op.TEXT (pos k) 0 line ∷ [])
-      → (injection : Injection) (memory : Memory) (below : List Operand) (d : ℕ)
-      → Fragment declared G Here n (point injection memory (p.instructions.before + at) below) (eval call g unit line (Text bytes)) (p.instructions.before + (at + 1)) (λ r. Inside untouched injection memory (OnTop Bytes below r)) d (λ r. d + 8 + weight_of r)
+  text_follows : (n k : ℕ) (bytes : List ℕ) → slice_get texts k ≡ Some bytes → (line at : ℕ) → CodeStands G ps p references at (instr op.TEXT (pos k) 0 line ∷ []) → (injection : Injection) (memory : Memory) (below : List Operand) (d : ℕ) → Fragment declared G Here n (point injection memory (p.instructions.before + at) below) (eval call g unit line (Text bytes)) (p.instructions.before + (at + 1)) (λ r. Inside untouched injection memory (OnTop Bytes below r)) d (λ r. d + 8 + weight_of r)
   text_follows n k bytes there line at stands injection memory below d =
       let text : TextStands G p k bytes = scene.texts_stand k bytes there in
       fragment_less {n = suc n} (omega arith) (fragment_to (omega arith) (fragment_paid {n = n} {d1 = d + 8 + length bytes} {weight = length bytes} {w = length bytes} (λ s matches. text_pushes G (p.instructions.before + at) line below (p.texts.before + k) bytes text.there (text_at G ps p references line k (p.instructions.before + at) bytes text stands.0) memory s.trace) (omega arith) (omega arith) (omega arith)
       (fragment_give (omega arith) (inside_here (record { bytes = bytes; is_text = refl; is = refl })))))
 
   -- what `Unit` finds of a variable that is declared, where the routine is one of the unit
-  unit_finds : (place line number : ℕ) (of_unit : List ℕ) (v : UnitVariable) (t : TypeValue)
-      → declared.variables of_unit number ≡ Some v → HasType declared of_unit v t
-      → (variable : VariableStands G ps of_unit number)
-      → slice_get G.instructions place ≡ Some (instr op.UNIT (pos variable.number) number line)
-      → (injection : Injection) (memory : Memory) (below : List Operand) → unit_in G memory.frames ≡ unit
-      → (s : meaning.State) → Matches declared G injection s memory → Here injection s memory
-      → Reads declared G Here (at place below memory s.trace) 1 unit line (place + 1) (λ n. Inside untouched injection memory (PlaceOnTop t below n)) s (s.variables of_unit number)
+  unit_finds : (place line number : ℕ) (of_unit : List ℕ) (v : UnitVariable) (t : TypeValue) → declared.variables of_unit number ≡ Some v → HasType declared of_unit v t → (variable : VariableStands G ps of_unit number) → slice_get G.instructions place ≡ Some (instr op.UNIT (pos variable.number) number line) → (injection : Injection) (memory : Memory) (below : List Operand) → unit_in G memory.frames ≡ unit → (s : meaning.State) → Matches declared G injection s memory → Here injection s memory → Reads declared G Here (at place below memory s.trace) 1 unit line (place + 1) (λ n. Inside untouched injection memory (PlaceOnTop t below n)) s (s.variables of_unit number)
   unit_finds place line number of_unit v t is_declared has_type variable has injection memory below unit_is s matches here =
       subst (λ u. Reads declared G Here (at place below memory s.trace) 1 u line (place + 1) (λ n. Inside untouched injection memory (PlaceOnTop t below n)) s (s.variables of_unit number)) unit_is
       (subst (λ u. Reads declared G Here (at place below memory s.trace) 1 (unit_in G memory.frames) line (place + 1) (λ n. Inside untouched injection memory (PlaceOnTop t below n)) s (s.variables u number)) variable.named
       (unit_reads declared G place line below variable.number number variable.image_unit v t has variable.there variable.within (ap (λ u. declared.variables u number) variable.named ∙ is_declared) (subst (λ u. HasType declared u v t) (sym variable.named) has_type) injection memory s matches here))
 
-  pub place_follows : (n : ℕ) (of_unit : List ℕ) (k : ℕ) (v : UnitVariable) (t : TypeValue)
-      → declared.variables of_unit k ≡ Some v → HasType declared of_unit v t
-      → (line at : ℕ) (code : List Instr) → IsPlaceCode references line (Variable of_unit k) code
-      → CodeStands G ps p references at code
-      → (injection : Injection) (memory : Memory) (below : List Operand) (d : ℕ) → least_credit ≤ d
-      → unit_in G memory.frames ≡ unit
-      → Fragment declared G Here n (point injection memory (p.instructions.before + at) below) (place call g unit line (Variable of_unit k)) (p.instructions.before + (at + length code)) (λ a. Inside untouched injection memory (PlaceOnTop t below a)) d (λ a. d + 8)
+  pub place_follows : (n : ℕ) (of_unit : List ℕ) (k : ℕ) (v : UnitVariable) (t : TypeValue) → declared.variables of_unit k ≡ Some v → HasType declared of_unit v t → (line at : ℕ) (code : List Instr) → IsPlaceCode references line (Variable of_unit k) code → CodeStands G ps p references at code → (injection : Injection) (memory : Memory) (below : List Operand) (d : ℕ) → least_credit ≤ d → unit_in G memory.frames ≡ unit → Fragment declared G Here n (point injection memory (p.instructions.before + at) below) (place call g unit line (Variable of_unit k)) (p.instructions.before + (at + length code)) (λ a. Inside untouched injection memory (PlaceOnTop t below a)) d (λ a. d + 8)
   place_follows n of_unit k v t is_declared has_type line at code (r, there, is) stands injection memory below d le unit_is =
       let variable : VariableStands G ps of_unit k = scene.variables_stand of_unit k v is_declared in
       let has : CodeStands G ps p references at (instr op.UNIT (pos r) 0 line ∷ []) = subst (λ c. CodeStands G ps p references at c) is stands in
       fragment_less {n = suc n} (omega arith) (fragment_to (omega (arith, ap length is)) (fragment_fetch {n = n} (λ s. s.variables of_unit k) (λ m. m) (λ s matches here. unit_finds (p.instructions.before + at) line k of_unit v t is_declared has_type variable (variable_at G ps p references line r (p.instructions.before + at) k of_unit variable there has.0) injection memory below unit_is s matches here) (omega (arith, le)) (λ m. omega arith)))
 
   -- what `Load` finds of a variable of a type of the host
-  load_finds : (place line : ℕ) (h : Host) (t : TypeValue) → IsTypeOf h t
-      → slice_get G.instructions place ≡ Some (instr op.LOAD (pos 0) 0 line)
-      → (injection : Injection) (memory : Memory) (below : List Operand) (a : ℕ) (q : PlaceOf)
-      → IsPlaceOf injection memory.segments a q → Describes memory.types q.type_number t
-      → unit_in G memory.frames ≡ unit → (s : meaning.State) → Matches declared G injection s memory
-      → Here injection s memory
-      → Reads declared G Here (at place (operand.Place q ∷ below) memory s.trace) 1 unit line (place + 1) (λ w. Inside untouched injection memory (OnTop (Ordinal h) below (result.Number w))) s (word_at a s)
+  load_finds : (place line : ℕ) (h : Host) (t : TypeValue) → IsTypeOf h t → slice_get G.instructions place ≡ Some (instr op.LOAD (pos 0) 0 line) → (injection : Injection) (memory : Memory) (below : List Operand) (a : ℕ) (q : PlaceOf) → IsPlaceOf injection memory.segments a q → Describes memory.types q.type_number t → unit_in G memory.frames ≡ unit → (s : meaning.State) → Matches declared G injection s memory → Here injection s memory → Reads declared G Here (at place (operand.Place q ∷ below) memory s.trace) 1 unit line (place + 1) (λ w. Inside untouched injection memory (OnTop (Ordinal h) below (result.Number w))) s (word_at a s)
   load_finds place line h (type.Ordinal low high) of_host has injection memory below a q place_of described unit_is s matches here =
       subst (λ u. Reads declared G Here (at place (operand.Place q ∷ below) memory s.trace) 1 u line (place + 1) (λ w. Inside untouched injection memory (OnTop (Ordinal h) below (result.Number w))) s (word_at a s)) unit_is (load_reads declared G place line below h low high a q of_host has injection memory place_of described s matches here)
   load_finds place line h type.Text of_host has injection memory below a q place_of described unit_is s matches here = absurd of_host
 
   -- the value of a variable that is declared, by its place and `Load`
-  read_follows : (n : ℕ) (h : Host) (of_unit : List ℕ) (k : ℕ) → IsTyped declared of_unit k h
-      → (line at : ℕ) (xs : List Instr) → IsPlaceCode references line (Variable of_unit k) xs
-      → CodeStands G ps p references at (xs ++ bare line op.LOAD ∷ [])
-      → (injection : Injection) (memory : Memory) (below : List Operand) (d : ℕ) → least_credit ≤ d
-      → unit_in G memory.frames ≡ unit
-      → Evaluates declared G untouched Here n injection memory (p.instructions.before + at) below (eval call g unit line (Read (Variable of_unit k))) (p.instructions.before + (at + length (xs ++ bare line op.LOAD ∷ []))) (Ordinal h) below d (d + 8)
+  read_follows : (n : ℕ) (h : Host) (of_unit : List ℕ) (k : ℕ) → IsTyped declared of_unit k h → (line at : ℕ) (xs : List Instr) → IsPlaceCode references line (Variable of_unit k) xs → CodeStands G ps p references at (xs ++ bare line op.LOAD ∷ []) → (injection : Injection) (memory : Memory) (below : List Operand) (d : ℕ) → least_credit ≤ d → unit_in G memory.frames ≡ unit → Evaluates declared G untouched Here n injection memory (p.instructions.before + at) below (eval call g unit line (Read (Variable of_unit k))) (p.instructions.before + (at + length (xs ++ bare line op.LOAD ∷ []))) (Ordinal h) below d (d + 8)
   read_follows n h of_unit k v line at xs is_code stands injection memory below d le unit_is =
       let middle : ℕ = p.instructions.before + (at + length xs) in
       let has : CodeStands G ps p references (at + length xs) (bare line op.LOAD ∷ []) = code_back G ps p references at xs (bare line op.LOAD ∷ []) stands in
@@ -146,10 +111,7 @@ module _ {declared : Declarations} {G : Image} {untouched : Slots} {Here : Facts
       fragment_less {n = suc n} (omega arith) (fragment_to (omega (arith, length-append xs (bare line op.LOAD ∷ []))) (fragment_fetch {n = n} (word_at a) (λ w. result.Number w) (λ s matches here. load_finds middle line h v.type_value v.of_host has.0 longer after below a q place_of described (unit_in-same G routine ∙ unit_is) s matches here) (omega arith) (λ w. omega arith))))
 
   -- an operation with one operand
-  one_follows : (n : ℕ) (operation : Unary) (x : Expr) (k kind : Kind) → IsUnary operation k kind
-      → (line at : ℕ) (xs : List Instr) → IsFollowed declared G untouched Here p call g unit n k x line at xs
-      → CodeStands G ps p references at (xs ++ one_code line operation)
-      → IsFollowed declared G untouched Here p call g unit n kind (One operation x) line at (xs ++ one_code line operation)
+  one_follows : (n : ℕ) (operation : Unary) (x : Expr) (k kind : Kind) → IsUnary operation k kind → (line at : ℕ) (xs : List Instr) → IsFollowed declared G untouched Here p call g unit n k x line at xs → CodeStands G ps p references at (xs ++ one_code line operation) → IsFollowed declared G untouched Here p call g unit n kind (One operation x) line at (xs ++ one_code line operation)
   one_follows n operation x k kind kinds line at xs first stands injection memory below d le unit_is =
       let o : UnaryFollows declared G untouched Here ps p references call g unit line n (at + length xs) operation k kind = unary_follows declared G untouched Here ps p references call g unit line n (at + length xs) operation k kind kinds (code_back G ps p references at xs (one_code line operation) stands) in
       let end : ℕ = p.instructions.before + (at + length (xs ++ one_code line operation)) in
@@ -159,12 +121,7 @@ module _ {declared : Declarations} {G : Image} {untouched : Slots} {Here : Facts
       (λ z longer after of_host grown routine. fragment_to (omega (arith, length-append xs (one_code line operation))) (o.follows z of_host longer after below d (unit_in-same G routine ∙ unit_is))))
 
   -- an operation with two operands
-  two_follows : (n : ℕ) (operation : Binary) (x y : Expr) (k l kind : Kind) → IsBinary operation k l kind
-      → (line at : ℕ) (xs ys : List Instr)
-      → IsFollowed declared G untouched Here p call g unit n k x line at xs
-      → IsFollowed declared G untouched Here p call g unit n l y line (at + length xs) ys
-      → CodeStands G ps p references (at + length xs + length ys) (two_code line operation ∷ [])
-      → IsFollowed declared G untouched Here p call g unit n kind (Two operation x y) line at (xs ++ (ys ++ two_code line operation ∷ []))
+  two_follows : (n : ℕ) (operation : Binary) (x y : Expr) (k l kind : Kind) → IsBinary operation k l kind → (line at : ℕ) (xs ys : List Instr) → IsFollowed declared G untouched Here p call g unit n k x line at xs → IsFollowed declared G untouched Here p call g unit n l y line (at + length xs) ys → CodeStands G ps p references (at + length xs + length ys) (two_code line operation ∷ []) → IsFollowed declared G untouched Here p call g unit n kind (Two operation x y) line at (xs ++ (ys ++ two_code line operation ∷ []))
   two_follows n operation x y k l kind kinds line at xs ys first second stands injection memory below d le unit_is =
       let middle : ℕ = p.instructions.before + (at + length xs) in
       let last : ℕ = p.instructions.before + (at + length xs + length ys) in
@@ -179,56 +136,77 @@ module _ {declared : Declarations} {G : Image} {untouched : Slots} {Here : Facts
       (λ w v2 m2 of_w grown2 routine2. fragment_to (omega (arith, length-append xs (ys ++ two_code line operation ∷ []), length-append ys (two_code line operation ∷ []))) (o.follows z w of_z of_w v2 m2 below d (unit_in-same G routine2 ∙ (unit_in-same G routine1 ∙ unit_is))))))
 
   -- `succ` and `pred`
-  stepped_follows : (n : ℕ) (h : Host) (down : Bool) (low high : ℤ) → low ≡ least h → high ≡ greatest h
-      → (x y : Expr) (line at : ℕ) (xs ys : List Instr)
-      → IsFollowed declared G untouched Here p call g unit n (Ordinal h) x line at xs
-      → IsFollowed declared G untouched Here p call g unit n (Ordinal host.Integer) y line (at + length xs) ys
-      → CodeStands G ps p references (at + length xs + length ys) (step_code line down low high)
-      → IsFollowed declared G untouched Here p call g unit n (Ordinal h) (Step down low high x y) line at (xs ++ (ys ++ step_code line down low high))
+  stepped_follows : (n : ℕ) (h : Host) (down : Bool) (low high : ℤ) → low ≡ least h → high ≡ greatest h → (x y : Expr) (line at : ℕ) (xs ys : List Instr) → IsFollowed declared G untouched Here p call g unit n (Ordinal h) x line at xs → IsFollowed declared G untouched Here p call g unit n (Ordinal host.Integer) y line (at + length xs) ys → CodeStands G ps p references (at + length xs + length ys) (step_code line down low high) → IsFollowed declared G untouched Here p call g unit n (Ordinal h) (Step down low high x y) line at (xs ++ (ys ++ step_code line down low high))
   stepped_follows n h down low high is_low is_high x y line at xs ys first second stands injection memory below d le unit_is =
       fragment_bind_number {e = λ r. d + 8} (λ a. steady_bind (steady_eval call steady_call g unit line y) (λ b. steady_bind (steady_answered call steady_call g unit line _) (λ z. steady_spend 1 (steady_give (result.Number z))))) (fragment_credit {d = d} (omega arith) (λ r. omega arith) (first injection memory below d le unit_is)) (λ z v1 m1 of_z grown1 routine1.
       fragment_bind_number {e = λ r. d + 16} (λ b. steady_bind (steady_answered call steady_call g unit line _) (λ w. steady_spend 1 (steady_give (result.Number w)))) (fragment_credit {d = d + 8} (omega arith) (λ r. omega arith) (second v1 m1 (operand.Word z ∷ below) (d + 8) (omega arith) (unit_in-same G routine1 ∙ unit_is))) (λ w v2 m2 of_w grown2 routine2.
       fragment_to (omega (arith, length-append xs (ys ++ step_code line down low high), length-append ys (step_code line down low high))) (step_follows declared G untouched Here ps p references call g unit line n (at + length xs + length ys) h down low high is_low is_high stands z w of_w v2 m2 below d (unit_in-same G routine2 ∙ (unit_in-same G routine1 ∙ unit_is)))))
 
   -- of a kind and a code that are those
-  followed_as : (n : ℕ) (kind kind2 : Kind) (x : Expr) (line at : ℕ) (code code2 : List Instr) → kind ≡ kind2
-      → code ≡ code2 → IsFollowed declared G untouched Here p call g unit n kind2 x line at code2
-      → IsFollowed declared G untouched Here p call g unit n kind x line at code
+  followed_as : (n : ℕ) (kind kind2 : Kind) (x : Expr) (line at : ℕ) (code code2 : List Instr) → kind ≡ kind2 → code ≡ code2 → IsFollowed declared G untouched Here p call g unit n kind2 x line at code2 → IsFollowed declared G untouched Here p call g unit n kind x line at code
   followed_as n kind kind2 x line at code code2 e f h =
       subst (λ k. IsFollowed declared G untouched Here p call g unit n k x line at code) (sym e) (subst (λ c. IsFollowed declared G untouched Here p call g unit n kind2 x line at c) (sym f) h)
 
-  -- What the machine does from the code of an expression follows the meaning of the expression.
-  pub expression_follows : (n : ℕ) (kind : Kind) (x : Expr) → IsExpr declared kind x
-      → (line at : ℕ) (code : List Instr) → IsExprCode texts references line x code
-      → CodeStands G ps p references at code
-      → (injection : Injection) (memory : Memory) (below : List Operand) (d : ℕ) → least_credit ≤ d
-      → unit_in G memory.frames ≡ unit
-      → Fragment declared G Here n (point injection memory (p.instructions.before + at) below) (eval call g unit line x) (p.instructions.before + (at + length code)) (λ r. Inside untouched injection memory (OnTop kind below r)) d (λ r. d + 8 + weight_of r)
-  expression_follows n kind (Constant z) (h, is_kind, of_host) line at code is stands =
-      followed_as n kind (Ordinal h) (Constant z) line at code (push line z ∷ []) is_kind is (λ injection memory below d le unit_is. constant_follows n h z of_host line at (subst (λ c. CodeStands G ps p references at c) is stands) injection memory below d)
-  expression_follows n kind (Text bytes) is_kind line at code (k, there, is) stands =
-      followed_as n kind Bytes (Text bytes) line at code (instr op.TEXT (pos k) 0 line ∷ []) is_kind is (λ injection memory below d le unit_is. text_follows n k bytes there line at (subst (λ c. CodeStands G ps p references at c) is stands) injection memory below d)
-  expression_follows n kind (Read (Variable of_unit k)) (h, is_kind, is_place) line at code (xs, is_code, is) stands =
-      let v = typed_variable declared scene.types_valid h of_unit k is_place in
-      followed_as n kind (Ordinal h) (Read (Variable of_unit k)) line at code (xs ++ bare line op.LOAD ∷ []) is_kind is (read_follows n h of_unit k v line at xs is_code (subst (λ c. CodeStands G ps p references at c) is stands))
-  expression_follows n kind (Read (Standard file)) (h, is_kind, is_place) line at code is_code stands = absurd is_place
-  expression_follows n kind (One operation x) (k, kinds, is_x) line at code (xs, x_code, is) stands =
-      let all : CodeStands G ps p references at (xs ++ one_code line operation) = subst (λ c. CodeStands G ps p references at c) is stands in
-      followed_as n kind kind (One operation x) line at code (xs ++ one_code line operation) refl is
-      (one_follows n operation x k kind kinds line at xs (expression_follows n k x is_x line at xs x_code (code_front G ps p references at xs (one_code line operation) all)) all)
-  expression_follows n kind (Two operation x y) (k, l, kinds, is_x, is_y) line at code (xs, ys, x_code, y_code, is) stands =
-      let all : CodeStands G ps p references at (xs ++ (ys ++ two_code line operation ∷ [])) = subst (λ c. CodeStands G ps p references at c) is stands in
-      let rest : CodeStands G ps p references (at + length xs) (ys ++ two_code line operation ∷ []) = code_back G ps p references at xs (ys ++ two_code line operation ∷ []) all in
-      followed_as n kind kind (Two operation x y) line at code (xs ++ (ys ++ two_code line operation ∷ [])) refl is
-      (two_follows n operation x y k l kind kinds line at xs ys
-      (expression_follows n k x is_x line at xs x_code (code_front G ps p references at xs (ys ++ two_code line operation ∷ []) all))
-      (expression_follows n l y is_y line (at + length xs) ys y_code (code_front G ps p references (at + length xs) ys (two_code line operation ∷ []) rest))
-      (code_back G ps p references (at + length xs) ys (two_code line operation ∷ []) rest))
-  expression_follows n kind (Step down low high x y) (h, is_kind, is_low, is_high, is_x, is_y) line at code (xs, ys, x_code, y_code, is) stands =
-      let all : CodeStands G ps p references at (xs ++ (ys ++ step_code line down low high)) = subst (λ c. CodeStands G ps p references at c) is stands in
-      let rest : CodeStands G ps p references (at + length xs) (ys ++ step_code line down low high) = code_back G ps p references at xs (ys ++ step_code line down low high) all in
-      followed_as n kind (Ordinal h) (Step down low high x y) line at code (xs ++ (ys ++ step_code line down low high)) is_kind is
-      (stepped_follows n h down low high is_low is_high x y line at xs ys
-      (expression_follows n (Ordinal h) x is_x line at xs x_code (code_front G ps p references at xs (ys ++ step_code line down low high) all))
-      (expression_follows n (Ordinal host.Integer) y is_y line (at + length xs) ys y_code (code_front G ps p references (at + length xs) ys (step_code line down low high) rest))
-      (code_back G ps p references (at + length xs) ys (step_code line down low high) rest))
+  module _ (room : p.instructions.before + p.instructions.own ≤ length G.instructions) where
+    -- `and_then` and `or_else`
+    short_follows : (n : ℕ) (operation : ShortOperation) (x y : Expr) (line at : ℕ) (xs ys : List Instr) → IsFollowed declared G untouched Here p call g unit n (Ordinal host.Boolean) x line at xs → IsFollowed declared G untouched Here p call g unit n (Ordinal host.Boolean) y line (at + length xs + length (keep_code line operation) + 2) ys
+        → at + length xs + length (keep_code line operation) + 2 + length ys < p.instructions.own → CodeStands G ps p references (at + length xs) (keep_code line operation ++ instr op.JUMP_FALSE (pos (at + length xs + length (keep_code line operation) + 2 + length ys)) 0 line ∷ bare line op.DROP ∷ [])
+        → IsFollowed declared G untouched Here p call g unit n (Ordinal host.Boolean) (Short operation x y) line at (xs ++ (keep_code line operation ++ instr op.JUMP_FALSE (pos (at + length xs + length (keep_code line operation) + 2 + length ys)) 0 line ∷ bare line op.DROP ∷ ys))
+    short_follows n operation x y line at xs ys first second inside stands injection memory below d le unit_is =
+        let ks : List Instr = keep_code line operation in
+        let end : ℕ = at + length xs + length ks + 2 + length ys in
+        let jump : Instr = instr op.JUMP_FALSE (pos end) 0 line in
+        let ends : end ≡ at + length (xs ++ (ks ++ jump ∷ bare line op.DROP ∷ ys)) = omega (arith, length-append xs (ks ++ jump ∷ bare line op.DROP ∷ ys), length-append ks (jump ∷ bare line op.DROP ∷ ys)) in
+        fragment_to (ap (λ k. p.instructions.before + k) ends)
+        (fragment_bind_number {host = host.Boolean} {e = λ r. d + 8} (λ a. steady_if (decides operation (number_of a)) (steady_spend 1 (steady_give a)) (steady_bind (steady_eval call steady_call g unit line y) (λ b. steady_spend 1 (steady_give b))))
+        (fragment_credit {d = d} (omega arith) (λ r. omega arith) (first injection memory below d le unit_is)) (λ z longer after of_z grown routine.
+        kept_follows ps p references call steady_call g unit line room n (at + length xs) (at + length xs + length ks + 2) end operation y ys second refl refl inside stands z of_z longer after below d le (unit_in-same G routine ∙ unit_is)))
+
+    -- What the machine does from the code of an expression follows the meaning of the expression.
+    pub expression_follows : (n : ℕ) (kind : Kind) (x : Expr) → IsExpr declared kind x → (line at : ℕ) (code : List Instr) → IsExprCode texts references line at x code → CodeStands G ps p references at code → at + length code < p.instructions.own → (injection : Injection) (memory : Memory) (below : List Operand) (d : ℕ) → least_credit ≤ d → unit_in G memory.frames ≡ unit → Fragment declared G Here n (point injection memory (p.instructions.before + at) below) (eval call g unit line x) (p.instructions.before + (at + length code)) (λ r. Inside untouched injection memory (OnTop kind below r)) d (λ r. d + 8 + weight_of r)
+    expression_follows n kind (Constant z) (h, is_kind, of_host) line at code is stands inside =
+        followed_as n kind (Ordinal h) (Constant z) line at code (push line z ∷ []) is_kind is (λ injection memory below d le unit_is. constant_follows n h z of_host line at (subst (λ c. CodeStands G ps p references at c) is stands) injection memory below d)
+    expression_follows n kind (Text bytes) is_kind line at code (k, there, is) stands inside =
+        followed_as n kind Bytes (Text bytes) line at code (instr op.TEXT (pos k) 0 line ∷ []) is_kind is (λ injection memory below d le unit_is. text_follows n k bytes there line at (subst (λ c. CodeStands G ps p references at c) is stands) injection memory below d)
+    expression_follows n kind (Read (Variable of_unit k)) (h, is_kind, is_place) line at code (xs, is_code, is) stands inside =
+        let v = typed_variable declared scene.types_valid h of_unit k is_place in
+        followed_as n kind (Ordinal h) (Read (Variable of_unit k)) line at code (xs ++ bare line op.LOAD ∷ []) is_kind is (read_follows n h of_unit k v line at xs is_code (subst (λ c. CodeStands G ps p references at c) is stands))
+    expression_follows n kind (Read (Standard file)) (h, is_kind, is_place) line at code is_code stands inside = absurd is_place
+    expression_follows n kind (One operation x) (k, kinds, is_x) line at code (xs, x_code, is) stands inside =
+        let all : CodeStands G ps p references at (xs ++ one_code line operation) = subst (λ c. CodeStands G ps p references at c) is stands in
+        followed_as n kind kind (One operation x) line at code (xs ++ one_code line operation) refl is
+        (one_follows n operation x k kind kinds line at xs (expression_follows n k x is_x line at xs x_code (code_front G ps p references at xs (one_code line operation) all) (omega (arith, ap length is, length-append xs (one_code line operation), inside))) all)
+    expression_follows n kind (Two operation x y) (k, l, kinds, is_x, is_y) line at code (xs, ys, x_code, y_code, is) stands inside =
+        let all : CodeStands G ps p references at (xs ++ (ys ++ two_code line operation ∷ [])) = subst (λ c. CodeStands G ps p references at c) is stands in
+        let rest : CodeStands G ps p references (at + length xs) (ys ++ two_code line operation ∷ []) = code_back G ps p references at xs (ys ++ two_code line operation ∷ []) all in
+        let ends : length code ≡ length xs + length ys + 1 = omega (arith, ap length is, length-append xs (ys ++ two_code line operation ∷ []), length-append ys (two_code line operation ∷ [])) in
+        followed_as n kind kind (Two operation x y) line at code (xs ++ (ys ++ two_code line operation ∷ [])) refl is
+        (two_follows n operation x y k l kind kinds line at xs ys
+        (expression_follows n k x is_x line at xs x_code (code_front G ps p references at xs (ys ++ two_code line operation ∷ []) all) (omega (arith, ends, inside)))
+        (expression_follows n l y is_y line (at + length xs) ys y_code (code_front G ps p references (at + length xs) ys (two_code line operation ∷ []) rest) (omega (arith, ends, inside)))
+        (code_back G ps p references (at + length xs) ys (two_code line operation ∷ []) rest))
+    expression_follows n kind (Short operation x y) (is_kind, is_x, is_y) line at code (xs, ys, x_code, y_code, is) stands inside =
+        let ks : List Instr = keep_code line operation in
+        let right : ℕ = at + length xs + length ks + 2 in
+        let end : ℕ = right + length ys in
+        let jump : Instr = instr op.JUMP_FALSE (pos end) 0 line in
+        let drop : Instr = bare line op.DROP in
+        let all : CodeStands G ps p references at (xs ++ (ks ++ jump ∷ drop ∷ ys)) = subst (λ c. CodeStands G ps p references at c) is stands in
+        let kept : CodeStands G ps p references (at + length xs) ((ks ++ jump ∷ drop ∷ []) ++ ys) = subst (λ c. CodeStands G ps p references (at + length xs) c) (sym (append_assoc ks (jump ∷ drop ∷ []) ys)) (code_back G ps p references at xs (ks ++ jump ∷ drop ∷ ys) all) in
+        let between : length (ks ++ jump ∷ drop ∷ []) ≡ length ks + 2 = omega (arith, length-append ks (jump ∷ drop ∷ [])) in
+        let at_right : at + length xs + length (ks ++ jump ∷ drop ∷ []) ≡ right = omega (arith, between) in
+        let ends : at + length code ≡ end = omega (arith, ap length is, length-append xs (ks ++ jump ∷ drop ∷ ys), length-append ks (jump ∷ drop ∷ ys)) in
+        followed_as n kind (Ordinal host.Boolean) (Short operation x y) line at code (xs ++ (ks ++ jump ∷ drop ∷ ys)) is_kind is
+        (short_follows n operation x y line at xs ys
+        (expression_follows n (Ordinal host.Boolean) x is_x line at xs x_code (code_front G ps p references at xs (ks ++ jump ∷ drop ∷ ys) all) (omega (arith, ends, inside)))
+        (expression_follows n (Ordinal host.Boolean) y is_y line right ys y_code (subst (λ k. CodeStands G ps p references k ys) at_right (code_back G ps p references (at + length xs) (ks ++ jump ∷ drop ∷ []) ys kept)) (omega (arith, ends, inside)))
+        (omega (arith, ends, inside)) (code_front G ps p references (at + length xs) (ks ++ jump ∷ drop ∷ []) ys kept))
+    expression_follows n kind (Step down low high x y) (h, is_kind, is_low, is_high, is_x, is_y) line at code (xs, ys, x_code, y_code, is) stands inside =
+        let all : CodeStands G ps p references at (xs ++ (ys ++ step_code line down low high)) = subst (λ c. CodeStands G ps p references at c) is stands in
+        let rest : CodeStands G ps p references (at + length xs) (ys ++ step_code line down low high) = code_back G ps p references at xs (ys ++ step_code line down low high) all in
+        let ends : length code ≡ length xs + length ys + length (step_code line down low high) = omega (arith, ap length is, length-append xs (ys ++ step_code line down low high), length-append ys (step_code line down low high)) in
+        followed_as n kind (Ordinal h) (Step down low high x y) line at code (xs ++ (ys ++ step_code line down low high)) is_kind is
+        (stepped_follows n h down low high is_low is_high x y line at xs ys
+        (expression_follows n (Ordinal h) x is_x line at xs x_code (code_front G ps p references at xs (ys ++ step_code line down low high) all) (omega (arith, ends, inside)))
+        (expression_follows n (Ordinal host.Integer) y is_y line (at + length xs) ys y_code (code_front G ps p references (at + length xs) ys (step_code line down low high) rest) (omega (arith, ends, inside)))
+        (code_back G ps p references (at + length xs) ys (step_code line down low high) rest))

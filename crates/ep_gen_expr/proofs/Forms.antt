@@ -1,16 +1,20 @@
 -- The code of each form, from that of its parts.
-use Rattle.std.proofs.Common.{◌≡◌, ℕ, ℤ, pos, ◌<◌, ◌-◌, ◌^◌, length, slice_get, Some, arith, Result, Ok, Err, OnOk, Bool, List, [], ◌∷◌, ◌++◌, refl, sym, ap, ◌∙◌, subst, append_assoc, append-nil}
+use Rattle.std.proofs.Common.{◌≡◌, ℕ, ℤ, pos, ◌+◌, ◌<◌, ◌-◌, ◌^◌, length, slice_get, Some, arith, Result, Ok, Err, OnOk, Bool, List, [], ◌∷◌, ◌++◌, refl, sym, ap, ◌∙◌, subst, append_assoc, append-nil, length-append}
 use Rattle.ep_object.specs.declared.code.Instr.{Instr}
 use Rattle.ep_object.specs.declared.code.Reference.{Reference}
 use Rattle.ep_typed.specs.Operations.{last_char}
-use Rattle.ep_typed.specs.Trees.{Place, Variable, Standard, Expr, Constant, Text, Read, One, Two, Step}
+use Rattle.ep_typed.specs.Trees.{Place, Variable, Standard, Expr, Constant, Text, Read, One, Two, Short, Step}
 use Rattle.ep_typed.specs.declared.operations.Unary.{Unary}
 use Rattle.ep_typed.specs.declared.operations.Unary.TheVariants as unary
 use Rattle.ep_typed.specs.declared.operations.Binary.{Binary}
+use Rattle.ep_typed.specs.declared.operations.ShortOperation.{ShortOperation}
+use Rattle.ep_typed.specs.declared.operations.ShortOperation.TheVariants as short
 use Rattle.ep_typed.specs.declared.tree.StandardFile.{StandardFile}
-use Rattle.ep_gen_expr.specs.ExprCode.{IsPlaceCode, IsExprCode, instr, reference, standard_code, push, bare, one_code, two_code, count_code, step_code}
-use Rattle.ep_gen_expr.specs.Growth.{IsNowhere, Grows, NumbersText, NumbersReference, AppendsPlace, AppendsExpr}
+use Rattle.ep_gen_expr.specs.ExprCode.{IsPlaceCode, IsExprCode, instr, reference, standard_code, push, bare, one_code, two_code, keep_code, count_code, step_code}
+use Rattle.ep_gen_expr.specs.Growth.{IsNowhere, Grows, NumbersText, NumbersReference, KeepsOperand, AppendsPlace, AppendsExpr}
+use Rattle.ep_gen_expr.specs.Jumps.{LeavesHole, landed}
 use Rattle.ep_gen_expr.specs.declared.code.Code.{Code}
+use Rattle.ep_gen_expr.proofs.Landing.{grows_length, grows_landed}
 use Rattle.ep_gen_expr.proofs.Pushed.{table_same, table_then, table_pushed, get_later, get_last}
 use Rattle.ep_gen_expr.proofs.Stays.{place_code_stays, expr_code_stays, place_code_short, expr_code_short}
 use Rattle.ep_object.specs.declared.op.TheConstants as op
@@ -56,14 +60,15 @@ grows_step down low high p q r = after_two (λ line. push line low ∷ push line
 place_part : {a b c : Code} {is : List Instr} (x : Place) (p : AppendsPlace a b x) → Grows b c is → IsPlaceCode c.references a.line x p.code
 place_part {a = a} {b = b} {c = c} x p q = place_code_stays b.references c.references a.line x p.code q.references.begins p.is_code
 
-first_part : {a b c : Code} {is : List Instr} (x : Expr) (p : AppendsExpr a b x) → Grows b c is → IsExprCode c.texts c.references a.line x p.code
-first_part {a = a} {b = b} {c = c} x p q = expr_code_stays b.texts c.texts b.references c.references a.line q.texts.begins q.references.begins x p.code p.is_code
+first_part : {a b c : Code} {is : List Instr} (x : Expr) (p : AppendsExpr a b x) → Grows b c is → IsExprCode c.texts c.references a.line (length a.instructions) x p.code
+first_part {a = a} {b = b} {c = c} x p q = expr_code_stays b.texts c.texts b.references c.references a.line q.texts.begins q.references.begins (length a.instructions) x p.code p.is_code
 
-second_part : {a b c d : Code} {is js : List Instr} (x : Expr) → Grows a b is → (p : AppendsExpr b c x) → Grows c d js → IsExprCode d.texts d.references a.line x p.code
-second_part {d = d} x g p q = subst (λ line. IsExprCode d.texts d.references line x p.code) g.line (first_part x p q)
+second_part : {a b c d : Code} {is js : List Instr} (x : Expr) → Grows a b is → (p : AppendsExpr b c x) → Grows c d js → IsExprCode d.texts d.references a.line (length a.instructions + length is) x p.code
+second_part {a = a} {b = b} {d = d} x g p q =
+    subst (λ at. IsExprCode d.texts d.references a.line at x p.code) (grows_length g) (subst (λ line. IsExprCode d.texts d.references line (length b.instructions) x p.code) g.line (first_part x p q))
 
-whole_expr : {a b : Code} (x : Expr) (code : List Instr) → IsExprCode b.texts b.references a.line x code → Grows a b code → AppendsExpr a b x
-whole_expr {a = a} {b = b} x code h g = record { code = code; is_code = h; grows = g; short = omega (arith, expr_code_short b.texts b.references a.line x code h) }
+whole_expr : {a b : Code} (x : Expr) (code : List Instr) → IsExprCode b.texts b.references a.line (length a.instructions) x code → Grows a b code → AppendsExpr a b x
+whole_expr {a = a} {b = b} x code h g = record { code = code; is_code = h; grows = g; short = omega (arith, expr_code_short b.texts b.references a.line (length a.instructions) x code h) }
 
 whole_place : {a b : Code} (x : Place) (code : List Instr) → IsPlaceCode b.references a.line x code → Grows a b code → AppendsPlace a b x
 whole_place {a = a} {b = b} x code h g = record { code = code; is_code = h; grows = g; short = place_code_short b.references a.line x code h }
@@ -97,6 +102,64 @@ after_parts f {a = a} {d = d} {is = is} {js = js} p q r = subst (λ l. Grows a d
 pub appends_two : {a b c d : Code} (operation : Binary) (x y : Expr) → AppendsExpr a b x → AppendsExpr b c y → Grows c d (two_code c.line operation ∷ []) → AppendsExpr a d (Two operation x y)
 appends_two {a = a} operation x y p q r =
     whole_expr (Two operation x y) (p.code ++ (q.code ++ two_code a.line operation ∷ [])) (p.code, q.code, first_part x p (grows_then q.grows r), second_part y p.grows q r, refl) (after_parts (λ line. two_code line operation ∷ []) p.grows q.grows r)
+
+-- what gives an operand twice, the upper one negated
+pub grows_twice : {a b c : Code} → Grows a b (bare a.line op.DUP ∷ []) → Grows b c (bare b.line op.NOT ∷ []) → Grows a c (keep_code a.line short.OrElse)
+grows_twice p q = grows_at (λ line. bare line op.NOT ∷ []) p q
+
+-- an operand is kept where it decides
+pub keeps_operand : {a b c d : Code} (operation : ShortOperation) (k : ℕ) → Grows a b (keep_code a.line operation) → LeavesHole b c k → Grows c d (bare c.line op.DROP ∷ []) → KeepsOperand a d operation k
+keeps_operand operation k p q r = record {
+  filler = q.filler;
+  grows = grows_at (λ line. q.filler ∷ bare line op.DROP ∷ []) p (grows_at (λ line. bare line op.DROP ∷ []) q.grows r);
+  is_place = q.is_length ∙ grows_length p;
+}
+
+-- its filler is within the code that follows it
+pub kept_within : {b c d : Code} (operation : ShortOperation) (k : ℕ) (y : Expr) → KeepsOperand b c operation k → AppendsExpr c d y → k < length d.instructions
+kept_within {b = b} operation k y q r =
+    omega (arith, q.is_place, grows_length q.grows, length-append (keep_code b.line operation) (q.filler ∷ bare b.line op.DROP ∷ []), grows_length r.grows)
+
+-- what an operation has whose right operand may not be evaluated
+abbrev short_body : ℕ → ShortOperation → List Instr → List Instr → ℕ → List Instr
+short_body line operation xs ys end = xs ++ (keep_code line operation ++ instr op.JUMP_FALSE (pos end) 0 line ∷ bare line op.DROP ∷ ys)
+
+-- the jump over the right operand lands
+short_grows : {a b c d : Code} {xs ys : List Instr} (operation : ShortOperation) (k : ℕ) → Grows a b xs → KeepsOperand b c operation k → Grows c d ys → Grows a (landed d k op.JUMP_FALSE d.line) (short_body a.line operation xs ys (length d.instructions))
+short_grows {a = a} {b = b} {c = c} {d = d} {xs = xs} {ys = ys} operation k p q r =
+    let ks = keep_code a.line operation in
+    let i = q.filler in
+    let drop = bare a.line op.DROP in
+    let jump = instr op.JUMP_FALSE (pos (length d.instructions)) 0 a.line in
+    let to_d : Grows a d ((xs ++ (ks ++ i ∷ drop ∷ [])) ++ ys) = grows_then (grows_at (λ line. keep_code line operation ++ i ∷ bare line op.DROP ∷ []) p q.grows) r in
+    let seam : (xs ++ (ks ++ i ∷ drop ∷ [])) ++ ys ≡ (xs ++ ks) ++ i ∷ drop ∷ ys =
+    append_assoc xs (ks ++ i ∷ drop ∷ []) ys ∙ (ap (λ l. xs ++ l) (append_assoc ks (i ∷ drop ∷ []) ys) ∙ sym (append_assoc xs ks (i ∷ drop ∷ ys))) in
+    let kept : length (keep_code b.line operation) ≡ length ks = ap (λ line. length (keep_code line operation)) p.line in
+    let at : k ≡ length a.instructions + length (xs ++ ks) = omega (arith, q.is_place, grows_length p, kept, length-append xs ks) in
+    let same : d.line ≡ a.line = r.line ∙ (q.grows.line ∙ p.line) in
+    subst (λ l. Grows a (landed d k op.JUMP_FALSE d.line) l) (append_assoc xs ks (jump ∷ drop ∷ ys))
+    (subst (λ line. Grows a (landed d k op.JUMP_FALSE d.line) ((xs ++ ks) ++ instr op.JUMP_FALSE (pos (length d.instructions)) 0 line ∷ drop ∷ ys)) same
+    (grows_landed (xs ++ ks) i (drop ∷ ys) k op.JUMP_FALSE d.line (subst (λ l. Grows a d l) seam to_d) at))
+
+pub appends_short : {a b c d e : Code} (operation : ShortOperation) (x y : Expr) (k : ℕ) → AppendsExpr a b x → KeepsOperand b c operation k → AppendsExpr c d y → e ≡ landed d k op.JUMP_FALSE d.line → AppendsExpr a e (Short operation x y)
+appends_short {a = a} {b = b} {c = c} {d = d} operation x y k p q r l =
+    let xs = p.code in
+    let ys = r.code in
+    let at = length a.instructions in
+    let right = at + length xs + length (keep_code a.line operation) + 2 in
+    let kept : length (keep_code b.line operation) ≡ length (keep_code a.line operation) = ap (λ line. length (keep_code line operation)) p.grows.line in
+    let at_right : length c.instructions ≡ right =
+    omega (arith, grows_length p.grows, grows_length q.grows, length-append (keep_code b.line operation) (q.filler ∷ bare b.line op.DROP ∷ []), kept) in
+    let at_end : length d.instructions ≡ right + length ys = omega (arith, at_right, grows_length r.grows) in
+    let same : c.line ≡ a.line = q.grows.line ∙ p.grows.line in
+    subst (λ f. AppendsExpr a f (Short operation x y)) (sym l) (whole_expr {b = landed d k op.JUMP_FALSE d.line} (Short operation x y) (short_body a.line operation xs ys (right + length ys)) (
+      xs,
+      ys,
+      first_part x p (grows_then q.grows r.grows),
+      subst (λ n. IsExprCode d.texts d.references a.line n y ys) at_right (subst (λ line. IsExprCode d.texts d.references line (length c.instructions) y ys) same r.is_code),
+      refl,
+    )
+    (subst (λ n. Grows a (landed d k op.JUMP_FALSE d.line) (short_body a.line operation xs ys n)) at_end (short_grows operation k p.grows q r.grows)))
 
 pub appends_step : {a b c d : Code} (down : Bool) (low high : ℤ) (x n : Expr) → AppendsExpr a b x → AppendsExpr b c n → Grows c d (step_code c.line down low high) → AppendsExpr a d (Step down low high x n)
 appends_step {a = a} down low high x n p q r =

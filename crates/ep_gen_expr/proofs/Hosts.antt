@@ -1,9 +1,9 @@
 -- What an operation answers is a value of the host of its result.
-use Rattle.std.proofs.Common.{◌≡◌, ℕ, ℤ, pos, negsuc, zero, suc, ◌%◌, Bool, true, false, IsTrue, refl, sym, ap, ◌∙◌, subst, arith}
+use Rattle.std.proofs.Common.{◌≡◌, ℕ, ℤ, pos, negsuc, zero, suc, ◌%◌, Bool, true, false, not, IsTrue, refl, sym, ap, ◌∙◌, subst, arith}
 use Rattle.std.proofs.lemmas.Bool.Decides.{nat_tests}
 use Rattle.std.specs.Int.{int_rem_euclid}
 use Rattle.std.specs.Prelude.{if◌then◌else◌, ◌-ℤ◌, neg_ℤ, int_le, int_lt, int_div}
-use Rattle.ep_typed.specs.Operations.{Answer, Number, Fault, integer, is_integer, within, divided, modulo, is_same, ordinal_of}
+use Rattle.ep_typed.specs.Operations.{Answer, Number, Fault, integer, is_integer, within, divided, modulo, is_same, is_true, ordinal_of}
 use Rattle.ep_typed.specs.Hosts.{Host, least, greatest, is_of_host}
 use Rattle.ep_typed.specs.Hosts as host
 use Rattle.ep_typed.specs.declared.run_error.TheConstants as run_error
@@ -62,6 +62,13 @@ not_boolean (pos zero) h = refl
 not_boolean (pos (suc zero)) h = refl
 not_boolean (pos (suc (suc n))) h = grind (arith, nat_tests)
 not_boolean (negsuc n) h = cc
+
+-- a Boolean that is negated is true where it was false
+pub not_true : (x : ℤ) → IsTrue (is_of_host host.Boolean x) → is_true (pos 1 -ℤ x) ≡ not (is_true x)
+not_true (pos zero) h = refl
+not_true (pos (suc zero)) h = refl
+not_true (pos (suc (suc n))) h = grind (arith, nat_tests)
+not_true (negsuc n) h = cc
 
 -- a value of a host whose numbers are integers is an integer
 pub host_integer : (h : Host) (z : ℤ) → IsTrue (int_le (greatest h) (greatest host.Integer)) → IsTrue (is_of_host h z) → IsTrue (is_of_host host.Integer z)

@@ -2,6 +2,8 @@ pub mod Pushed
 pub mod Found
 pub mod Stays
 pub mod Forms
+pub mod Landing
+pub mod ShortCircuit
 pub mod Placed
 pub mod Following
 pub mod Hosts

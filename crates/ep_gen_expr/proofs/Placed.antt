@@ -1,5 +1,6 @@
 -- The parts of code that stands in an image stand there too, and how instructions that name something stand there.
-use Rattle.std.proofs.Common.{◌≡◌, ℕ, pos, ◌+◌, IsTrue, ltb, List, [], ◌∷◌, ◌++◌, length, Some, slice_get, refl, ap, ◌∙◌, subst, arith}
+use Rattle.std.proofs.Common.{◌≡◌, ℕ, pos, ◌+◌, ◌<◌, IsTrue, ltb, cond, List, [], ◌∷◌, ◌++◌, length, Some, slice_get, refl, ap, ◌∙◌, subst, arith}
+use Rattle.std.proofs.lemmas.Bool.{lt-ltb}
 use Rattle.ep_object.specs.Placing.{Span, moved, Placement, placed, placed_unit, CodeStands}
 use Rattle.ep_object.specs.Scene.{TextStands, VariableStands}
 use Rattle.ep_object.specs.declared.code.Image.{Image}
@@ -36,3 +37,15 @@ module _ (G : Image) (ps : List Placement) (p : Placement) (references : List Re
   pub variable_at : (line k place number : ℕ) (of_unit : List ℕ) → (variable : VariableStands G ps of_unit number) → slice_get references k ≡ Some (reference of_unit number) → slice_get G.instructions place ≡ Some (placed ps p references (instr op.UNIT (pos k) 0 line)) → slice_get G.instructions place ≡ Some (instr op.UNIT (pos variable.number) number line)
   variable_at line k place number of_unit variable there has =
       has ∙ ap Some (ap (λ r. placed_unit ps r (instr op.UNIT (pos k) 0 line)) there ∙ variable.placed (instr op.UNIT (pos k) 0 line))
+
+  -- a jump within the object stands in the image as a jump to where its target stands
+  placed_target : (target : ℕ) → target < p.instructions.own → moved p.instructions target ≡ p.instructions.before + target
+  placed_target target inside = ap (λ b. cond b (p.instructions.before + target) 4294967295) (lt-ltb target p.instructions.own inside)
+
+  -- `Jump`
+  pub jump_has : (line at target : ℕ) (is : List Instr) → target < p.instructions.own → CodeStands G ps p references at (instr op.JUMP (pos target) 0 line ∷ is) → slice_get G.instructions (p.instructions.before + at) ≡ Some (instr op.JUMP (pos (p.instructions.before + target)) 0 line)
+  jump_has line at target is inside stands = stands.0 ∙ ap (λ k. Some (instr op.JUMP (pos k) 0 line)) (placed_target target inside)
+
+  -- `JumpFalse`
+  pub jump_false_has : (line at target : ℕ) (is : List Instr) → target < p.instructions.own → CodeStands G ps p references at (instr op.JUMP_FALSE (pos target) 0 line ∷ is) → slice_get G.instructions (p.instructions.before + at) ≡ Some (instr op.JUMP_FALSE (pos (p.instructions.before + target)) 0 line)
+  jump_false_has line at target is inside stands = stands.0 ∙ ap (λ k. Some (instr op.JUMP_FALSE (pos k) 0 line)) (placed_target target inside)

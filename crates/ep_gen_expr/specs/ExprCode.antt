@@ -1,14 +1,17 @@
--- Which instructions are the code of an expression or a place, under given tables of texts and references.
-use Rattle.std.specs.Prelude.{◌≡◌, ℕ, ℤ, pos, Bool, true, false, List, [], ◌∷◌, ◌++◌, Some, slice_get}
+-- Which instructions are the code of an expression or a place, under given tables of texts and references. Jumps name
+-- places of the object, so the code of an expression depends on where it begins.
+use Rattle.std.specs.Prelude.{◌≡◌, ℕ, ℤ, pos, ◌+◌, Bool, true, false, List, [], ◌∷◌, ◌++◌, length, Some, slice_get}
 pub use Rattle.ep_object.specs.Table.{instr}
 use Rattle.ep_object.specs.declared.code.Instr.{Instr}
 use Rattle.ep_object.specs.declared.code.Reference.{Reference}
 use Rattle.ep_typed.specs.Operations.{last_char}
-use Rattle.ep_typed.specs.Trees.{Place, Variable, Standard, Expr, Constant, Text, Read, One, Two, Step}
+use Rattle.ep_typed.specs.Trees.{Place, Variable, Standard, Expr, Constant, Text, Read, One, Two, Short, Step}
 use Rattle.ep_typed.specs.declared.operations.Unary.{Unary}
 use Rattle.ep_typed.specs.declared.operations.Unary.TheVariants as unary
 use Rattle.ep_typed.specs.declared.operations.Binary.{Binary}
 use Rattle.ep_typed.specs.declared.operations.Binary.TheVariants as binary
+use Rattle.ep_typed.specs.declared.operations.ShortOperation.{ShortOperation}
+use Rattle.ep_typed.specs.declared.operations.ShortOperation.TheVariants as short
 use Rattle.ep_object.specs.declared.op.TheConstants as op
 use Rattle.ep_gen_expr.specs.declared.operations.TheConstants as cmp
 use Rattle.ep_gen_expr.specs.declared.standard.TheConstants as constant
@@ -59,6 +62,11 @@ module _ (line : ℕ) where
   two_code binary.AtMost = compare cmp.AT_MOST
   two_code binary.AtLeast = compare cmp.AT_LEAST
 
+  -- after a left operand: it stands there twice, and the upper one is true where the operand decides nothing
+  abbrev pub keep_code : ShortOperation → List Instr
+  keep_code short.AndThen = bare op.DUP ∷ []
+  keep_code short.OrElse = bare op.DUP ∷ bare op.NOT ∷ []
+
   -- `Neg` of a count that is taken away
   abbrev pub count_code : Bool → List Instr
   count_code false = []
@@ -83,11 +91,14 @@ IsPlaceCode references line (Variable unit number) is = (k : ℕ) × (slice_get 
 IsPlaceCode references line (Standard file) is = is ≡ standard_code line file ∷ []
 
 module _ (texts : List (List ℕ)) (references : List Reference) (line : ℕ) where
-  -- the code of an expression, whose instructions have this line
-  abbrev pub IsExprCode : Expr → List Instr → Type 0
-  IsExprCode (Constant z) is = is ≡ push line z ∷ []
-  IsExprCode (Text bytes) is = (k : ℕ) × (slice_get texts k ≡ Some bytes) × (is ≡ instr op.TEXT (pos k) 0 line ∷ [])
-  IsExprCode (Read p) is = (xs : List Instr) × IsPlaceCode references line p xs × (is ≡ xs ++ bare line op.LOAD ∷ [])
-  IsExprCode (One operation x) is = (xs : List Instr) × IsExprCode x xs × (is ≡ xs ++ one_code line operation)
-  IsExprCode (Two operation x y) is = (xs ys : List Instr) × IsExprCode x xs × IsExprCode y ys × (is ≡ xs ++ (ys ++ two_code line operation ∷ []))
-  IsExprCode (Step down low high x n) is = (xs ns : List Instr) × IsExprCode x xs × IsExprCode n ns × (is ≡ xs ++ (ns ++ step_code line down low high))
+  -- the code of an expression that begins at this place, whose instructions have this line
+  abbrev pub IsExprCode : ℕ → Expr → List Instr → Type 0
+  IsExprCode at (Constant z) is = is ≡ push line z ∷ []
+  IsExprCode at (Text bytes) is = (k : ℕ) × (slice_get texts k ≡ Some bytes) × (is ≡ instr op.TEXT (pos k) 0 line ∷ [])
+  IsExprCode at (Read p) is = (xs : List Instr) × IsPlaceCode references line p xs × (is ≡ xs ++ bare line op.LOAD ∷ [])
+  IsExprCode at (One operation x) is = (xs : List Instr) × IsExprCode at x xs × (is ≡ xs ++ one_code line operation)
+  IsExprCode at (Two operation x y) is = (xs ys : List Instr) × IsExprCode at x xs × IsExprCode (at + length xs) y ys × (is ≡ xs ++ (ys ++ two_code line operation ∷ []))
+  IsExprCode at (Short operation x y) is =
+      (xs ys : List Instr) × IsExprCode at x xs × IsExprCode (at + length xs + length (keep_code line operation) + 2) y ys
+      × (is ≡ xs ++ (keep_code line operation ++ instr op.JUMP_FALSE (pos (at + length xs + length (keep_code line operation) + 2 + length ys)) 0 line ∷ bare line op.DROP ∷ ys))
+  IsExprCode at (Step down low high x n) is = (xs ns : List Instr) × IsExprCode at x xs × IsExprCode (at + length xs) n ns × (is ≡ xs ++ (ns ++ step_code line down low high))

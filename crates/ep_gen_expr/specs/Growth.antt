@@ -1,10 +1,12 @@
 -- How code under construction grows.
-use Rattle.std.specs.Prelude.{◌≡◌, ℕ, ◌*◌, ◌^◌, ◌<◌, ◌≤◌, List, [], ◌++◌, Some, length, slice_get}
+use Rattle.std.specs.Prelude.{◌≡◌, ℕ, ◌*◌, ◌^◌, ◌+◌, ◌<◌, ◌≤◌, List, [], ◌∷◌, ◌++◌, Some, length, slice_get}
 use Rattle.ep_outside.specs.Known.{IsPrefix}
 use Rattle.ep_object.specs.declared.code.Instr.{Instr}
 use Rattle.ep_object.specs.declared.code.Reference.{Reference}
 use Rattle.ep_typed.specs.Trees.{Place, Expr}
-use Rattle.ep_gen_expr.specs.ExprCode.{IsPlaceCode, IsExprCode}
+use Rattle.ep_gen_expr.specs.ExprCode.{bare, keep_code, IsPlaceCode, IsExprCode}
+use Rattle.ep_typed.specs.declared.operations.ShortOperation.{ShortOperation}
+use Rattle.ep_object.specs.declared.op.TheConstants as op
 use Rattle.ep_typed.specs.Nodes.{place_nodes, expr_nodes}
 use Rattle.ep_gen_expr.specs.declared.code.Code.{Code}
 use Rattle.ep_gen_expr.specs.declared.code.TheConstants as code
@@ -50,6 +52,12 @@ pub record NumbersReference (old new : Code) (r : Reference) (k : ℕ) : Type 0 
   pub there : slice_get new.references k ≡ Some r
   pub grows : Grows old new []
 
+-- a left operand is kept where it decides: the instruction at this place is to be replaced by a jump behind the right one
+pub record KeepsOperand (old new : Code) (operation : ShortOperation) (k : ℕ) : Type 0 where
+  pub filler : Instr
+  pub grows : Grows old new (keep_code old.line operation ++ filler ∷ bare old.line op.DROP ∷ [])
+  pub is_place : k ≡ length old.instructions + length (keep_code old.line operation)
+
 -- the code of the place is appended, at most 32 instructions for each typed node
 pub record AppendsPlace (old new : Code) (p : Place) : Type 0 where
   pub code : List Instr
@@ -60,6 +68,6 @@ pub record AppendsPlace (old new : Code) (p : Place) : Type 0 where
 -- the code of the expression is appended, at most 32 instructions for each typed node
 pub record AppendsExpr (old new : Code) (x : Expr) : Type 0 where
   pub code : List Instr
-  pub is_code : IsExprCode new.texts new.references old.line x code
+  pub is_code : IsExprCode new.texts new.references old.line (length old.instructions) x code
   pub grows : Grows old new code
   pub short : length code ≤ 32 * expr_nodes x

@@ -1,4 +1,5 @@
 pub mod ExprCode
 pub mod Growth
+pub mod Jumps
 pub mod Laws
 pub mod Following

@@ -1,17 +1,18 @@
 //! The code of places and expressions.
 
 ghost use Rattle.std.specs.Prelude.{OnOk};
-ghost use Rattle.ep_typed.specs.Trees.{Constant, One, Read, Step, Text, Two, Variable};
+ghost use Rattle.ep_typed.specs.Trees.{Constant, One, Read, Short, Step, Text, Two, Variable};
 ghost use Rattle.ep_typed.specs.Viewed.{expr_of, place_of};
 ghost use Rattle.ep_gen_expr.specs.Growth.{AppendsPlace, AppendsExpr};
 
 use crate::code::{Code, emit};
-use crate::operations::{apply_binary, apply_step, apply_unary};
+use crate::jumps::land;
+use crate::operations::{apply_binary, apply_step, apply_unary, keep_operand};
 use crate::standard::standard_code;
 use crate::tables::{reference_number, text_number};
 use ep_base::{Name, NoMemory};
 use ep_object::op;
-use ep_typed::{Binary, TypedExpr, TypedPlace, Unary};
+use ep_typed::{Binary, ShortOperation, TypedExpr, TypedPlace, Unary};
 use std::alloc::Global;
 
 /// Appends the code of a place, which leaves the place.
@@ -46,6 +47,9 @@ pub fn expression_code(alloc: Global, e: &TypedExpr, code: &mut Code) -> Result<
         TypedExpr::Unary(operation, operand) => unary_code(alloc, *operation, operand.get(), code),
         TypedExpr::Binary(operation, left, right) => {
             binary_code(alloc, *operation, left.get(), right.get(), code)
+        }
+        TypedExpr::Short(operation, left, right) => {
+            short_code(alloc, *operation, left.get(), right.get(), code)
         }
         TypedExpr::Step(down, low, high, value, count) => {
             step_code(alloc, *down, *low, *high, value.get(), count.get(), code)
@@ -109,6 +113,25 @@ fn binary_code(
     expression_code(alloc, left, code)?;
     expression_code(alloc, right, code)?;
     apply_binary(operation, code)
+}
+
+/// Appends the code of an operation whose right operand is evaluated only where the left one decides nothing: the left
+/// operand, which stays where it decides, the jump over the right one, and the right one.
+#[cycle(expression)]
+fn short_code(
+    alloc: Global,
+    operation: ShortOperation,
+    left: &TypedExpr,
+    right: &TypedExpr,
+    code: &mut Code,
+) -> Result<(), NoMemory>
+    ensures { OnOk result (AppendsExpr code.old code.new (Short operation (expr_of left.now) (expr_of right.now))) }
+{
+    expression_code(alloc, left, code)?;
+    let leave = keep_operand(operation, code)?;
+    expression_code(alloc, right, code)?;
+    let line = code.line;
+    land(code, leave, op::JUMP_FALSE, line)
 }
 
 /// Appends the code of a step from a value by a count.

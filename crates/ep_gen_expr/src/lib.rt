@@ -6,6 +6,7 @@
 
 mod code;
 mod expressions;
+mod jumps;
 mod laws;
 mod operations;
 mod standard;
@@ -13,6 +14,7 @@ mod tables;
 
 pub use code::{Code, NO_LINE, emit};
 pub use expressions::{expression_code, place_code};
+pub use jumps::{field_number, land, leave_hole, next_place};
 pub use laws::{laws_of_code, laws_of_following};
 pub use standard::standard_code;
 pub use tables::{reference_number, text_number};

@@ -1,14 +1,15 @@
 //! The instructions of operations, after the code of their operands.
 
-ghost use Rattle.std.specs.Prelude.{[], ◌∷◌, OnOk};
-ghost use Rattle.ep_gen_expr.specs.ExprCode.{bare, push, one_code, two_code, count_code, step_code};
-ghost use Rattle.ep_gen_expr.specs.Growth.{Grows};
+ghost use Rattle.std.specs.Prelude.{[], ◌∷◌, IfOk, OnOk};
+ghost use Rattle.ep_gen_expr.specs.ExprCode.{bare, push, one_code, two_code, keep_code, count_code, step_code};
+ghost use Rattle.ep_gen_expr.specs.Growth.{Grows, KeepsOperand};
 ghost use Rattle.ep_object.specs.declared.op.TheConstants.{DROP, DUP};
 
 use crate::code::{Code, emit};
+use crate::jumps::leave_hole;
 use ep_base::NoMemory;
 use ep_object::op;
-use ep_typed::{Binary, Unary, run_error};
+use ep_typed::{Binary, ShortOperation, Unary, run_error};
 
 /// How `Cmp` compares.
 const EQUAL: i64 = 0;
@@ -79,6 +80,28 @@ pub fn apply_binary(operation: Binary, code: &mut Code) -> Result<(), NoMemory>
         Binary::Greater => emit(code, op::CMP, GREATER, 0),
         Binary::AtMost => emit(code, op::CMP, AT_MOST, 0),
         Binary::AtLeast => emit(code, op::CMP, AT_LEAST, 0),
+    }
+}
+
+/// Appends what keeps a left operand where it decides, with a filler for the jump behind the right operand, and answers
+/// the place of the filler.
+pub fn keep_operand(operation: ShortOperation, code: &mut Code) -> Result<u32, NoMemory>
+    ensures { IfOk result (λ k. KeepsOperand code.old code.new operation k) }
+{
+    twice(operation, code)?;
+    let hole = leave_hole(code)?;
+    emit(code, op::DROP, 0, 0)?;
+    Ok(hole)
+}
+
+/// Appends what gives the left operand twice, the upper one so that it is true where it decides nothing.
+fn twice(operation: ShortOperation, code: &mut Code) -> Result<(), NoMemory>
+    ensures { OnOk result (Grows code.old code.new (keep_code code.old.line operation)) }
+{
+    emit(code, op::DUP, 0, 0)?;
+    match operation {
+        ShortOperation::AndThen => Ok(()),
+        ShortOperation::OrElse => emit(code, op::NOT, 0, 0),
     }
 }
 

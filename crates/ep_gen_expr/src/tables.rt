@@ -4,14 +4,15 @@
 //! has fewer than 2 ^ 32 entries. A table that would grow further is a want of memory: no caller could promise
 //! more than that it has not come so far.
 
-ghost use Rattle.std.specs.Prelude.{◌≡◌, ◌<◌, ◌^◌, ◌-◌, IfOk, MatchOption, slice_get, Some};
+ghost use Rattle.std.specs.Prelude.{◌≡◌, IfOk, MatchOption, slice_get, Some};
 ghost use Rattle.std.specs.Bool.{Decides};
 ghost use Rattle.ep_gen_expr.specs.Growth.{NumbersText, NumbersReference, IsNowhere, reference};
 
 use crate::code::Code;
+use crate::jumps::field_number;
 use ep_base::{Bytes, Name, NoMemory};
 use ep_object::Reference;
-use std::alloc::{AllocError, Global};
+use std::alloc::Global;
 
 /// The number of a text in the table of texts, where it is put if it is not there yet.
 #[tactic(auto, using(crate::proofs::Forms::numbers))]
@@ -81,15 +82,4 @@ fn is_reference(known: &Reference, unit: &Name, number: u32) -> bool
         return false;
     }
     known.unit.bytes() == unit.bytes()
-}
-
-/// A place as a number that a field holds.
-fn field_number(place: usize) -> Result<u32, NoMemory>
-    ensures { IfOk result (λ k. (k ≡ place) × (k < 2 ^ 32 - 1)) }
-{
-    if place < u32::MAX as usize {
-        Ok(place as u32)
-    } else {
-        Err(AllocError)
-    }
 }

@@ -1,14 +1,16 @@
 -- Code that follows code, and jumps that get their goals.
-use Rattle.std.proofs.Common.{◌≡◌, ℕ, zero, suc, pos, ◌+◌, List, [], ◌∷◌, ◌++◌, length, slice_set, refl, sym, ap, ◌∙◌, subst, append_assoc, append-nil, length-append}
+use Rattle.std.proofs.Common.{◌≡◌, ℕ, pos, ◌+◌, List, [], ◌∷◌, ◌++◌, length, slice_set, refl, sym, ap, ◌∙◌, subst, append_assoc, append-nil, length-append}
 use Rattle.ep_object.specs.declared.code.Instr.{Instr}
 use Rattle.ep_typed.specs.Trees.{Expr, Stmt}
 use Rattle.ep_gen_expr.specs.ExprCode.{IsExprCode, instr}
 use Rattle.ep_gen_expr.specs.Growth.{TableGrows, Grows}
+use Rattle.ep_gen_expr.specs.Jumps.{landed}
 use Rattle.ep_gen_expr.specs.declared.code.Code.{Code}
+use Rattle.ep_gen_expr.proofs.Landing.{set_after, set_length}
 use Rattle.ep_gen_expr.proofs.Pushed.{table_same, table_then}
 use Rattle.ep_gen_expr.proofs.Stays.{expr_code_stays}
 use Rattle.ep_gen_unit.specs.StmtCode.{IsStmtCode}
-use Rattle.ep_gen_unit.specs.StmtGrowth.{Follows, landed}
+use Rattle.ep_gen_unit.specs.StmtGrowth.{Follows}
 use Rattle.ep_gen_unit.proofs.StmtStays.{stmt_code_stays}
 
 -- the tables have new items at their ends
@@ -28,8 +30,8 @@ later_follows p = record { texts = p.texts; references = p.references }
 pub later_landed : {a b : Code} (k op line : ℕ) → b ≡ landed a k op line → IsLater a b
 later_landed {a = a} k op line e = subst (λ c. IsLater a c) (sym e) (record { texts = table_same a.texts; references = table_same a.references })
 
-pub expr_later : {a b : Code} (line : ℕ) (x : Expr) (is : List Instr) → IsLater a b → IsExprCode a.texts a.references line x is → IsExprCode b.texts b.references line x is
-expr_later {a = a} {b = b} line x is p h = expr_code_stays a.texts b.texts a.references b.references line p.texts.begins p.references.begins x is h
+pub expr_later : {a b : Code} (line at : ℕ) (x : Expr) (is : List Instr) → IsLater a b → IsExprCode a.texts a.references line at x is → IsExprCode b.texts b.references line at x is
+expr_later {a = a} {b = b} line at x is p h = expr_code_stays a.texts b.texts a.references b.references line p.texts.begins p.references.begins at x is h
 
 pub stmt_later : {a b : Code} (at : ℕ) (s : Stmt) (is : List Instr) → IsLater a b → IsStmtCode a.texts a.references at s is → IsStmtCode b.texts b.references at s is
 stmt_later {a = a} {b = b} at s is p h = stmt_code_stays a.texts b.texts a.references b.references p.texts.begins p.references.begins at s is h
@@ -56,15 +58,6 @@ follows_then {a = a} {is = is} {js = js} p q = record {
 pub follows_middle : {a b c : Code} (xs : List Instr) (i : Instr) (ys zs : List Instr) → Follows a b (xs ++ i ∷ ys) → Follows b c zs → Follows a c (xs ++ i ∷ (ys ++ zs))
 follows_middle {a = a} {c = c} xs i ys zs p q = subst (λ l. Follows a c l) (append_assoc xs (i ∷ ys) zs) (follows_then p q)
 
-set_middle : (xs : List Instr) (i j : Instr) (ys : List Instr) → slice_set (xs ++ i ∷ ys) (length xs) j ≡ xs ++ j ∷ ys
-set_middle [] i j ys = refl
-set_middle (x ∷ xs) i j ys = ap (λ l. x ∷ l) (set_middle xs i j ys)
-
-set_after : (front xs : List Instr) (i j : Instr) (ys : List Instr) (k : ℕ) → k ≡ length front + length xs → slice_set (front ++ (xs ++ i ∷ ys)) k j ≡ front ++ (xs ++ j ∷ ys)
-set_after front xs i j ys k e =
-    let at : k ≡ length (front ++ xs) = e ∙ sym (length-append front xs) in
-    ap (λ l. slice_set l k j) (sym (append_assoc front xs (i ∷ ys))) ∙ ap (λ n. slice_set ((front ++ xs) ++ i ∷ ys) n j) at ∙ set_middle (front ++ xs) i j ys ∙ append_assoc front xs (j ∷ ys)
-
 -- a jump lands: it stands in place of the filler
 pub follows_landed : {a b c : Code} (xs : List Instr) (i : Instr) (ys : List Instr) (k op line : ℕ) → Follows a b (xs ++ i ∷ ys) → k ≡ length a.instructions + length xs → c ≡ landed b k op line → Follows a c (xs ++ instr op (pos (length b.instructions)) 0 line ∷ ys)
 follows_landed {a = a} {b = b} {c = c} xs i ys k op line p at e =
@@ -79,11 +72,6 @@ follows_landed {a = a} {b = b} {c = c} xs i ys k op line p at e =
 -- how long code is
 pub grown_length : {a b : Code} {is : List Instr} → Follows a b is → length b.instructions ≡ length a.instructions + length is
 grown_length {a = a} {is = is} p = ap length p.instructions ∙ length-append a.instructions is
-
-set_length : (xs : List Instr) (k : ℕ) (i : Instr) → length (slice_set xs k i) ≡ length xs
-set_length [] k i = refl
-set_length (x ∷ xs) zero i = refl
-set_length (x ∷ xs) (suc k) i = ap suc (set_length xs k i)
 
 pub landed_length : {b : Code} (a : Code) (k op line : ℕ) → b ≡ landed a k op line → length b.instructions ≡ length a.instructions
 landed_length a k op line e = ap (λ (c : Code). length c.instructions) e ∙ set_length a.instructions k (instr op (pos (length a.instructions)) 0 line)

@@ -1,5 +1,5 @@
 -- What the proofs about statements share: where parts of code stand, and what is known of expressions.
-use Rattle.std.proofs.Common.{◌≡◌, ℕ, ℤ, ◌+◌, ◌≤◌, List, ◌++◌, length, Some, refl}
+use Rattle.std.proofs.Common.{◌≡◌, ℕ, ℤ, ◌+◌, ◌<◌, ◌≤◌, List, ◌++◌, length, Some, refl}
 use Rattle.ep_gen_expr.specs.Following.{least_credit}
 use Rattle.ep_gen_expr.specs.ExprCode.{IsPlaceCode, IsExprCode}
 use Rattle.ep_gen_expr.proofs.Placed.{code_front, code_back}
@@ -22,9 +22,7 @@ use Rattle.ep_typed.specs.declared.value.TypeValue.TheVariants as type
 use Rattle.ep_typed.specs.declared.unit.UnitVariable.{UnitVariable}
 
 -- two parts of code stand one after the other
-pub code_stands-parts : (G : Image) (ps : List Placement) (p : Placement) (references : List Reference) (at : ℕ) (xs ys : List Instr)
-    → CodeStands G ps p references at (xs ++ ys)
-    → CodeStands G ps p references at xs × CodeStands G ps p references (at + length xs) ys
+pub code_stands-parts : (G : Image) (ps : List Placement) (p : Placement) (references : List Reference) (at : ℕ) (xs ys : List Instr) → CodeStands G ps p references at (xs ++ ys) → CodeStands G ps p references at xs × CodeStands G ps p references (at + length xs) ys
 code_stands-parts G ps p references at xs ys h = (code_front G ps p references at xs ys h, code_back G ps p references at xs ys h)
 
 -- a type of a host is an ordinal one
@@ -40,32 +38,25 @@ module _ (declared : Declarations) (G : Image) (untouched : Slots) (Here : Facts
   -- from a place of the object to another one, the machine follows the computation and leaves the operands as they were
   abbrev pub Moves : ℕ → ℕ → Computation (Unit {0}) → Type 0
   Moves at to c =
-      (injection : Injection) (memory : Memory) (below : List Operand) (d : ℕ) → statement_credit ≤ d
-      → unit_in G memory.frames ≡ unit
+      (injection : Injection) (memory : Memory) (below : List Operand) (d : ℕ) → statement_credit ≤ d → unit_in G memory.frames ≡ unit
       → Fragment declared G Here n (point injection memory (p.instructions.before + at) below) c (p.instructions.before + to) (λ a. Inside untouched injection memory (Bare below a)) d (λ a. d)
 
   -- the same, where more credit is left than there was
   abbrev pub Writes : ℕ → ℕ → Computation (Unit {0}) → Type 0
   Writes at to c =
-      (injection : Injection) (memory : Memory) (below : List Operand) (d : ℕ) → statement_credit ≤ d
-      → unit_in G memory.frames ≡ unit
+      (injection : Injection) (memory : Memory) (below : List Operand) (d : ℕ) → statement_credit ≤ d → unit_in G memory.frames ≡ unit
       → Fragment declared G Here n (point injection memory (p.instructions.before + at) below) c (p.instructions.before + to) (λ a. Inside untouched injection memory (Bare below a)) d (λ a. 1 + d)
 
   -- the machine follows expressions
   abbrev pub ExpressionsFollow : Type 0
   ExpressionsFollow =
-      (kind : Kind) (x : Expr) → IsExpr declared kind x → (line at : ℕ) (code : List Instr)
-      → IsExprCode texts references line x code → CodeStands G ps p references at code
-      → (injection : Injection) (memory : Memory) (below : List Operand) (d : ℕ) → least_credit ≤ d
-      → unit_in G memory.frames ≡ unit
+      (kind : Kind) (x : Expr) → IsExpr declared kind x → (line at : ℕ) (code : List Instr) → IsExprCode texts references line at x code → CodeStands G ps p references at code → at + length code < p.instructions.own
+      → (injection : Injection) (memory : Memory) (below : List Operand) (d : ℕ) → least_credit ≤ d → unit_in G memory.frames ≡ unit
       → Fragment declared G Here n (point injection memory (p.instructions.before + at) below) (eval call n unit line x) (p.instructions.before + (at + length code)) (λ r. Inside untouched injection memory (OnTop kind below r)) d (λ r. d + 8 + weight_of r)
 
   -- the machine follows places
   abbrev pub PlacesFollow : Type 0
   PlacesFollow =
-      (of_unit : List ℕ) (k : ℕ) (v : UnitVariable) (t : TypeValue) → declared.variables of_unit k ≡ Some v
-      → HasType declared of_unit v t → (line at : ℕ) (code : List Instr)
-      → IsPlaceCode references line (Variable of_unit k) code → CodeStands G ps p references at code
-      → (injection : Injection) (memory : Memory) (below : List Operand) (d : ℕ) → least_credit ≤ d
-      → unit_in G memory.frames ≡ unit
+      (of_unit : List ℕ) (k : ℕ) (v : UnitVariable) (t : TypeValue) → declared.variables of_unit k ≡ Some v → HasType declared of_unit v t → (line at : ℕ) (code : List Instr) → IsPlaceCode references line (Variable of_unit k) code → CodeStands G ps p references at code
+      → (injection : Injection) (memory : Memory) (below : List Operand) (d : ℕ) → least_credit ≤ d → unit_in G memory.frames ≡ unit
       → Fragment declared G Here n (point injection memory (p.instructions.before + at) below) (place call n unit line (Variable of_unit k)) (p.instructions.before + (at + length code)) (λ a. Inside untouched injection memory (PlaceOnTop t below a)) d (λ a. d + 8)

@@ -15,7 +15,8 @@ use Rattle.ep_gen_expr.specs.declared.code.Code.{Code}
 use Rattle.ep_gen_expr.specs.declared.code.TheConstants as code
 use Rattle.ep_gen_expr.proofs.Forms.{grows_at}
 use Rattle.ep_gen_unit.specs.StmtCode.{IsStmtCode, type_code, elaborating_code, make_code, make_all_code, return_code}
-use Rattle.ep_gen_unit.specs.StmtGrowth.{Follows, IsNextPlace, AppendsStmt, AppendsRoutines, IsCompact, assembled}
+use Rattle.ep_gen_expr.specs.Jumps.{IsNextPlace}
+use Rattle.ep_gen_unit.specs.StmtGrowth.{Follows, AppendsStmt, AppendsRoutines, IsCompact, assembled}
 use Rattle.ep_gen_unit.specs.UnitCode.{IsProgramCode, routine_at}
 use Rattle.ep_gen_unit.proofs.Following.{later_follows, stmt_later, follows_grows, follows_line, follows_then, grown_length}
 use Rattle.ep_object.specs.declared.op.TheConstants as op

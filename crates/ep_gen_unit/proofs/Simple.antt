@@ -1,5 +1,5 @@
 -- The machine follows assignments, `halt` and the statements that have no code.
-use Rattle.std.proofs.Common.{◌≡◌, ℕ, ℤ, suc, ◌+◌, ◌≤◌, List, [], ◌∷◌, ◌++◌, length, length-append, refl, ap, ◌∙◌, subst, arith}
+use Rattle.std.proofs.Common.{◌≡◌, ℕ, ℤ, suc, ◌+◌, ◌<◌, ◌≤◌, List, [], ◌∷◌, ◌++◌, length, length-append, refl, ap, ◌∙◌, subst, arith}
 use Rattle.ep_gen_expr.specs.Following.{least_credit}
 use Rattle.ep_gen_expr.specs.ExprCode.{bare, IsPlaceCode, IsExprCode}
 use Rattle.ep_gen_expr.proofs.Following.{IsTyped, typed_variable}
@@ -36,22 +36,16 @@ use Rattle.ep_object.specs.declared.op.TheConstants as op
 
 module _ {declared : Declarations} {G : Image} {untouched : Slots} {Here : Facts} (lasts : Lasts untouched Here) (ps : List Placement) (p : Placement) (texts : List (List ℕ)) (references : List Reference) (call : Handler) (steady_call : IsSteadyHandler call) (n : ℕ) (unit : List ℕ) where
   -- nothing is done
-  pub empty_moves : (at : ℕ)
-      → Moves declared G untouched Here ps p texts references call n unit at (at + 0) (exec call n unit Empty)
+  pub empty_moves : (at : ℕ) → Moves declared G untouched Here ps p texts references call n unit at (at + 0) (exec call n unit Empty)
   empty_moves at injection memory below d enough home = fragment_to (omega arith) (fragment_give (omega arith) (inside_here refl))
 
   -- `halt`
-  pub halt_moves : (line at to : ℕ) → CodeStands G ps p references at (bare line op.HALT ∷ [])
-      → Moves declared G untouched Here ps p texts references call n unit at to (exec call n unit (Halt line))
+  pub halt_moves : (line at to : ℕ) → CodeStands G ps p references at (bare line op.HALT ∷ []) → Moves declared G untouched Here ps p texts references call n unit at to (exec call n unit (Halt line))
   halt_moves line at to stands injection memory below d enough home =
       fragment_stop {weight = 0} (λ s matches. outcome_at G (bare line op.HALT) (p.instructions.before + at) below memory s.trace stands.0) (omega arith)
 
   -- `Store`, where the variable's place and the value are on top
-  store_moves : (low high z : ℤ) (a : ℕ) (q : PlaceOf) (line at : ℕ)
-      → CodeStands G ps p references at (bare line op.STORE ∷ [])
-      → (injection : Injection) (memory : Memory) (below : List Operand) (d : ℕ) → least_credit ≤ d
-      → unit_in G memory.frames ≡ unit → IsPlaceOf injection memory.segments a q
-      → Describes memory.types q.type_number (type.Ordinal low high)
+  store_moves : (low high z : ℤ) (a : ℕ) (q : PlaceOf) (line at : ℕ) → CodeStands G ps p references at (bare line op.STORE ∷ []) → (injection : Injection) (memory : Memory) (below : List Operand) (d : ℕ) → least_credit ≤ d → unit_in G memory.frames ≡ unit → IsPlaceOf injection memory.segments a q → Describes memory.types q.type_number (type.Ordinal low high)
       → Fragment declared G Here n (point injection memory (p.instructions.before + at) (Word z ∷ operand.Place q ∷ below)) (assign call n unit line a z) (p.instructions.before + at + 1) (λ b. Inside untouched injection memory (Bare below b)) d (λ b. d)
   store_moves low high z a q line at stands injection memory below d enough home place_of described =
       fragment_less {n = suc n} (omega arith) (fragment_checked {e = λ b. d} (λ s. is_within (type_at a s) z) (assigned a (meaning.Word z))
@@ -61,30 +55,22 @@ module _ {declared : Declarations} {G : Image} {untouched : Slots} {Here : Facts
 
   module _ (scene : Scene declared G ps p texts) (expressions : ExpressionsFollow declared G untouched Here ps p texts references call n unit) (places : PlacesFollow declared G untouched Here ps p texts references call n unit) where
     -- an assignment to a variable of an ordinal type
-    assign_to : (line at k : ℕ) (of_unit : List ℕ) (h : Host) (v : IsTyped declared of_unit k h) (low high : ℤ) (x : Expr) (pcode xcode : List Instr)
-        → v.type_value ≡ type.Ordinal low high → IsExpr declared (kind.Ordinal h) x
-        → IsPlaceCode references line (Variable of_unit k) pcode → IsExprCode texts references line x xcode
-        → CodeStands G ps p references at pcode → CodeStands G ps p references (at + length pcode) xcode
-        → CodeStands G ps p references (at + length pcode + length xcode) (bare line op.STORE ∷ [])
-        → Moves declared G untouched Here ps p texts references call n unit at (at + length pcode + length xcode + 1) (exec call n unit (Assign line (Variable of_unit k) x))
-    assign_to line at k of_unit h v low high x pcode xcode of_type valid place_code expr_code at_place at_expr at_store injection memory below d enough home =
+    assign_to : (line at k : ℕ) (of_unit : List ℕ) (h : Host) (v : IsTyped declared of_unit k h) (low high : ℤ) (x : Expr) (pcode xcode : List Instr) → v.type_value ≡ type.Ordinal low high → IsExpr declared (kind.Ordinal h) x → IsPlaceCode references line (Variable of_unit k) pcode → IsExprCode texts references line (at + length pcode) x xcode → at + length pcode + length xcode < p.instructions.own
+        → CodeStands G ps p references at pcode → CodeStands G ps p references (at + length pcode) xcode → CodeStands G ps p references (at + length pcode + length xcode) (bare line op.STORE ∷ []) → Moves declared G untouched Here ps p texts references call n unit at (at + length pcode + length xcode + 1) (exec call n unit (Assign line (Variable of_unit k) x))
+    assign_to line at k of_unit h v low high x pcode xcode of_type valid place_code expr_code inside at_place at_expr at_store injection memory below d enough home =
         fragment_bind_place {type = v.type_value} {e = λ a. d + 8} (λ a. steady_bind (steady_eval call steady_call n unit line x) (λ r. steady_assign call steady_call n unit line a (number_of r))) (places of_unit k v.variable v.type_value v.is_declared v.has_type line at pcode place_code at_place injection memory below d (omega arith) home) (λ a q longer after grown routine place_of described.
-        fragment_bind_number {host = h} {e = λ r. d + 8 + 8 + weight_of r} (λ r. steady_assign call steady_call n unit line a (number_of r)) (expressions (kind.Ordinal h) x valid line (at + length pcode) xcode expr_code at_expr longer after (operand.Place q ∷ below) (d + 8) (omega arith) (unit_in-same G routine ∙ home)) (λ z last final of_host grown2 routine2.
+        fragment_bind_number {host = h} {e = λ r. d + 8 + 8 + weight_of r} (λ r. steady_assign call steady_call n unit line a (number_of r)) (expressions (kind.Ordinal h) x valid line (at + length pcode) xcode expr_code at_expr inside longer after (operand.Place q ∷ below) (d + 8) (omega arith) (unit_in-same G routine ∙ home)) (λ z last final of_host grown2 routine2.
         fragment_to {to = p.instructions.before + (at + length pcode + length xcode) + 1} (omega arith) (fragment_credit {d = d + 8 + 8 + 0} {e = λ b. d + 8 + 8 + 0} (omega arith) (λ b. omega arith) (
         store_moves low high z a q line (at + length pcode + length xcode) at_store last final below (d + 8 + 8 + 0) (omega arith) (unit_in-same G routine2 ∙ (unit_in-same G routine ∙ home)) (is_place_of-grown grown2 place_of)
         (describes-grown q.type_number (type.Ordinal low high) grown2 (subst (λ t. Describes after.types q.type_number t) of_type described))))))
 
-    pub assign_moves : (line at : ℕ) (q : Place) (h : Host) (x : Expr) (pcode xcode : List Instr)
-        → IsPlace declared h q → IsExpr declared (kind.Ordinal h) x → IsPlaceCode references line q pcode
-        → IsExprCode texts references line x xcode
-        → CodeStands G ps p references at (pcode ++ (xcode ++ bare line op.STORE ∷ []))
-        → Moves declared G untouched Here ps p texts references call n unit at (at + length (pcode ++ (xcode ++ bare line op.STORE ∷ []))) (exec call n unit (Assign line q x))
-    assign_moves line at (Standard file) h x pcode xcode is_place valid place_code expr_code stands = absurd is_place
-    assign_moves line at (Variable of_unit k) h x pcode xcode is_place valid place_code expr_code stands =
+    pub assign_moves : (line at : ℕ) (q : Place) (h : Host) (x : Expr) (pcode xcode : List Instr) → IsPlace declared h q → IsExpr declared (kind.Ordinal h) x → IsPlaceCode references line q pcode → IsExprCode texts references line (at + length pcode) x xcode → at + length (pcode ++ (xcode ++ bare line op.STORE ∷ [])) < p.instructions.own → CodeStands G ps p references at (pcode ++ (xcode ++ bare line op.STORE ∷ [])) → Moves declared G untouched Here ps p texts references call n unit at (at + length (pcode ++ (xcode ++ bare line op.STORE ∷ []))) (exec call n unit (Assign line q x))
+    assign_moves line at (Standard file) h x pcode xcode is_place valid place_code expr_code inside stands = absurd is_place
+    assign_moves line at (Variable of_unit k) h x pcode xcode is_place valid place_code expr_code inside stands =
         let v = typed_variable declared scene.types_valid h of_unit k is_place in
         let t = ordinal_of_host h v.type_value v.of_host in
         let first = code_stands-parts G ps p references at pcode (xcode ++ bare line op.STORE ∷ []) stands in
         let second = code_stands-parts G ps p references (at + length pcode) xcode (bare line op.STORE ∷ []) first.1 in
         let ends : at + length pcode + length xcode + 1 ≡ at + length (pcode ++ (xcode ++ bare line op.STORE ∷ [])) = omega (arith, length-append pcode (xcode ++ bare line op.STORE ∷ []), length-append xcode (bare line op.STORE ∷ [])) in
         λ injection memory below d enough home. fragment_to (ap (λ k. p.instructions.before + k) ends)
-        (assign_to line at k of_unit h v t.0 t.1 x pcode xcode t.2 valid place_code expr_code first.0 second.0 second.1 injection memory below d enough home)
+        (assign_to line at k of_unit h v t.0 t.1 x pcode xcode t.2 valid place_code expr_code (omega (arith, ends, inside)) first.0 second.0 second.1 injection memory below d enough home)

@@ -6,11 +6,12 @@ use Rattle.ep_object.specs.declared.code.Reference.{Reference}
 use Rattle.ep_typed.specs.Trees.{Place, Expr, Item, Stmt, Stmts, Empty, Compound, Assign, If, While, Halt, Write, stmts}
 use Rattle.ep_gen_expr.specs.ExprCode.{IsExprCode, bare, instr}
 use Rattle.ep_gen_expr.specs.Growth.{Grows, AppendsPlace, AppendsExpr}
+use Rattle.ep_gen_expr.specs.Jumps.{IsNextPlace, LeavesHole, landed}
 use Rattle.ep_gen_expr.specs.declared.code.Code.{Code}
 use Rattle.ep_gen_expr.proofs.Forms.{grows_at}
 use Rattle.ep_gen_expr.proofs.Stays.{place_code_stays}
 use Rattle.ep_gen_unit.specs.StmtCode.{IsStmtCode, AreStmtsCode}
-use Rattle.ep_gen_unit.specs.StmtGrowth.{Follows, IsNextPlace, LeavesHole, landed, AppendsItems, AppendsStmt, AppendsStmts}
+use Rattle.ep_gen_unit.specs.StmtGrowth.{Follows, AppendsItems, AppendsStmt, AppendsStmts}
 use Rattle.ep_gen_unit.proofs.StmtStays.{stmt_code_short, stmts_code_stays}
 use Rattle.ep_gen_unit.proofs.Following.{IsLater, later_then, later_grows, later_follows, later_landed, expr_later, stmt_later, follows_none, follows_grows, follows_line, follows_then, follows_middle, follows_landed, grown_length, landed_length}
 use Rattle.ep_object.specs.declared.op.TheConstants as op
@@ -31,7 +32,7 @@ appends_assign {b = b} {c = c} {d = d} a line place x p q r =
       p.code,
       q.code,
       place_code_stays b.references d.references line place p.code after.references.begins p.is_code,
-      subst (λ l. IsExprCode d.texts d.references l x q.code) p.grows.line (expr_later b.line x q.code (later_grows r) q.is_code),
+      subst (λ n. IsExprCode d.texts d.references line n x q.code) (grown_length (follows_grows p.grows)) (subst (λ l. IsExprCode d.texts d.references l (length b.instructions) x q.code) p.grows.line (expr_later b.line (length b.instructions) x q.code (later_grows r) q.is_code)),
       refl,
     )
     (follows_line a line (follows_grows (grows_at (λ l. q.code ++ bare l op.STORE ∷ []) p.grows after)))
@@ -100,7 +101,7 @@ appends_if {b = b} {c = c} {d = d} {e = e} {f = f} {g = g} {h = h} a line x s t 
       xs,
       ys,
       zs,
-      expr_later line x xs b_h p.is_code,
+      expr_later line at x xs b_h p.is_code,
       subst (λ w. IsStmtCode h.texts h.references w s ys) at_then (stmt_later (length c.instructions) s ys d_h q.is_code),
       subst (λ w. IsStmtCode h.texts h.references w t zs) at_else (stmt_later (length f.instructions) t zs g_h r.is_code),
       refl,
@@ -139,7 +140,7 @@ appends_while {b = b} {c = c} {e = e} {f = f} a d line x s n k start p hole q r 
     whole a (While line x s) (while_body xs ys line (at + length xs + 1 + length ys + 1) at) (
       xs,
       ys,
-      expr_later line x xs b_f p.is_code,
+      expr_later line at x xs b_f p.is_code,
       subst (λ w. IsStmtCode f.texts f.references w s ys) at_body (stmt_later (length c.instructions) s ys d_f q.is_code),
       refl,
     )

@@ -32,7 +32,7 @@ module _ {declared : Declarations} {G : Image} {untouched : Slots} {Here : Facts
     statement_moves (Compound ss) at is valid h stands inside = statements_move ss at is valid h stands inside
     statement_moves (Assign line q x) at is valid h stands inside =
         subst (λ k. Moves declared G untouched Here ps p texts references call n unit at (at + length k) (exec call n unit (Assign line q x))) (sym h.4)
-        (assign_moves lasts ps p texts references call steady_call n unit scene expressions places line at q valid.0 x h.0 h.1 valid.1 valid.2 h.2 h.3 (subst (λ k. CodeStands G ps p references at k) h.4 stands))
+        (assign_moves lasts ps p texts references call steady_call n unit scene expressions places line at q valid.0 x h.0 h.1 valid.1 valid.2 h.2 h.3 (omega (arith, ap length h.4, inside)) (subst (λ k. CodeStands G ps p references at k) h.4 stands))
     statement_moves (If line x a b) at is valid h stands inside =
         let test_end : ℕ = at + length h.0 in
         let then_end : ℕ = at + length h.0 + 1 + length h.1 in
@@ -45,7 +45,7 @@ module _ {declared : Declarations} {G : Image} {untouched : Slots} {Here : Facts
         let then_moves = statement_moves a (test_end + 1) h.1 valid.1 h.4 second.0 (omega arith) in
         let else_moves = statement_moves b (then_end + 1) h.2 valid.2 h.5 second.1.1 (omega arith) in
         subst (λ k. Moves declared G untouched Here ps p texts references call n unit at k (exec call n unit (If line x a b))) ends
-        (if_parts ps p texts references call steady_call n unit room expressions line at test_end then_end else_end x a b h.0 valid.0 h.3 refl first.0 (first.1.0, tt) (second.1.0, tt) (omega arith) (omega arith) then_moves else_moves)
+        (if_parts ps p texts references call steady_call n unit room expressions line at test_end then_end else_end x a b h.0 valid.0 h.3 refl (omega (arith, ends, inside)) first.0 (first.1.0, tt) (second.1.0, tt) (omega arith) (omega arith) then_moves else_moves)
     statement_moves (While line x s) at is valid h stands inside =
         let test_end : ℕ = at + length h.0 in
         let body_end : ℕ = at + length h.0 + 1 + length h.1 in
@@ -56,9 +56,9 @@ module _ {declared : Declarations} {G : Image} {untouched : Slots} {Here : Facts
         let ends : body_end + 1 ≡ at + length is = omega (arith, ap length h.4, length-append h.0 (jump_false ∷ (h.1 ++ jump ∷ [])), length-append h.1 (jump ∷ [])) in
         let body_moves = statement_moves s (test_end + 1) h.1 valid.1 h.3 second.0 (omega arith) in
         subst (λ k. Moves declared G untouched Here ps p texts references call n unit at k (exec call n unit (While line x s))) ends
-        (while_parts ps p texts references call steady_call n unit room expressions line at test_end body_end x s h.0 valid.0 h.2 refl first.0 (first.1.0, tt) second.1 (omega arith) (omega arith) body_moves)
+        (while_parts ps p texts references call steady_call n unit room expressions line at test_end body_end x s h.0 valid.0 h.2 refl (omega (arith, ends, inside)) first.0 (first.1.0, tt) second.1 (omega arith) (omega arith) body_moves)
     statement_moves (Halt line) at is valid h stands inside = halt_moves lasts ps p texts references call steady_call n unit line at (at + length is) (subst (λ k. CodeStands G ps p references at k) h stands)
-    statement_moves (Write line items ends_line) at is valid h stands inside = write_moves lasts ps p texts references call steady_call n unit expressions line at items ends_line is valid.0 valid.1 h stands
+    statement_moves (Write line items ends_line) at is valid h stands inside = write_moves lasts ps p texts references call steady_call n unit expressions line at items ends_line is valid.0 valid.1 h inside stands
 
     pub statements_move : (ss : Stmts) (at : ℕ) (is : List Instr) → AreStmts declared ss → AreStmtsCode texts references at ss is → CodeStands G ps p references at is → at + length is < p.instructions.own → Moves declared G untouched Here ps p texts references call n unit at (at + length is) (exec_all call n unit ss)
     statements_move none at is valid h stands inside = λ injection memory below d enough home. fragment_to {to = p.instructions.before + (at + 0)} (omega (arith, ap length h)) (empty_moves lasts ps p texts references call steady_call n unit at injection memory below d enough home)

@@ -13,25 +13,25 @@ use Rattle.ep_typed.specs.Nodes.{place_nodes, expr_nodes, item_nodes, items_node
 use Rattle.ep_object.specs.declared.op.TheConstants as op
 
 module _ (ts us : List (List ℕ)) (rs ss : List Reference) (a : IsPrefix ts us) (b : IsPrefix rs ss) where
-  pub item_code_stays : (line : ℕ) (i : Item) (is : List Instr) → IsItemCode ts rs line i is → IsItemCode us ss line i is
-  item_code_stays line (Plain print x) is h = (h.0, expr_code_stays ts us rs ss line a b x h.0 h.1, h.2)
-  item_code_stays line (Wide print x w) is h = (h.0, h.1, expr_code_stays ts us rs ss line a b x h.0 h.2, expr_code_stays ts us rs ss line a b w h.1 h.3, h.4)
+  pub item_code_stays : (line at : ℕ) (i : Item) (is : List Instr) → IsItemCode ts rs line at i is → IsItemCode us ss line at i is
+  item_code_stays line at (Plain print x) is h = (h.0, expr_code_stays ts us rs ss line a b (at + 1) x h.0 h.1, h.2)
+  item_code_stays line at (Wide print x w) is h = (h.0, h.1, expr_code_stays ts us rs ss line a b (at + 1) x h.0 h.2, expr_code_stays ts us rs ss line a b (at + 1 + length h.0 + length (before_width line print)) w h.1 h.3, h.4)
 
-  pub items_code_stays : (line : ℕ) (items : List Item) (ends_line : Bool) (is : List Instr) → AreItemsCode ts rs line items ends_line is → AreItemsCode us ss line items ends_line is
-  items_code_stays line [] false is h = h
-  items_code_stays line [] true is h = h
-  items_code_stays line (i ∷ items) ends_line is h = (h.0, h.1, item_code_stays line i h.0 h.2, items_code_stays line items ends_line h.1 h.3, h.4)
+  pub items_code_stays : (line at : ℕ) (items : List Item) (ends_line : Bool) (is : List Instr) → AreItemsCode ts rs line at items ends_line is → AreItemsCode us ss line at items ends_line is
+  items_code_stays line at [] false is h = h
+  items_code_stays line at [] true is h = h
+  items_code_stays line at (i ∷ items) ends_line is h = (h.0, h.1, item_code_stays line at i h.0 h.2, items_code_stays line (at + length h.0) items ends_line h.1 h.3, h.4)
 
   mutual
     pub stmt_code_stays : (at : ℕ) (s : Stmt) (is : List Instr) → IsStmtCode ts rs at s is → IsStmtCode us ss at s is
     stmt_code_stays at Empty is h = h
     stmt_code_stays at (Compound statements) is h = stmts_code_stays at statements is h
-    stmt_code_stays at (Assign line p x) is h = (h.0, h.1, place_code_stays rs ss line p h.0 b h.2, expr_code_stays ts us rs ss line a b x h.1 h.3, h.4)
+    stmt_code_stays at (Assign line p x) is h = (h.0, h.1, place_code_stays rs ss line p h.0 b h.2, expr_code_stays ts us rs ss line a b (at + length h.0) x h.1 h.3, h.4)
     stmt_code_stays at (If line x s t) is h =
-        (h.0, h.1, h.2, expr_code_stays ts us rs ss line a b x h.0 h.3, stmt_code_stays (at + length h.0 + 1) s h.1 h.4, stmt_code_stays (at + length h.0 + 1 + length h.1 + 1) t h.2 h.5, h.6)
-    stmt_code_stays at (While line x s) is h = (h.0, h.1, expr_code_stays ts us rs ss line a b x h.0 h.2, stmt_code_stays (at + length h.0 + 1) s h.1 h.3, h.4)
+        (h.0, h.1, h.2, expr_code_stays ts us rs ss line a b at x h.0 h.3, stmt_code_stays (at + length h.0 + 1) s h.1 h.4, stmt_code_stays (at + length h.0 + 1 + length h.1 + 1) t h.2 h.5, h.6)
+    stmt_code_stays at (While line x s) is h = (h.0, h.1, expr_code_stays ts us rs ss line a b at x h.0 h.2, stmt_code_stays (at + length h.0 + 1) s h.1 h.3, h.4)
     stmt_code_stays at (Halt line) is h = h
-    stmt_code_stays at (Write line items ends_line) is h = items_code_stays line items ends_line is h
+    stmt_code_stays at (Write line items ends_line) is h = items_code_stays line at items ends_line is h
 
     pub stmts_code_stays : (at : ℕ) (statements : Stmts) (is : List Instr) → AreStmtsCode ts rs at statements is → AreStmtsCode us ss at statements is
     stmts_code_stays at none is h = h
@@ -60,10 +60,10 @@ place_one (Variable unit number) = refl
 place_one (Standard file) = refl
 
 module _ (ts : List (List ℕ)) (rs : List Reference) where
-  item_code_short : (line : ℕ) (i : Item) (is : List Instr) → IsItemCode ts rs line i is → length is ≤ 32 * item_nodes i
-  item_code_short line (Plain print x) is h =
-      omega (arith, ap length h.2, length-append h.0 (plain_code line print ++ bare line op.PUT ∷ []), length-append (plain_code line print) (bare line op.PUT ∷ []), plain_short line print, expr_code_short ts rs line x h.0 h.1)
-  item_code_short line (Wide print x w) is h =
+  item_code_short : (line at : ℕ) (i : Item) (is : List Instr) → IsItemCode ts rs line at i is → length is ≤ 32 * item_nodes i
+  item_code_short line at (Plain print x) is h =
+      omega (arith, ap length h.2, length-append h.0 (plain_code line print ++ bare line op.PUT ∷ []), length-append (plain_code line print) (bare line op.PUT ∷ []), plain_short line print, expr_code_short ts rs line (at + 1) x h.0 h.1)
+  item_code_short line at (Wide print x w) is h =
       omega (
         arith,
         ap length h.4,
@@ -71,28 +71,28 @@ module _ (ts : List (List ℕ)) (rs : List Reference) where
         length-append (before_width line print) (h.1 ++ wide_code line print ∷ bare line op.PUT ∷ []),
         length-append h.1 (wide_code line print ∷ bare line op.PUT ∷ []),
         before_short line print,
-        expr_code_short ts rs line x h.0 h.2,
-        expr_code_short ts rs line w h.1 h.3,
+        expr_code_short ts rs line (at + 1) x h.0 h.2,
+        expr_code_short ts rs line (at + 1 + length h.0 + length (before_width line print)) w h.1 h.3,
       )
 
-  items_code_short : (line : ℕ) (items : List Item) (ends_line : Bool) (is : List Instr) → AreItemsCode ts rs line items ends_line is → length is ≤ 32 * items_nodes items + 4
-  items_code_short line [] false is h = omega (arith, ap length h)
-  items_code_short line [] true is h = omega (arith, ap length h)
-  items_code_short line (i ∷ items) ends_line is h = omega (arith, ap length h.4, length-append h.0 h.1, item_code_short line i h.0 h.2, items_code_short line items ends_line h.1 h.3)
+  items_code_short : (line at : ℕ) (items : List Item) (ends_line : Bool) (is : List Instr) → AreItemsCode ts rs line at items ends_line is → length is ≤ 32 * items_nodes items + 4
+  items_code_short line at [] false is h = omega (arith, ap length h)
+  items_code_short line at [] true is h = omega (arith, ap length h)
+  items_code_short line at (i ∷ items) ends_line is h = omega (arith, ap length h.4, length-append h.0 h.1, item_code_short line at i h.0 h.2, items_code_short line (at + length h.0) items ends_line h.1 h.3)
 
   mutual
     pub stmt_code_short : (at : ℕ) (s : Stmt) (is : List Instr) → IsStmtCode ts rs at s is → length is ≤ 32 * stmt_nodes s
     stmt_code_short at Empty is h = omega (arith, ap length h)
     stmt_code_short at (Compound statements) is h = omega (arith, stmts_code_short at statements is h)
     stmt_code_short at (Assign line p x) is h =
-        omega (arith, ap length h.4, length-append h.0 (h.1 ++ bare line op.STORE ∷ []), length-append h.1 (bare line op.STORE ∷ []), place_code_short rs line p h.0 h.2, place_one p, expr_code_short ts rs line x h.1 h.3)
+        omega (arith, ap length h.4, length-append h.0 (h.1 ++ bare line op.STORE ∷ []), length-append h.1 (bare line op.STORE ∷ []), place_code_short rs line p h.0 h.2, place_one p, expr_code_short ts rs line (at + length h.0) x h.1 h.3)
     stmt_code_short at (If line x s t) is h =
         if_short h.0 h.1 h.2 _ _ is h.6 (expr_nodes x) (stmt_nodes s) (stmt_nodes t)
-        (expr_code_short ts rs line x h.0 h.3) (stmt_code_short (at + length h.0 + 1) s h.1 h.4) (stmt_code_short (at + length h.0 + 1 + length h.1 + 1) t h.2 h.5)
+        (expr_code_short ts rs line at x h.0 h.3) (stmt_code_short (at + length h.0 + 1) s h.1 h.4) (stmt_code_short (at + length h.0 + 1 + length h.1 + 1) t h.2 h.5)
     stmt_code_short at (While line x s) is h =
-        while_short h.0 h.1 _ _ is h.4 (expr_nodes x) (stmt_nodes s) (expr_code_short ts rs line x h.0 h.2) (stmt_code_short (at + length h.0 + 1) s h.1 h.3)
+        while_short h.0 h.1 _ _ is h.4 (expr_nodes x) (stmt_nodes s) (expr_code_short ts rs line at x h.0 h.2) (stmt_code_short (at + length h.0 + 1) s h.1 h.3)
     stmt_code_short at (Halt line) is h = omega (arith, ap length h)
-    stmt_code_short at (Write line items ends_line) is h = omega (arith, items_code_short line items ends_line is h)
+    stmt_code_short at (Write line items ends_line) is h = omega (arith, items_code_short line at items ends_line is h)
 
     pub stmts_code_short : (at : ℕ) (ss : Stmts) (is : List Instr) → AreStmtsCode ts rs at ss is → length is ≤ 32 * stmts_nodes ss
     stmts_code_short at none is h = omega (arith, ap length h)

@@ -153,7 +153,7 @@ module _ (u : TypedUnit) (o : Object) (is : IsProgramCode u o) (G : Image) (ps :
           follows = λ m le injection memory below s k enters.
               let whole = of_object in
               let body = body_follows {Here = Since (is_hidden_slot declared G) injection s memory} since_lasts ps p call steady_call n u o is stands.code room whole.instructions scene
-              (λ x_kind x is_x line at code is_code x_stands v1 m1 operands d enough x_home. expression_follows ps p o.texts o.references scene call steady_call n u.name n x_kind x is_x line at code is_code x_stands v1 m1 operands d (omega arith) x_home)
+              (λ x_kind x is_x line at code is_code x_stands inside v1 m1 operands d enough x_home. expression_follows ps p o.texts o.references scene call steady_call n u.name room n x_kind x is_x line at code is_code x_stands inside v1 m1 operands d (omega arith) x_home)
               (λ of_unit slot v t is_declared has_type line at code is_code x_stands v1 m1 operands d enough x_home. place_follows ps p o.texts o.references scene call steady_call n u.name n of_unit slot v t is_declared has_type line at code is_code x_stands v1 m1 operands d (omega arith) x_home)
               valid (makes since_lasts) injection memory below routine_credit (omega arith) (home o.start (routine_at 0) start_is memory.frames enters.runs) enters.in_unit in
               follows_from (at_entry o.start (routine_at 0) start_is (omega (arith, instructions_own)) enters)

@@ -49,33 +49,33 @@ module _ (line : ℕ) where
   line_end_code = output_code ∷ push line constant.LINE_END ∷ bare line op.CHARS ∷ bare line op.PUT ∷ []
 
 module _ (texts : List (List ℕ)) (references : List Reference) where
-  -- the code that writes an item
-  abbrev pub IsItemCode : ℕ → Item → List Instr → Type 0
-  IsItemCode line (Plain print x) is = (xs : List Instr) × IsExprCode texts references line x xs × (is ≡ output_code line ∷ (xs ++ (plain_code line print ++ bare line op.PUT ∷ [])))
-  IsItemCode line (Wide print x w) is =
-      (xs ws : List Instr) × IsExprCode texts references line x xs × IsExprCode texts references line w ws
+  -- the code that writes an item, which has this line and begins at this place
+  abbrev pub IsItemCode : ℕ → ℕ → Item → List Instr → Type 0
+  IsItemCode line at (Plain print x) is = (xs : List Instr) × IsExprCode texts references line (at + 1) x xs × (is ≡ output_code line ∷ (xs ++ (plain_code line print ++ bare line op.PUT ∷ [])))
+  IsItemCode line at (Wide print x w) is =
+      (xs ws : List Instr) × IsExprCode texts references line (at + 1) x xs × IsExprCode texts references line (at + 1 + length xs + length (before_width line print)) w ws
       × (is ≡ output_code line ∷ (xs ++ (before_width line print ++ (ws ++ wide_code line print ∷ bare line op.PUT ∷ []))))
 
   -- the code that writes items, and then a line end where there is one
-  abbrev pub AreItemsCode : ℕ → List Item → Bool → List Instr → Type 0
-  AreItemsCode line [] false is = is ≡ []
-  AreItemsCode line [] true is = is ≡ line_end_code line
-  AreItemsCode line (i ∷ items) ends_line is = (xs ys : List Instr) × IsItemCode line i xs × AreItemsCode line items ends_line ys × (is ≡ xs ++ ys)
+  abbrev pub AreItemsCode : ℕ → ℕ → List Item → Bool → List Instr → Type 0
+  AreItemsCode line at [] false is = is ≡ []
+  AreItemsCode line at [] true is = is ≡ line_end_code line
+  AreItemsCode line at (i ∷ items) ends_line is = (xs ys : List Instr) × IsItemCode line at i xs × AreItemsCode line (at + length xs) items ends_line ys × (is ≡ xs ++ ys)
 
   abbrev mutual
     -- the code of a statement that begins at this place
     pub IsStmtCode : ℕ → Stmt → List Instr → Type 0
     IsStmtCode at Empty is = is ≡ []
     IsStmtCode at (Compound ss) is = AreStmtsCode at ss is
-    IsStmtCode at (Assign line p x) is = (ps xs : List Instr) × IsPlaceCode references line p ps × IsExprCode texts references line x xs × (is ≡ ps ++ (xs ++ bare line op.STORE ∷ []))
+    IsStmtCode at (Assign line p x) is = (ps xs : List Instr) × IsPlaceCode references line p ps × IsExprCode texts references line (at + length ps) x xs × (is ≡ ps ++ (xs ++ bare line op.STORE ∷ []))
     IsStmtCode at (If line x a b) is =
-        (xs ys zs : List Instr) × IsExprCode texts references line x xs × IsStmtCode (at + length xs + 1) a ys × IsStmtCode (at + length xs + 1 + length ys + 1) b zs
+        (xs ys zs : List Instr) × IsExprCode texts references line at x xs × IsStmtCode (at + length xs + 1) a ys × IsStmtCode (at + length xs + 1 + length ys + 1) b zs
         × (is ≡ xs ++ instr op.JUMP_FALSE (pos (at + length xs + 1 + length ys + 1)) 0 line ∷ (ys ++ instr op.JUMP (pos (at + length xs + 1 + length ys + 1 + length zs)) 0 line ∷ zs))
     IsStmtCode at (While line x s) is =
-        (xs ys : List Instr) × IsExprCode texts references line x xs × IsStmtCode (at + length xs + 1) s ys
+        (xs ys : List Instr) × IsExprCode texts references line at x xs × IsStmtCode (at + length xs + 1) s ys
         × (is ≡ xs ++ instr op.JUMP_FALSE (pos (at + length xs + 1 + length ys + 1)) 0 line ∷ (ys ++ instr op.JUMP (pos at) 0 line ∷ []))
     IsStmtCode at (Halt line) is = is ≡ bare line op.HALT ∷ []
-    IsStmtCode at (Write line items ends_line) is = AreItemsCode line items ends_line is
+    IsStmtCode at (Write line items ends_line) is = AreItemsCode line at items ends_line is
 
     pub AreStmtsCode : ℕ → Stmts → List Instr → Type 0
     AreStmtsCode at none is = is ≡ []

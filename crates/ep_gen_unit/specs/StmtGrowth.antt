@@ -1,6 +1,5 @@
--- How code under construction grows by statements, whose lines differ, and how forward jumps get their goals.
-use Rattle.std.specs.Prelude.{◌≡◌, ℕ, pos, ◌+◌, ◌*◌, ◌^◌, ◌-◌, ◌<◌, ◌≤◌, Bool, false, List, [], ◌∷◌, ◌++◌, length, slice_set}
-use Rattle.ep_gen_expr.specs.ExprCode.{instr}
+-- How code under construction grows by statements, whose lines differ.
+use Rattle.std.specs.Prelude.{◌≡◌, ℕ, ◌+◌, ◌*◌, ◌≤◌, Bool, false, List, [], ◌∷◌, ◌++◌, length}
 use Rattle.ep_gen_expr.specs.Growth.{TableGrows, Grows, IsTable, AreDistinct}
 use Rattle.ep_gen_expr.specs.declared.code.Code.{Code}
 use Rattle.ep_gen_unit.specs.StmtCode.{IsItemCode, AreItemsCode, IsStmtCode, AreStmtsCode, make_all_code, return_code}
@@ -19,31 +18,16 @@ pub record Follows (old new : Code) (is : List Instr) : Type 0 where
   pub references : TableGrows old.references new.references
   pub constant_types : new.constant_types ≡ old.constant_types
 
--- the place after the code, where a next instruction stands: a number that a field of 32 bits holds
-pub record IsNextPlace (code : Code) (k : ℕ) : Type 0 where
-  pub is_length : k ≡ length code.instructions
-  pub small : k < 2 ^ 32 - 1
-
--- one instruction is appended, at this place, that is to be replaced by a jump
-pub record LeavesHole (old new : Code) (k : ℕ) : Type 0 where
-  pub filler : Instr
-  pub grows : Grows old new (filler ∷ [])
-  pub is_length : k ≡ length old.instructions
-
--- in place of the filler stands a jump to the place after the code, and all else is as before
-abbrev pub landed : Code → ℕ → ℕ → ℕ → Code
-landed code hole jump line = record code { instructions = slice_set code.instructions hole (instr jump (pos (length code.instructions)) 0 line) }
-
 -- the code that writes the item is appended
 pub record AppendsItem (old new : Code) (i : Item) : Type 0 where
   pub code : List Instr
-  pub is_code : IsItemCode new.texts new.references old.line i code
+  pub is_code : IsItemCode new.texts new.references old.line (length old.instructions) i code
   pub grows : Grows old new code
 
 -- the code that writes the items is appended, and then the line end where there is one
 pub record AppendsItems (old new : Code) (items : List Item) (ends_line : Bool) : Type 0 where
   pub code : List Instr
-  pub is_code : AreItemsCode new.texts new.references old.line items ends_line code
+  pub is_code : AreItemsCode new.texts new.references old.line (length old.instructions) items ends_line code
   pub grows : Grows old new code
 
 -- the code of the statement is appended, at most 32 instructions for each typed node

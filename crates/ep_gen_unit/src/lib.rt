@@ -6,7 +6,6 @@
 #![tactic(auto)]
 
 mod items;
-mod jumps;
 mod laws;
 mod program;
 mod statements;

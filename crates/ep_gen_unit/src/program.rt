@@ -7,10 +7,9 @@ ghost use Rattle.ep_gen_unit.specs.StmtCode.{type_code, elaborating_code, make_c
 ghost use Rattle.ep_gen_unit.specs.StmtGrowth.{AppendsRoutines, Follows, IsCompact, assembled};
 ghost use Rattle.ep_gen_unit.specs.UnitCode.{IsProgramCode, routine_at};
 
-use crate::jumps::{field_number, next_place};
 use crate::statements::statement_code;
 use ep_base::{List, Name, NoMemory};
-use ep_gen_expr::{Code, NO_LINE, emit};
+use ep_gen_expr::{Code, NO_LINE, emit, field_number, next_place};
 use ep_object::{CodeRoutine, CodeRoutines, Object, op};
 use ep_typed::{TypeValue, Unit, UnitType, UnitVariable, type_of};
 use std::alloc::Global;

@@ -8,9 +8,8 @@ ghost use Rattle.ep_typed.specs.Viewed.{expr_of, item_of, place_of, stmt_of};
 ghost use Rattle.ep_gen_unit.specs.StmtGrowth.{AppendsStmt, AppendsStmts};
 
 use crate::items::items_code;
-use crate::jumps::{land, leave_hole, next_place};
 use ep_base::{Line, NoMemory};
-use ep_gen_expr::{Code, emit, expression_code, place_code};
+use ep_gen_expr::{Code, emit, expression_code, land, leave_hole, next_place, place_code};
 use ep_object::op;
 use ep_typed::{TypedExpr, TypedPlace, TypedStmt, WriteItem};
 use std::alloc::Global;

@@ -2,10 +2,10 @@
 use Rattle.std.specs.Prelude.{ℕ, ℤ, pos, negsuc, zero, suc, Bool, true, false, List, [], ◌∷◌, length, Option, Some, None, if◌then◌else◌}
 use Rattle.ep_typed.specs.Calls.{Handler}
 use Rattle.ep_typed.specs.Denoters.{type_of}
-use Rattle.ep_typed.specs.Trees.{Denoter, Place, Variable, Standard, Expr, Constant, Text, Read, One, Two, Step, Item, Plain, Wide, Stmt, Stmts, Empty, Compound, Assign, If, While, Halt, Write, none, next}
+use Rattle.ep_typed.specs.Trees.{Denoter, Place, Variable, Standard, Expr, Constant, Text, Read, One, Two, Short, Step, Item, Plain, Wide, Stmt, Stmts, Empty, Compound, Assign, If, While, Halt, Write, none, next}
 use Rattle.ep_typed.specs.Viewed.{denoter_of, stmt_of}
 use Rattle.ep_typed.specs.Steps.{Normal, Halted, Error, Word, Outcome, Computation, give, cut, stop, bind, spend, change, fetch, with_events, word_at, assigned, type_at, is_within, with_type, allocate, standard_file, first_state}
-use Rattle.ep_typed.specs.Operations.{Answer, Number, Fault, unary_answer, binary_answer, step_answer, is_true}
+use Rattle.ep_typed.specs.Operations.{Answer, Number, Fault, unary_answer, binary_answer, step_answer, is_true, decides}
 use Rattle.ep_typed.specs.Printing.{Result, Bytes, number_of, line_end, plain_text, wide_text, piece_events}
 use Rattle.ep_typed.specs.Printing as result
 use Rattle.ep_typed.specs.declared.operations.Print.{Print}
@@ -39,6 +39,8 @@ module _ (call : Handler) (g : ℕ) (unit : List ℕ) where
   eval line (One operation x) = bind (eval line x) (λ a. bind (answered line (unary_answer operation (number_of a))) (λ z. spend 1 (give (result.Number z))))
   eval line (Two operation x y) =
       bind (eval line x) (λ a. bind (eval line y) (λ b. bind (answered line (binary_answer operation (number_of a) (number_of b))) (λ z. spend 1 (give (result.Number z)))))
+  eval line (Short operation x y) =
+      bind (eval line x) (λ a. if decides operation (number_of a) then spend 1 (give a) else bind (eval line y) (λ b. spend 1 (give b)))
   eval line (Step down low high x y) =
       bind (eval line x) (λ a. bind (eval line y) (λ b. bind (answered line (step_answer down low high (number_of a) (number_of b))) (λ z. spend 1 (give (result.Number z)))))
 

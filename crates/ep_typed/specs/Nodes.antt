@@ -1,6 +1,6 @@
 -- How many typed nodes a unit has: its expressions, places, statements, imports, routines, formals, variables, denoters, bounds and values. An expression that is a constant or a text counts one, and its value one more.
 use Rattle.std.specs.Prelude.{ℕ, ◌+◌, List, [], ◌∷◌, length, map, sum, Option, Some, None}
-use Rattle.ep_typed.specs.Trees.{Denoter, Required, Named, Subrange, Enumeration, Place, Variable, Standard, Expr, Constant, Text, Read, One, Two, Step, Item, Plain, Wide, Stmt, Stmts, Empty, Compound, Assign, If, While, Halt, Write, none, next}
+use Rattle.ep_typed.specs.Trees.{Denoter, Required, Named, Subrange, Enumeration, Place, Variable, Standard, Expr, Constant, Text, Read, One, Two, Short, Step, Item, Plain, Wide, Stmt, Stmts, Empty, Compound, Assign, If, While, Halt, Write, none, next}
 use Rattle.ep_typed.specs.Viewed.{denoter_of, expr_of, stmt_of}
 use Rattle.ep_typed.specs.declared.interface.ConstantEntry.{ConstantEntry}
 use Rattle.ep_typed.specs.declared.interface.Formal.{Formal}
@@ -35,6 +35,7 @@ expr_nodes (Text bytes) = 2
 expr_nodes (Read place) = 1 + place_nodes place
 expr_nodes (One operation x) = 1 + expr_nodes x
 expr_nodes (Two operation x y) = 1 + expr_nodes x + expr_nodes y
+expr_nodes (Short operation x y) = 1 + expr_nodes x + expr_nodes y
 expr_nodes (Step down low high x y) = 1 + expr_nodes x + expr_nodes y
 
 -- ---- statements

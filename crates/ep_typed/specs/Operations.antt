@@ -5,6 +5,8 @@ use Rattle.ep_typed.specs.declared.operations.Unary.{Unary}
 use Rattle.ep_typed.specs.declared.operations.Unary.TheVariants as unary
 use Rattle.ep_typed.specs.declared.operations.Binary.{Binary}
 use Rattle.ep_typed.specs.declared.operations.Binary.TheVariants as binary
+use Rattle.ep_typed.specs.declared.operations.ShortOperation.{ShortOperation}
+use Rattle.ep_typed.specs.declared.operations.ShortOperation.TheVariants as short
 use Rattle.ep_typed.specs.declared.run_error.TheConstants as run_error
 
 -- a number, or the number of an error
@@ -71,6 +73,11 @@ binary_answer binary.Less x y = Number (ordinal_of (int_lt x y))
 binary_answer binary.Greater x y = Number (ordinal_of (int_lt y x))
 binary_answer binary.AtMost x y = Number (ordinal_of (int_le x y))
 binary_answer binary.AtLeast x y = Number (ordinal_of (int_le y x))
+
+-- whether the left operand decides: `false` does for `and_then`, and `true` for `or_else`, and it is the value then
+abbrev pub decides : ShortOperation → ℤ → Bool
+decides short.AndThen x = not (is_true x)
+decides short.OrElse x = is_true x
 
 -- `succ` and `pred` of a value and a count, where there is one
 abbrev pub step_answer : Bool → ℤ → ℤ → ℤ → ℤ → Answer

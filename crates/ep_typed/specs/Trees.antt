@@ -2,6 +2,7 @@
 use Rattle.std.specs.Prelude.{ℕ, ℤ, Bool, List, [], ◌∷◌}
 use Rattle.ep_typed.specs.declared.operations.Unary.{Unary}
 use Rattle.ep_typed.specs.declared.operations.Binary.{Binary}
+use Rattle.ep_typed.specs.declared.operations.ShortOperation.{ShortOperation}
 use Rattle.ep_typed.specs.declared.operations.Print.{Print}
 use Rattle.ep_typed.specs.declared.denoter.RequiredType.{RequiredType}
 use Rattle.ep_typed.specs.declared.tree.StandardFile.{StandardFile}
@@ -31,6 +32,8 @@ pub data Expr : Type 0 where
   Read : (place : Place) → Expr
   One : (operation : Unary) (operand : Expr) → Expr
   Two : (operation : Binary) (left right : Expr) → Expr
+  -- the right operand is evaluated only where the left one decides nothing
+  Short : (operation : ShortOperation) (left right : Expr) → Expr
   -- `succ`, or `pred` where the mark says that the count is taken away, within the least and the greatest value
   Step : (down : Bool) (low high : ℤ) (value count : Expr) → Expr
 

@@ -6,7 +6,7 @@ use Rattle.ep_typed.specs.Hosts.{Host, least, greatest, is_of_host}
 use Rattle.ep_typed.specs.Hosts as host
 use Rattle.ep_typed.specs.Operations.{is_integer}
 use Rattle.ep_typed.specs.Steps.{is_within}
-use Rattle.ep_typed.specs.Trees.{Denoter, Place, Variable, Standard, Expr, Constant, Text, Read, One, Two, Step, Item, Plain, Wide, Stmt, Stmts, Empty, Compound, Assign, If, While, Halt, Write, none, next}
+use Rattle.ep_typed.specs.Trees.{Denoter, Place, Variable, Standard, Expr, Constant, Text, Read, One, Two, Short, Step, Item, Plain, Wide, Stmt, Stmts, Empty, Compound, Assign, If, While, Halt, Write, none, next}
 use Rattle.ep_typed.specs.Viewed.{denoter_of, stmt_of}
 use Rattle.ep_typed.specs.declared.operations.Unary.{Unary}
 use Rattle.ep_typed.specs.declared.operations.Unary.TheVariants as unary
@@ -97,6 +97,7 @@ module _ (declared : Declarations) where
   IsExpr kind (Read p) = (h : Host) × (kind ≡ Ordinal h) × IsPlace h p
   IsExpr kind (One operation x) = (k : Kind) × IsUnary operation k kind × IsExpr k x
   IsExpr kind (Two operation x y) = (k l : Kind) × IsBinary operation k l kind × IsExpr k x × IsExpr l y
+  IsExpr kind (Short operation x y) = (kind ≡ Ordinal host.Boolean) × IsExpr (Ordinal host.Boolean) x × IsExpr (Ordinal host.Boolean) y
   IsExpr kind (Step down low high x y) = (h : Host) × (kind ≡ Ordinal h) × (low ≡ least h) × (high ≡ greatest h) × IsExpr (Ordinal h) x × IsExpr (Ordinal host.Integer) y
 
   abbrev pub IsItem : Item → Type 0

@@ -42,6 +42,7 @@ expr_step (expr.Text bytes) = tree.Text bytes
 expr_step (expr.Read place) = tree.Read (place_of place)
 expr_step (expr.Unary operation operand) = tree.One operation operand
 expr_step (expr.Binary operation left right) = tree.Two operation left right
+expr_step (expr.Short operation left right) = tree.Short operation left right
 expr_step (expr.Step down low high value count) = tree.Step down low high value count
 
 abbrev pub expr_of : TypedExpr → tree.Expr

@@ -25,7 +25,7 @@ pub use interface::{
 };
 pub use laws::{laws_of_denoters, laws_of_meanings};
 pub use nodes::unit_nodes;
-pub use operations::{Binary, Print, Unary};
+pub use operations::{Binary, Print, ShortOperation, Unary};
 pub use tree::{
     StandardFile, TypedExpr, TypedExprs, TypedPlace, TypedStmt, TypedStmts, WriteItem, WriteItems,
 };

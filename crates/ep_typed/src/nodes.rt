@@ -238,6 +238,11 @@ fn expression(x: &TypedExpr) -> u64
                 .saturating_add(expression(right.get()))
                 .saturating_add(1)
         }
+        TypedExpr::Short(_, left, right) => {
+            expression(left.get())
+                .saturating_add(expression(right.get()))
+                .saturating_add(1)
+        }
         TypedExpr::Step(_, _, _, value, count) => {
             expression(value.get())
                 .saturating_add(expression(count.get()))

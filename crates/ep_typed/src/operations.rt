@@ -50,6 +50,15 @@ pub enum Binary {
     AtLeast,
 }
 
+/// An operator of two Booleans whose right operand is evaluated only where the left one decides nothing.
+#[derive(Clone, Copy, Drop)]
+pub enum ShortOperation {
+    /// `and_then`
+    AndThen,
+    /// `or_else`
+    OrElse,
+}
+
 /// How a value is printed.
 #[derive(Clone, Copy, Drop)]
 pub enum Print {

@@ -1,6 +1,6 @@
 //! Typed trees: expressions, places and statements whose names, types and kinds are settled.
 
-use crate::operations::{Binary, Print, Unary};
+use crate::operations::{Binary, Print, ShortOperation, Unary};
 use ep_base::{Boxed, Bytes, Line, List, Name};
 
 /// A standard file (ISO 10206, 6.10 and 6.12).
@@ -42,6 +42,8 @@ pub enum TypedExpr {
     Unary(Unary, Boxed<TypedExpr>),
     /// An operator of two operands. Both are evaluated, the left one first.
     Binary(Binary, Boxed<TypedExpr>, Boxed<TypedExpr>),
+    /// An operator of two operands, of which the right one is evaluated only where the left one decides nothing.
+    Short(ShortOperation, Boxed<TypedExpr>, Boxed<TypedExpr>),
     /// `succ` and `pred` with a count, which the flag says is taken away: the value and the count, and the
     /// least and the greatest value of the host type.
     Step(bool, i64, i64, Boxed<TypedExpr>, Boxed<TypedExpr>),

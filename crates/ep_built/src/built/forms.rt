@@ -156,25 +156,21 @@ pub(super) fn relation_is_built(operator: RelationalOperator) -> bool
     }
 }
 
-/// All adding operators but `><` and `or_else`.
+/// All adding operators but `><`.
 pub(super) fn adding_is_built(operator: AddingOperator) -> bool
     ensures { result ≡ built_adding operator }
 {
     match operator {
         AddingOperator::SymmetricDifference => false,
-        AddingOperator::OrElse => false,
         _ => true,
     }
 }
 
-/// All multiplying operators but `and_then`.
-pub(super) fn multiplying_is_built(operator: MultiplyingOperator) -> bool
-    ensures { result ≡ built_multiplying operator }
+/// All multiplying operators.
+pub(super) fn multiplying_is_built(_operator: MultiplyingOperator) -> bool
+    ensures { result ≡ built_multiplying _operator }
 {
-    match operator {
-        MultiplyingOperator::AndThen => false,
-        _ => true,
-    }
+    true
 }
 
 /// A number of a text has no sign, and a character string is of length one.

@@ -11,5 +11,8 @@ decreases-unary_code l = 2 * size-TypedExpr l.operand.now + 1
 abbrev pub decreases-binary_code : goal.decreases-binary_code
 decreases-binary_code l = 2 * max (size-TypedExpr l.left.now) (size-TypedExpr l.right.now) + 1
 
+abbrev pub decreases-short_code : goal.decreases-short_code
+decreases-short_code l = 2 * max (size-TypedExpr l.left.now) (size-TypedExpr l.right.now) + 1
+
 abbrev pub decreases-step_code : goal.decreases-step_code
 decreases-step_code l = 2 * max (size-TypedExpr l.value.now) (size-TypedExpr l.count.now) + 1

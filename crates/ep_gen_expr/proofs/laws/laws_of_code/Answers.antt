@@ -4,7 +4,7 @@ use Rattle.ep_gen_expr.proofs.laws.laws_of_code.Goals as goal
 pub returns : goal.returns
 returns c = record {
   place_stays = place_code_stays;
-  expr_stays = λ ts us rs ss line x is a b h. expr_code_stays ts us rs ss line a b x is h;
+  expr_stays = λ ts us rs ss line at x is a b h. expr_code_stays ts us rs ss line a b at x is h;
   place_short = place_code_short;
   expr_short = expr_code_short;
 }

@@ -4,10 +4,10 @@
 //! is that of what is missing. Code that would grow further is a want of memory.
 
 ghost use Rattle.std.specs.Prelude.{◌≡◌, ◌<◌, ◌^◌, ◌-◌, length, IfOk, OnOk};
-ghost use Rattle.ep_gen_unit.specs.StmtGrowth.{IsNextPlace, LeavesHole, landed};
+ghost use Rattle.ep_gen_expr.specs.Jumps.{IsNextPlace, LeavesHole, landed};
 
+use crate::code::{Code, emit};
 use ep_base::{Line, NoMemory};
-use ep_gen_expr::{Code, emit};
 use ep_object::{Instr, op};
 use std::alloc::AllocError;
 
