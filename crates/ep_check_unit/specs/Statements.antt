@@ -196,6 +196,10 @@ abbrev pub if_judged : ℕ → Judgement Expr → Judgement Stmt → Judgement S
 if_judged line test then_part else_part =
     after (λ form. λ (parts : Stmt × Stmt). tree.If line form parts.0 parts.1) test (after (λ a b. (a, b)) then_part else_part)
 
+-- a `repeat` statement, by its condition, which has the line of its first word, and its statements (ISO 10206, 6.9.3.7)
+abbrev pub repeat_judged : ℕ → Judgement Expr → Judgement Stmts → Judgement Stmt
+repeat_judged line test body = after (λ form statements. tree.Repeat line statements form) test body
+
 -- a missing `else` is the empty statement
 abbrev pub else_judged : Option (Judgement Stmt) → Judgement Stmt
 else_judged None = Passes tree.Empty
@@ -292,7 +296,7 @@ module _ (context : Context) where
   at_statement (Statement-F.If line e then_part other) = if_judged line (condition_judged line e) then_part (else_judged other)
   at_statement (Statement-F.While line e body) = after (tree.While line) (condition_judged line e) body
   at_statement (Statement-F.Case line e arms other) = Fails line []
-  at_statement (Statement-F.Repeat line statements e) = Fails line []
+  at_statement (Statement-F.Repeat line statements e) = repeat_judged line (condition_judged line e) (in_order statements)
   at_statement (Statement-F.For line variable start direction end body) = Fails line []
   at_statement (Statement-F.ForIn line variable members body) = Fails line []
   at_statement (Statement-F.With line accesses body) = Fails line []

@@ -13,7 +13,7 @@ ghost use Rattle.ep_check_expr.specs.Expressions.{judged, judged_value};
 ghost use Rattle.ep_check_expr.specs.Judgements.{both};
 ghost use Rattle.ep_check_unit.specs.Answers.{AnswersForm, AnswersRow, context_of, fails_among, stmts_of, target_of};
 ghost use Rattle.ep_check_unit.specs.Statements as spec;
-ghost use Rattle.ep_check_unit.specs.Statements.{Judgement, after, assigned, compound_judged, condition_judged, declared_target, formed, if_judged, in_order, name_called, place_named, required_called, statement_judged, target_judged, target_rules, tested};
+ghost use Rattle.ep_check_unit.specs.Statements.{Judgement, after, assigned, compound_judged, condition_judged, declared_target, formed, if_judged, in_order, name_called, repeat_judged, place_named, required_called, statement_judged, target_judged, target_rules, tested};
 
 use crate::outcome::{CheckRefusal, Outcome, item_at};
 use ep_base::{Boxed, Line, List, Name};
@@ -180,6 +180,26 @@ fn while_form(
     }
 }
 
+/// A `repeat` statement of these parts, the condition first, since it belongs to the statement itself.
+fn repeat_form(
+    alloc: Global,
+    line: Line,
+    condition: Row<Boxed<TypedExpr>>,
+    statements: Row<TypedStmts>,
+) -> Row<Boxed<TypedStmt>>
+    ensures { (x : Judgement Expr) (y : Judgement Stmts) → AnswersRow expr_of condition x
+        → AnswersRow stmts_of statements y → AnswersRow stmt_of result (repeat_judged line x y) }
+{
+    match (condition?, statements?) {
+        (Outcome::Passes(condition), Outcome::Passes(all)) => {
+            let form = Boxed::new(alloc, TypedStmt::Repeat(line, all, condition))?;
+            Ok(Outcome::Passes(form))
+        }
+        (Outcome::Waits(first), _) => Ok(Outcome::Waits(first)),
+        (_, Outcome::Waits(first)) => Ok(Outcome::Waits(first)),
+    }
+}
+
 /// The arguments of a call, which are none or stand in one pair of parentheses.
 fn call_arguments(access: &Access) -> &[Argument]
     requires { built_call access.now ≡ true }
@@ -252,6 +272,10 @@ impl Context<'_> {
             Statement::While(line, e, body) => {
                 let inner = self.statement(body.get());
                 while_form(self.alloc, *line, self.condition(*line, e.get()), inner)
+            }
+            Statement::Repeat(line, all, e) => {
+                let inner = self.statements(all.items());
+                repeat_form(self.alloc, *line, self.condition(*line, e.get()), inner)
             }
             _ => unreachable!(),
         }

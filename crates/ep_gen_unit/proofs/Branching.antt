@@ -1,4 +1,4 @@
--- The machine follows `if` and `while`.
+-- The machine follows `if`, `while` and `repeat`.
 use Rattle.std.proofs.Common.{◌≡◌, ℕ, pos, suc, ◌+◌, ◌≤◌, ◌<◌, List, [], ◌∷◌, length, refl, sym, ap, ◌∙◌, arith}
 use Rattle.ep_object.specs.Follows.{Facts}
 use Rattle.ep_object.specs.Matching.{Slots}
@@ -9,17 +9,17 @@ use Rattle.ep_object.specs.Placing.{Placement, CodeStands}
 use Rattle.ep_object.specs.declared.code.Image.{Image}
 use Rattle.ep_object.specs.declared.code.Instr.{Instr}
 use Rattle.ep_object.specs.declared.code.Reference.{Reference}
-use Rattle.ep_object.proofs.following.Choices.{fragment_branch, fragment_turns}
+use Rattle.ep_object.proofs.following.Choices.{fragment_branch, fragment_turns, fragment_turns_until}
 use Rattle.ep_object.proofs.following.Fragments.{fragment_give, fragment_to, fragment_from, fragment_less, fragment_credit, fragment_one, fragment_move, fragment_bind_number, fragment_bind_bare}
 use Rattle.ep_object.proofs.matching.Growing.{unit_in-same, grown_refl, same_routine-refl, inside_here}
 use Rattle.ep_object.proofs.rows.Rows.{jump_jumps, jump_false_jumps}
 use Rattle.ep_typed.specs.Steady.{IsSteadyHandler}
 use Rattle.ep_typed.specs.Calls.{Handler}
-use Rattle.ep_typed.proofs.Steady.{steady_bind, steady_spend, steady_give, steady_if, steady_eval, steady_exec}
-use Rattle.ep_typed.specs.Meaning.{exec, weight_of}
+use Rattle.ep_typed.proofs.Steady.{steady_bind, steady_spend, steady_give, steady_if, steady_eval, steady_exec, steady_exec_all}
+use Rattle.ep_typed.specs.Meaning.{exec, exec_all, weight_of}
 use Rattle.ep_typed.specs.Operations.{is_true}
 use Rattle.ep_typed.specs.Printing.{number_of}
-use Rattle.ep_typed.specs.Trees.{Expr, Stmt, If, While}
+use Rattle.ep_typed.specs.Trees.{Expr, Stmt, Stmts, If, While, Repeat}
 use Rattle.ep_typed.specs.Valid as kind
 use Rattle.ep_typed.specs.Valid.{Declarations, IsExpr}
 use Rattle.ep_typed.specs.Hosts as host
@@ -54,3 +54,16 @@ module _ {declared : Declarations} {G : Image} {untouched : Slots} {Here : Facts
         (λ longer after grown routine. fragment_from {place = p.instructions.before + (test_end + 1)} (omega arith) (body_moves longer after below (d + 1) (omega arith) (unit_in-same G routine ∙ home)))
         (λ after trace routine. jump_jumps G (p.instructions.before + body_end) line below (p.instructions.before + at) (omega (arith, room)) (jump_has G ps p references line body_end at [] (omega arith) at_jump) after trace)
         n (omega arith) injection memory (grown_refl injection memory) (same_routine-refl memory.frames)
+
+    -- `repeat`
+    pub repeat_parts : (line at body_end test_end : ℕ) (ss : Stmts) (x : Expr) (xs : List Instr) → IsExpr declared (kind.Ordinal host.Boolean) x → IsExprCode texts references line body_end x xs → test_end ≡ body_end + length xs → test_end < p.instructions.own → at ≤ body_end → CodeStands G ps p references body_end xs
+        → CodeStands G ps p references test_end (instr op.JUMP_FALSE (pos at) 0 line ∷ [])
+        → Moves declared G untouched Here ps p texts references call n unit at body_end (exec_all call n unit ss)
+        → Moves declared G untouched Here ps p texts references call n unit at (test_end + 1) (exec call n unit (Repeat line ss x))
+    repeat_parts line at body_end test_end ss x xs valid code ends inside before at_test at_back body_moves injection memory below d enough home =
+        fragment_to {to = p.instructions.before + test_end + 1} (omega arith)
+        (fragment_turns_until {place = p.instructions.before + at} {body_end = p.instructions.before + body_end} {test_end = p.instructions.before + test_end} call n unit d (steady_exec_all call steady_call n unit ss) (steady_eval call steady_call n unit line x) injection memory
+        (λ longer after grown routine. body_moves longer after below d enough (unit_in-same G routine ∙ home))
+        (λ longer after grown routine. fragment_to {to = p.instructions.before + (body_end + length xs)} (ap (λ k. p.instructions.before + k) (sym ends)) (fragment_credit {d = d} {e = λ r. d + 8 + weight_of r} (omega arith) (λ r. omega arith) (expressions (kind.Ordinal host.Boolean) x valid line body_end xs code at_test (omega (arith, ends, inside)) longer after below d (omega arith) (unit_in-same G routine ∙ home))))
+        (λ z after trace routine. jump_false_jumps G (p.instructions.before + test_end) line below z (p.instructions.before + at) (omega (arith, room)) (jump_false_has G ps p references line test_end at [] (omega arith) at_back) after trace)
+        n (omega arith) injection memory (grown_refl injection memory) (same_routine-refl memory.frames))

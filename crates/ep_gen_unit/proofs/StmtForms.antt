@@ -3,7 +3,7 @@ use Rattle.std.proofs.Common.{◌≡◌, ℕ, pos, ◌+◌, ◌<◌, Bool, List,
 use Rattle.std.proofs.lemmas.List.{map_more}
 use Rattle.ep_object.specs.declared.code.Instr.{Instr}
 use Rattle.ep_object.specs.declared.code.Reference.{Reference}
-use Rattle.ep_typed.specs.Trees.{Place, Expr, Item, Stmt, Stmts, Empty, Compound, Assign, If, While, Halt, Write, stmts}
+use Rattle.ep_typed.specs.Trees.{Place, Expr, Item, Stmt, Stmts, Empty, Compound, Assign, If, While, Repeat, Halt, Write, stmts}
 use Rattle.ep_gen_expr.specs.ExprCode.{IsExprCode, bare, instr}
 use Rattle.ep_gen_expr.specs.Growth.{Grows, AppendsPlace, AppendsExpr}
 use Rattle.ep_gen_expr.specs.Jumps.{IsNextPlace, LeavesHole, landed}
@@ -146,6 +146,24 @@ appends_while {b = b} {c = c} {e = e} {f = f} a d line x s n k start p hole q r 
     )
     (subst (λ w. Follows a f (while_body xs ys line (at + length xs + 1 + length ys + 1) w)) start.is_length
     (subst (λ w. Follows a f (while_body xs ys line w n)) at_e (while_follows line k n to_b hole q.follows r l)))
+
+pub appends_repeat : {c d : Code} (a b : Code) (line : ℕ) (ss : Stmts) (x : Expr) (n : ℕ) → IsNextPlace a n → AppendsStmts a b ss → AppendsExpr (record b { line = line }) c x → Grows c d (instr op.JUMP_FALSE (pos n) 0 c.line ∷ []) → AppendsStmt a d (Repeat line ss x)
+appends_repeat {c = c} {d = d} a b line ss x n start p q r =
+    let ys = p.code in
+    let xs = q.code in
+    let at = length a.instructions in
+    let back : ℕ → List Instr = λ l. instr op.JUMP_FALSE (pos n) 0 l ∷ [] in
+    let after : Grows (record b { line = line }) d (xs ++ back line) = grows_at back q.grows r in
+    let after_body : Follows b d (xs ++ back line) = follows_line b line (follows_grows after) in
+    let b_d : IsLater b d = later_follows after_body in
+    whole a (Repeat line ss x) (ys ++ (xs ++ instr op.JUMP_FALSE (pos at) 0 line ∷ [])) (
+      ys,
+      xs,
+      stmts_code_stays b.texts d.texts b.references d.references b_d.texts.begins b_d.references.begins at ss ys p.is_code,
+      subst (λ k. IsExprCode d.texts d.references line k x xs) (grown_length p.follows) (expr_later line (length b.instructions) x xs (later_grows r) q.is_code),
+      refl,
+    )
+    (subst (λ k. Follows a d (ys ++ (xs ++ instr op.JUMP_FALSE (pos k) 0 line ∷ []))) start.is_length (follows_then p.follows after_body))
 
 module _ (ts : List (List ℕ)) (rs : List Reference) where
   stmts_snoc : (at : ℕ) (ss : List Stmt) (s : Stmt) (xs ys : List Instr) → AreStmtsCode ts rs at (stmts ss) xs → IsStmtCode ts rs (at + length xs) s ys → AreStmtsCode ts rs at (stmts (ss ++ s ∷ [])) (xs ++ ys)

@@ -6,7 +6,7 @@ use Rattle.ep_gen_expr.specs.ExprCode.{instr}
 use Rattle.ep_gen_unit.specs.StmtCode.{IsStmtCode, AreStmtsCode}
 use Rattle.ep_gen_unit.proofs.Parts.{Moves, ExpressionsFollow, PlacesFollow, code_stands-parts}
 use Rattle.ep_gen_unit.proofs.Simple.{empty_moves, halt_moves, assign_moves}
-use Rattle.ep_gen_unit.proofs.Branching.{if_parts, while_parts}
+use Rattle.ep_gen_unit.proofs.Branching.{if_parts, repeat_parts, while_parts}
 use Rattle.ep_gen_unit.proofs.Writing.{write_moves}
 use Rattle.ep_object.specs.Placing.{Placement, CodeStands}
 use Rattle.ep_object.specs.Scene.{Scene}
@@ -19,7 +19,7 @@ use Rattle.ep_typed.specs.Steady.{IsSteadyHandler}
 use Rattle.ep_typed.specs.Calls.{Handler}
 use Rattle.ep_typed.proofs.Steady.{steady_exec_all}
 use Rattle.ep_typed.specs.Meaning.{exec, exec_all}
-use Rattle.ep_typed.specs.Trees.{Stmt, Stmts, Empty, Compound, Assign, If, While, Halt, Write, none, next}
+use Rattle.ep_typed.specs.Trees.{Stmt, Stmts, Empty, Compound, Assign, If, While, Repeat, Halt, Write, none, next}
 use Rattle.ep_typed.specs.Valid.{Declarations, IsStmt, AreStmts}
 use Rattle.ep_object.specs.declared.op.TheConstants as op
 
@@ -57,6 +57,16 @@ module _ {declared : Declarations} {G : Image} {untouched : Slots} {Here : Facts
         let body_moves = statement_moves s (test_end + 1) h.1 valid.1 h.3 second.0 (omega arith) in
         subst (λ k. Moves declared G untouched Here ps p texts references call n unit at k (exec call n unit (While line x s))) ends
         (while_parts ps p texts references call steady_call n unit room expressions line at test_end body_end x s h.0 valid.0 h.2 refl (omega (arith, ends, inside)) first.0 (first.1.0, tt) second.1 (omega arith) (omega arith) body_moves)
+    statement_moves (Repeat line ss x) at is valid h stands inside =
+        let body_end : ℕ = at + length h.0 in
+        let test_end : ℕ = at + length h.0 + length h.1 in
+        let jump : Instr = instr op.JUMP_FALSE (pos at) 0 line in
+        let first = code_stands-parts G ps p references at h.0 (h.1 ++ jump ∷ []) (subst (λ k. CodeStands G ps p references at k) h.4 stands) in
+        let second = code_stands-parts G ps p references body_end h.1 (jump ∷ []) first.1 in
+        let ends : test_end + 1 ≡ at + length is = omega (arith, ap length h.4, length-append h.0 (h.1 ++ jump ∷ []), length-append h.1 (jump ∷ [])) in
+        let body_moves = statements_move ss at h.0 valid.0 h.2 first.0 (omega (arith, ends, inside)) in
+        subst (λ k. Moves declared G untouched Here ps p texts references call n unit at k (exec call n unit (Repeat line ss x))) ends
+        (repeat_parts ps p texts references call steady_call n unit room expressions line at body_end test_end ss x h.1 valid.1 h.3 refl (omega (arith, ends, inside)) (omega arith) second.0 second.1 body_moves)
     statement_moves (Halt line) at is valid h stands inside = halt_moves lasts ps p texts references call steady_call n unit line at (at + length is) (subst (λ k. CodeStands G ps p references at k) h stands)
     statement_moves (Write line items ends_line) at is valid h stands inside = write_moves lasts ps p texts references call steady_call n unit expressions line at items ends_line is valid.0 valid.1 h inside stands
 

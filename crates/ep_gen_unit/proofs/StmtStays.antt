@@ -3,7 +3,7 @@ use Rattle.std.proofs.Common.{◌≡◌, ℕ, ◌+◌, ◌*◌, ◌≤◌, Bool,
 use Rattle.ep_outside.specs.Known.{IsPrefix}
 use Rattle.ep_object.specs.declared.code.Instr.{Instr}
 use Rattle.ep_object.specs.declared.code.Reference.{Reference}
-use Rattle.ep_typed.specs.Trees.{Place, Variable, Standard, Item, Plain, Wide, Stmt, Stmts, Empty, Compound, Assign, If, While, Halt, Write, none, next}
+use Rattle.ep_typed.specs.Trees.{Place, Variable, Standard, Item, Plain, Wide, Stmt, Stmts, Empty, Compound, Assign, If, While, Repeat, Halt, Write, none, next}
 use Rattle.ep_typed.specs.declared.operations.Print.{Print}
 use Rattle.ep_typed.specs.declared.operations.Print.TheVariants as print
 use Rattle.ep_gen_expr.specs.ExprCode.{bare}
@@ -30,6 +30,7 @@ module _ (ts us : List (List ℕ)) (rs ss : List Reference) (a : IsPrefix ts us)
     stmt_code_stays at (If line x s t) is h =
         (h.0, h.1, h.2, expr_code_stays ts us rs ss line a b at x h.0 h.3, stmt_code_stays (at + length h.0 + 1) s h.1 h.4, stmt_code_stays (at + length h.0 + 1 + length h.1 + 1) t h.2 h.5, h.6)
     stmt_code_stays at (While line x s) is h = (h.0, h.1, expr_code_stays ts us rs ss line a b at x h.0 h.2, stmt_code_stays (at + length h.0 + 1) s h.1 h.3, h.4)
+    stmt_code_stays at (Repeat line statements x) is h = (h.0, h.1, stmts_code_stays at statements h.0 h.2, expr_code_stays ts us rs ss line a b (at + length h.0) x h.1 h.3, h.4)
     stmt_code_stays at (Halt line) is h = h
     stmt_code_stays at (Write line items ends_line) is h = items_code_stays line at items ends_line is h
 
@@ -54,6 +55,9 @@ if_short xs ys zs i j is e k m n p q r = omega (arith, ap length e, length-appen
 
 while_short : (xs ys : List Instr) (i j : Instr) (is : List Instr) → is ≡ xs ++ i ∷ (ys ++ j ∷ []) → (k m : ℕ) → length xs + 8 ≤ 32 * k → length ys ≤ 32 * m → length is ≤ 32 * (1 + k + m)
 while_short xs ys i j is e k m p q = omega (arith, ap length e, length-append xs (i ∷ (ys ++ j ∷ [])), length-append ys (j ∷ []), p, q)
+
+repeat_short : (ys xs : List Instr) (i : Instr) (is : List Instr) → is ≡ ys ++ (xs ++ i ∷ []) → (k m : ℕ) → length ys ≤ 32 * k → length xs + 8 ≤ 32 * m → length is ≤ 32 * (1 + k + m)
+repeat_short ys xs i is e k m p q = omega (arith, ap length e, length-append ys (xs ++ i ∷ []), length-append xs (i ∷ []), p, q)
 
 place_one : (p : Place) → place_nodes p ≡ 1
 place_one (Variable unit number) = refl
@@ -91,6 +95,8 @@ module _ (ts : List (List ℕ)) (rs : List Reference) where
         (expr_code_short ts rs line at x h.0 h.3) (stmt_code_short (at + length h.0 + 1) s h.1 h.4) (stmt_code_short (at + length h.0 + 1 + length h.1 + 1) t h.2 h.5)
     stmt_code_short at (While line x s) is h =
         while_short h.0 h.1 _ _ is h.4 (expr_nodes x) (stmt_nodes s) (expr_code_short ts rs line at x h.0 h.2) (stmt_code_short (at + length h.0 + 1) s h.1 h.3)
+    stmt_code_short at (Repeat line statements x) is h =
+        repeat_short h.0 h.1 _ is h.4 (stmts_nodes statements) (expr_nodes x) (stmts_code_short at statements h.0 h.2) (expr_code_short ts rs line (at + length h.0) x h.1 h.3)
     stmt_code_short at (Halt line) is h = omega (arith, ap length h)
     stmt_code_short at (Write line items ends_line) is h = omega (arith, items_code_short line at items ends_line is h)
 

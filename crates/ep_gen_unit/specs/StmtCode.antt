@@ -6,7 +6,7 @@ use Rattle.ep_gen_expr.specs.ExprCode.{instr, bare, push, standard_code, IsPlace
 use Rattle.ep_gen_expr.specs.declared.code.TheConstants as code
 use Rattle.ep_object.specs.declared.code.Instr.{Instr}
 use Rattle.ep_object.specs.declared.code.Reference.{Reference}
-use Rattle.ep_typed.specs.Trees.{Item, Plain, Wide, Stmt, Stmts, Empty, Compound, Assign, If, While, Halt, Write, none, next}
+use Rattle.ep_typed.specs.Trees.{Item, Plain, Wide, Stmt, Stmts, Empty, Compound, Assign, If, While, Repeat, Halt, Write, none, next}
 use Rattle.ep_typed.specs.Viewed.{denoter_of}
 use Rattle.ep_typed.specs.declared.operations.Print.{Print}
 use Rattle.ep_typed.specs.declared.operations.Print.TheVariants as print
@@ -74,6 +74,8 @@ module _ (texts : List (List ℕ)) (references : List Reference) where
     IsStmtCode at (While line x s) is =
         (xs ys : List Instr) × IsExprCode texts references line at x xs × IsStmtCode (at + length xs + 1) s ys
         × (is ≡ xs ++ instr op.JUMP_FALSE (pos (at + length xs + 1 + length ys + 1)) 0 line ∷ (ys ++ instr op.JUMP (pos at) 0 line ∷ []))
+    IsStmtCode at (Repeat line ss x) is =
+        (ys xs : List Instr) × AreStmtsCode at ss ys × IsExprCode texts references line (at + length ys) x xs × (is ≡ ys ++ (xs ++ instr op.JUMP_FALSE (pos at) 0 line ∷ []))
     IsStmtCode at (Halt line) is = is ≡ bare line op.HALT ∷ []
     IsStmtCode at (Write line items ends_line) is = AreItemsCode line at items ends_line is
 

@@ -3,7 +3,7 @@
 //! A statement sets the line, so it is set again after a part that is a statement.
 
 ghost use Rattle.std.specs.Prelude.{OnOk, map};
-ghost use Rattle.ep_typed.specs.Trees.{Compound, Assign, If, While, Halt, Write, stmts};
+ghost use Rattle.ep_typed.specs.Trees.{Compound, Assign, If, While, Repeat, Halt, Write, stmts};
 ghost use Rattle.ep_typed.specs.Viewed.{expr_of, item_of, place_of, stmt_of};
 ghost use Rattle.ep_gen_unit.specs.StmtGrowth.{AppendsStmt, AppendsStmts};
 
@@ -38,6 +38,9 @@ pub fn statement_code(alloc: Global, s: &TypedStmt, code: &mut Code) -> Result<(
         }
         TypedStmt::While(line, condition, body) => {
             while_code(alloc, *line, condition.get(), body.get(), code)
+        }
+        TypedStmt::Repeat(line, body, condition) => {
+            repeat_code(alloc, *line, body.items(), condition.get(), code)
         }
         TypedStmt::Halt(line) => halt_code(*line, code),
         TypedStmt::Write(line, items, ends_line) => {
@@ -115,6 +118,24 @@ fn while_code(
     code.line = line;
     emit(code, op::JUMP, start as i64, 0)?;
     land(code, leave, op::JUMP_FALSE, line)
+}
+
+/// Appends the code of a `repeat`: the statements, the condition, and the jump back where it is false.
+#[cycle(statement)]
+fn repeat_code(
+    alloc: Global,
+    line: Line,
+    body: &[TypedStmt],
+    condition: &TypedExpr,
+    code: &mut Code,
+) -> Result<(), NoMemory>
+    ensures { OnOk result (AppendsStmt code.old code.new (Repeat line (stmts (map stmt_of body.now)) (expr_of condition.now))) }
+{
+    let start = next_place(code)?;
+    compound_code(alloc, body, code)?;
+    code.line = line;
+    expression_code(alloc, condition, code)?;
+    emit(code, op::JUMP_FALSE, start as i64, 0)
 }
 
 /// Appends the code of `halt`.

@@ -1,12 +1,13 @@
 -- The meaning computes the answers of small programs.
 use Rattle.std.proofs.Common.{◌≡◌, ℕ, ℤ, pos, negsuc, true, false, [], ◌∷◌, refl, codes}
 use Rattle.ep_typed.specs.Events.{Trace, Write}
-use Rattle.ep_typed.specs.Trees.{Variable, Expr, Constant, Read, One, Two, Plain, Wide, Stmt, Compound, Assign, While, Write, stmts, none, next}
+use Rattle.ep_typed.specs.Trees.{Variable, Expr, Constant, Read, One, Two, Plain, Wide, Stmt, Compound, Assign, While, Repeat, Short, Write, stmts, none, next}
 use Rattle.ep_typed.specs.Trees as tree
 use Rattle.ep_typed.specs.Steps.{End, Normal, Error, Outcome, Gives, Ends, Cut, state_of, made, first_state}
 use Rattle.ep_typed.specs.Meaning.{exec, routine_of}
 use Rattle.ep_typed.specs.declared.operations.Unary.TheVariants as unary
 use Rattle.ep_typed.specs.declared.operations.Binary.TheVariants as binary
+use Rattle.ep_typed.specs.declared.operations.ShortOperation.TheVariants as short
 use Rattle.ep_typed.specs.declared.operations.Print.TheVariants as print
 use Rattle.ep_typed.specs.declared.value.TypeValue.TheVariants.{Ordinal}
 use Rattle.ep_typed.specs.declared.run_error.TheConstants as run_error
@@ -43,3 +44,20 @@ negative_divisor = refl
 -- a loop without an end writes as long as there are steps
 loop : trace_of (run (While 3 (Constant (pos 1)) (tree.Write 3 (Plain print.Char (Constant (pos 120)) ∷ []) false)) 20) ≡ Write (codes "x") ∷ Write (codes "x") ∷ Write (codes "x") ∷ []
 loop = refl
+
+-- the right operand would be an error, and is evaluated only where the left one decides nothing
+abbrev failing : Expr
+failing = equals (Two binary.Divide (Constant (pos 1)) (Constant (pos 0))) (pos 1)
+
+not_evaluated : trace_of (run (tree.Write 3 (Plain print.Boolean (Short short.AndThen (Constant (pos 0)) failing) ∷ []) false) 100) ≡ Write (codes "False") ∷ []
+not_evaluated = refl
+
+evaluated : end_of (run (tree.Write 3 (Plain print.Boolean (Short short.OrElse (Constant (pos 0)) failing) ∷ []) false) 100) ≡ Error run_error.DIVISOR (codes "p") 3
+evaluated = refl
+
+-- a loop with its test behind its body runs once, and a turn spends a step besides
+once : trace_of (run (Repeat 3 (next (tree.Write 4 (Plain print.Char (Constant (pos 120)) ∷ []) false) none) (Constant (pos 1))) 7) ≡ Write (codes "x") ∷ []
+once = refl
+
+until_false : trace_of (run (Repeat 3 (next (tree.Write 4 (Plain print.Char (Constant (pos 120)) ∷ []) false) none) (Constant (pos 0))) 20) ≡ Write (codes "x") ∷ Write (codes "x") ∷ Write (codes "x") ∷ []
+until_false = refl

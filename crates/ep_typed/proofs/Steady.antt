@@ -5,14 +5,14 @@ use Rattle.std.specs.List.{list_any}
 use Rattle.ep_outside.specs.Known.{IsPrefix}
 use Rattle.ep_typed.specs.Denoters.{type_of}
 use Rattle.ep_typed.specs.Events.{Trace}
-use Rattle.ep_typed.specs.Meaning.{answered, place, eval, write_piece, write_wide, write_item, write_items, assign, turns, exec, exec_all, elaborated, make, make_all, start_of, starts_of, routine_of}
+use Rattle.ep_typed.specs.Meaning.{answered, place, eval, write_piece, write_wide, write_item, write_items, assign, turns, turns_until, exec, exec_all, elaborated, make, make_all, start_of, starts_of, routine_of}
 use Rattle.ep_typed.specs.Operations.{Answer, Number, Fault, is_true, decides}
 use Rattle.ep_typed.specs.Printing.{Result, number_of, plain_text, wide_text, piece_events}
 use Rattle.ep_typed.specs.Printing as result
 use Rattle.ep_typed.specs.Calls.{Handler, entered, given_back, in_call}
 use Rattle.ep_typed.specs.Steady.{Grows, Steady, IsSteadyHandler}
 use Rattle.ep_typed.specs.Steps.{Call, End, Normal, Halted, Error, Word, State, Outcome, Gives, Ends, Cut, state_of, Computation, give, cut, stop, go_on, bind, spend, change, found, fetch, with_events, assigned, type_at, is_within, size_of, same_type, Resources, watched, words_of_type, met, with_type, counted, made, allocate, standard_file}
-use Rattle.ep_typed.specs.Trees.{Place, Variable, Standard, Expr, Constant, Text, Read, One, Two, Short, Step, Item, Plain, Wide, Stmt, Stmts, Empty, Compound, Assign, If, While, Halt, Write, none, next}
+use Rattle.ep_typed.specs.Trees.{Place, Variable, Standard, Expr, Constant, Text, Read, One, Two, Short, Step, Item, Plain, Wide, Stmt, Stmts, Empty, Compound, Assign, If, While, Repeat, Halt, Write, none, next}
 use Rattle.ep_typed.specs.Viewed.{denoter_of, stmt_of}
 use Rattle.ep_typed.specs.declared.operations.Print.{Print}
 use Rattle.ep_typed.specs.declared.value.TypeValue.{TypeValue}
@@ -130,6 +130,12 @@ steady_turns call h zero unit x y = steady_cut
 steady_turns call h (suc g) unit x y =
     steady_bind x (λ r. steady_if (is_true (number_of r)) (steady_bind y (λ _. steady_spend 1 (steady_turns call h g unit x y))) (steady_spend 1 (steady_give tt)))
 
+-- a loop with its test behind its body
+pub steady_turns_until : (call : Handler) (h g : ℕ) (unit : List ℕ) {body : Computation (Unit {0})} {test : Computation Result} → Steady body → Steady test → Steady (turns_until call h unit g body test)
+steady_turns_until call h zero unit x y = steady_cut
+steady_turns_until call h (suc g) unit x y =
+    steady_bind x (λ _. steady_bind y (λ r. steady_spend 1 (steady_if (is_true (number_of r)) (steady_spend 1 (steady_give tt)) (steady_turns_until call h g unit x y))))
+
 -- ---- the forms
 
 module _ (call : Handler) (steady : IsSteadyHandler call) (g : ℕ) (unit : List ℕ) where
@@ -200,6 +206,7 @@ module _ (call : Handler) (steady : IsSteadyHandler call) (g : ℕ) (unit : List
     steady_exec (If line x a b) =
         steady_bind (steady_eval line x) (λ r. steady_if (is_true (number_of r)) (steady_bind (steady_exec a) (λ _. steady_spend 1 (steady_give tt))) (steady_bind (steady_exec b) (λ _. steady_spend 1 (steady_give tt))))
     steady_exec (While line x s) = steady_turns call g g unit (steady_eval line x) (steady_exec s)
+    steady_exec (Repeat line ss x) = steady_turns_until call g g unit (steady_exec_all ss) (steady_eval line x)
     steady_exec (Halt line) = steady_stop Halted
     steady_exec (Write line items ends_line) = steady_write_items line items ends_line
 

@@ -2,7 +2,7 @@
 use Rattle.std.specs.Prelude.{ℕ, ℤ, pos, negsuc, zero, suc, Bool, true, false, List, [], ◌∷◌, length, Option, Some, None, if◌then◌else◌}
 use Rattle.ep_typed.specs.Calls.{Handler}
 use Rattle.ep_typed.specs.Denoters.{type_of}
-use Rattle.ep_typed.specs.Trees.{Denoter, Place, Variable, Standard, Expr, Constant, Text, Read, One, Two, Short, Step, Item, Plain, Wide, Stmt, Stmts, Empty, Compound, Assign, If, While, Halt, Write, none, next}
+use Rattle.ep_typed.specs.Trees.{Denoter, Place, Variable, Standard, Expr, Constant, Text, Read, One, Two, Short, Step, Item, Plain, Wide, Stmt, Stmts, Empty, Compound, Assign, If, While, Repeat, Halt, Write, none, next}
 use Rattle.ep_typed.specs.Viewed.{denoter_of, stmt_of}
 use Rattle.ep_typed.specs.Steps.{Normal, Halted, Error, Word, Outcome, Computation, give, cut, stop, bind, spend, change, fetch, with_events, word_at, assigned, type_at, is_within, with_type, allocate, standard_file, first_state}
 use Rattle.ep_typed.specs.Operations.{Answer, Number, Fault, unary_answer, binary_answer, step_answer, is_true, decides}
@@ -72,6 +72,11 @@ module _ (call : Handler) (g : ℕ) (unit : List ℕ) where
   turns zero test body = cut
   turns (suc g) test body = bind test (λ r. if is_true (number_of r) then bind body (λ _. spend 1 (turns g test body)) else spend 1 (give tt))
 
+  -- The body and then the test at least once, and at most so many times. A turn spends a step when its test is done, and so does the statement in the end.
+  abbrev pub turns_until : ℕ → Computation (Unit {0}) → Computation Result → Computation (Unit {0})
+  turns_until zero body test = cut
+  turns_until (suc g) body test = bind body (λ _. bind test (λ r. spend 1 (if is_true (number_of r) then spend 1 (give tt) else turns_until g body test)))
+
   abbrev mutual
     -- a statement spends a step when it is done; the empty and the compound one spend none
     pub exec : Stmt → Computation (Unit {0})
@@ -80,6 +85,7 @@ module _ (call : Handler) (g : ℕ) (unit : List ℕ) where
     exec (Assign line p x) = bind (place line p) (λ n. bind (eval line x) (λ r. assign line n (number_of r)))
     exec (If line x a b) = bind (eval line x) (λ r. if is_true (number_of r) then bind (exec a) (λ _. spend 1 (give tt)) else bind (exec b) (λ _. spend 1 (give tt)))
     exec (While line x s) = turns g (eval line x) (exec s)
+    exec (Repeat line ss x) = turns_until g (exec_all ss) (eval line x)
     exec (Halt line) = stop Halted
     exec (Write line items ends_line) = write_items line items ends_line
 

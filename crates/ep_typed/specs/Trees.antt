@@ -50,6 +50,8 @@ mutual
     Assign : (line : ℕ) (place : Place) (value : Expr) → Stmt
     If : (line : ℕ) (condition : Expr) (then_part else_part : Stmt) → Stmt
     While : (line : ℕ) (condition : Expr) (body : Stmt) → Stmt
+    -- the statements, and then the condition
+    Repeat : (line : ℕ) (body : Stmts) (condition : Expr) → Stmt
     Halt : (line : ℕ) → Stmt
     -- `write`, or with the mark `writeln`
     Write : (line : ℕ) (items : List Item) (ends_line : Bool) → Stmt

@@ -6,7 +6,7 @@ use Rattle.ep_typed.specs.Hosts.{Host, least, greatest, is_of_host}
 use Rattle.ep_typed.specs.Hosts as host
 use Rattle.ep_typed.specs.Operations.{is_integer}
 use Rattle.ep_typed.specs.Steps.{is_within}
-use Rattle.ep_typed.specs.Trees.{Denoter, Place, Variable, Standard, Expr, Constant, Text, Read, One, Two, Short, Step, Item, Plain, Wide, Stmt, Stmts, Empty, Compound, Assign, If, While, Halt, Write, none, next}
+use Rattle.ep_typed.specs.Trees.{Denoter, Place, Variable, Standard, Expr, Constant, Text, Read, One, Two, Short, Step, Item, Plain, Wide, Stmt, Stmts, Empty, Compound, Assign, If, While, Repeat, Halt, Write, none, next}
 use Rattle.ep_typed.specs.Viewed.{denoter_of, stmt_of}
 use Rattle.ep_typed.specs.declared.operations.Unary.{Unary}
 use Rattle.ep_typed.specs.declared.operations.Unary.TheVariants as unary
@@ -121,6 +121,7 @@ module _ (declared : Declarations) where
     IsStmt (Assign line p x) = (h : Host) × IsPlace h p × IsExpr (Ordinal h) x
     IsStmt (If line x a b) = IsExpr (Ordinal host.Boolean) x × IsStmt a × IsStmt b
     IsStmt (While line x s) = IsExpr (Ordinal host.Boolean) x × IsStmt s
+    IsStmt (Repeat line ss x) = AreStmts ss × IsExpr (Ordinal host.Boolean) x
     IsStmt (Halt line) = ⊤
     IsStmt (Write line items ends_line) = AreItems items × WritesSomething items ends_line
 

@@ -173,6 +173,11 @@ fn statement(s: &TypedStmt) -> u64
                 .saturating_add(statement(body.get()))
                 .saturating_add(1)
         }
+        TypedStmt::Repeat(_, all, condition) => {
+            statements(all.items())
+                .saturating_add(expression(condition.get()))
+                .saturating_add(1)
+        }
         TypedStmt::Write(_, all, _) => items(all.items()).saturating_add(1),
     }
 }

@@ -88,6 +88,8 @@ pub enum TypedStmt {
     If(Line, Boxed<TypedExpr>, Boxed<TypedStmt>, Boxed<TypedStmt>),
     /// `while`
     While(Line, Boxed<TypedExpr>, Boxed<TypedStmt>),
+    /// `repeat`: the statements, and then the condition.
+    Repeat(Line, TypedStmts, Boxed<TypedExpr>),
     /// `halt`
     Halt(Line),
     /// `write`, or with the flag `writeln`, to `output`.

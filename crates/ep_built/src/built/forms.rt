@@ -142,6 +142,7 @@ pub(super) fn statement_is_built(s: &Statement) -> bool
         Statement::Compound(_) => true,
         Statement::If(_, _, _, _) => true,
         Statement::While(_, _, _) => true,
+        Statement::Repeat(_, _, _) => true,
         _ => false,
     }
 }

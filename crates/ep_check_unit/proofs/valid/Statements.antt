@@ -395,7 +395,9 @@ module _ (u : TypedUnit) (expressions : ExpressionsAreSound) (values : ValuesAre
         rolled (Statement-F.While line e body.0)
         (after_fits (IsExpr (own u) (valid.Ordinal typed.Boolean)) (IsStmt (own u)) (IsStmt (own u)) (tree.While line) (condition_judged c line e) (statement_judged c body.0) (condition_fits c is line e) body.1 (λ x s p q. (p, q)))
     statement_step (Statement-F.Case line e arms other) = rolled (statement_layer (Statement-F.Case line e arms other)) tt
-    statement_step (Statement-F.Repeat line statements e) = rolled (statement_layer (Statement-F.Repeat line statements e)) tt
+    statement_step (Statement-F.Repeat line statements e) =
+        rolled (statement_layer (Statement-F.Repeat line statements e))
+        (after_fits (IsExpr (own u) (valid.Ordinal typed.Boolean)) (AreStmts (own u)) (IsStmt (own u)) (λ form body. tree.Repeat line body form) (condition_judged c line e) (in_order (map (statement_judged c) (map (λ s. s.0) statements))) (condition_fits c is line e) (row_fits statements) (λ x ss p q. (q, p)))
     statement_step (Statement-F.For line variable start direction end body) = rolled (statement_layer (Statement-F.For line variable start direction end body)) tt
     statement_step (Statement-F.ForIn line variable members body) = rolled (statement_layer (Statement-F.ForIn line variable members body)) tt
     statement_step (Statement-F.With line accesses body) = rolled (statement_layer (Statement-F.With line accesses body)) tt

@@ -8,12 +8,12 @@ use Rattle.ep_object.specs.Runs.{outcome}
 use Rattle.ep_object.specs.State.{State, Going, Running, Stopped, Error}
 use Rattle.ep_object.specs.declared.code.Image.{Image}
 use Rattle.ep_object.proofs.following.Bind.{Met, follows_paid, follows_stop, follows_give, follows_changed}
-use Rattle.ep_object.proofs.following.Fragments.{Does, FailsWith, landed, fragment_bind_number, fragment_bind_bare, fragment_less, fragment_waits, fragment_one, fragment_move, fragment_give, fragment_cut, fragment_stop}
+use Rattle.ep_object.proofs.following.Fragments.{Does, FailsWith, landed, fragment_bind_number, fragment_bind_bare, fragment_credit, fragment_less, fragment_waits, fragment_one, fragment_move, fragment_give, fragment_cut, fragment_stop}
 use Rattle.ep_object.proofs.matching.Growing.{grown_trans, not_left-here, same_routine-trans, inside_here}
-use Rattle.ep_typed.proofs.Steady.{steady_if, steady_bind, steady_spend, steady_give, steady_turns}
+use Rattle.ep_typed.proofs.Steady.{steady_if, steady_bind, steady_spend, steady_give, steady_turns, steady_turns_until}
 use Rattle.ep_typed.specs.Calls.{Handler}
 use Rattle.ep_typed.specs.Events.{Trace}
-use Rattle.ep_typed.specs.Meaning.{answered, turns}
+use Rattle.ep_typed.specs.Meaning.{answered, turns, turns_until}
 use Rattle.ep_typed.specs.Operations.{Answer, Number, Fault, is_true}
 use Rattle.ep_typed.specs.Printing.{Result, number_of}
 use Rattle.ep_typed.specs.Steady.{Steady}
@@ -127,6 +127,11 @@ pub fragment_branch : {A : Type 0} {declared : Declarations} {G : Image} {Here :
 fragment_branch true does le then_way else_way = fragment_waits does le (then_way refl)
 fragment_branch false does le then_way else_way = fragment_waits does le (else_way refl)
 
+-- an instruction, with a step, that goes one of two ways
+pub fragment_branch_one : {A : Type 0} {declared : Declarations} {G : Image} {Here : Facts} {n : ℕ} {from : Point} {then_place else_place to : ℕ} {operands1 : List Operand} {x y : Computation A} {P : A → After} {d d1 : ℕ} {e : A → ℕ} (b : Bool) → ((s : meaning.State) → Matches declared G from.injection s from.memory → outcome G (state_at from s.trace) ≡ record { weight = 0; to = Running 0 (at (if b then then_place else else_place) operands1 from.memory s.trace) }) → d1 ≤ d + 63 → (b ≡ true → Fragment declared G Here n (point from.injection from.memory then_place operands1) x to P d1 e) → (b ≡ false → Fragment declared G Here n (point from.injection from.memory else_place operands1) y to P d1 e) → Fragment declared G Here (suc n) from (spend 1 (if b then x else y)) to P d e
+fragment_branch_one true does le then_way else_way = fragment_one does le (then_way refl)
+fragment_branch_one false does le then_way else_way = fragment_one does le (else_way refl)
+
 -- ---- a loop
 
 -- At `place` stands the test and behind it, at `test_end`, the instruction that leads out of the loop; the body is from
@@ -148,3 +153,17 @@ fragment_turns call h unit d steady_test steady_body first start tests leads_out
     fragment_one {d1 = d} (λ s matches. leads_back m2 s.trace (same_routine-trans routine (same_routine-trans routine1 routine2))) (omega arith)
     (fragment_turns call h unit d steady_test steady_body first start tests leads_out bodies leads_back k (omega arith) v2 m2 (grown_trans grown (grown_trans grown1 grown2)) (same_routine-trans routine (same_routine-trans routine1 routine2)))))
     (λ is. fragment_move {d1 = d} (omega arith) (fragment_give (omega arith) (inside_here refl))))
+
+-- At `place` stands the body and behind it, at `body_end`, the test; the instruction at `test_end` leads back where the test is false.
+pub fragment_turns_until : {untouched : Slots} {declared : Declarations} {G : Image} {Here : Facts} {n : ℕ} {place body_end test_end to : ℕ} {below : List Operand} {body : Computation (Unit {0})} {test : Computation Result} (call : Handler) (h : ℕ) (unit : List ℕ) (d : ℕ) → Steady body → Steady test → (first : Injection) (start : Memory) →
+    ((injection : Injection) (memory : Memory) → Grown untouched first start injection memory → SameRoutine start.frames memory.frames → Fragment declared G Here n (point injection memory place below) body body_end (λ a. Inside untouched injection memory (Bare below a)) d (λ a. d)) →
+    ((injection : Injection) (memory : Memory) → Grown untouched first start injection memory → SameRoutine start.frames memory.frames → Fragment declared G Here n (point injection memory body_end below) test test_end (λ r. Inside untouched injection memory (OnTop (kind.Ordinal host.Boolean) below r)) d (λ r. d)) →
+    ((z : ℤ) (memory : Memory) (trace : Trace) → SameRoutine start.frames memory.frames → outcome G (at test_end (Word z ∷ below) memory trace) ≡ record { weight = 0; to = Running 0 (at (if is_true z then to else place) below memory trace) }) →
+    (k : ℕ) → k ≤ n → (injection : Injection) (memory : Memory) → Grown untouched first start injection memory → SameRoutine start.frames memory.frames → Fragment declared G Here k (point injection memory place below) (turns_until call h unit k body test) to (λ a. Inside untouched injection memory (Bare below a)) d (λ a. d)
+fragment_turns_until call h unit d steady_body steady_test first start bodies tests leads zero le injection memory grown routine = fragment_cut
+fragment_turns_until call h unit d steady_body steady_test first start bodies tests leads (suc k) le injection memory grown routine =
+    fragment_bind_bare {e = λ a. d} (λ a. steady_bind steady_test (λ r. steady_spend 1 (steady_if (is_true (number_of r)) (steady_spend 1 (steady_give tt)) (steady_turns_until call h k unit steady_body steady_test)))) (fragment_less le (bodies injection memory grown routine)) (λ a v1 m1 grown1 routine1.
+    fragment_bind_number {e = λ r. d} (λ r. steady_spend 1 (steady_if (is_true (number_of r)) (steady_spend 1 (steady_give tt)) (steady_turns_until call h k unit steady_body steady_test))) (fragment_less le (tests v1 m1 (grown_trans grown grown1) (same_routine-trans routine routine1))) (λ z v2 m2 of_host grown2 routine2.
+    fragment_branch_one {d1 = d + 1} (is_true z) (λ s matches. leads z m2 s.trace (same_routine-trans routine (same_routine-trans routine1 routine2))) (omega arith)
+    (λ is. fragment_less {n = suc k} (omega arith) (fragment_move {d1 = d} (omega arith) (fragment_give (omega arith) (inside_here refl))))
+    (λ is. fragment_credit {d = d} (omega arith) (λ a. omega arith) (fragment_turns_until call h unit d steady_body steady_test first start bodies tests leads k (omega arith) v2 m2 (grown_trans grown (grown_trans grown1 grown2)) (same_routine-trans routine (same_routine-trans routine1 routine2))))))
