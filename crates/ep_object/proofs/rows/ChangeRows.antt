@@ -14,12 +14,12 @@ use Rattle.ep_object.proofs.matching.Changes.{storing, matches_events, grown_sto
 use Rattle.ep_object.proofs.following.Fragments.{Does, FailsWith}
 use Rattle.ep_object.proofs.matching.Growing.{slice_get-prefix, grown_refl, same_routine-refl, inside_here}
 use Rattle.ep_object.proofs.rows.Rows.{instr, in_one, outcome_at}
-use Rattle.ep_object.proofs.matching.Standing.{Stands, allocated, place_stands, described-same}
+use Rattle.ep_object.proofs.matching.Standing.{Stands, allocated, place_stands, place_ended, described-same, represents_living}
 use Rattle.ep_object.proofs.rows.TextRows.{written-same}
 use Rattle.ep_typed.specs.Events.{Trace}
 use Rattle.ep_typed.specs.Operations.{is_integer}
 use Rattle.ep_typed.specs.Printing.{piece_events}
-use Rattle.ep_typed.specs.Steps.{Value, Undefined, Allocation, type_in, type_at, is_within, assigned, with_events}
+use Rattle.ep_typed.specs.Steps.{Value, Undefined, Allocation, type_in, type_at, ended_in, has_ended, is_within, assigned, with_events}
 use Rattle.ep_typed.specs.Steps as meaning
 use Rattle.ep_typed.specs.Valid.{Declarations}
 use Rattle.ep_typed.specs.declared.value.TypeValue.TheVariants as type
@@ -44,7 +44,7 @@ module _ (declared : Declarations) (G : Image) (place line : ℕ) (below : List 
       let store = matches.store in
       let outside = matches.outside in
       let a = allocated injection s 2 2 injected.made outside.output in
-      let r : Represents memory.segments memory.types 2 a.0 = store.represented 2 2 a.0 outside.output a.1 in
+      let r : Represents memory.segments memory.types 2 a.0 = represents_living memory.segments memory.types 2 a.0 (sym (ap ended_in a.1) ∙ outside.lives) (store.represented 2 2 a.0 outside.output a.1) in
       let types = matches.types in
       record {
         injection = injection;
@@ -78,9 +78,19 @@ module _ (declared : Declarations) (G : Image) (place line : ℕ) (below : List 
   store_outcome memory trace p low high z type_number (meaning.Word w) false has typed stands offset within =
       outcome_at G (instr op.STORE (pos 0) 0 line) place (Word z ∷ operand.Place p ∷ below) memory trace has ∙ rw (typed, stands, offset, within) refl
 
-  module _ (low high z : ℤ) (n : ℕ) (p : Place) (has : slice_get G.instructions place ≡ Some (instr op.STORE (pos 0) 0 line)) (injection : Injection) (memory : Memory) (place_of : IsPlaceOf injection memory.segments n p) (described : Describes memory.types p.type_number (type.Ordinal low high)) (s : meaning.State) (matches : Matches declared G injection s memory) where
+  -- `Store` of a word in a variable that has ended
+  pub store_fails_ended : (low high z : ℤ) (n : ℕ) (p : Place)
+      → slice_get G.instructions place ≡ Some (instr op.STORE (pos 0) 0 line)
+      → (injection : Injection) (memory : Memory) → IsPlaceOf injection memory.segments n p
+      → Describes memory.types p.type_number (type.Ordinal low high) → (s : meaning.State)
+      → Matches declared G injection s memory → has_ended n s ≡ true
+      → FailsWith G (at place (Word z ∷ operand.Place p ∷ below) memory s.trace) 0 11 (unit_in G memory.frames) line s
+  store_fails_ended low high z n p has injection memory place_of described s matches ended =
+      record { fails = outcome_at G (instr op.STORE (pos 0) 0 line) place (Word z ∷ operand.Place p ∷ below) memory s.trace has ∙ rw (described, place_ended matches place_of ended) refl }
+
+  module _ (low high z : ℤ) (n : ℕ) (p : Place) (has : slice_get G.instructions place ≡ Some (instr op.STORE (pos 0) 0 line)) (injection : Injection) (memory : Memory) (place_of : IsPlaceOf injection memory.segments n p) (described : Describes memory.types p.type_number (type.Ordinal low high)) (s : meaning.State) (matches : Matches declared G injection s memory) (living : has_ended n s ≡ false) where
     here : Stands s memory n p
-    here = place_stands matches place_of
+    here = place_stands matches place_of living
 
     its_type : here.allocation.type_value ≡ type.Ordinal low high
     its_type =
@@ -104,9 +114,9 @@ module _ (declared : Declarations) (G : Image) (place line : ℕ) (below : List 
           memory = storing memory p.segment r.type_number (meaning.Word z);
           operands = below;
           does = store_outcome memory s.trace p low high z r.type_number a.value true has described r.stands place_of.offset inside;
-          matches = matches_assigned matches n p.segment a (meaning.Word z) place_of.is_in here.is r of_type;
-          here = lasts.by injection injection s (assigned n (meaning.Word z) s) memory (storing memory p.segment r.type_number (meaning.Word z)) (record { grown = grown_storing matches n p.segment a (meaning.Word z) place_of.is_in here.is r; routine = same_routine-refl memory.frames; calls = refl }) known;
-          post = record { grown = grown_storing matches n p.segment a (meaning.Word z) place_of.is_in here.is r; routine = same_routine-refl memory.frames; operands_are = refl };
+          matches = matches_assigned matches n p.segment a (meaning.Word z) place_of.is_in here.is here.lives r of_type;
+          here = lasts.by injection injection s (assigned n (meaning.Word z) s) memory (storing memory p.segment r.type_number (meaning.Word z)) (record { grown = grown_storing matches n p.segment a (meaning.Word z) place_of.is_in here.is here.lives r; routine = same_routine-refl memory.frames; calls = refl }) known;
+          post = record { grown = grown_storing matches n p.segment a (meaning.Word z) place_of.is_in here.is here.lives r; routine = same_routine-refl memory.frames; operands_are = refl };
         }
 
     pub store_fails : is_within (type_at n s) z ≡ false

@@ -60,7 +60,7 @@ pub make_does : {untouched : Slots} {Here : Facts} (declared : Declarations) (G 
     → Does declared G Here (at place (Word (pos number) ∷ below) memory s.trace) 1 (place + 1) (Inside untouched injection memory (Bare below tt)) (made x.name k (type.Ordinal low high) (counted (type.Ordinal low high) s)) ⊎ GivesUp G (at place (Word (pos number) ∷ below) memory s.trace) 0 1 (counted (type.Ordinal low high) s)
 make_does {untouched = untouched} {Here = Here} declared G place line below low high number k x has distinct low_fits high_fits types_valid declared_so injection memory s is_unit within free described lasts matches known = go (leb (memory.live + 2) live_limit) refl
   where
-    frame : MatchesFrame declared (with_segment injection memory) s.variables memory.frames.units (memory.segments ++ Some (new_segment number) ∷ []) memory.frames.unit x
+    frame : MatchesFrame declared (with_segment injection memory) s.variables memory.frames.units (memory.segments ++ Some (new_segment number) ∷ []) memory.types memory.frames.unit x
     frame = frame_here matches x low high number k is_unit described low_fits high_fits
 
     -- the slots that are kept are what they were
@@ -94,7 +94,7 @@ make_does {untouched = untouched} {Here = Here} declared G place line below low 
           memory = with_variable number (with_place number k frame.slots memory) memory;
           operands = below;
           does = leads true e;
-          matches = matches_making matches x low high number k is_unit described low_fits high_fits within distinct types_valid declared_so;
+          matches = matches_making matches x low high number k is_unit described low_fits high_fits within declared_so distinct types_valid;
           here = lasts.by injection (with_segment injection memory) s (made x.name k (type.Ordinal low high) (counted (type.Ordinal low high) s)) memory (with_variable number (with_place number k frame.slots memory) memory) (record { grown = grown_making injection memory number (with_place number k frame.slots memory) kept; routine = record { turn = refl; routine = refl; unit = refl }; calls = refl }) known;
           post = record { grown = grown_making injection memory number (with_place number k frame.slots memory) kept; routine = record { turn = refl; routine = refl; unit = refl }; operands_are = refl };
         })
