@@ -5,7 +5,8 @@ use Rattle.ep_object.specs.Operands.{Operand}
 use Rattle.ep_object.specs.Places.{Making, make_row}
 use Rattle.ep_object.specs.State.{State}
 use Rattle.ep_object.specs.Table as table
-use Rattle.ep_object.specs.Table.{Op, obey, obey_op, op_of, on_operands, in_segments, slots_of, making, with_making, typing, with_typing, with_events}
+use Rattle.ep_object.specs.Frames.{slots_of}
+use Rattle.ep_object.specs.Table.{Op, obey, obey_op, op_of, on_operands, in_segments, making, with_making, typing, with_typing, with_events}
 use Rattle.ep_object.specs.Types.{Typing}
 use Rattle.ep_object.specs.declared.code.Image.{Image}
 use Rattle.ep_object.specs.declared.code.Instr.{Instr}

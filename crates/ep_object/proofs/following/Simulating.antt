@@ -16,7 +16,7 @@ use Rattle.ep_object.specs.State.{State, Frames, Going, Running, Stopped}
 use Rattle.ep_object.specs.declared.code.Image.{Image}
 use Rattle.ep_object.specs.declared.code.ImageRoutine.{ImageRoutine}
 use Rattle.ep_object.proofs.following.Bind.{one_state, stays_wider, stays_here, stays_join, Met, gives_up_weaken, follows_moves, run_instruction}
-use Rattle.ep_object.proofs.matching.Growing.{before_or_not, not_left-here}
+use Rattle.ep_object.proofs.matching.Growing.{before_or_not, not_left-here, not_left-same}
 use Rattle.ep_object.proofs.Grows.{is_prefix, prefix_then, run_grows}
 use Rattle.ep_object.proofs.Tells.{running_before, events_between, ends_after}
 use Rattle.ep_object.proofs.Views.{runs_extend}
@@ -56,7 +56,7 @@ module _ {A : Type 0} {declared : Declarations} {G : Image} {unit routine n : �
   -- where it is left it is still the routine
   is_left : (a : A) (t : meaning.State) (l : State) → Leaves declared G injection s memory (Results below a) t l
       → In l
-  is_left a t l post = let lands = post.lands in subst (λ (l : State). IsNotLeft memory.frames l.frames) (sym lands.is) (record { runs = lands.post.routine })
+  is_left a t l post = let lands = post.lands in subst (λ (l : State). IsNotLeft memory.frames l.frames) (sym lands.is) (not_left-same lands.post.routine)
 
   at_home : In k
   at_home = subst (λ (f : Frames). IsNotLeft memory.frames f) (sym in_frames) (not_left-here memory.frames)

@@ -10,7 +10,6 @@ use Rattle.ep_object.specs.Matching.{Memory, Injection, IsIn, IsPlaceOf, Describ
 use Rattle.ep_object.specs.Placing.{HasDistinctNames}
 use Rattle.ep_object.specs.Scene.{HaveValidTypes}
 use Rattle.ep_object.specs.State.{Frames, undefined}
-use Rattle.ep_object.specs.Table.{with_slots}
 use Rattle.ep_object.specs.declared.code.Image.{Image}
 use Rattle.ep_object.specs.declared.code.ImageUnit.{ImageUnit}
 use Rattle.ep_object.specs.declared.state.Place.{Place}
@@ -101,9 +100,9 @@ new_place memory number = record { segment = length memory.segments; offset = 0;
 abbrev pub with_variable : ℕ → Frames → Memory → Memory
 with_variable number frames memory = record memory { frames = frames; segments = memory.segments ++ Some (new_segment number) ∷ []; live = memory.live + 2 }
 
--- the frames with its place in a slot of the frame that is used
+-- the frames with its place in a slot of the unit's frame
 abbrev pub with_place : ℕ → ℕ → List (Option Place) → Memory → Frames
-with_place number k slots memory = with_slots memory.frames (slice_set slots k (Some (new_place memory number)))
+with_place number k slots memory = record memory.frames { units = slice_set memory.frames.units memory.frames.unit (slice_set slots k (Some (new_place memory number))) }
 
 -- the injection with its segment
 abbrev pub with_segment : Injection → Memory → Injection
