@@ -21,7 +21,7 @@ use Rattle.std.proofs.lemmas.Option.{same_Some}
 use Rattle.ep_typed.specs.Steady.{IsSteadyHandler}
 use Rattle.ep_typed.specs.Calls.{Handler}
 use Rattle.ep_typed.proofs.Denoters.{types_are_instances}
-use Rattle.ep_typed.proofs.Steady.{steady_bind, steady_if, steady_fetch, steady_spend, steady_give, steady_answered, steady_eval, steady_read}
+use Rattle.ep_typed.proofs.Steady.{steady_bind, steady_if, steady_spend, steady_give, steady_answered, steady_eval, steady_read}
 use Rattle.ep_typed.specs.Meaning.{eval, place, weight_of}
 use Rattle.ep_typed.specs.Operations.{decides}
 use Rattle.ep_typed.specs.Printing.{number_of}
