@@ -59,9 +59,11 @@ impl Model for Calls {
 
     ghost Value = { List Frame };
 
-    ghost view = { λ s. frames_over s.slots.items (operands_in s.arguments.items) s.made.items (reverse s.calls.items) };
+    ghost view = { λ s. frames_over s.slots.items (operands_in s.arguments.items) s.made.items
+        (reverse s.calls.items) };
 
-    ghost invariant = { λ s. AreBelow (length s.slots.items) (length s.arguments.items) (length s.made.items) (reverse s.calls.items) };
+    ghost invariant = { λ s. AreBelow (length s.slots.items) (length s.arguments.items)
+        (length s.made.items) (reverse s.calls.items) };
 }
 
 /// The call over so many others.
@@ -151,7 +153,8 @@ impl Calls {
     /// The slots of the call over so many others.
     #[tactic(auto, using(crate::proofs::CallFrames::slots_of_call, crate::proofs::CallFrames::slots_within))]
     pub fn slots_at(&self, number: usize) -> Option<&[Option<Place>]>
-        ensures { option_map (λ s. s.now) result ≡ option_map (λ c. c.slots) (call_at self.now number) }
+        ensures { option_map (λ s. s.now) result
+            ≡ option_map (λ c. c.slots) (call_at self.now number) }
     {
         let Some(call) = call(&self.calls, number) else {
             return None;

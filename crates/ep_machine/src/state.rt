@@ -62,7 +62,8 @@ impl Memory {
     #[tactic(auto, using(crate::proofs::Routines::placed_routines))]
     pub fn place(&mut self, slot: usize, place: Place) -> bool
         requires { HasSlot (slots_of (frames_of self.old)) slot }
-        ensures frames { OnTrue result (IsPlaced (slots_of (frames_of self.old)) (frames_of self.old) slot place (frames_of self.new)) }
+        ensures frames { OnTrue result (IsPlaced (slots_of (frames_of self.old))
+            (frames_of self.old) slot place (frames_of self.new)) }
         ensures routines { routines_of self.new ≡ routines_of self.old }
         ensures segments { self.new.segments ≡ self.old.segments }
         ensures types { self.new.types ≡ self.old.types }
