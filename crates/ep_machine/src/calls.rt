@@ -3,7 +3,7 @@
 ghost use Rattle.std.specs.Bool.{OnTrue, OnFalse};
 ghost use Rattle.std.specs.Prelude.{◌≡◌, ◌<◌, ◌≤◌, ℕ, List, [], ◌∷◌, ◌++◌, Option, Some, None, MatchOption, OnOk, option_map, slice_get, slice_set, length, reverse};
 ghost use Rattle.ep_object.specs.Frames.{call_at, parent_of};
-ghost use Rattle.ep_machine.specs.Calls.{innermost_routine, innermost_slots, innermost_parent, IsSlot, placed, first};
+ghost use Rattle.ep_machine.specs.Calls.{innermost_routine, innermost_slots, innermost_parent, IsSlot, bound, placed, first};
 
 use ep_base::Bytes;
 use ep_object::{FrameNumber, Place};
@@ -174,6 +174,19 @@ impl Calls {
         if self.made.push(segment).is_err() {
             return false;
         }
+        self.slots[call.slots_from + slot] = Some(place);
+        true
+    }
+
+    /// A slot of the innermost call holds a place. Answers whether there is one.
+    pub fn bind(&mut self, slot: usize, place: Place) -> bool
+        requires { IsSlot self.old slot }
+        ensures bound { OnTrue result (self.new ≡ bound self.old slot place) }
+        ensures kept { OnFalse result (self.new ≡ self.old) }
+    {
+        let Some(call) = last(&self.calls) else {
+            return false;
+        };
         self.slots[call.slots_from + slot] = Some(place);
         true
     }

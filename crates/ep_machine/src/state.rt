@@ -2,7 +2,7 @@
 
 ghost use Rattle.std.specs.Prelude.{◌≡◌, suc, option_map, length};
 ghost use Rattle.ep_object.specs.Frames.{routine_in, slots_of, frame_above, parent_of as parent_of_frame, slots_up};
-ghost use Rattle.ep_machine.specs.Views.{frames_of, routines_of, HasSlot, IsPlaced};
+ghost use Rattle.ep_machine.specs.Views.{frames_of, routines_of, HasSlot, IsPlaced, IsBound};
 ghost use Rattle.std.specs.Bool.{OnTrue};
 
 use crate::calls::Calls;
@@ -71,6 +71,31 @@ impl Memory {
     {
         if self.calls.count() > 0 {
             return self.calls.place(slot, place, place.segment);
+        }
+        let Ok(number) = u32::try_from(slot) else {
+            return false;
+        };
+        let unit = self.unit;
+        if unit >= self.units.len() {
+            return false;
+        }
+        self.units[unit].set(number, Some(place));
+        true
+    }
+
+    /// A slot of the frame in which the routine runs holds a place. Answers whether the number of the slot was small
+    /// enough.
+    #[tactic(auto, using(crate::proofs::Routines::bound_routines))]
+    pub fn bind(&mut self, slot: usize, place: Place) -> bool
+        requires { HasSlot (slots_of (frames_of self.old)) slot }
+        ensures frames { OnTrue result (IsBound (slots_of (frames_of self.old)) (frames_of self.old) slot place (frames_of self.new)) }
+        ensures routines { routines_of self.new ≡ routines_of self.old }
+        ensures segments { self.new.segments ≡ self.old.segments }
+        ensures types { self.new.types ≡ self.old.types }
+        ensures live { self.new.live ≡ self.old.live }
+    {
+        if self.calls.count() > 0 {
+            return self.calls.bind(slot, place);
         }
         let Ok(number) = u32::try_from(slot) else {
             return false;
