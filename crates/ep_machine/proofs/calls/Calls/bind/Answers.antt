@@ -1,4 +1,4 @@
-use Rattle.std.proofs.Common.{◌≡◌, List, ◌∷◌, [], ◌++◌, Some, length, reverse, rules, sym, ap, ◌∙◌}
+use Rattle.std.proofs.Common.{◌≡◌, Some, length, reverse, rules, ap, ◌∙◌}
 use Rattle.ep_machine.specs.Calls.{frames_over, operands_in, IsSlot, bound, first}
 use Rattle.ep_machine.proofs.CallFrames.{bound_view}
 use Rattle.ep_machine.proofs.calls.Calls.bind.Goals as goal
