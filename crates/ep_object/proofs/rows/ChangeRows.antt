@@ -125,3 +125,40 @@ module _ (declared : Declarations) (G : Image) (place line : ℕ) (below : List 
         let r : Represents memory.segments memory.types p.segment here.allocation = here.represents in
         let outside : is_within (type.Ordinal low high) z ≡ false = ap (λ t. is_within t z) (sym type_is) ∙ within in
         record { fails = store_outcome memory s.trace p low high z r.type_number here.allocation.value false has described r.stands place_of.offset outside }
+
+  -- `Undefine` of a variable of an ordinal type
+  undefine_outcome : (memory : Memory) (trace : Trace) (p : Place) (low high : ℤ) (type_number : ℕ) (value : Value)
+      → slice_get G.instructions place ≡ Some (instr op.UNDEFINE (pos 0) 0 line)
+      → slice_get memory.types p.type_number ≡ Some (ordinal_entry low high)
+      → slice_get memory.segments p.segment ≡ Some (Some (record { type_number = type_number; words = layout value }))
+      → p.offset ≡ 0
+      → outcome G (at place (operand.Place p ∷ below) memory trace) ≡ record { weight = 1; to = Running 0 (at (place + 1) below (storing memory p.segment type_number Undefined) trace) }
+  undefine_outcome memory trace p low high type_number Undefined has typed stands offset =
+      outcome_at G (instr op.UNDEFINE (pos 0) 0 line) place (operand.Place p ∷ below) memory trace has ∙ rw (typed, stands, offset) refl
+  undefine_outcome memory trace p low high type_number (meaning.Word w) has typed stands offset =
+      outcome_at G (instr op.UNDEFINE (pos 0) 0 line) place (operand.Place p ∷ below) memory trace has ∙ rw (typed, stands, offset) refl
+
+  -- it is undefined then on both sides
+  pub undefine_does : {untouched : Slots} {Here : Facts} (low high : ℤ) (n : ℕ) (p : Place)
+      → slice_get G.instructions place ≡ Some (instr op.UNDEFINE (pos 0) 0 line)
+      → (injection : Injection) (memory : Memory) → IsPlaceOf injection memory.segments n p
+      → Describes memory.types p.type_number (type.Ordinal low high) → (s : meaning.State)
+      → Matches declared G injection s memory → has_ended n s ≡ false
+      → Lasts untouched Here → Here injection s memory
+      → Does declared G Here (at place (operand.Place p ∷ below) memory s.trace) 1 (place + 1) (Inside untouched injection memory (Bare below tt)) (assigned n Undefined s)
+  undefine_does low high n p has injection memory place_of described s matches living lasts known =
+      let x : Stands s memory n p = place_stands matches place_of living in
+      let a : Allocation = x.allocation in
+      let r : Represents memory.segments memory.types p.segment a = x.represents in
+      let its_type : a.type_value ≡ type.Ordinal low high = described-same memory.types r.type_number a.type_value low high r.described (subst (λ k. Describes memory.types k (type.Ordinal low high)) x.type_number described) in
+      let ends = bounds low high a.value (subst (λ t. IsValueOf t a.value) its_type r.value) in
+      let of_type : IsValueOf a.type_value Undefined = subst (λ t. IsValueOf t Undefined) (sym its_type) (ends.0, ends.1) in
+      record {
+        injection = injection;
+        memory = storing memory p.segment r.type_number Undefined;
+        operands = below;
+        does = undefine_outcome memory s.trace p low high r.type_number a.value has described r.stands place_of.offset;
+        matches = matches_assigned matches n p.segment a Undefined place_of.is_in x.is x.lives r of_type;
+        here = lasts.by injection injection s (assigned n Undefined s) memory (storing memory p.segment r.type_number Undefined) (record { grown = grown_storing matches n p.segment a Undefined place_of.is_in x.is x.lives r; routine = same_routine-refl memory.frames; calls = refl }) known;
+        post = record { grown = grown_storing matches n p.segment a Undefined place_of.is_in x.is x.lives r; routine = same_routine-refl memory.frames; operands_are = refl };
+      }
