@@ -19,7 +19,7 @@ use Rattle.ep_check_expr.specs.declared.constants.ConstantForm.{ConstantForm}
 use Rattle.ep_check_expr.specs.declared.folding.Folded.{Folded}
 use Rattle.ep_check_expr.specs.declared.folding.Folded.TheVariants.{Known, Varies, Errs}
 
--- the value of a form that is not built stands for none: the least of its kind (own)
+-- the value of a form that is not built stands for none: the number 0, or the empty text (own)
 abbrev pub stand_in : Kind → Value
 stand_in (kind.Ordinal h) = value.Word (pos 0)
 stand_in kind.Text = value.Text []

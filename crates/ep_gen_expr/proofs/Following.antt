@@ -1,5 +1,5 @@
 -- The machine follows the meaning of an expression through the code of the expression.
-use Rattle.std.proofs.Common.{◌≡◌, ℕ, ℤ, pos, suc, ◌+◌, ◌<◌, ◌≤◌, Bool, IsTrue, List, [], ◌∷◌, ◌++◌, length, Some, slice_get, refl, sym, ap, ◌∙◌, subst, arith, append_assoc, length-append}
+use Rattle.std.proofs.Common.{◌≡◌, ℕ, ℤ, pos, suc, ◌+◌, ◌<◌, ◌≤◌, Bool, IsTrue, List, [], ◌∷◌, ◌++◌, length, Some, slice_get, refl, sym, ap, ◌∙◌, subst, arith, append_assoc, length-append, true, false}
 use Rattle.ep_object.specs.Follows.{point, Facts, Fragment, OnTop, PlaceOnTop, Inside}
 use Rattle.ep_object.specs.Matching.{Slots, Memory, at, Injection, IsPlaceOf, Describes, HasType, Matches}
 use Rattle.ep_object.specs.Operands.{Operand}
@@ -11,22 +11,22 @@ use Rattle.ep_object.specs.declared.code.Image.{Image}
 use Rattle.ep_object.specs.declared.code.Instr.{Instr}
 use Rattle.ep_object.specs.declared.code.Reference.{Reference}
 use Rattle.ep_object.specs.declared.state.Place.{Place as PlaceOf}
-use Rattle.ep_object.proofs.following.Choices.{Reads, fragment_fetch}
-use Rattle.ep_object.proofs.following.Fragments.{fragment_less, fragment_to, fragment_one, fragment_paid, fragment_give, fragment_credit, fragment_bind_place, fragment_bind_number}
+use Rattle.ep_object.proofs.following.Choices.{Reads, fragment_fetch, follows_fetch, fragment_using}
+use Rattle.ep_object.proofs.following.Fragments.{FailsWith, fragment_less, fragment_to, fragment_one, fragment_paid, fragment_give, fragment_credit, fragment_bind_place, fragment_bind_number}
 use Rattle.ep_object.proofs.matching.Growing.{unit_in-same, inside_here}
-use Rattle.ep_object.proofs.rows.PlaceRows.{unit_reads, load_reads}
+use Rattle.ep_object.proofs.rows.PlaceRows.{unit_reads, load_fails, load_reads}
 use Rattle.ep_object.proofs.rows.Rows.{push_pushes}
 use Rattle.ep_object.proofs.rows.TextRows.{text_pushes}
 use Rattle.std.proofs.lemmas.Option.{same_Some}
 use Rattle.ep_typed.specs.Steady.{IsSteadyHandler}
 use Rattle.ep_typed.specs.Calls.{Handler}
 use Rattle.ep_typed.proofs.Denoters.{types_are_instances}
-use Rattle.ep_typed.proofs.Steady.{steady_bind, steady_if, steady_fetch, steady_spend, steady_give, steady_answered, steady_eval}
+use Rattle.ep_typed.proofs.Steady.{steady_bind, steady_if, steady_spend, steady_give, steady_answered, steady_eval, steady_read}
 use Rattle.ep_typed.specs.Meaning.{eval, place, weight_of}
 use Rattle.ep_typed.specs.Operations.{decides}
 use Rattle.ep_typed.specs.Printing.{number_of}
 use Rattle.ep_typed.specs.Printing as result
-use Rattle.ep_typed.specs.Steps.{word_at}
+use Rattle.ep_typed.specs.Steps.{word_at, has_ended}
 use Rattle.ep_typed.specs.Steps as meaning
 use Rattle.ep_typed.specs.Trees.{Variable, Standard, Expr, Constant, Text, Read, One, Two, Short, Step}
 use Rattle.ep_typed.specs.Valid.{Declarations, Kind, Ordinal, Bytes, IsUnary, IsBinary, IsTypeOf, IsPlace, IsExpr}
@@ -69,6 +69,18 @@ typed_variable declared types_valid h unit k (v, is_declared, is_host) =
       of_host = subst (λ h. IsTypeOf h valid.type_value) (same_Some valid.host h (sym valid.has_host ∙ is_host)) valid.is_type;
     }
 
+-- `Load` of a variable that has ended, where the routine is one of the unit
+load_ends : (declared : Declarations) (G : Image) (unit : List ℕ) (at_place line : ℕ) (h : Host) (t : TypeValue) → IsTypeOf h t
+    → slice_get G.instructions at_place ≡ Some (instr op.LOAD (pos 0) 0 line)
+    → (injection : Injection) (memory : Memory) (below : List Operand) (a : ℕ) (q : PlaceOf)
+    → IsPlaceOf injection memory.segments a q → Describes memory.types q.type_number t
+    → unit_in G memory.frames ≡ unit → (s : meaning.State) → Matches declared G injection s memory
+    → has_ended a s ≡ true
+    → FailsWith G (at at_place (operand.Place q ∷ below) memory s.trace) 0 11 unit line s
+load_ends declared G unit at_place line h (type.Ordinal low high) of_host has injection memory below a q place_of described unit_is s matches ended =
+    subst (λ u. FailsWith G (at at_place (operand.Place q ∷ below) memory s.trace) 0 11 u line s) unit_is (load_fails declared G at_place line below low high a q has injection memory place_of described s matches ended)
+load_ends declared G unit at_place line h type.Text of_host has injection memory below a q place_of described unit_is s matches ended = absurd of_host
+
 module _ {declared : Declarations} {G : Image} {untouched : Slots} {Here : Facts} (ps : List Placement) (p : Placement) (texts : List (List ℕ)) (references : List Reference) (scene : Scene declared G ps p texts) (call : Handler) (steady_call : IsSteadyHandler call) (g : ℕ) (unit : List ℕ) where
   -- a constant, by `Push`
   constant_follows : (n : ℕ) (host : Host) (z : ℤ) → IsTrue (is_of_host host z) → (line at : ℕ) → CodeStands G ps p references at (push line z ∷ []) → (injection : Injection) (memory : Memory) (below : List Operand) (d : ℕ) → Fragment declared G Here n (point injection memory (p.instructions.before + at) below) (eval call g unit line (Constant z)) (p.instructions.before + (at + 1)) (λ r. Inside untouched injection memory (OnTop (Ordinal host) below r)) d (λ r. d + 8 + weight_of r)
@@ -97,18 +109,26 @@ module _ {declared : Declarations} {G : Image} {untouched : Slots} {Here : Facts
       fragment_less {n = suc n} (omega arith) (fragment_to (omega (arith, ap length is)) (fragment_fetch {n = n} (λ s. s.variables of_unit k) (λ m. m) (λ s matches here. unit_finds (p.instructions.before + at) line k of_unit v t is_declared has_type variable (variable_at G ps p references line r (p.instructions.before + at) k of_unit variable there has.0) injection memory below unit_is s matches here) (omega (arith, le)) (λ m. omega arith)))
 
   -- what `Load` finds of a variable of a type of the host
-  load_finds : (place line : ℕ) (h : Host) (t : TypeValue) → IsTypeOf h t → slice_get G.instructions place ≡ Some (instr op.LOAD (pos 0) 0 line) → (injection : Injection) (memory : Memory) (below : List Operand) (a : ℕ) (q : PlaceOf) → IsPlaceOf injection memory.segments a q → Describes memory.types q.type_number t → unit_in G memory.frames ≡ unit → (s : meaning.State) → Matches declared G injection s memory → Here injection s memory → Reads declared G Here (at place (operand.Place q ∷ below) memory s.trace) 1 unit line (place + 1) (λ w. Inside untouched injection memory (OnTop (Ordinal h) below (result.Number w))) s (word_at a s)
-  load_finds place line h (type.Ordinal low high) of_host has injection memory below a q place_of described unit_is s matches here =
-      subst (λ u. Reads declared G Here (at place (operand.Place q ∷ below) memory s.trace) 1 u line (place + 1) (λ w. Inside untouched injection memory (OnTop (Ordinal h) below (result.Number w))) s (word_at a s)) unit_is (load_reads declared G place line below h low high a q of_host has injection memory place_of described s matches here)
-  load_finds place line h type.Text of_host has injection memory below a q place_of described unit_is s matches here = absurd of_host
+  load_finds : (place line : ℕ) (h : Host) (t : TypeValue) → IsTypeOf h t
+      → slice_get G.instructions place ≡ Some (instr op.LOAD (pos 0) 0 line)
+      → (injection : Injection) (memory : Memory) (below : List Operand) (a : ℕ) (q : PlaceOf)
+      → IsPlaceOf injection memory.segments a q → Describes memory.types q.type_number t
+      → unit_in G memory.frames ≡ unit → (s : meaning.State) → Matches declared G injection s memory
+      → Here injection s memory → has_ended a s ≡ false
+      → Reads declared G Here (at place (operand.Place q ∷ below) memory s.trace) 1 unit line (place + 1) (λ w. Inside untouched injection memory (OnTop (Ordinal h) below (result.Number w))) s (word_at a s)
+  load_finds place line h (type.Ordinal low high) of_host has injection memory below a q place_of described unit_is s matches here living =
+      subst (λ u. Reads declared G Here (at place (operand.Place q ∷ below) memory s.trace) 1 u line (place + 1) (λ w. Inside untouched injection memory (OnTop (Ordinal h) below (result.Number w))) s (word_at a s)) unit_is (load_reads declared G place line below h low high a q of_host has injection memory place_of described s matches here living)
+  load_finds place line h type.Text of_host has injection memory below a q place_of described unit_is s matches here living = absurd of_host
 
   -- the value of a variable that is declared, by its place and `Load`
   read_follows : (n : ℕ) (h : Host) (of_unit : List ℕ) (k : ℕ) → IsTyped declared of_unit k h → (line at : ℕ) (xs : List Instr) → IsPlaceCode references line (Variable of_unit k) xs → CodeStands G ps p references at (xs ++ bare line op.LOAD ∷ []) → (injection : Injection) (memory : Memory) (below : List Operand) (d : ℕ) → least_credit ≤ d → unit_in G memory.frames ≡ unit → Evaluates declared G untouched Here n injection memory (p.instructions.before + at) below (eval call g unit line (Read (Variable of_unit k))) (p.instructions.before + (at + length (xs ++ bare line op.LOAD ∷ []))) (Ordinal h) below d (d + 8)
   read_follows n h of_unit k v line at xs is_code stands injection memory below d le unit_is =
       let middle : ℕ = p.instructions.before + (at + length xs) in
       let has : CodeStands G ps p references (at + length xs) (bare line op.LOAD ∷ []) = code_back G ps p references at xs (bare line op.LOAD ∷ []) stands in
-      fragment_bind_place (λ a. steady_bind (steady_fetch _ _) (λ w. steady_spend 1 (steady_give (result.Number w)))) (place_follows n of_unit k v.variable v.type_value v.is_declared v.has_type line at xs is_code (code_front G ps p references at xs (bare line op.LOAD ∷ []) stands) injection memory below d le unit_is) (λ a q longer after grown routine place_of described.
-      fragment_less {n = suc n} (omega arith) (fragment_to (omega (arith, length-append xs (bare line op.LOAD ∷ []))) (fragment_fetch {n = n} (word_at a) (λ w. result.Number w) (λ s matches here. load_finds middle line h v.type_value v.of_host has.0 longer after below a q place_of described (unit_in-same G routine ∙ unit_is) s matches here) (omega arith) (λ w. omega arith))))
+      fragment_bind_place (steady_read call steady_call g unit line) (place_follows n of_unit k v.variable v.type_value v.is_declared v.has_type line at xs is_code (code_front G ps p references at xs (bare line op.LOAD ∷ []) stands) injection memory below d le unit_is) (λ a q longer after grown routine place_of described.
+      fragment_less {n = suc n} (omega arith) (fragment_to (omega (arith, length-append xs (bare line op.LOAD ∷ []))) (fragment_using {n = suc n} {e = λ r. d + 8 + weight_of r} a
+      (λ s matches ended. load_ends declared G unit middle line h v.type_value v.of_host has.0 longer after below a q place_of described (unit_in-same G routine ∙ unit_is) s matches ended) (omega arith)
+      (λ s matches here living. follows_fetch {e = λ r. d + 8 + weight_of r} (point longer after middle (operand.Place q ∷ below)) (word_at a) (λ w. result.Number w) s (load_finds middle line h v.type_value v.of_host has.0 longer after below a q place_of described (unit_in-same G routine ∙ unit_is) s matches here living) (omega arith) (λ w. omega arith)))))
 
   -- an operation with one operand
   one_follows : (n : ℕ) (operation : Unary) (x : Expr) (k kind : Kind) → IsUnary operation k kind → (line at : ℕ) (xs : List Instr) → IsFollowed declared G untouched Here p call g unit n k x line at xs → CodeStands G ps p references at (xs ++ one_code line operation) → IsFollowed declared G untouched Here p call g unit n kind (One operation x) line at (xs ++ one_code line operation)

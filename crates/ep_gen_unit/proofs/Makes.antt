@@ -15,9 +15,9 @@ use Rattle.ep_object.specs.declared.code.Image.{Image}
 use Rattle.ep_object.specs.declared.code.ImageUnit.{ImageUnit}
 use Rattle.ep_object.specs.declared.code.Reference.{Reference}
 use Rattle.ep_object.proofs.following.Fragments.{inside_bind, fragment_bind_bare, fragment_give, fragment_from, fragment_to, fragment_less, fragment_waits}
-use Rattle.ep_object.proofs.matching.Growing.{inside_here}
+use Rattle.ep_object.proofs.matching.Growing.{inside_here, no_calls}
 use Rattle.ep_object.proofs.following.Losing.{fragment_counted}
-use Rattle.ep_object.proofs.rows.MakeRow.{make_does}
+use Rattle.ep_object.proofs.rows.MakeRow.{RunsInUnit, make_does}
 use Rattle.ep_object.specs.Scene.{HaveValidTypes}
 use Rattle.ep_object.proofs.rows.NewTypes.{TypeOnTop, ord_does}
 use Rattle.ep_object.proofs.rows.Rows.{push_pushes}
@@ -40,8 +40,8 @@ use Rattle.ep_object.specs.declared.op.TheConstants as op
 
 -- in the frame of the unit, while the same routine runs
 same_frame : (G : Image) (x : ImageUnit) (before after : Frames) → SameRoutine before after
-    → slice_get G.units before.unit ≡ Some x → slice_get G.units after.unit ≡ Some x
-same_frame G x before after r h = ap (λ k. slice_get G.units k) r.unit ∙ h
+    → RunsInUnit G before x → RunsInUnit G after x
+same_frame G x before after r h = record { calls = no_calls before.calls after.calls r.calls h.calls; unit = ap (λ k. slice_get G.units k) r.unit ∙ h.unit }
 
 -- a frame of the unit has the slots of its variables, which are none of those that are untouched
 abbrev pub VariablesAreFree : Declarations → Image → Slots → ImageUnit → Type 0
@@ -54,7 +54,7 @@ abbrev pub MovesIn : Declarations → Image → Slots → Facts → Placement �
     → Computation (Unit {0}) → Type 0
 MovesIn declared G untouched Here p n x at to c =
     (injection : Injection) (memory : Memory) (below : List Operand) (d : ℕ) → least_credit ≤ d
-    → slice_get G.units memory.frames.unit ≡ Some x
+    → RunsInUnit G memory.frames x
     → Fragment declared G Here n (point injection memory (p.instructions.before + at) below) c (p.instructions.before + to) (λ a. Inside untouched injection memory (Bare below a)) d (λ a. d)
 
 module _ (declared : Declarations) (G : Image) (untouched : Slots) (Here : Facts) (lasts : Lasts untouched Here) (ps : List Placement) (p : Placement) (references : List Reference) (call : Handler) (steady_call : IsSteadyHandler call) (n : ℕ) (x : ImageUnit) (free : VariablesAreFree declared G untouched x) (distinct : HasDistinctNames G) (types_valid : HaveValidTypes declared) where
@@ -64,11 +64,11 @@ module _ (declared : Declarations) (G : Image) (untouched : Slots) (Here : Facts
         → ((v : UnitVariable) → declared.variables x.name number ≡ Some v → HasType declared x.name v (type.Ordinal low high))
         → (place : ℕ) → slice_get G.instructions place ≡ Some (instr op.MAKE (pos number) 0 line)
         → (injection : Injection) (memory : Memory) (below : List Operand) (d : ℕ) → 1 ≤ d
-        → slice_get G.units memory.frames.unit ≡ Some x
+        → RunsInUnit G memory.frames x
         → Describes memory.types type_number (type.Ordinal low high)
         → Fragment declared G Here n (point injection memory place (Word (pos type_number) ∷ below)) (allocate x.name number (type.Ordinal low high)) (place + 1) (λ a. Inside untouched injection memory (Bare below a)) d (λ a. d)
     make_row_moves low high type_number low_fits high_fits declared_so place has injection memory below d enough home described =
-        fragment_less {n = suc n} (omega arith) (fragment_counted {weight = 1} 0 (counted (type.Ordinal low high)) (made x.name number (type.Ordinal low high)) tt (λ s. refl) (grows_made x.name number (type.Ordinal low high)) (λ s matches here. make_does declared G place line below low high type_number number x has distinct low_fits high_fits types_valid declared_so injection memory s home within (free memory.frames.unit home number v is_declared) described lasts matches here) enough (omega arith) (omega arith) (omega arith))
+        fragment_less {n = suc n} (omega arith) (fragment_counted {weight = 1} 0 (counted (type.Ordinal low high)) (made x.name number (type.Ordinal low high)) tt (λ s. refl) (grows_made x.name number (type.Ordinal low high)) (λ s matches here. make_does declared G place line below low high type_number number x has distinct low_fits high_fits types_valid declared_so injection memory s home within (free memory.frames.unit home.unit number v is_declared) described lasts matches here) enough (omega arith) (omega arith) (omega arith))
 
     -- the code that makes a variable of a type
     make_typed : (g : ℕ) (t : TypeValue) (host : Host) → IsTypeOf host t → IsValueOf t Undefined

@@ -7,6 +7,7 @@ use Rattle.ep_gen_unit.proofs.Units.{unit_simulates}
 use Rattle.ep_object.proofs.Alone.{placements_alone, stands-alone, distinct-alone}
 use Rattle.ep_object.proofs.matching.Beginning.{first_memory, first_injection, first_matches}
 use Rattle.ep_object.proofs.following.Bind.{follows_bind, follows_stop}
+use Rattle.ep_object.proofs.matching.Growing.{not_left-same}
 use Rattle.ep_object.proofs.following.Simulating.{simulation_follows, leaves_enters}
 use Rattle.ep_object.proofs.Tells.{Never, tells, tells_at_end, tells_close}
 use Rattle.ep_object.specs.Follows.{Follows, Bare, SameRoutine, IsNotLeft}
@@ -50,6 +51,7 @@ module _ (u : TypedUnit) (o : Object) (is : IsProgramCode u o) where
         is = rw (lt-ltb 0 (length o.instructions) not_empty) refl;
         runs = rw (is.start, is.routines) refl;
         in_unit = refl;
+        without_calls = refl;
         matches = first_matches (own u) (alone o) start_frames refl;
       }
 
@@ -68,7 +70,7 @@ module _ (u : TypedUnit) (o : Object) (is : IsProgramCode u o) where
     program_follows n =
         follows_bind {e = λ a. 41} (λ a. steady_stop meaning.Normal)
         (simulation_follows (unit_simulates u o is (alone o) (placements_alone o) (first_placement o) (stands-alone o) valid (distinct-alone o) (routine_of (u ∷ []) n) (steady_routine_of (u ∷ []) n) n) first_injection (first_memory start_frames) [] meaning.first_state start_state enters)
-        (λ a s k leaves. let lands = leaves.lands in let inside = lands.post in follows_stop {v = 0} (subst (λ (l : State). IsNotLeft start_frames l.frames) (sym lands.is) (record { runs = inside.routine })) (ends s k leaves) (omega arith))
+        (λ a s k leaves. let lands = leaves.lands in let inside = lands.post in follows_stop {v = 0} (subst (λ (l : State). IsNotLeft start_frames l.frames) (sym lands.is) (not_left-same inside.routine)) (ends s k leaves) (omega arith))
 
     -- What a run of the program's image tells of the meaning of the program.
     pub program_tells : (t : ℕ) → Tells (meaning_of (u ∷ [])) t (run_from (alone o) t (begin (alone o)))

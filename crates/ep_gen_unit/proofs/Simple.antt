@@ -15,8 +15,8 @@ use Rattle.ep_object.specs.declared.code.Image.{Image}
 use Rattle.ep_object.specs.declared.code.Instr.{Instr}
 use Rattle.ep_object.specs.declared.code.Reference.{Reference}
 use Rattle.ep_object.specs.declared.state.Place.{Place as PlaceOf}
-use Rattle.ep_object.proofs.rows.ChangeRows.{store_does, store_fails}
-use Rattle.ep_object.proofs.following.Choices.{fragment_checked}
+use Rattle.ep_object.proofs.rows.ChangeRows.{store_does, store_fails, store_fails_ended}
+use Rattle.ep_object.proofs.following.Choices.{follows_checked, fragment_using}
 use Rattle.ep_object.proofs.following.Fragments.{FailsWith, fragment_give, fragment_stop, fragment_to, fragment_less, fragment_credit, fragment_bind_number, fragment_bind_place}
 use Rattle.ep_object.proofs.matching.Growing.{unit_in-same, is_place_of-grown, describes-grown, inside_here}
 use Rattle.ep_object.proofs.rows.Rows.{outcome_at}
@@ -25,7 +25,7 @@ use Rattle.ep_typed.specs.Calls.{Handler}
 use Rattle.ep_typed.proofs.Steady.{steady_bind, steady_eval, steady_assign}
 use Rattle.ep_typed.specs.Meaning.{exec, assign, weight_of}
 use Rattle.ep_typed.specs.Printing.{number_of}
-use Rattle.ep_typed.specs.Steps.{assigned, is_within, type_at}
+use Rattle.ep_typed.specs.Steps.{assigned, is_within, type_at, has_ended}
 use Rattle.ep_typed.specs.Steps as meaning
 use Rattle.ep_typed.specs.Trees.{Place, Variable, Standard, Expr, Empty, Assign, Halt}
 use Rattle.ep_typed.specs.Valid as kind
@@ -48,10 +48,13 @@ module _ {declared : Declarations} {G : Image} {untouched : Slots} {Here : Facts
   store_moves : (low high z : ℤ) (a : ℕ) (q : PlaceOf) (line at : ℕ) → CodeStands G ps p references at (bare line op.STORE ∷ []) → (injection : Injection) (memory : Memory) (below : List Operand) (d : ℕ) → least_credit ≤ d → unit_in G memory.frames ≡ unit → IsPlaceOf injection memory.segments a q → Describes memory.types q.type_number (type.Ordinal low high)
       → Fragment declared G Here n (point injection memory (p.instructions.before + at) (Word z ∷ operand.Place q ∷ below)) (assign call n unit line a z) (p.instructions.before + at + 1) (λ b. Inside untouched injection memory (Bare below b)) d (λ b. d)
   store_moves low high z a q line at stands injection memory below d enough home place_of described =
-      fragment_less {n = suc n} (omega arith) (fragment_checked {e = λ b. d} (λ s. is_within (type_at a s) z) (assigned a (meaning.Word z))
-      (λ s matches here is. store_does declared G (p.instructions.before + at) line below low high z a q stands.0 injection memory place_of described s matches lasts here is)
-      (λ s matches is. subst (λ u. FailsWith G (standing (p.instructions.before + at) (Word z ∷ operand.Place q ∷ below) memory s.trace) 0 2 u line s) home (store_fails declared G (p.instructions.before + at) line below low high z a q stands.0 injection memory place_of described s matches is))
-      (omega arith) (omega arith))
+      fragment_less {n = suc n} (omega arith) (fragment_using {n = suc n} {e = λ b. d} a
+      (λ s matches ended. subst (λ u. FailsWith G (standing (p.instructions.before + at) (Word z ∷ operand.Place q ∷ below) memory s.trace) 0 11 u line s) home (store_fails_ended declared G (p.instructions.before + at) line below low high z a q stands.0 injection memory place_of described s matches ended))
+      (omega arith)
+      (λ s matches here living. follows_checked {e = λ b. d} (point injection memory (p.instructions.before + at) (Word z ∷ operand.Place q ∷ below)) (λ s. is_within (type_at a s) z) (assigned a (meaning.Word z)) s
+      (λ is. store_does declared G (p.instructions.before + at) line below low high z a q stands.0 injection memory place_of described s matches living lasts here is)
+      (λ is. subst (λ u. FailsWith G (standing (p.instructions.before + at) (Word z ∷ operand.Place q ∷ below) memory s.trace) 0 2 u line s) home (store_fails declared G (p.instructions.before + at) line below low high z a q stands.0 injection memory place_of described s matches living is))
+      (omega arith) (omega arith)))
 
   module _ (scene : Scene declared G ps p texts) (expressions : ExpressionsFollow declared G untouched Here ps p texts references call n unit) (places : PlacesFollow declared G untouched Here ps p texts references call n unit) where
     -- an assignment to a variable of an ordinal type

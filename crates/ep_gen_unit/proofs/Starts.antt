@@ -11,6 +11,7 @@ use Rattle.ep_object.specs.Operands.{Operand}
 use Rattle.ep_object.specs.Placing.{Placement, CodeStands}
 use Rattle.ep_object.specs.Scene.{Scene}
 use Rattle.ep_object.specs.Runs.{unit_in}
+use Rattle.ep_object.specs.State.{Frames}
 use Rattle.ep_object.specs.declared.code.Image.{Image}
 use Rattle.ep_object.specs.declared.code.Object.{Object}
 use Rattle.ep_object.proofs.following.Fragments.{fragment_bind_bare}
@@ -24,19 +25,24 @@ use Rattle.ep_typed.specs.Valid.{Declarations, IsStmt}
 use Rattle.ep_typed.specs.Viewed.{stmt_of}
 use Rattle.ep_typed.specs.declared.unit.Unit.{Unit as TypedUnit}
 
+-- no call is under way, and the routine runs in the frame of the object's unit
+pub record RunsAtHome (p : Placement) (frames : Frames) : Type 0 where
+  pub calls : frames.calls ≡ []
+  pub unit : frames.unit ≡ p.unit
+
 module _ (declared : Declarations) (G : Image) (untouched : Slots) (Here : Facts) (p : Placement) (call : Handler) (n : ℕ) (u : TypedUnit) where
   -- the machine makes the variables of the unit, in the unit's frame
   abbrev pub MakesFollow : Type 0
   MakesFollow =
       (injection : Injection) (memory : Memory) (below : List Operand) (d : ℕ) → least_credit ≤ d
-      → unit_in G memory.frames ≡ u.name → memory.frames.unit ≡ p.unit
+      → unit_in G memory.frames ≡ u.name → RunsAtHome p memory.frames
       → Fragment declared G Here n (point injection memory (p.instructions.before + 0) below) (make_all call n u.name u.types 0 u.variables) (p.instructions.before + length (make_all_code u.types 0 u.variables)) (λ a. Inside untouched injection memory (Bare below a)) d (λ a. d)
 
 module _ {declared : Declarations} {G : Image} {untouched : Slots} {Here : Facts} (lasts : Lasts untouched Here) (ps : List Placement) (p : Placement) (call : Handler) (steady_call : IsSteadyHandler call) (n : ℕ) (u : TypedUnit) (o : Object) (is : IsProgramCode u o) (stands : CodeStands G ps p o.references 0 o.instructions) (room : p.instructions.before + p.instructions.own ≤ length G.instructions) (own : p.instructions.own ≡ length o.instructions) (scene : Scene declared G ps p o.texts)
     (expressions : ExpressionsFollow declared G untouched Here ps p o.texts o.references call n u.name) (places : PlacesFollow declared G untouched Here ps p o.texts o.references call n u.name) (valid : IsStmt declared (stmt_of u.start)) (makes : MakesFollow declared G untouched Here p call n u) where
   -- after the step of its call the start makes the variables and runs the block, up to the `Return` behind it
   pub body_follows : (injection : Injection) (memory : Memory) (below : List Operand) (d : ℕ)
-      → statement_credit ≤ d → unit_in G memory.frames ≡ u.name → memory.frames.unit ≡ p.unit
+      → statement_credit ≤ d → unit_in G memory.frames ≡ u.name → RunsAtHome p memory.frames
       → Fragment declared G Here n (point injection memory (p.instructions.before + 0) below) (bind (make_all call n u.name u.types 0 u.variables) (λ a. exec call n u.name (stmt_of u.start))) (p.instructions.before + (length (make_all_code u.types 0 u.variables) + length is.code)) (λ a. Inside untouched injection memory (Bare below a)) d (λ a. d)
   body_follows injection memory below d enough home framed =
       let parts = code_stands-parts G ps p o.references 0 (make_all_code u.types 0 u.variables) (is.code ++ return_code ∷ return_code ∷ []) (subst (λ k. CodeStands G ps p o.references 0 k) is.instructions stands) in

@@ -13,6 +13,7 @@ use Rattle.ep_gen_unit.proofs.Parts.{code_stands-parts}
 use Rattle.ep_gen_unit.proofs.Starts.{MakesFollow, body_follows}
 use Rattle.ep_object.proofs.following.Bind.{follows_less, follows_post, follows_from, follows_give}
 use Rattle.ep_object.proofs.following.Fragments.{fragment_to}
+use Rattle.ep_object.proofs.rows.MakeRow.{RunsInUnit}
 use Rattle.ep_object.proofs.matching.Growing.{inside_here, since_here, since_lasts}
 use Rattle.ep_object.specs.Follows.{Facts, Lasts, Since, Bare}
 use Rattle.ep_object.specs.Matching.{Memory, Injection, is_undeclared, is_hidden_in, is_hidden_slot, at as standing}
@@ -85,11 +86,11 @@ module _ (u : TypedUnit) (o : Object) (is : IsProgramCode u o) (G : Image) (ps :
 
   -- while it runs errors tell the unit's name
   home : (n : ℕ) (r : CodeRoutine) → slice_get o.routines n ≡ Some r → (frames : Frames)
-      → frames.routine ≡ moved p.routines n → unit_in G frames ≡ u.name
-  home n r h frames runs =
+      → frames.calls ≡ [] → frames.routine ≡ moved p.routines n → unit_in G frames ≡ u.name
+  home n r h frames alone runs =
       let whole = of_object in
       let within = slice_get_within o.routines n r h in
-      rw (runs, moved_own p.routines n (omega (arith, whole.routines, within)), stands.routines n r h, stands.unit) is.name
+      rw (alone, runs, moved_own p.routines n (omega (arith, whole.routines, within)), stands.routines n r h, stands.unit) is.name
 
   -- the machine enters a routine of the object at the place of its entry
   at_entry : {declared : Declarations} {injection : Injection} {memory : Memory} {below : List Operand} {s : meaning.State} {k : State} (n : ℕ) (r : CodeRoutine)
@@ -138,7 +139,7 @@ module _ (u : TypedUnit) (o : Object) (is : IsProgramCode u o) (G : Image) (ps :
     makes : {Here : Facts} → Lasts (is_hidden_slot declared G) Here
         → MakesFollow declared G (is_hidden_slot declared G) Here p call n u
     makes {Here = Here} lasts injection memory below d enough home framed =
-        let there : slice_get G.units memory.frames.unit ≡ Some (placed_object_unit p o) = ap (slice_get G.units) framed ∙ stands.unit in
+        let there : RunsInUnit G memory.frames (placed_object_unit p o) = record { calls = framed.calls; unit = ap (slice_get G.units) framed.unit ∙ stands.unit } in
         fragment_to {to = p.instructions.before + (0 + begins_block)} (omega arith) (make_all_moves declared G (is_hidden_slot declared G) Here lasts ps p o.references call steady_call n (placed_object_unit p o) free distinct scene.types_valid u.name is.name u.types types n 0 0 u.variables are_declared (omega (arith, is.unit_slots)) makes_stand injection memory below d enough there)
 
     -- the start makes the variables and runs the block
@@ -155,7 +156,7 @@ module _ (u : TypedUnit) (o : Object) (is : IsProgramCode u o) (G : Image) (ps :
               let body = body_follows {Here = Since (is_hidden_slot declared G) injection s memory} since_lasts ps p call steady_call n u o is stands.code room whole.instructions scene
               (λ x_kind x is_x line at code is_code x_stands inside v1 m1 operands d enough x_home. expression_follows ps p o.texts o.references scene call steady_call n u.name room n x_kind x is_x line at code is_code x_stands inside v1 m1 operands d (omega arith) x_home)
               (λ of_unit slot v t is_declared has_type line at code is_code x_stands v1 m1 operands d enough x_home. place_follows ps p o.texts o.references scene call steady_call n u.name n of_unit slot v t is_declared has_type line at code is_code x_stands v1 m1 operands d (omega arith) x_home)
-              valid (makes since_lasts) injection memory below routine_credit (omega arith) (home o.start (routine_at 0) start_is memory.frames enters.runs) enters.in_unit in
+              valid (makes since_lasts) injection memory below routine_credit (omega arith) (home o.start (routine_at 0) start_is memory.frames enters.without_calls enters.runs) (record { calls = enters.without_calls; unit = enters.in_unit }) in
               follows_from (at_entry o.start (routine_at 0) start_is (omega (arith, instructions_own)) enters)
               (follows_less {n = n} (omega arith) (follows_post (λ a t l lands. record { place = p.instructions.before + ends_block; instruction = return_code; stands = returns_stand.0; returns = refl; lands = lands }) (body.by s enters.matches (since_here injection s memory))));
         }

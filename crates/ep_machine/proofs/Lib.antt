@@ -1,3 +1,4 @@
+mod CallFrames
 mod Decoding
 mod Ends
 mod Fusion
@@ -7,5 +8,6 @@ mod Making
 mod Outputs
 mod Puts
 mod Rounds
+mod Routines
 mod Runs
 mod Unbuilt

@@ -10,6 +10,7 @@
 //! makes a frequent one slow.
 #![tactic(auto)]
 
+mod calls;
 mod cell;
 mod code;
 mod control;

@@ -6,6 +6,7 @@ ghost use Rattle.ep_typed.specs.Events.{Trace, DoesFront, DoesPart, Outside};
 ghost use Rattle.ep_object.specs.State.{State};
 ghost use Rattle.ep_machine.specs.Answers.{Answers, UnlessStopped, OnNoMemoryEnd, OnWriteFaultEnd, IsEnd, outside};
 ghost use Rattle.ep_machine.specs.Turns.{ended_at};
+ghost use Rattle.ep_machine.specs.Views.{routines_of};
 ghost use Rattle.ep_machine.specs.declared.end.Ended.TheVariants as ended;
 ghost use Rattle.ep_machine.specs.Turns.{UnlessFailed, OnFailed, OnWriteFault, Ran, RunFailed, is_ready, is_known};
 
@@ -24,7 +25,7 @@ pub struct Machine<'a> {
     code: Code<'a>,
     state: Configuration,
     ended: Ended,
-    ghost ready: { IsTrue (is_ready code.image.now state.memory.routine ended) },
+    ghost ready: { IsTrue (is_ready code.image.now (routines_of state.memory) ended) },
 }
 
 impl<'a> Machine<'a> {

@@ -5,6 +5,7 @@ ghost use Rattle.ep_machine.specs.Views.{state_at};
 ghost use Rattle.ep_object.specs.declared.code.Image.{Image};
 ghost use Rattle.ep_object.specs.State.{first_state, empty_slots, first_types, first_segments, text_segment as segment_of_text, integer_entry, char_entry, boolean_entry, text_entry, pointer_entry};
 
+use crate::calls::Calls;
 use crate::stack::Stack;
 use crate::state::{Configuration, Memory};
 use ep_base::List;
@@ -71,6 +72,7 @@ pub fn state(alloc: Global, units: &[ImageUnit]) -> Result<Configuration, AllocE
     ensures state { (image : Image) → image.units ≡ units.now
         → IfOk result (λ c. state_at c [] ≡ first_state image) }
     ensures ticks { IfOk result (λ c. c.ticks ≡ 0) }
+    ensures calls { IfOk result (λ c. c.memory.calls ≡ []) }
 {
     let units = frames(alloc, units)?;
     let types = types(alloc)?;
@@ -80,6 +82,7 @@ pub fn state(alloc: Global, units: &[ImageUnit]) -> Result<Configuration, AllocE
         routine: 0,
         unit: 0,
         units,
+        calls: Calls::new(alloc),
         types,
         segments,
         live: FIRST_LIVE_WORDS,

@@ -1,8 +1,14 @@
 //! The state of a machine.
 
+ghost use Rattle.std.specs.Prelude.{◌≡◌, suc, option_map, length};
+ghost use Rattle.ep_object.specs.Frames.{routine_in, slots_of, frame_above, parent_of as parent_of_frame, slots_up};
+ghost use Rattle.ep_machine.specs.Views.{frames_of, routines_of, HasSlot, IsPlaced, IsBound};
+ghost use Rattle.std.specs.Bool.{OnTrue};
+
+use crate::calls::Calls;
 use crate::stack::Stack;
 use ep_base::List;
-use ep_object::{Place, Segment, TypeEntry};
+use ep_object::{FrameNumber, Place, Segment, TypeEntry};
 use std::alloc::Global;
 
 /// What a machine has besides its place, its ticks and its operands.
@@ -16,12 +22,135 @@ pub struct Memory {
     pub unit: usize,
     /// The slots of the frame of each unit.
     pub units: Vec<List<Option<Place>>>,
+    /// The calls under way.
+    pub calls: Calls,
     /// The types by number.
     pub types: Vec<TypeEntry>,
     /// The segments by number.
     pub segments: Vec<Option<Segment>>,
     /// How many words live.
     pub live: u64,
+}
+
+impl Memory {
+    /// The routine that runs.
+    #[inline(always)]
+    pub fn running(&self) -> u32
+        ensures { result ≡ routine_in (frames_of self.now) }
+    {
+        match self.calls.routine() {
+            Some(routine) => routine,
+            None => self.routine,
+        }
+    }
+
+    /// How many slots the frame has in which the routine runs.
+    pub fn slot_count(&self) -> Option<usize>
+        ensures { result ≡ option_map length (slots_of (frames_of self.now)) }
+    {
+        if let Some(slots) = self.calls.slots() {
+            return Some(slots.len());
+        }
+        match self.units.get(self.unit) {
+            Some(slots) => Some(slots.items().len()),
+            None => None,
+        }
+    }
+
+    /// A slot of the frame in which the routine runs holds the place of a variable that was made. Answers whether there
+    /// was memory.
+    #[tactic(auto, using(crate::proofs::Routines::placed_routines))]
+    pub fn place(&mut self, slot: usize, place: Place) -> bool
+        requires { HasSlot (slots_of (frames_of self.old)) slot }
+        ensures frames { OnTrue result (IsPlaced (slots_of (frames_of self.old))
+            (frames_of self.old) slot place (frames_of self.new)) }
+        ensures routines { routines_of self.new ≡ routines_of self.old }
+        ensures segments { self.new.segments ≡ self.old.segments }
+        ensures types { self.new.types ≡ self.old.types }
+        ensures live { self.new.live ≡ self.old.live }
+    {
+        if self.calls.count() > 0 {
+            return self.calls.place(slot, place, place.segment);
+        }
+        let Ok(number) = u32::try_from(slot) else {
+            return false;
+        };
+        let unit = self.unit;
+        if unit >= self.units.len() {
+            return false;
+        }
+        self.units[unit].set(number, Some(place));
+        true
+    }
+
+    /// A slot of the frame in which the routine runs holds a place. Answers whether the number of the slot was small
+    /// enough.
+    #[tactic(auto, using(crate::proofs::Routines::bound_routines))]
+    pub fn bind(&mut self, slot: usize, place: Place) -> bool
+        requires { HasSlot (slots_of (frames_of self.old)) slot }
+        ensures frames { OnTrue result (IsBound (slots_of (frames_of self.old)) (frames_of self.old) slot place (frames_of self.new)) }
+        ensures routines { routines_of self.new ≡ routines_of self.old }
+        ensures segments { self.new.segments ≡ self.old.segments }
+        ensures types { self.new.types ≡ self.old.types }
+        ensures live { self.new.live ≡ self.old.live }
+    {
+        if self.calls.count() > 0 {
+            return self.calls.bind(slot, place);
+        }
+        let Ok(number) = u32::try_from(slot) else {
+            return false;
+        };
+        let unit = self.unit;
+        if unit >= self.units.len() {
+            return false;
+        }
+        self.units[unit].set(number, Some(place));
+        true
+    }
+
+    /// The slots of the frame one level up from the one in which the routine runs and so many more.
+    pub fn slots_up(&self, up: u32) -> Option<&[Option<Place>]>
+        ensures { option_map (λ s. s.now) result ≡ slots_up (frames_of self.now) (suc up) }
+    {
+        let Some(parent) = self.calls.parent() else {
+            return None;
+        };
+        match above(&self.calls, up, parent) {
+            Some(FrameNumber::Unit(number)) => match self.units.get(number) {
+                Some(slots) => Some(slots.items()),
+                None => None,
+            },
+            Some(FrameNumber::Call(number)) => self.calls.slots_at(number),
+            None => None,
+        }
+    }
+}
+
+/// The frame so many levels up from a frame.
+#[tactic(auto, using(crate::proofs::CallFrames::above_parent, crate::proofs::CallFrames::above_none))]
+fn above(calls: &Calls, up: u32, from: FrameNumber) -> Option<FrameNumber>
+    ensures { result ≡ frame_above calls.now up from }
+{
+    let mut left = up;
+    let mut frame = from;
+    while left > 0 {
+        match parent_of(calls, frame) {
+            Some(parent) => frame = parent,
+            None => return None,
+        }
+        left -= 1;
+    }
+    Some(frame)
+}
+
+/// The frame in which the routine of a frame is declared.
+fn parent_of(calls: &Calls, frame: FrameNumber) -> Option<FrameNumber>
+    ensures { result ≡ parent_of_frame calls.now frame }
+{
+    match frame {
+        FrameNumber::Unit(_) => None,
+        FrameNumber::Call(number) => calls.parent_at(number),
+    }
 }
 
 /// The state of a machine before an instruction.

@@ -1,11 +1,12 @@
 -- What holds of every state that an instruction leaves, where it holds after each change that an instruction makes.
-use Rattle.std.proofs.Common.{List, Option, Some, None, Bool, true, false}
-use Rattle.ep_object.specs.Effects.{Effect, Continues, Jumps, Returns, Fails, Halts, Breaks, Work, mapped, mapped_work, having_weighed, provided, only_a_weighed, has_no_field}
+use Rattle.std.proofs.Common.{◌≡◌, List, refl, Option, Some, None, Bool, true, false}
+use Rattle.ep_object.specs.Effects.{Effect, Continues, Jumps, Returns, Fails, Halts, Breaks, Work, mapped, mapped_work, having, having_weighed, provided, only_a_weighed, has_no_field, has_one_field}
 use Rattle.ep_object.specs.Operands.{Operand}
-use Rattle.ep_object.specs.Places.{Making, make_row}
+use Rattle.ep_object.specs.Places.{Making, make_row, bind_row}
 use Rattle.ep_object.specs.State.{State}
 use Rattle.ep_object.specs.Table as table
-use Rattle.ep_object.specs.Table.{Op, obey, obey_op, op_of, on_operands, in_segments, slots_of, making, with_making, typing, with_typing, with_events}
+use Rattle.ep_object.specs.Frames.{slots_of}
+use Rattle.ep_object.specs.Table.{Op, obey, obey_op, op_of, on_operands, in_segments, with_bound, bind_in, making, with_making, typing, with_typing, with_events}
 use Rattle.ep_object.specs.Types.{Typing}
 use Rattle.ep_object.specs.declared.code.Image.{Image}
 use Rattle.ep_object.specs.declared.code.Instr.{Instr}
@@ -35,17 +36,22 @@ module _ (Holds : State → Type 0) where
   halts true = tt
   halts false = tt
 
-  returns : (b : Bool) → HoldsAfter (provided b Returns)
-  returns true = tt
-  returns false = tt
+  only_where : (b : Bool) (e : Effect State) → HoldsAfter e → HoldsAfter (provided b e)
+  only_where true e h = h
+  only_where false e h = tt
 
-  module _ (s : State) (operands : (st : List Operand) → Holds (record s { operands = st })) (segments : (p : List Operand × List (Option Segment)) → Holds (in_segments s p)) (makes : (m : Making) → Holds (with_making s m)) (types : (t : Typing) → Holds (with_typing s t)) (events : (p : List Operand × Trace) → Holds (with_events s p)) where
+  module _ (s : State) (operands : (st : List Operand) → Holds (record s { operands = st })) (segments : (p : List Operand × List (Option Segment)) → Holds (in_segments s p)) (makes : (m : Making) → Holds (with_making s m)) (types : (t : Typing) → Holds (with_typing s t)) (events : (p : List Operand × Trace) → Holds (with_events s p)) (quiet : (t : State) → t.trace ≡ s.trace → Holds t) where
     kept : (e : Effect (List Operand)) → HoldsAfter (on_operands s e)
     kept e = mapped_keeps (λ st. record s { operands = st }) operands e
 
     in_frame : (row : List (Option Place) → Work Making) (o : Option (List (Option Place))) → HoldsAfter (having_weighed o (λ slots. mapped_work (with_making s) (row slots))).effect
     in_frame row None = tt
     in_frame row (Some slots) = mapped_keeps (with_making s) makes (row slots).effect
+
+    bind_keeps : (slots : Option (List (Option Place))) (row : List (Option Place) → Effect (List (Option Place) × List Operand))
+        → HoldsAfter (having slots (λ slots. mapped (with_bound s) (row slots)))
+    bind_keeps None row = tt
+    bind_keeps (Some slots) row = mapped_keeps (with_bound s) (λ p. quiet (with_bound s p) refl) (row slots)
 
     abbrev HoldsAfterWork : Work State → Type 0
     HoldsAfterWork w = HoldsAfter w.effect
@@ -79,7 +85,11 @@ module _ (Holds : State → Type 0) where
     op_keeps G i (Some table.Chars) = kept _
     op_keeps G i (Some table.Form) = kept _
     op_keeps G i (Some table.Halt) = halts (has_no_field i)
-    op_keeps G i (Some table.Return) = returns (has_no_field i)
+    op_keeps G i (Some table.Return) = only_where (has_no_field i) Returns tt
+    op_keeps G i (Some table.Bind) = only_where (has_one_field i) (bind_in i s) (bind_keeps (slots_of s.frames) (λ slots. bind_row slots i.a s.operands))
+    op_keeps G i (Some table.Undefine) = mapped_keeps (in_segments s) segments _
+    op_keeps G i (Some table.Like) = kept _
+    op_keeps G i (Some table.Defined) = kept _
     op_keeps G i (Some table.Slot) = kept _
     op_keeps G i (Some table.Make) = in_frame (λ slots. only_a_weighed i (make_row s.types i.a (making s slots))) (slots_of s.frames)
     op_keeps G i (Some table.Store) = mapped_keeps (in_segments s) segments _

@@ -1,5 +1,6 @@
 pub mod Answers
 pub mod ChangeRows
+pub mod FrameRows
 pub mod MakeRow
 pub mod NewTypes
 pub mod Pieces

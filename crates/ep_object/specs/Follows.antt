@@ -1,5 +1,5 @@
 -- The machine follows a computation: with costs both ways, in runs that are cut, and for want of room.
-use Rattle.std.specs.Prelude.{◌≡◌, ℕ, ℤ, suc, ◌+◌, ◌*◌, ◌≤◌, ◌<◌, ◌⊎◌, IsTrue, List, ◌∷◌}
+use Rattle.std.specs.Prelude.{◌≡◌, ℕ, ℤ, suc, ◌+◌, ◌*◌, ◌≤◌, ◌<◌, ◌⊎◌, IsTrue, List, [], ◌∷◌, ◌++◌, ⊤}
 use Rattle.ep_outside.specs.Known.{IsPrefix}
 use Rattle.ep_typed.specs.Events.{Trace}
 use Rattle.ep_typed.specs.Printing.{Result, Number, Bytes}
@@ -12,7 +12,7 @@ use Rattle.ep_typed.specs.declared.value.TypeValue.{TypeValue}
 use Rattle.ep_object.specs.Matching.{Memory, at, Injection, Matches, Slots, Grown, IsPlaceOf, Describes}
 use Rattle.ep_object.specs.Operands.{Operand, Word, Place, Text}
 use Rattle.ep_object.specs.Runs.{run, tick}
-use Rattle.ep_object.specs.State.{State, Frames, End, Running, Stopped, Normal, Halt, Error}
+use Rattle.ep_object.specs.State.{State, Frame, Frames, End, Running, Stopped, Normal, Halt, Error}
 use Rattle.ep_object.specs.declared.code.Image.{Image}
 use Rattle.ep_object.specs.declared.state.Place.{Place as PlaceOf}
 use Rattle.ep_typed.specs.declared.run_error.TheConstants as run_error
@@ -131,15 +131,27 @@ pub record Lands (declared : Declarations) (G : Image) (Here : Facts) (place : �
   pub here : Here injection s memory
   pub post : Post injection memory operands
 
--- the same routine runs in the same unit's frame
+-- The same call is the innermost one, of whose frame arguments, slots and what was made in it may differ; the calls
+-- below it are what they were.
+abbrev pub IsSameCall : List Frame → List Frame → Type 0
+IsSameCall [] [] = ⊤
+IsSameCall [] (d ∷ later) = ⊥
+IsSameCall (c ∷ calls) [] = ⊥
+IsSameCall (c ∷ calls) (d ∷ later) = (d.routine ≡ c.routine) × (d.parent ≡ c.parent) × (d.back ≡ c.back) × (later ≡ calls)
+
+-- the same routine runs, in the same call or else in the same unit's frame
 pub record SameRoutine (before after : Frames) : Type 0 where
   pub turn : after.turn ≡ before.turn
   pub routine : after.routine ≡ before.routine
   pub unit : after.unit ≡ before.unit
+  pub calls : IsSameCall before.calls after.calls
 
--- The routine that ran is not left: it runs. A routine that it calls runs within it, once there are calls.
+-- The routine that ran is not left: it runs, or calls run that it made, which stand over its own.
 pub record IsNotLeft (before now : Frames) : Type 0 where
-  pub runs : SameRoutine before now
+  pub over : List Frame
+  pub own : List Frame
+  pub is : now.calls ≡ over ++ own
+  pub runs : SameRoutine before (record now { calls = own })
 
 -- The calls under way are the same, memory has grown and these slots are untouched, and the same routine runs.
 pub record HasGrown (untouched : Slots) (injection : Injection) (s : meaning.State) (memory : Memory)

@@ -1,6 +1,7 @@
 pub mod Control
 pub mod Effects
 pub mod Follows
+pub mod Frames
 pub mod Implements
 pub mod Laws
 pub mod Matching

@@ -68,13 +68,21 @@ IsValueOf (type.Ordinal low high) (meaning.Word w) = IsTrue (is_integer low) × 
 IsValueOf type.Text Undefined = ⊤
 IsValueOf type.Text (meaning.Word w) = ⊥
 
--- a segment has the words of an allocation, and its type describes the allocation's
+-- a segment has the words of an allocation that lives, and its type describes the allocation's
 pub record Represents (segments : Segments) (types : TypeTable) (segment : ℕ)
     (allocation : Allocation) : Type 0 where
   pub type_number : ℕ
   pub stands : slice_get segments segment ≡ Some (Some (record { type_number = type_number; words = layout allocation.value }))
   pub described : Describes types type_number allocation.type_value
   pub value : IsValueOf allocation.type_value allocation.value
+
+abbrev pub IsRepresentedWhere : Bool → Segments → TypeTable → ℕ → Allocation → Type 0
+IsRepresentedWhere true segments types segment allocation = slice_get segments segment ≡ Some None
+IsRepresentedWhere false segments types segment allocation = Represents segments types segment allocation
+
+-- the segment of an allocation that has ended has ended, and that of one that lives represents it
+abbrev pub IsRepresented : Segments → TypeTable → ℕ → Allocation → Type 0
+IsRepresented segments types segment allocation = IsRepresentedWhere allocation.ended segments types segment allocation
 
 -- a place is that of the whole allocation of this number
 pub record IsPlaceOf (injection : Injection) (segments : Segments) (n : ℕ) (place : Place) : Type 0 where
@@ -123,11 +131,11 @@ pub record MatchesInjection (injection : Injection) (allocations : List Allocati
   pub apart : (m n segment : ℕ) → IsIn injection m segment → IsIn injection n segment → m ≡ n
   pub within : (n segment : ℕ) → IsIn injection n segment → suc segment ≤ length segments
 
--- the store: the segment of an allocation represents it
+-- the store: the segment of an allocation represents it, or both have ended
 pub record MatchesStore (injection : Injection) (allocations : List Allocation) (segments : Segments)
     (types : TypeTable) : Type 0 where
   pub represented : (n segment : ℕ) (allocation : Allocation) → IsIn injection n segment
-      → meaning.allocation_at allocations n ≡ Some allocation → Represents segments types segment allocation
+      → meaning.allocation_at allocations n ≡ Some allocation → IsRepresented segments types segment allocation
 
 -- the types: each that was elaborated has a number
 pub record MatchesTypes (elaborated : List TypeValue) (types : TypeTable) : Type 0 where
@@ -136,28 +144,34 @@ pub record MatchesTypes (elaborated : List TypeValue) (types : TypeTable) : Type
       → (n : ℕ) × (ordinal_number low high types ≡ Some n)
   pub sized : (n : ℕ) (entry : TypeEntry) → slice_get types n ≡ Some entry → entry.size ≡ 1
 
--- the frame of a unit has the places of the variables that are declared; its other slots match nothing
+-- The frame of a unit has the places of the variables that are declared, with types that describe those of the
+-- declarations; its other slots match nothing.
 pub record MatchesFrame (declared : Declarations) (injection : Injection) (variables : List ℕ → ℕ → Option ℕ)
-    (units : List (List (Option Place))) (segments : Segments) (unit : ℕ) (u : ImageUnit) : Type 0 where
+    (units : List (List (Option Place))) (segments : Segments) (types : TypeTable) (unit : ℕ)
+    (u : ImageUnit) : Type 0 where
   pub slots : List (Option Place)
   pub is : slice_get units unit ≡ Some slots
   pub count : length slots ≡ u.slots
   pub matches : (k : ℕ) (v : UnitVariable) (slot : Option Place) → declared.variables u.name k ≡ Some v
       → slice_get slots k ≡ Some slot → MatchesSlot injection segments (variables u.name k) slot
+  pub described : (k : ℕ) (v : UnitVariable) (place : Place) (t : TypeValue)
+      → declared.variables u.name k ≡ Some v → slice_get slots k ≡ Some (Some place)
+      → HasType declared u.name v t → Describes types place.type_number t
 
 -- the slots of units: the frame of each unit matches, and an allocation of a variable has the type of its declaration
 pub record MatchesUnits (declared : Declarations) (G : Image) (injection : Injection)
     (allocations : List Allocation) (variables : List ℕ → ℕ → Option ℕ) (units : List (List (Option Place)))
-    (segments : Segments) : Type 0 where
+    (segments : Segments) (types : TypeTable) : Type 0 where
   pub frames : (unit : ℕ) (u : ImageUnit) → slice_get G.units unit ≡ Some u
-      → MatchesFrame declared injection variables units segments unit u
+      → MatchesFrame declared injection variables units segments types unit u
   pub typed : (unit : List ℕ) (k n : ℕ) (v : UnitVariable) → variables unit k ≡ Some n
       → declared.variables unit k ≡ Some v
       → HasType declared unit v (meaning.type_in (meaning.allocation_at allocations n))
 
--- the outside: `output` is the second allocation and the second segment
-pub record MatchesOutside (injection : Injection) : Type 0 where
+-- the outside: `output` is the second allocation and the second segment, and lives
+pub record MatchesOutside (injection : Injection) (allocations : List Allocation) : Type 0 where
   pub output : IsIn injection 2 2
+  pub lives : meaning.ended_in (meaning.allocation_at allocations 2) ≡ false
 
 -- The counts: no more words live than were counted, where a type value counts 4 for each of its words; hidden segments
 -- take no more than was set aside; and no more types were added than were elaborated.
@@ -173,8 +187,8 @@ pub record Matches (declared : Declarations) (G : Image) (injection : Injection)
   pub injected : MatchesInjection injection s.allocations memory.segments
   pub store : MatchesStore injection s.allocations memory.segments memory.types
   pub types : MatchesTypes s.resources.types memory.types
-  pub units : MatchesUnits declared G injection s.allocations s.variables memory.frames.units memory.segments
-  pub outside : MatchesOutside injection
+  pub units : MatchesUnits declared G injection s.allocations s.variables memory.frames.units memory.segments memory.types
+  pub outside : MatchesOutside injection s.allocations
   pub counts : MatchesCounts injection s.resources memory.segments memory.types memory.live
 
 -- ---- growing

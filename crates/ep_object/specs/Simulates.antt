@@ -1,5 +1,5 @@
 -- What it means that a routine of an image simulates a computation, and what runs from the entry of the routine then do, in ticks and steps.
-use Rattle.std.specs.Prelude.{◌≡◌, ℕ, suc, ◌+◌, ◌*◌, ◌≤◌, ◌<◌, ◌⊎◌, List, Some, slice_get}
+use Rattle.std.specs.Prelude.{◌≡◌, ℕ, suc, ◌+◌, ◌*◌, ◌≤◌, ◌<◌, ◌⊎◌, List, [], Some, slice_get}
 use Rattle.ep_outside.specs.Known.{IsPrefix}
 use Rattle.ep_typed.specs.Events.{Trace}
 use Rattle.ep_typed.specs.Printing.{Result}
@@ -30,6 +30,7 @@ pub record Enters (declared : Declarations) (G : Image) (unit routine : ℕ) (in
   pub is : k ≡ at image_routine.entry below memory s.trace
   pub runs : memory.frames.routine ≡ routine
   pub in_unit : memory.frames.unit ≡ unit
+  pub without_calls : memory.frames.calls ≡ []
   pub matches : Matches declared G injection s memory
 
 -- The machine stands at an instruction that leaves the routine, in the same unit's frame and with these operands, and matches again by a longer injection; hidden segments and hidden slots are what they were, and the calls under way are those from which it began.

@@ -25,6 +25,15 @@ pub struct Place {
     pub type_number: u32,
 }
 
+/// Where a frame is.
+#[derive(Clone, Copy, Drop)]
+pub enum FrameNumber {
+    /// It is that of the unit of this number.
+    Unit(usize),
+    /// It is that of a call under way, over so many others.
+    Call(usize),
+}
+
 /// The words of an allocation, that is a variable of its own.
 #[derive(Drop)]
 pub struct Segment {

@@ -216,6 +216,26 @@ Push:0 Make:1=|broken at 1|2\n\
 Unit:-1:1 Load=|broken at 1|2\n\
 Push:0 Make:0 Slot:0 Text:0 Store=|broken at 4|8";
 
+/// Places that go into slots, and what is asked and done of variables besides their values.
+const PLACES: &str = "\
+Unit:-1:1 Bind:0 Slot:0 Text:0 Put Return=hi|normal|10\n\
+Unit:-1:1 Bind:1=|broken at 1|2\n\
+Unit:-1:1 Bind:-1=|broken at 1|2\n\
+Unit:-1:1 Bind:0:1=|broken at 1|2\n\
+Push:1 Bind:0=|broken at 1|2\n\
+Bind:0=|broken at 0|1\n\
+Unit:-1:1 Push:0 Make:0 Slot:0 Defined Form Put Return=0|normal|11\n\
+Unit:-1:1 Push:0 Make:0 Slot:0 Push:5 Store Slot:0 Defined Form Put Return=1|normal|14\n\
+Unit:-1:1 Defined Halt=|halt|3\n\
+Push:1 Defined=|broken at 1|2\n\
+Push:0 Make:0 Slot:0 Push:5 Store Slot:0 Undefine Slot:0 Load=|error 1 at 9|11\n\
+Unit:-1:1 Undefine=|broken at 1|2\n\
+Push:1 Undefine=|broken at 1|2\n\
+Push:2 Make:0 Slot:0 Like Make:0 Slot:0 Push:2 Store=|error 2 at 8|10\n\
+Push:7 Like Make:0 Slot:0 Push:9 Store Unit:-1:1 Slot:0 Load Form Put Return=9|normal|15\n\
+Text:0 Like=|broken at 1|4\n\
+Like=|broken at 0|1";
+
 /// Numbers.
 const SUMS: &str = "\
 Push:9223372036854775807 Push:1 Add=|error 8 at 3|3\n\
@@ -271,7 +291,9 @@ Push:0 Make:0 Slot:0 Text:0 Put=|broken at 4|8";
 
 #[test]
 fn each_row_comes_to_what_the_table_of_instructions_says(rt: HostRuntime) -> Result<(), Fail> {
-    for table in [OPERANDS, JUMPS, VARIABLES, SUMS, TRUTHS, TYPES, PRINTS] {
+    for table in [
+        OPERANDS, JUMPS, VARIABLES, PLACES, SUMS, TRUTHS, TYPES, PRINTS,
+    ] {
         let differing = differing(rt.alloc(), table)?;
         assert_eq!(rt; differing.as_str(), "");
     }

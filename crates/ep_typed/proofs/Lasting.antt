@@ -2,13 +2,13 @@
 use Rattle.std.proofs.Common.{◌≡◌, ℕ, ℤ, pos, negsuc, zero, suc, ◌+◌, List, [], ◌∷◌, Option, Some, None, Bool, true, false, length, refl, ap, arith}
 use Rattle.std.specs.Prelude.{if◌then◌else◌}
 use Rattle.ep_typed.specs.Denoters.{type_of}
-use Rattle.ep_typed.specs.Meaning.{answered, place, eval, write_piece, write_wide, write_item, write_items, assign, turns, turns_until, exec, exec_all, elaborated, make, make_all, start_of, starts_of, routine_of}
+use Rattle.ep_typed.specs.Meaning.{answered, place, eval, write_piece, write_wide, write_item, write_items, assign, turns, turns_until, exec, exec_all, elaborated, make, make_all, start_of, starts_of, routine_of, read, assign_living}
 use Rattle.ep_typed.specs.Operations.{Answer, Number, Fault, is_true, decides}
 use Rattle.ep_typed.specs.Printing.{Result, number_of, plain_text, wide_text, piece_events}
 use Rattle.ep_typed.specs.Printing as result
 use Rattle.ep_typed.specs.Calls.{Argument, Handler, entered, given_back, in_call}
 use Rattle.ep_typed.specs.Steady.{Grows, Steady, IsSteadyHandler}
-use Rattle.ep_typed.specs.Steps.{Call, End, Normal, Halted, Error, Word, State, Outcome, Gives, Ends, Cut, state_of, Computation, give, cut, stop, go_on, bind, spend, change, found, fetch, assigned, type_at, is_within, size_of, with_type, counted, made, allocate, standard_file, first_state}
+use Rattle.ep_typed.specs.Steps.{Call, End, Normal, Halted, Error, Word, State, Outcome, Gives, Ends, Cut, state_of, Computation, give, cut, stop, go_on, bind, spend, change, found, fetch, assigned, type_at, is_within, size_of, with_type, counted, made, allocate, standard_file, first_state, using, has_ended}
 use Rattle.ep_typed.specs.Trees.{Place, Variable, Standard, Expr, Constant, Text, Read, One, Two, Short, Step, Item, Plain, Wide, Stmt, Stmts, Empty, Compound, Assign, If, While, Repeat, Halt, Write, none, next}
 use Rattle.ep_typed.specs.Viewed.{denoter_of, stmt_of}
 use Rattle.ep_typed.specs.declared.operations.Print.{Print}
@@ -17,7 +17,7 @@ use Rattle.ep_typed.specs.declared.unit.UnitType.{UnitType}
 use Rattle.ep_typed.specs.declared.unit.UnitVariable.{UnitVariable}
 use Rattle.ep_typed.specs.declared.value.TypeValue.{TypeValue}
 use Rattle.ep_typed.specs.Laws.{IsLonger, MeaningsLast}
-use Rattle.ep_typed.proofs.Steady.{grows_refl, grows_trans, grows_quiet, grows_events, grows_type, grows_counted, grows_made, steady_give, steady_cut, steady_stop, steady_bind, steady_spend, steady_change, steady_fetch, steady_turns, steady_turns_until, steady_assign, steady_in_call, steady_routine_of}
+use Rattle.ep_typed.proofs.Steady.{grows_refl, grows_trans, grows_quiet, grows_events, grows_type, grows_counted, grows_made, steady_give, steady_cut, steady_stop, steady_bind, steady_spend, steady_change, steady_fetch, steady_turns, steady_turns_until, steady_in_call, steady_routine_of, steady_using, steady_assign_living}
 use Rattle.ep_typed.specs.declared.run_error.TheConstants as run_error
 
 -- What one computation comes to, another one comes to with more steps.
@@ -96,6 +96,14 @@ lasting_if : {A : Type 0} (b : Bool) {x y v w : Computation A} → Lasting x v �
 lasting_if true p q = p
 lasting_if false p q = q
 
+-- what uses an allocation
+lasting_using : {A : Type 0} {x y : Computation A} (e : End) (n : ℕ) → Lasting x y → Lasting (using e n x) (using e n y)
+lasting_using {A = A} {x = x} {y = y} e n p = record { steady = steady_using e n p.steady; by = λ m k s. go m k s (has_ended n s) }
+  where
+    go : (m k : ℕ) (s : State) (b : Bool) → IsLonger k ((if b then stop {A = A} e else x) m s) ((if b then stop {A = A} e else y) (m + k) s)
+    go m k s true = refl
+    go m k s false = p.by m k s
+
 -- a loop that may make more turns
 lasting_turns : (call other : Handler) (h i g j : ℕ) (unit : List ℕ) {test test2 : Computation Result} {body body2 : Computation (Unit {0})} → Lasting test test2 → Lasting body body2 → Lasting (turns call h unit g test body) (turns other i unit (g + j) test2 body2)
 lasting_turns call other h i zero j unit x y =
@@ -127,12 +135,15 @@ module _ (call other : Handler) (lasts : IsLastingHandler call other) (g j : ℕ
   lasting_place line (Variable u k) = lasting_bind (lasting_fetch _ _) (λ n. lasting_spend 1 (lasting_give n))
   lasting_place line (Standard file) = lasting_spend 1 (lasting_give (standard_file file))
 
+  -- the value of an allocation
+  lasting_read : (line n : ℕ) → Lasting (read call g unit line n) (read other (g + j) unit line n)
+  lasting_read line n = lasting_using _ n (lasting_bind (lasting_fetch _ _) (λ w. lasting_spend 1 (lasting_give (result.Number w))))
+
   -- an expression
   lasting_eval : (line : ℕ) (x : Expr) → Lasting (eval call g unit line x) (eval other (g + j) unit line x)
   lasting_eval line (Constant z) = lasting_spend 1 (lasting_give (result.Number z))
   lasting_eval line (Text bytes) = lasting_spend (suc (length bytes)) (lasting_give (result.Bytes bytes))
-  lasting_eval line (Read p) =
-      lasting_bind (lasting_place line p) (λ n. lasting_bind (lasting_fetch _ _) (λ w. lasting_spend 1 (lasting_give (result.Number w))))
+  lasting_eval line (Read p) = lasting_bind (lasting_place line p) (lasting_read line)
   lasting_eval line (One operation x) =
       lasting_bind (lasting_eval line x) (λ a. lasting_bind (lasting_answered line _) (λ z. lasting_spend 1 (lasting_give (result.Number z))))
   lasting_eval line (Two operation x y) =
@@ -167,14 +178,18 @@ module _ (call other : Handler) (lasts : IsLastingHandler call other) (g j : ℕ
   lasting_assigned : (n : ℕ) (z : ℤ) → Lasting (spend 1 (change (assigned n (Word z)))) (spend 1 (change (assigned n (Word z))))
   lasting_assigned n z = lasting_spend 1 (lasting_change (λ s. grows_quiet s (assigned n (Word z) s) refl refl))
 
-  -- an assignment
-  lasting_assign : (line n : ℕ) (z : ℤ) → Lasting (assign call g unit line n z) (assign other (g + j) unit line n z)
-  lasting_assign line n z = record { steady = steady_assign other lasts.steady (g + j) unit line n z; by = λ m k s. go m k s (is_within (type_at n s) z) }
+  -- an assignment to a variable that lives
+  lasting_assign_living : (line n : ℕ) (z : ℤ) → Lasting (assign_living call g unit line n z) (assign_living other (g + j) unit line n z)
+  lasting_assign_living line n z = record { steady = steady_assign_living other lasts.steady (g + j) unit line n z; by = λ m k s. go m k s (is_within (type_at n s) z) }
     where
       go : (m k : ℕ) (s : State) (b : Bool) → IsLonger k ((if b then spend 1 (change (assigned n (Word z))) else stop (Error run_error.OUTSIDE_TYPE unit line)) m s) ((if b then spend 1 (change (assigned n (Word z))) else stop (Error run_error.OUTSIDE_TYPE unit line)) (m + k) s)
       go m k s true =
           let x = lasting_assigned n z in x.by m k s
       go m k s false = refl
+
+  -- an assignment
+  lasting_assign : (line n : ℕ) (z : ℤ) → Lasting (assign call g unit line n z) (assign other (g + j) unit line n z)
+  lasting_assign line n z = lasting_using _ n (lasting_assign_living line n z)
 
   mutual
     lasting_exec : (x : Stmt) → Lasting (exec call g unit x) (exec other (g + j) unit x)

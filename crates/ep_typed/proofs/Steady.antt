@@ -5,13 +5,13 @@ use Rattle.std.specs.List.{list_any}
 use Rattle.ep_outside.specs.Known.{IsPrefix}
 use Rattle.ep_typed.specs.Denoters.{type_of}
 use Rattle.ep_typed.specs.Events.{Trace}
-use Rattle.ep_typed.specs.Meaning.{answered, place, eval, write_piece, write_wide, write_item, write_items, assign, turns, turns_until, exec, exec_all, elaborated, make, make_all, start_of, starts_of, routine_of}
+use Rattle.ep_typed.specs.Meaning.{answered, place, eval, write_piece, write_wide, write_item, write_items, assign, turns, turns_until, exec, exec_all, elaborated, make, make_all, start_of, starts_of, routine_of, read, assign_living}
 use Rattle.ep_typed.specs.Operations.{Answer, Number, Fault, is_true, decides}
 use Rattle.ep_typed.specs.Printing.{Result, number_of, plain_text, wide_text, piece_events}
 use Rattle.ep_typed.specs.Printing as result
 use Rattle.ep_typed.specs.Calls.{Handler, entered, given_back, in_call}
 use Rattle.ep_typed.specs.Steady.{Grows, Steady, IsSteadyHandler}
-use Rattle.ep_typed.specs.Steps.{Call, End, Normal, Halted, Error, Word, State, Outcome, Gives, Ends, Cut, state_of, Computation, give, cut, stop, go_on, bind, spend, change, found, fetch, with_events, assigned, type_at, is_within, size_of, same_type, Resources, watched, words_of_type, met, with_type, counted, made, allocate, standard_file}
+use Rattle.ep_typed.specs.Steps.{Call, End, Normal, Halted, Error, Word, State, Outcome, Gives, Ends, Cut, state_of, Computation, give, cut, stop, go_on, bind, spend, change, found, fetch, with_events, assigned, type_at, is_within, size_of, same_type, Resources, watched, words_of_type, met, with_type, counted, made, allocate, standard_file, using, has_ended}
 use Rattle.ep_typed.specs.Trees.{Place, Variable, Standard, Expr, Constant, Text, Read, One, Two, Short, Step, Item, Plain, Wide, Stmt, Stmts, Empty, Compound, Assign, If, While, Repeat, Halt, Write, none, next}
 use Rattle.ep_typed.specs.Viewed.{denoter_of, stmt_of}
 use Rattle.ep_typed.specs.declared.operations.Print.{Print}
@@ -124,6 +124,14 @@ pub steady_if : {A : Type 0} (b : Bool) {x y : Computation A} → Steady x → S
 steady_if true p q = p
 steady_if false p q = q
 
+-- what uses an allocation
+pub steady_using : {A : Type 0} {c : Computation A} (e : End) (n : ℕ) → Steady c → Steady (using e n c)
+steady_using {A = A} {c = c} e n h = record { by = λ m s. go m s (has_ended n s) }
+  where
+    go : (m : ℕ) (s : State) (b : Bool) → Grows s (state_of ((if b then stop {A = A} e else c) m s))
+    go m s true = grows_refl s
+    go m s false = h.by m s
+
 -- a loop
 pub steady_turns : (call : Handler) (h g : ℕ) (unit : List ℕ) {test : Computation Result} {body : Computation (Unit {0})} → Steady test → Steady body → Steady (turns call h unit g test body)
 steady_turns call h zero unit x y = steady_cut
@@ -149,12 +157,15 @@ module _ (call : Handler) (steady : IsSteadyHandler call) (g : ℕ) (unit : List
   steady_place line (Variable u k) = steady_bind (steady_fetch _ _) (λ n. steady_spend 1 (steady_give n))
   steady_place line (Standard file) = steady_spend 1 (steady_give (standard_file file))
 
+  -- the value of an allocation
+  pub steady_read : (line n : ℕ) → Steady (read call g unit line n)
+  steady_read line n = steady_using _ n (steady_bind (steady_fetch _ _) (λ w. steady_spend 1 (steady_give (result.Number w))))
+
   -- an expression
   pub steady_eval : (line : ℕ) (x : Expr) → Steady (eval call g unit line x)
   steady_eval line (Constant z) = steady_spend 1 (steady_give (result.Number z))
   steady_eval line (Text bytes) = steady_spend (suc (length bytes)) (steady_give (result.Bytes bytes))
-  steady_eval line (Read p) =
-      steady_bind (steady_place line p) (λ n. steady_bind (steady_fetch _ _) (λ w. steady_spend 1 (steady_give (result.Number w))))
+  steady_eval line (Read p) = steady_bind (steady_place line p) (steady_read line)
   steady_eval line (One operation x) =
       steady_bind (steady_eval line x) (λ a. steady_bind (steady_answered line _) (λ z. steady_spend 1 (steady_give (result.Number z))))
   steady_eval line (Two operation x y) =
@@ -189,14 +200,18 @@ module _ (call : Handler) (steady : IsSteadyHandler call) (g : ℕ) (unit : List
   pub steady_assigned : (n : ℕ) (z : ℤ) → Steady (spend 1 (change (assigned n (Word z))))
   steady_assigned n z = steady_spend 1 (steady_change (λ s. grows_quiet s (assigned n (Word z) s) refl refl))
 
-  -- an assignment
-  pub steady_assign : (line n : ℕ) (z : ℤ) → Steady (assign call g unit line n z)
-  steady_assign line n z = record { by = λ m s. go m s (is_within (type_at n s) z) }
+  -- an assignment to a variable that lives
+  pub steady_assign_living : (line n : ℕ) (z : ℤ) → Steady (assign_living call g unit line n z)
+  steady_assign_living line n z = record { by = λ m s. go m s (is_within (type_at n s) z) }
     where
       go : (m : ℕ) (s : State) (b : Bool) → Grows s (state_of ((if b then spend 1 (change (assigned n (Word z))) else stop (Error run_error.OUTSIDE_TYPE unit line)) m s))
       go m s true =
           let x = steady_assigned n z in x.by m s
       go m s false = grows_refl s
+
+  -- an assignment
+  pub steady_assign : (line n : ℕ) (z : ℤ) → Steady (assign call g unit line n z)
+  steady_assign line n z = steady_using _ n (steady_assign_living line n z)
 
   mutual
     pub steady_exec : (x : Stmt) → Steady (exec call g unit x)

@@ -4,7 +4,7 @@ use Rattle.ep_typed.specs.Calls.{Handler}
 use Rattle.ep_typed.specs.Denoters.{type_of}
 use Rattle.ep_typed.specs.Trees.{Denoter, Place, Variable, Standard, Expr, Constant, Text, Read, One, Two, Short, Step, Item, Plain, Wide, Stmt, Stmts, Empty, Compound, Assign, If, While, Repeat, Halt, Write, none, next}
 use Rattle.ep_typed.specs.Viewed.{denoter_of, stmt_of}
-use Rattle.ep_typed.specs.Steps.{Normal, Halted, Error, Word, Outcome, Computation, give, cut, stop, bind, spend, change, fetch, with_events, word_at, assigned, type_at, is_within, with_type, allocate, standard_file, first_state}
+use Rattle.ep_typed.specs.Steps.{Normal, Halted, Error, Word, Outcome, Computation, give, cut, stop, bind, spend, change, fetch, with_events, word_at, assigned, type_at, is_within, with_type, allocate, standard_file, first_state, using}
 use Rattle.ep_typed.specs.Operations.{Answer, Number, Fault, unary_answer, binary_answer, step_answer, is_true, decides}
 use Rattle.ep_typed.specs.Printing.{Result, Bytes, number_of, line_end, plain_text, wide_text, piece_events}
 use Rattle.ep_typed.specs.Printing as result
@@ -31,11 +31,15 @@ module _ (call : Handler) (g : ℕ) (unit : List ℕ) where
   place line (Variable u k) = bind (fetch (Error run_error.UNDEFINED_VALUE unit line) (λ s. s.variables u k)) (λ n. spend 1 (give n))
   place line (Standard file) = spend 1 (give (standard_file file))
 
+  -- the value of an allocation: an error where that has ended, and else where the value is undefined
+  abbrev pub read : ℕ → ℕ → Computation Result
+  read line n = using (Error run_error.DISPOSED unit line) n (bind (fetch (Error run_error.UNDEFINED_VALUE unit line) (word_at n)) (λ w. spend 1 (give (result.Number w))))
+
   -- an expression spends a step and its weight when it is done
   abbrev pub eval : ℕ → Expr → Computation Result
   eval line (Constant z) = spend 1 (give (result.Number z))
   eval line (Text bytes) = spend (suc (length bytes)) (give (Bytes bytes))
-  eval line (Read p) = bind (place line p) (λ n. bind (fetch (Error run_error.UNDEFINED_VALUE unit line) (word_at n)) (λ w. spend 1 (give (result.Number w))))
+  eval line (Read p) = bind (place line p) (read line)
   eval line (One operation x) = bind (eval line x) (λ a. bind (answered line (unary_answer operation (number_of a))) (λ z. spend 1 (give (result.Number z))))
   eval line (Two operation x y) =
       bind (eval line x) (λ a. bind (eval line y) (λ b. bind (answered line (binary_answer operation (number_of a) (number_of b))) (λ z. spend 1 (give (result.Number z)))))
@@ -64,8 +68,12 @@ module _ (call : Handler) (g : ℕ) (unit : List ℕ) where
   write_items line (i ∷ is) ends_line = bind (write_item line i) (λ _. write_items line is ends_line)
 
   -- an error where the value is outside the type of the variable
+  abbrev pub assign_living : ℕ → ℕ → ℤ → Computation (Unit {0})
+  assign_living line n z m s = (if is_within (type_at n s) z then spend 1 (change (assigned n (Word z))) else stop (Error run_error.OUTSIDE_TYPE unit line)) m s
+
+  -- an error where the variable has ended, and else where the value is outside its type
   abbrev pub assign : ℕ → ℕ → ℤ → Computation (Unit {0})
-  assign line n z m s = (if is_within (type_at n s) z then spend 1 (change (assigned n (Word z))) else stop (Error run_error.OUTSIDE_TYPE unit line)) m s
+  assign line n z = using (Error run_error.DISPOSED unit line) n (assign_living line n z)
 
   -- at most so many turns; a turn spends a step, and so does the statement in the end
   abbrev pub turns : ℕ → Computation Result → Computation (Unit {0}) → Computation (Unit {0})

@@ -22,10 +22,11 @@ pub data Value : Type 0 where
   Word : (number : ℤ) → Value
 
 -- an allocation: a variable that a declaration makes, or a standard file. They are numbered from 1 in the order of
--- their making, and `input` and `output` are the first two.
+-- their making, and `input` and `output` are the first two. One that has ended keeps its number.
 pub record Allocation : Type 0 where
   pub type_value : TypeValue
   pub value : Value
+  pub ended : Bool
 
 -- What is counted of resources: the distinct type values that were elaborated, the words of allocations with one more
 -- for each, what is set aside for activations, `for` and structured values under way, the words of type values, and
@@ -119,6 +120,18 @@ with_events events s = record s { trace = s.trace ++ events }
 abbrev pub allocation_at : List Allocation → ℕ → Option Allocation
 allocation_at allocations zero = None
 allocation_at allocations (suc n) = slice_get allocations n
+
+abbrev pub ended_in : Option Allocation → Bool
+ended_in None = false
+ended_in (Some a) = a.ended
+
+-- whether the allocation of this number has ended
+abbrev pub has_ended : ℕ → State → Bool
+has_ended n s = ended_in (allocation_at s.allocations n)
+
+-- what uses an allocation, or an end where that has ended
+abbrev pub using : {A : Type 0} → End → ℕ → Computation A → Computation A
+using e n c m s = (if has_ended n s then stop e else c) m s
 
 abbrev pub word_of : Value → Option ℤ
 word_of Undefined = None
@@ -214,7 +227,7 @@ counted t s = record s { resources = taken (size_of t + 1) s.resources }
 abbrev pub made : List ℕ → ℕ → TypeValue → State → State
 made unit number t s =
     record s {
-      allocations = s.allocations ++ record { type_value = t; value = Undefined } ∷ [];
+      allocations = s.allocations ++ record { type_value = t; value = Undefined; ended = false } ∷ [];
       variables = bound unit number (suc (length s.allocations)) s.variables;
     }
 
@@ -227,11 +240,14 @@ abbrev pub standard_file : StandardFile → ℕ
 standard_file Input = 1
 standard_file Output = 2
 
+abbrev pub standard_allocation : Allocation
+standard_allocation = record { type_value = Text; value = Undefined; ended = false }
+
 -- the state before the first unit is started: `input` and `output` are there
 abbrev pub first_state : State
 first_state =
     record {
-      allocations = record { type_value = Text; value = Undefined } ∷ record { type_value = Text; value = Undefined } ∷ [];
+      allocations = standard_allocation ∷ standard_allocation ∷ [];
       variables = λ unit number. None;
       calls = [];
       resources = record { types = []; allocated = 4; reserved = 0; typed = 0; lost = false };

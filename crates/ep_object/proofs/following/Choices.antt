@@ -17,7 +17,7 @@ use Rattle.ep_typed.specs.Meaning.{answered, turns, turns_until}
 use Rattle.ep_typed.specs.Operations.{Answer, Number, Fault, is_true}
 use Rattle.ep_typed.specs.Printing.{Result, number_of}
 use Rattle.ep_typed.specs.Steady.{Steady}
-use Rattle.ep_typed.specs.Steps.{Computation, give, stop, go_on, bind, spend, change, found, fetch}
+use Rattle.ep_typed.specs.Steps.{Computation, give, stop, go_on, bind, spend, change, found, fetch, using, has_ended}
 use Rattle.ep_typed.specs.Steps as meaning
 use Rattle.ep_typed.specs.Valid as kind
 use Rattle.ep_typed.specs.Valid.{Declarations}
@@ -32,41 +32,70 @@ pub data Reads {A : Type 0} (declared : Declarations) (G : Image) (Here : Facts)
   Finds : (a : A) (is : o ≡ Some a) (does : Does declared G Here k 0 to (Post a) s)
       → Reads declared G Here k number unit line to Post s o
 
--- one instruction, with the step of the form
+module _ {A B : Type 0} {declared : Declarations} {G : Image} {Here : Facts} {n : ℕ} {to : ℕ} {P : B → After} {d : ℕ} {e : B → ℕ} {number line : ℕ} {unit : List ℕ} (from : Point) (h : meaning.State → Option A) (f : A → B) where
+  -- one instruction, with the step of the form, from one state
+  pub follows_fetch : (s : meaning.State)
+      → Reads declared G Here (state_at from s.trace) number unit line to (λ a. P (f a)) s (h s)
+      → 1 ≤ d → ((a : A) → e (f a) ≤ d + 63)
+      → Follows (λ k. IsNotLeft from.memory.frames k.frames) G (suc n) (state_at from s.trace) s (bind (fetch (meaning.Error number unit line) h) (λ a. spend 1 (give (f a)))) (λ b. Lands declared G Here to (P b)) d e
+  follows_fetch s reads le le2 = record { by = λ m l. by_option m (h s) refl (go m l (h s) reads) }
+    where
+      by_option : (m : ℕ) (o : Option A) → h s ≡ o
+          → Met (λ k. IsNotLeft from.memory.frames k.frames) G (state_at from s.trace) m (λ a. Lands declared G Here to (P a)) d e (bind (found (meaning.Error number unit line) o) (λ a. spend 1 (give (f a))) m s)
+          → Met (λ k. IsNotLeft from.memory.frames k.frames) G (state_at from s.trace) m (λ a. Lands declared G Here to (P a)) d e (bind (fetch (meaning.Error number unit line) h) (λ a. spend 1 (give (f a))) m s)
+      by_option m o q x = subst (λ y. Met (λ k. IsNotLeft from.memory.frames k.frames) G (state_at from s.trace) m (λ a. Lands declared G Here to (P a)) d e (bind (found (meaning.Error number unit line) y) (λ a. spend 1 (give (f a))) m s)) (sym q) x
+
+      missed : FailsWith G (state_at from s.trace) 0 number unit line s
+          → Follows (λ k. IsNotLeft from.memory.frames k.frames) G (suc n) (state_at from s.trace) s (stop {A = B} (meaning.Error number unit line)) (λ a. Lands declared G Here to (P a)) d e
+      missed fails = follows_stop (not_left-here from.memory.frames) fails.fails le
+
+      met : (a : A) → Does declared G Here (state_at from s.trace) 0 to (P (f a)) s
+          → Follows (λ k. IsNotLeft from.memory.frames k.frames) G (suc n) (state_at from s.trace) s (spend 1 (give (f a))) (λ b. Lands declared G Here to (P b)) d e
+      met a does =
+          let small : e (f a) ≤ d + 63 = le2 a in
+          follows_paid {v = 0} {w = 0} {d1 = d + 63} (not_left-here from.memory.frames) refl does.does (omega arith) (omega arith) (omega arith) (follows_give (f a) small (landed does))
+
+      go : (m : ℕ) → m ≤ suc n → (o : Option A)
+          → Reads declared G Here (state_at from s.trace) number unit line to (λ a. P (f a)) s o
+          → Met (λ k. IsNotLeft from.memory.frames k.frames) G (state_at from s.trace) m (λ a. Lands declared G Here to (P a)) d e (bind (found (meaning.Error number unit line) o) (λ a. spend 1 (give (f a))) m s)
+      go m l o (Misses is fails) =
+          let z = missed fails in
+          subst (λ y. Met (λ k. IsNotLeft from.memory.frames k.frames) G (state_at from s.trace) m (λ a. Lands declared G Here to (P a)) d e (bind (found (meaning.Error number unit line) y) (λ a. spend 1 (give (f a))) m s)) (sym is) (z.by m l)
+      go m l o (Finds a is does) =
+          let z = met a does in
+          subst (λ y. Met (λ k. IsNotLeft from.memory.frames k.frames) G (state_at from s.trace) m (λ a. Lands declared G Here to (P a)) d e (bind (found (meaning.Error number unit line) y) (λ a. spend 1 (give (f a))) m s)) (sym is) (z.by m l)
+
+-- the same from every state
 pub fragment_fetch : {A B : Type 0} {declared : Declarations} {G : Image} {Here : Facts} {n : ℕ} {from : Point} {to : ℕ} {P : B → After} {d : ℕ} {e : B → ℕ} {number line : ℕ} {unit : List ℕ} (h : meaning.State → Option A) (f : A → B)
     → ((s : meaning.State) → Matches declared G from.injection s from.memory → Here from.injection s from.memory → Reads declared G Here (state_at from s.trace) number unit line to (λ a. P (f a)) s (h s))
     → 1 ≤ d → ((a : A) → e (f a) ≤ d + 63)
     → Fragment declared G Here (suc n) from (bind (fetch (meaning.Error number unit line) h) (λ a. spend 1 (give (f a)))) to P d e
-fragment_fetch {A = A} {B = B} {declared = declared} {G = G} {Here = Here} {n = n} {from = from} {to = to} {P = P} {d = d} {e = e} {number = number} {line = line} {unit = unit} h f reads le le2 =
-    record { by = λ s matches here. record { by = λ m l. by_option s m (h s) refl (go s m l (h s) (reads s matches here)) } }
+fragment_fetch {from = from} h f reads le le2 = record { by = λ s matches here. follows_fetch from h f s (reads s matches here) le le2 }
+
+-- ---- what is used has to live
+
+-- where an allocation has ended that is used, the instruction ends with the error, and else the computation is followed
+pub fragment_using : {A : Type 0} {declared : Declarations} {G : Image} {Here : Facts} {n : ℕ} {from : Point} {to : ℕ} {c : Computation A} {P : A → After} {d : ℕ} {e : A → ℕ} {number line : ℕ} {unit : List ℕ} (a : ℕ)
+    → ((s : meaning.State) → Matches declared G from.injection s from.memory → has_ended a s ≡ true → FailsWith G (state_at from s.trace) 0 number unit line s)
+    → 1 ≤ d
+    → ((s : meaning.State) → Matches declared G from.injection s from.memory → Here from.injection s from.memory → has_ended a s ≡ false → Follows (λ k. IsNotLeft from.memory.frames k.frames) G n (state_at from s.trace) s c (λ x. Lands declared G Here to (P x)) d e)
+    → Fragment declared G Here n from (using (meaning.Error number unit line) a c) to P d e
+fragment_using {A = A} {declared = declared} {G = G} {Here = Here} {n = n} {from = from} {to = to} {c = c} {P = P} {d = d} {e = e} {number = number} {line = line} {unit = unit} a ends le lives =
+    record { by = λ s matches here. record { by = λ m l. go s matches here m l (has_ended a s) refl } }
   where
-    read : Option A → Computation B
-    read o = bind (found (meaning.Error number unit line) o) (λ a. spend 1 (give (f a)))
+    ended : (s : meaning.State) → FailsWith G (state_at from s.trace) 0 number unit line s
+        → Follows (λ k. IsNotLeft from.memory.frames k.frames) G n (state_at from s.trace) s (stop {A = A} (meaning.Error number unit line)) (λ x. Lands declared G Here to (P x)) d e
+    ended s x = follows_stop (not_left-here from.memory.frames) x.fails le
 
-    by_option : (s : meaning.State) (m : ℕ) (o : Option A) → h s ≡ o
-        → Met (λ k. IsNotLeft from.memory.frames k.frames) G (state_at from s.trace) m (λ a. Lands declared G Here to (P a)) d e (bind (found (meaning.Error number unit line) o) (λ a. spend 1 (give (f a))) m s)
-        → Met (λ k. IsNotLeft from.memory.frames k.frames) G (state_at from s.trace) m (λ a. Lands declared G Here to (P a)) d e (bind (fetch (meaning.Error number unit line) h) (λ a. spend 1 (give (f a))) m s)
-    by_option s m o q x = subst (λ y. Met (λ k. IsNotLeft from.memory.frames k.frames) G (state_at from s.trace) m (λ a. Lands declared G Here to (P a)) d e (bind (found (meaning.Error number unit line) y) (λ a. spend 1 (give (f a))) m s)) (sym q) x
-
-    missed : (s : meaning.State) → FailsWith G (state_at from s.trace) 0 number unit line s
-        → Follows (λ k. IsNotLeft from.memory.frames k.frames) G (suc n) (state_at from s.trace) s (stop {A = B} (meaning.Error number unit line)) (λ a. Lands declared G Here to (P a)) d e
-    missed s fails = follows_stop (not_left-here from.memory.frames) fails.fails le
-
-    met : (s : meaning.State) (a : A) → Does declared G Here (state_at from s.trace) 0 to (P (f a)) s
-        → Follows (λ k. IsNotLeft from.memory.frames k.frames) G (suc n) (state_at from s.trace) s (spend 1 (give (f a))) (λ b. Lands declared G Here to (P b)) d e
-    met s a does =
-        let small : e (f a) ≤ d + 63 = le2 a in
-        follows_paid {v = 0} {w = 0} {d1 = d + 63} (not_left-here from.memory.frames) refl does.does (omega arith) (omega arith) (omega arith) (follows_give (f a) small (landed does))
-
-    go : (s : meaning.State) (m : ℕ) → m ≤ suc n → (o : Option A)
-        → Reads declared G Here (state_at from s.trace) number unit line to (λ a. P (f a)) s o
-        → Met (λ k. IsNotLeft from.memory.frames k.frames) G (state_at from s.trace) m (λ a. Lands declared G Here to (P a)) d e (bind (found (meaning.Error number unit line) o) (λ a. spend 1 (give (f a))) m s)
-    go s m l o (Misses is fails) =
-        let z = missed s fails in
-        subst (λ y. Met (λ k. IsNotLeft from.memory.frames k.frames) G (state_at from s.trace) m (λ a. Lands declared G Here to (P a)) d e (bind (found (meaning.Error number unit line) y) (λ a. spend 1 (give (f a))) m s)) (sym is) (z.by m l)
-    go s m l o (Finds a is does) =
-        let z = met s a does in
-        subst (λ y. Met (λ k. IsNotLeft from.memory.frames k.frames) G (state_at from s.trace) m (λ a. Lands declared G Here to (P a)) d e (bind (found (meaning.Error number unit line) y) (λ a. spend 1 (give (f a))) m s)) (sym is) (z.by m l)
+    go : (s : meaning.State) → Matches declared G from.injection s from.memory
+        → Here from.injection s from.memory → (m : ℕ) → m ≤ n → (b : Bool) → has_ended a s ≡ b
+        → Met (λ k. IsNotLeft from.memory.frames k.frames) G (state_at from s.trace) m (λ x. Lands declared G Here to (P x)) d e ((if has_ended a s then stop (meaning.Error number unit line) else c) m s)
+    go s matches here m l true q =
+        let z = ended s (ends s matches q) in
+        subst (λ y. Met (λ k. IsNotLeft from.memory.frames k.frames) G (state_at from s.trace) m (λ x. Lands declared G Here to (P x)) d e ((if y then stop (meaning.Error number unit line) else c) m s)) (sym q) (z.by m l)
+    go s matches here m l false q =
+        let z = lives s matches here q in
+        subst (λ y. Met (λ k. IsNotLeft from.memory.frames k.frames) G (state_at from s.trace) m (λ x. Lands declared G Here to (P x)) d e ((if y then stop (meaning.Error number unit line) else c) m s)) (sym q) (z.by m l)
 
 -- ---- an answer
 
@@ -89,30 +118,29 @@ fragment_answer call g unit line below (Fault error) f does post le le2 = fragme
 -- ---- a change of the state that is checked first
 
 -- the instruction checks what the computation checks, and changes the state with a step, or ends with the error
-pub fragment_checked : {declared : Declarations} {G : Image} {Here : Facts} {n : ℕ} {from : Point} {to : ℕ} {P : Unit {0} → After} {d : ℕ} {e : Unit {0} → ℕ} {number line : ℕ} {unit : List ℕ} (b : meaning.State → Bool) (f : meaning.State → meaning.State)
-    → ((s : meaning.State) → Matches declared G from.injection s from.memory → Here from.injection s from.memory → b s ≡ true → Does declared G Here (state_at from s.trace) 0 to (P tt) (f s))
-    → ((s : meaning.State) → Matches declared G from.injection s from.memory → b s ≡ false → FailsWith G (state_at from s.trace) 0 number unit line s)
+pub follows_checked : {declared : Declarations} {G : Image} {Here : Facts} {n : ℕ} {to : ℕ} {P : Unit {0} → After} {d : ℕ} {e : Unit {0} → ℕ} {number line : ℕ} {unit : List ℕ} (from : Point) (b : meaning.State → Bool) (f : meaning.State → meaning.State) (s : meaning.State)
+    → (b s ≡ true → Does declared G Here (state_at from s.trace) 0 to (P tt) (f s))
+    → (b s ≡ false → FailsWith G (state_at from s.trace) 0 number unit line s)
     → 1 ≤ d → e tt ≤ d + 63
-    → Fragment declared G Here (suc n) from (λ m s. (if b s then spend 1 (change f) else stop (meaning.Error number unit line)) m s) to P d e
-fragment_checked {declared = declared} {G = G} {Here = Here} {n = n} {from = from} {to = to} {P = P} {d = d} {e = e} {number = number} {line = line} {unit = unit} b f passes refuses le le2 =
-    record { by = λ s matches here. record { by = λ m l. go s matches here m l (b s) refl } }
+    → Follows (λ k. IsNotLeft from.memory.frames k.frames) G (suc n) (state_at from s.trace) s (λ m s. (if b s then spend 1 (change f) else stop (meaning.Error number unit line)) m s) (λ a. Lands declared G Here to (P a)) d e
+follows_checked {declared = declared} {G = G} {Here = Here} {n = n} {to = to} {P = P} {d = d} {e = e} {number = number} {line = line} {unit = unit} from b f s passes refuses le le2 =
+    record { by = λ m l. go m l (b s) refl }
   where
-    holds : (s : meaning.State) → Does declared G Here (state_at from s.trace) 0 to (P tt) (f s)
+    holds : Does declared G Here (state_at from s.trace) 0 to (P tt) (f s)
         → Follows (λ k. IsNotLeft from.memory.frames k.frames) G (suc n) (state_at from s.trace) s (spend 1 (change f)) (λ a. Lands declared G Here to (P a)) d e
-    holds s does = follows_paid {v = 0} {w = 0} {d1 = d + 63} (not_left-here from.memory.frames) refl does.does (omega arith) (omega arith) (omega arith) (follows_changed {n = n} f {P = λ a. Lands declared G Here to (P a)} {d = d + 63} {e = e} le2 (landed does))
+    holds does = follows_paid {v = 0} {w = 0} {d1 = d + 63} (not_left-here from.memory.frames) refl does.does (omega arith) (omega arith) (omega arith) (follows_changed {n = n} f {P = λ a. Lands declared G Here to (P a)} {d = d + 63} {e = e} le2 (landed does))
 
-    fails : (s : meaning.State) → FailsWith G (state_at from s.trace) 0 number unit line s
+    fails : FailsWith G (state_at from s.trace) 0 number unit line s
         → Follows (λ k. IsNotLeft from.memory.frames k.frames) G (suc n) (state_at from s.trace) s (stop {A = Unit {0}} (meaning.Error number unit line)) (λ a. Lands declared G Here to (P a)) d e
-    fails s x = follows_stop (not_left-here from.memory.frames) x.fails le
+    fails x = follows_stop (not_left-here from.memory.frames) x.fails le
 
-    go : (s : meaning.State) → Matches declared G from.injection s from.memory
-        → Here from.injection s from.memory → (m : ℕ) → m ≤ suc n → (x : Bool) → b s ≡ x
+    go : (m : ℕ) → m ≤ suc n → (x : Bool) → b s ≡ x
         → Met (λ k. IsNotLeft from.memory.frames k.frames) G (state_at from s.trace) m (λ a. Lands declared G Here to (P a)) d e ((if b s then spend 1 (change f) else stop (meaning.Error number unit line)) m s)
-    go s matches here m l true q =
-        let z = holds s (passes s matches here q) in
+    go m l true q =
+        let z = holds (passes q) in
         subst (λ y. Met (λ k. IsNotLeft from.memory.frames k.frames) G (state_at from s.trace) m (λ a. Lands declared G Here to (P a)) d e ((if y then spend 1 (change f) else stop (meaning.Error number unit line)) m s)) (sym q) (z.by m l)
-    go s matches here m l false q =
-        let z = fails s (refuses s matches q) in
+    go m l false q =
+        let z = fails (refuses q) in
         subst (λ y. Met (λ k. IsNotLeft from.memory.frames k.frames) G (state_at from s.trace) m (λ a. Lands declared G Here to (P a)) d e ((if y then spend 1 (change f) else stop (meaning.Error number unit line)) m s)) (sym q) (z.by m l)
 
 -- ---- one of two ways

@@ -11,7 +11,7 @@ use Rattle.ep_object.specs.State.{State, Running, Stopped}
 use Rattle.ep_object.specs.declared.code.Image.{Image}
 use Rattle.ep_object.proofs.following.Bind.{Met, follows_post, one_state}
 use Rattle.ep_object.proofs.following.Fragments.{fragment_post}
-use Rattle.ep_object.proofs.matching.Growing.{before_or_not, since_here, since_holds}
+use Rattle.ep_object.proofs.matching.Growing.{before_or_not, not_left-same, since_here, since_holds}
 use Rattle.ep_object.proofs.Grows.{is_prefix}
 use Rattle.ep_object.proofs.following.Simulating.{stays_in}
 use Rattle.ep_object.proofs.Tells.{events_between, ends_after}
@@ -96,7 +96,7 @@ module _ (declared : Declarations) (G : Image) (injection : Injection) (s : mean
       still_in u v l le runs (inl late) =
           let lands = x.post in
           let here : run G x.ticks 0 from_call ≡ Running v l = ap (λ i. run G i 0 from_call) {x = x.ticks} {y = u} (omega (arith, le, late)) ∙ runs in
-          subst InCaller (one_state (sym x.runs ∙ here)) (subst (λ (l : State). IsNotLeft memory.frames l.frames) (sym lands.is) (record { runs = lands.post.routine }))
+          subst InCaller (one_state (sym x.runs ∙ here)) (subst (λ (l : State). IsNotLeft memory.frames l.frames) (sym lands.is) (not_left-same lands.post.routine))
 
   -- where it ends the run, it ends
   ends_in_call : (m left : ℕ) (end : meaning.End) (t : meaning.State)

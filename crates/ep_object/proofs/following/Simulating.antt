@@ -1,5 +1,5 @@
 -- What runs from the entry of a routine do that simulates a computation.
-use Rattle.std.proofs.Common.{◌≡◌, ℕ, zero, suc, ◌+◌, ◌≤◌, ◌<◌, ◌⊎◌, inl, inr, List, Some, slice_get, refl, sym, ap, ◌∙◌, subst, arith}
+use Rattle.std.proofs.Common.{◌≡◌, ℕ, zero, suc, ◌+◌, ◌≤◌, ◌<◌, ◌⊎◌, inl, inr, List, [], Some, slice_get, refl, sym, ap, ◌∙◌, subst, arith}
 use Rattle.ep_outside.specs.Known.{IsPrefix}
 use Rattle.ep_typed.specs.Events.{Trace}
 use Rattle.ep_typed.specs.Steps.{Outcome, Gives, Ends, Cut, Computation, spend, state_of}
@@ -16,7 +16,7 @@ use Rattle.ep_object.specs.State.{State, Frames, Going, Running, Stopped}
 use Rattle.ep_object.specs.declared.code.Image.{Image}
 use Rattle.ep_object.specs.declared.code.ImageRoutine.{ImageRoutine}
 use Rattle.ep_object.proofs.following.Bind.{one_state, stays_wider, stays_here, stays_join, Met, gives_up_weaken, follows_moves, run_instruction}
-use Rattle.ep_object.proofs.matching.Growing.{before_or_not, not_left-here}
+use Rattle.ep_object.proofs.matching.Growing.{before_or_not, no_calls, not_left-here, not_left-same}
 use Rattle.ep_object.proofs.Grows.{is_prefix, prefix_then, run_grows}
 use Rattle.ep_object.proofs.Tells.{running_before, events_between, ends_after}
 use Rattle.ep_object.proofs.Views.{runs_extend}
@@ -56,7 +56,7 @@ module _ {A : Type 0} {declared : Declarations} {G : Image} {unit routine n : �
   -- where it is left it is still the routine
   is_left : (a : A) (t : meaning.State) (l : State) → Leaves declared G injection s memory (Results below a) t l
       → In l
-  is_left a t l post = let lands = post.lands in subst (λ (l : State). IsNotLeft memory.frames l.frames) (sym lands.is) (record { runs = lands.post.routine })
+  is_left a t l post = let lands = post.lands in subst (λ (l : State). IsNotLeft memory.frames l.frames) (sym lands.is) (not_left-same lands.post.routine)
 
   at_home : In k
   at_home = subst (λ (f : Frames). IsNotLeft memory.frames f) (sym in_frames) (not_left-here memory.frames)
@@ -192,13 +192,14 @@ leaves_enters {G = G} {k = k} leaves =
 abbrev pub next_frames : ℕ → Activation → Frames → Frames
 next_frames turn x frames = record frames { turn = turn; routine = x.routine; unit = x.unit }
 
--- The instruction that leaves a start or a stop leads to the entry of the next one, and the machine matches there: nothing
--- of the match reads which of them runs.
+-- The instruction that leaves a start or a stop, which began without calls, leads to the entry of the next one, and the
+-- machine matches there: nothing of the match reads which of them runs.
 pub enters_next : {declared : Declarations} {G : Image} {injection : Injection} {begun : meaning.State} {memory : Memory} {below : List Operand} {s : meaning.State} {k : State}
+    → memory.frames.calls ≡ []
     → (leaves : Leaves declared G injection begun memory (Bare below tt) s k) (x : Activation) (r : ImageRoutine)
     → activation G (k.frames.turn + 1) ≡ Some x → routine_of G x.routine ≡ Some r
     → (longer : Injection) × ((after : Memory) × ((next : State) × (outcome G k ≡ record { weight = 0; to = Running 0 next }) × Enters declared G x.unit x.routine longer after below s next))
-enters_next {G = G} {below = below} {s = s} {k = k} leaves x r is_next there =
+enters_next {G = G} {memory = memory} {below = below} {s = s} {k = k} alone leaves x r is_next there =
     let lands = leaves.lands in
     let inside = lands.post in
     let frames : Frames = next_frames (k.frames.turn + 1) x k.frames in
@@ -217,6 +218,7 @@ enters_next {G = G} {below = below} {s = s} {k = k} leaves x r is_next there =
             is = ap (λ (l : State). record l { place = r.entry; frames = next_frames (k.frames.turn + 1) x l.frames }) lands.is ∙ ap (λ o. at r.entry o after s.trace) inside.operands_are;
             runs = refl;
             in_unit = refl;
+            without_calls = no_calls memory.frames.calls lands.memory.frames.calls inside.routine.calls alone;
             matches = let m = lands.matches in record { injected = m.injected; store = m.store; types = m.types; units = m.units; outside = m.outside; counts = m.counts };
           },
         ),

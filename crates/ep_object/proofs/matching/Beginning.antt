@@ -1,6 +1,6 @@
 -- The machine matches the meaning before the first start.
 use Rattle.std.proofs.Common.{◌≡◌, ℕ, zero, suc, ◌≤◌, List, [], ◌∷◌, length, Option, Some, None, slice_get, replicate, map, refl, ap, ◌∙◌, subst, arith}
-use Rattle.ep_object.specs.Matching.{Memory, Injection, IsIn, MatchesSlot, Represents, Matches}
+use Rattle.ep_object.specs.Matching.{Memory, Injection, IsIn, MatchesSlot, Represents, IsRepresented, Matches}
 use Rattle.ep_object.specs.State.{Frames, Segments, empty_slots, first_segments, first_types, first_live}
 use Rattle.ep_object.specs.declared.code.Image.{Image}
 use Rattle.ep_object.specs.declared.state.Place.{Place}
@@ -9,7 +9,6 @@ use Rattle.ep_object.proofs.Grows.{is_prefix}
 use Rattle.ep_typed.specs.Steps.{Allocation, Resources}
 use Rattle.ep_typed.specs.Steps as meaning
 use Rattle.ep_typed.specs.Valid.{Declarations}
-use Rattle.ep_typed.specs.declared.value.TypeValue.TheVariants as type
 
 -- before the first start, in these frames
 abbrev pub first_memory : Frames → Memory
@@ -68,7 +67,7 @@ first_apart m (suc (suc (suc n))) segment h k = cc
 
 -- a standard file
 abbrev file : Allocation
-file = record { type_value = type.Text; value = meaning.Undefined }
+file = meaning.standard_allocation
 
 input_represented : Represents first_segments first_types 1 file
 input_represented = record { type_number = 3; stands = refl; described = refl; value = tt }
@@ -78,11 +77,14 @@ output_represented = record { type_number = 3; stands = refl; described = refl; 
 
 first_represented : (n segment : ℕ) (allocation : Allocation) → IsIn first_injection n segment
     → meaning.allocation_at meaning.first_state.allocations n ≡ Some allocation
-    → Represents first_segments first_types segment allocation
+    → IsRepresented first_segments first_types segment allocation
 first_represented zero segment a h k = absurd h
-first_represented (suc zero) segment a h k = let e : 1 ≡ segment = cc in let f : file ≡ a = cc in subst (λ x. Represents first_segments first_types x a) e (subst (λ x. Represents first_segments first_types 1 x) f input_represented)
-first_represented (suc (suc zero)) segment a h k = let e : 2 ≡ segment = cc in let f : file ≡ a = cc in subst (λ x. Represents first_segments first_types x a) e (subst (λ x. Represents first_segments first_types 2 x) f output_represented)
+first_represented (suc zero) segment a h k = let e : 1 ≡ segment = cc in let f : file ≡ a = cc in subst (λ x. IsRepresented first_segments first_types x a) e (subst (λ x. IsRepresented first_segments first_types 1 x) f input_represented)
+first_represented (suc (suc zero)) segment a h k = let e : 2 ≡ segment = cc in let f : file ≡ a = cc in subst (λ x. IsRepresented first_segments first_types x a) e (subst (λ x. IsRepresented first_segments first_types 2 x) f output_represented)
 first_represented (suc (suc (suc n))) segment a h k = cc
+
+no_place : (place : Place) → ◌≡◌ {A = Option Place} None (Some place) → ⊥
+no_place place h = cc
 
 nothing : (n : ℕ) → ◌≡◌ {A = Option ℕ} None (Some n) → ⊥
 nothing n h = cc
@@ -102,9 +104,10 @@ first_matches declared G frames empty =
           is = ap (λ units. slice_get units unit) empty ∙ map_at empty_slots G.units unit u there;
           count = length-replicate u.slots None;
           matches = λ k v slot is_declared at_k. empty_slot first_segments slot (replicate_at u.slots None slot k at_k);
+          described = λ k v place t is_declared at_k has_type. absurd (no_place place (replicate_at u.slots None (Some place) k at_k));
         };
         typed = λ unit k n v h e. absurd (nothing n h);
       };
-      outside = record { output = refl };
+      outside = record { output = refl; lives = refl };
       counts = record { words = omega arith; hidden = omega arith; number = omega arith };
     }

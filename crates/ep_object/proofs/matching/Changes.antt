@@ -1,18 +1,19 @@
 -- The machine goes on matching where a value is assigned or events are added.
-use Rattle.std.proofs.Common.{◌≡◌, ℕ, zero, suc, true, ◌<◌, ◌⊎◌, inl, inr, List, length, Option, Some, None, slice_get, slice_set, refl, sym, ap, ◌∙◌, subst, arith}
+use Rattle.std.proofs.Common.{◌≡◌, ℕ, zero, suc, true, false, ◌<◌, ◌⊎◌, inl, inr, List, length, Option, Some, None, slice_get, slice_set, refl, sym, ap, ◌∙◌, subst, arith}
 use Rattle.std.proofs.lemmas.Option.{same_Some, slice_get_within}
-use Rattle.ep_object.specs.Matching.{Memory, Injection, IsIn, MatchesSlot, MatchesInjection, MatchesFrame, MatchesUnits, MatchesCounts, hidden_words, IsValueOf, layout, Represents, HasType, Matches, Slots, Grown}
+use Rattle.ep_object.specs.Matching.{Memory, Injection, IsIn, MatchesSlot, MatchesInjection, MatchesFrame, MatchesUnits, MatchesCounts, hidden_words, IsValueOf, layout, Represents, IsRepresented, HasType, Matches, Slots, Grown}
 use Rattle.ep_object.specs.declared.code.Image.{Image}
 use Rattle.ep_object.specs.declared.code.ImageUnit.{ImageUnit}
 use Rattle.ep_object.specs.declared.state.Place.{Place}
 use Rattle.ep_object.specs.declared.state.Segment.{Segment}
 use Rattle.ep_object.proofs.matching.Elements.{length-set, slice_get-set-same, slice_get-set-other}
-use Rattle.ep_object.proofs.matching.Growing.{is_place_of-grown}
+use Rattle.ep_object.proofs.matching.Growing.{is_place_of-grown, describes-grown}
+use Rattle.ep_object.proofs.matching.Standing.{represented-same, living_represented}
 use Rattle.ep_object.proofs.Grows.{is_prefix}
 use Rattle.ep_object.proofs.matching.HiddenWords.{hidden_words-set, hidden_words-grown}
 use Rattle.ep_typed.specs.Calls.{entered, left_from}
 use Rattle.ep_typed.specs.Events.{Trace}
-use Rattle.ep_typed.specs.Steps.{Call, Value, Undefined, Allocation, allocation_at, assigned_at, assigned, type_in, type_at, with_events, is_within}
+use Rattle.ep_typed.specs.Steps.{Call, Value, Undefined, Allocation, allocation_at, assigned_at, assigned, type_in, type_at, ended_in, has_ended, with_events, is_within}
 use Rattle.ep_typed.specs.Steps as meaning
 use Rattle.ep_typed.specs.Valid.{Declarations}
 
@@ -38,22 +39,23 @@ slot-grown (Some n) (Some p) g h = is_place_of-grown g h
 pub matches_frame-grown : {untouched : Slots} {declared : Declarations} {injection longer : Injection} {before later : List ℕ → ℕ → Option ℕ} {memory after : Memory} (unit : ℕ) (u : ImageUnit)
     → Grown untouched injection memory longer after → after.frames ≡ memory.frames
     → ((k : ℕ) → later u.name k ≡ before u.name k)
-    → MatchesFrame declared injection before memory.frames.units memory.segments unit u
-    → MatchesFrame declared longer later after.frames.units after.segments unit u
+    → MatchesFrame declared injection before memory.frames.units memory.segments memory.types unit u
+    → MatchesFrame declared longer later after.frames.units after.segments after.types unit u
 matches_frame-grown {longer = longer} {before = before} {after = after} unit u g same variables h =
     record {
       slots = h.slots;
       is = ap (λ f. slice_get f.units unit) same ∙ h.is;
       count = h.count;
       matches = λ k v slot is_declared e. subst (λ o. MatchesSlot longer after.segments o slot) (sym (variables k)) (slot-grown (before u.name k) slot g (h.matches k v slot is_declared e));
+      described = λ k v place t is_declared e has_type. describes-grown place.type_number t g (h.described k v place t is_declared e has_type);
     }
 
 -- the units go on matching where memory grows, frames and variables stay, and no allocation changes its type
 pub matches_units-grown : {untouched : Slots} {declared : Declarations} {G : Image} {injection longer : Injection} {allocations others : List Allocation} {variables : List ℕ → ℕ → Option ℕ} {memory after : Memory}
     → Grown untouched injection memory longer after → after.frames ≡ memory.frames
     → ((n : ℕ) → type_in (allocation_at others n) ≡ type_in (allocation_at allocations n))
-    → MatchesUnits declared G injection allocations variables memory.frames.units memory.segments
-    → MatchesUnits declared G longer others variables after.frames.units after.segments
+    → MatchesUnits declared G injection allocations variables memory.frames.units memory.segments memory.types
+    → MatchesUnits declared G longer others variables after.frames.units after.segments after.types
 matches_units-grown {declared = declared} {variables = variables} g same types h =
     record {
       frames = λ unit u e. matches_frame-grown {before = variables} unit u g same (λ k. refl) (h.frames unit u e);
@@ -100,7 +102,7 @@ is_in-same : (injection : Injection) (n x y : ℕ) → IsIn injection n x → Is
 is_in-same injection zero x y p q = absurd p
 is_in-same injection (suc n) x y p q = same_Some x y (sym p ∙ q)
 
-module _ {declared : Declarations} {G : Image} {injection : Injection} {s : meaning.State} {memory : Memory} (h : Matches declared G injection s memory) (n segment : ℕ) (a : Allocation) (value : Value) (is_in : IsIn injection n segment) (is : allocation_at s.allocations n ≡ Some a) (r : Represents memory.segments memory.types segment a) where
+module _ {declared : Declarations} {G : Image} {injection : Injection} {s : meaning.State} {memory : Memory} (h : Matches declared G injection s memory) (n segment : ℕ) (a : Allocation) (value : Value) (is_in : IsIn injection n segment) (is : allocation_at s.allocations n ≡ Some a) (living : a.ended ≡ false) (r : Represents memory.segments memory.types segment a) where
   -- no other segment changes, and this one keeps its type
   pub grown_storing : {untouched : Slots}
       → Grown untouched injection memory injection (storing memory segment r.type_number value)
@@ -152,7 +154,7 @@ module _ {declared : Declarations} {G : Image} {injection : Injection} {s : mean
         store = record { represented = λ m k b p q. represented_at m k b p q (same_or_not n m) };
         types = h.types;
         units = matches_units-grown grown_whole refl (λ m. type_at_assigned m (same_or_not n m)) h.units;
-        outside = h.outside;
+        outside = let outside = h.outside in record { output = outside.output; lives = ended_assigned 2 (same_or_not n 2) ∙ outside.lives };
         counts = counts;
       }
     where
@@ -189,24 +191,31 @@ module _ {declared : Declarations} {G : Image} {injection : Injection} {s : mean
 
       represented_at : (m k : ℕ) (b : Allocation) → IsIn injection m k
           → allocation_at (assigned_at n value s.allocations) m ≡ Some b → (n ≡ m) ⊎ (n ≡ m → ⊥)
-          → Represents (slice_set memory.segments segment (Some new)) memory.types k b
+          → IsRepresented (slice_set memory.segments segment (Some new)) memory.types k b
       represented_at m k b p q (inl e) =
           let there : IsIn injection n k = subst (λ j. IsIn injection j k) (sym e) p in
           let seg : segment ≡ k = is_in-same injection n segment k is_in there in
           let b_is : record a { value = value } ≡ b = same_Some (record a { value = value }) b (sym (assigned_same s.allocations n value a is) ∙ subst (λ j. allocation_at (assigned_at n value s.allocations) j ≡ Some b) (sym e) q) in
-          subst (λ j. Represents (slice_set memory.segments segment (Some new)) memory.types j b) seg (subst (λ x. Represents (slice_set memory.segments segment (Some new)) memory.types segment x) b_is (record { type_number = r.type_number; stands = slice_get-set-same memory.segments segment (Some new) (Some old) r.stands; described = r.described; value = of_type }))
+          subst (λ j. IsRepresented (slice_set memory.segments segment (Some new)) memory.types j b) seg (subst (λ x. IsRepresented (slice_set memory.segments segment (Some new)) memory.types segment x) b_is (living_represented (slice_set memory.segments segment (Some new)) memory.types segment (record a { value = value }) living (record { type_number = r.type_number; stands = slice_get-set-same memory.segments segment (Some new) (Some old) r.stands; described = r.described; value = of_type })))
       represented_at m k b p q (inr other) =
           let store = h.store in
           let injected = h.injected in
-          let before : Represents memory.segments memory.types k b = store.represented m k b p (sym (assigned_other s.allocations n m value a is other) ∙ q) in
+          let before : IsRepresented memory.segments memory.types k b = store.represented m k b p (sym (assigned_other s.allocations n m value a is other) ∙ q) in
           let apart : (segment ≡ k → ⊥) = λ e. other (injected.apart n m k (subst (λ j. IsIn injection n j) e is_in) p) in
-          record { type_number = before.type_number; stands = slice_get-set-other memory.segments segment k (Some new) apart ∙ before.stands; described = before.described; value = before.value }
+          represented-same memory.segments (slice_set memory.segments segment (Some new)) memory.types k b (slice_get-set-other memory.segments segment k (Some new) apart) before
 
       type_at_assigned : (m : ℕ) → (n ≡ m) ⊎ (n ≡ m → ⊥) → type_at m (assigned n value s) ≡ type_at m s
       type_at_assigned m (inl e) =
           let now : allocation_at (assigned_at n value s.allocations) n ≡ Some (record a { value = value }) = assigned_same s.allocations n value a is in
           subst (λ j. type_at j (assigned n value s) ≡ type_at j s) e (ap type_in now ∙ sym (ap type_in is))
       type_at_assigned m (inr other) = ap type_in (assigned_other s.allocations n m value a is other)
+
+      ended_assigned : (m : ℕ) → (n ≡ m) ⊎ (n ≡ m → ⊥)
+          → has_ended m (assigned n value s) ≡ has_ended m s
+      ended_assigned m (inl e) =
+          let now : allocation_at (assigned_at n value s.allocations) n ≡ Some (record a { value = value }) = assigned_same s.allocations n value a is in
+          subst (λ j. has_ended j (assigned n value s) ≡ has_ended j s) e (ap ended_in now ∙ sym (ap ended_in is))
+      ended_assigned m (inr other) = ap ended_in (assigned_other s.allocations n m value a is other)
 
 -- ---- calls
 

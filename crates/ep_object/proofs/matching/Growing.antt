@@ -1,12 +1,13 @@
 -- Memory grows while a routine runs.
 use Rattle.std.proofs.Common.{◌≡◌, ℕ, zero, suc, ◌≤◌, ◌<◌, ◌⊎◌, inl, inr, List, [], ◌∷◌, ◌++◌, length, Option, Some, slice_get, refl, sym, ap, ◌∙◌, subst, arith}
 use Rattle.std.proofs.lemmas.Option.{slice_get_within}
-use Rattle.ep_object.specs.Follows.{Facts, IsNotLeft, HasGrown, Lasts, Since, SameRoutine, Inside, Operands}
+use Rattle.ep_object.specs.Follows.{Facts, IsSameCall, IsNotLeft, HasGrown, Lasts, Since, SameRoutine, Inside, Operands}
 use Rattle.ep_typed.specs.Steps as meaning
+use Rattle.ep_object.specs.Frames.{routine_over}
 use Rattle.ep_object.specs.Matching.{Memory, Injection, IsIn, IsPlaceOf, Describes, Slots, Grown}
 use Rattle.ep_object.specs.Operands.{Operand}
 use Rattle.ep_object.specs.Runs.{unit_of, name_of, unit_in}
-use Rattle.ep_object.specs.State.{Frames, text_entry}
+use Rattle.ep_object.specs.State.{Frame, Frames, text_entry}
 use Rattle.ep_object.specs.Types.{ordinal_entry}
 use Rattle.ep_object.specs.declared.code.Image.{Image}
 use Rattle.ep_object.specs.declared.state.Place.{Place}
@@ -110,26 +111,57 @@ pub describes-grown : {untouched : Slots} {injection longer : Injection} {memory
 describes-grown {memory = memory} {after = after} n (type.Ordinal low high) g h = slice_get-prefix memory.types after.types n (ordinal_entry low high) g.types h
 describes-grown {memory = memory} {after = after} n type.Text g h = slice_get-prefix memory.types after.types n text_entry g.types h
 
+-- the innermost call is the same as itself
+pub same_call-refl : (calls : List Frame) → IsSameCall calls calls
+same_call-refl [] = tt
+same_call-refl (c ∷ calls) = (refl, refl, refl, refl)
+
+-- and the same as one that is the same
+same_call-trans : (a b c : List Frame) → IsSameCall a b → IsSameCall b c → IsSameCall a c
+same_call-trans [] [] [] p q = tt
+same_call-trans [] [] (z ∷ c) p q = q
+same_call-trans [] (y ∷ b) c p q = absurd p
+same_call-trans (x ∷ a) [] c p q = absurd p
+same_call-trans (x ∷ a) (y ∷ b) [] p q = q
+same_call-trans (x ∷ a) (y ∷ b) (z ∷ c) (p, r, s, t) (p2, r2, s2, t2) = (p2 ∙ p, r2 ∙ r, s2 ∙ s, t2 ∙ t)
+
+-- where there is no call there is none
+pub no_calls : (a b : List Frame) → IsSameCall a b → a ≡ [] → b ≡ []
+no_calls [] [] p e = refl
+no_calls [] (y ∷ b) p e = absurd p
+no_calls (x ∷ a) b p e = cc
+
+-- both have the same routine
+same_call-routine : (a b : List Frame) (r : ℕ) → IsSameCall a b → routine_over b r ≡ routine_over a r
+same_call-routine [] [] r p = refl
+same_call-routine [] (y ∷ b) r p = absurd p
+same_call-routine (x ∷ a) [] r p = absurd p
+same_call-routine (x ∷ a) (y ∷ b) r p = p.0
+
 -- the routine is the same as itself
 pub same_routine-refl : (frames : Frames) → SameRoutine frames frames
-same_routine-refl frames = record { turn = refl; routine = refl; unit = refl }
+same_routine-refl frames = record { turn = refl; routine = refl; unit = refl; calls = same_call-refl frames.calls }
 
 -- and the same as one that is the same
 pub same_routine-trans : {a b c : Frames} → SameRoutine a b → SameRoutine b c → SameRoutine a c
-same_routine-trans p q = record { turn = q.turn ∙ p.turn; routine = q.routine ∙ p.routine; unit = q.unit ∙ p.unit }
+same_routine-trans {a = a} {b = b} {c = c} p q = record { turn = q.turn ∙ p.turn; routine = q.routine ∙ p.routine; unit = q.unit ∙ p.unit; calls = same_call-trans a.calls b.calls c.calls p.calls q.calls }
+
+-- the routine that runs is not left
+pub not_left-same : {a b : Frames} → SameRoutine a b → IsNotLeft a b
+not_left-same {b = b} p = record { over = []; own = b.calls; is = refl; runs = record { turn = p.turn; routine = p.routine; unit = p.unit; calls = p.calls } }
 
 -- a routine that has just been entered is not left
 pub not_left-here : (frames : Frames) → IsNotLeft frames frames
-not_left-here frames = record { runs = same_routine-refl frames }
+not_left-here frames = not_left-same (same_routine-refl frames)
 
 -- nor is one while it runs, or after that while it is not left
 pub not_left-after : {a b c : Frames} → SameRoutine a b → IsNotLeft b c → IsNotLeft a c
-not_left-after p q = record { runs = same_routine-trans p q.runs }
+not_left-after p q = record { over = q.over; own = q.own; is = q.is; runs = same_routine-trans p q.runs }
 
 -- while the same routine runs, errors tell the same unit
 pub unit_in-same : (G : Image) {before after : Frames} → SameRoutine before after
     → unit_in G after ≡ unit_in G before
-unit_in-same G h = ap (λ r. name_of (unit_of G (slice_get G.routines r))) h.routine
+unit_in-same G {before = before} {after = after} h = ap (λ r. name_of (unit_of G (slice_get G.routines r))) (same_call-routine before.calls after.calls after.routine h.calls ∙ ap (routine_over before.calls) h.routine)
 
 -- where nothing has grown yet
 pub inside_here : {untouched : Slots} {injection : Injection} {memory : Memory} {Then : Operands} {operands : List Operand}

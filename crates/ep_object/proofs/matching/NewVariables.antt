@@ -6,11 +6,10 @@ use Rattle.std.proofs.lemmas.Bool.Decides.{nat_tests}
 use Rattle.std.proofs.lemmas.Option.{slice_get_within, same_Some}
 use Rattle.std.proofs.lemmas.Slice.Eq.{bytes_eq-Decides}
 use native.Mathlib.Decide.{ℕ_discrete}
-use Rattle.ep_object.specs.Matching.{Memory, Injection, IsIn, IsPlaceOf, Describes, IsHidden, Slots, slot_in, MatchesSlot, MatchesInjection, MatchesFrame, MatchesCounts, hidden_words, Represents, HasType, Matches, Grown}
+use Rattle.ep_object.specs.Matching.{Memory, Injection, IsIn, IsPlaceOf, Describes, IsHidden, Slots, slot_in, MatchesSlot, MatchesInjection, MatchesFrame, MatchesCounts, hidden_words, IsRepresented, HasType, Matches, Grown}
 use Rattle.ep_object.specs.Placing.{HasDistinctNames}
 use Rattle.ep_object.specs.Scene.{HaveValidTypes}
 use Rattle.ep_object.specs.State.{Frames, undefined}
-use Rattle.ep_object.specs.Table.{with_slots}
 use Rattle.ep_object.specs.declared.code.Image.{Image}
 use Rattle.ep_object.specs.declared.code.ImageUnit.{ImageUnit}
 use Rattle.ep_object.specs.declared.state.Place.{Place}
@@ -20,9 +19,9 @@ use Rattle.ep_object.proofs.matching.Elements.{slice_get-push, slice_get-pushed,
 use Rattle.ep_object.proofs.matching.Growing.{slice_get-prefix, is_in-longer}
 use Rattle.ep_object.proofs.Grows.{is_prefix}
 use Rattle.ep_object.proofs.matching.HiddenWords.{hidden_words-pushed}
-use Rattle.ep_object.proofs.matching.Standing.{slice_get-some, both, instance_valid}
+use Rattle.ep_object.proofs.matching.Standing.{slice_get-some, both, instance_valid, one_type, represented-same, living_represented, allocated}
 use Rattle.ep_typed.specs.Operations.{is_integer}
-use Rattle.ep_typed.specs.Steps.{Undefined, Allocation, Resources, allocation_at, type_in, type_at, bound, counted, made}
+use Rattle.ep_typed.specs.Steps.{Undefined, Allocation, Resources, allocation_at, type_in, type_at, ended_in, bound, counted, made}
 use Rattle.ep_typed.specs.Steps as meaning
 use Rattle.ep_typed.specs.Valid.{Declarations, IsTypeOf}
 use Rattle.ep_typed.specs.Hosts.{Host}
@@ -101,9 +100,9 @@ new_place memory number = record { segment = length memory.segments; offset = 0;
 abbrev pub with_variable : ℕ → Frames → Memory → Memory
 with_variable number frames memory = record memory { frames = frames; segments = memory.segments ++ Some (new_segment number) ∷ []; live = memory.live + 2 }
 
--- the frames with its place in a slot of the frame that is used
+-- the frames with its place in a slot of the unit's frame
 abbrev pub with_place : ℕ → ℕ → List (Option Place) → Memory → Frames
-with_place number k slots memory = with_slots memory.frames (slice_set slots k (Some (new_place memory number)))
+with_place number k slots memory = record memory.frames { units = slice_set memory.frames.units memory.frames.unit (slice_set slots k (Some (new_place memory number))) }
 
 -- the injection with its segment
 abbrev pub with_segment : Injection → Memory → Injection
@@ -167,7 +166,7 @@ grown_same_frames injection memory number = grown_making injection memory number
 module _ {declared : Declarations} {G : Image} {injection : Injection} {s : meaning.State} {memory : Memory} (h : Matches declared G injection s memory) (x : ImageUnit) (low high : ℤ) (number k : ℕ) (is_unit : slice_get G.units memory.frames.unit ≡ Some x) (described : Describes memory.types number (type.Ordinal low high)) (low_fits : IsTrue (is_integer low)) (high_fits : IsTrue (is_integer high)) where
   -- the allocation of the new variable
   abbrev pub new_allocation : Allocation
-  new_allocation = record { type_value = type.Ordinal low high; value = Undefined }
+  new_allocation = record { type_value = type.Ordinal low high; value = Undefined; ended = false }
 
   abbrev pub its_segment : Option Segment
   its_segment = Some (new_segment number)
@@ -179,24 +178,23 @@ module _ {declared : Declarations} {G : Image} {injection : Injection} {s : mean
   -- the new segment represents the new allocation, and those before are as they were
   represented_making : (n segment : ℕ) (a : Allocation) → IsIn (with_segment injection memory) n segment
       → allocation_at (s.allocations ++ new_allocation ∷ []) n ≡ Some a
-      → Represents (memory.segments ++ its_segment ∷ []) memory.types segment a
+      → IsRepresented (memory.segments ++ its_segment ∷ []) memory.types segment a
   represented_making zero segment a is_in is = absurd is_in
   represented_making (suc n) segment a is_in is = go (is_in-either injection memory (suc n) segment is_in) (slice_get-push s.allocations new_allocation a n is)
     where
       go : IsOldOrNew injection memory (suc n) segment
           → (slice_get s.allocations n ≡ Some a) ⊎ ((n ≡ length s.allocations) × (a ≡ new_allocation))
-          → Represents (memory.segments ++ its_segment ∷ []) memory.types segment a
+          → IsRepresented (memory.segments ++ its_segment ∷ []) memory.types segment a
       go (inl old) (inl before) =
           let store = h.store in
           let injected = h.injected in
-          let r : Represents memory.segments memory.types segment a = store.represented (suc n) segment a old before in
-          record { type_number = r.type_number; stands = slice_get-before memory.segments its_segment segment (injected.within (suc n) segment old) ∙ r.stands; described = r.described; value = r.value }
+          represented-same memory.segments (memory.segments ++ its_segment ∷ []) memory.types segment a (slice_get-before memory.segments its_segment segment (injected.within (suc n) segment old)) (store.represented (suc n) segment a old before)
       go (inl old) (inr last) = absurd (omega (arith, is_in-within injection (suc n) segment old, last.0, made_same))
       go (inr new) (inl before) = absurd (omega (arith, slice_get_within s.allocations n a before, new.0, made_same))
       go (inr new) (inr last) =
-          subst (λ j. Represents (memory.segments ++ its_segment ∷ []) memory.types j a) (sym new.1)
-          (subst (λ b. Represents (memory.segments ++ its_segment ∷ []) memory.types (length memory.segments) b) (sym last.1)
-          (record { type_number = number; stands = slice_get-pushed memory.segments its_segment; described = described; value = (low_fits, high_fits) }))
+          subst (λ j. IsRepresented (memory.segments ++ its_segment ∷ []) memory.types j a) (sym new.1)
+          (subst (λ b. IsRepresented (memory.segments ++ its_segment ∷ []) memory.types (length memory.segments) b) (sym last.1)
+          (living_represented (memory.segments ++ its_segment ∷ []) memory.types (length memory.segments) new_allocation refl (record { type_number = number; stands = slice_get-pushed memory.segments its_segment; described = described; value = (low_fits, high_fits) })))
 
   -- no two allocations are in one segment
   apart_making : (m n segment : ℕ) → IsOldOrNew injection memory m segment
@@ -207,7 +205,7 @@ module _ {declared : Declarations} {G : Image} {injection : Injection} {s : mean
   apart_making m n segment (inr p) (inr q) = p.0 ∙ sym q.0
 
   -- the frame in which the variable is made, where memory has grown
-  pub frame_here : MatchesFrame declared (with_segment injection memory) s.variables memory.frames.units (memory.segments ++ its_segment ∷ []) memory.frames.unit x
+  pub frame_here : MatchesFrame declared (with_segment injection memory) s.variables memory.frames.units (memory.segments ++ its_segment ∷ []) memory.types memory.frames.unit x
   frame_here = let units = h.units in matches_frame-grown {before = s.variables} {after = with_variable number memory.frames memory} memory.frames.unit x (grown_same_frames injection memory number) refl (λ j. refl) (units.frames memory.frames.unit x is_unit)
 
   abbrev pub new_slots : List (Option Place)
@@ -233,7 +231,7 @@ module _ {declared : Declarations} {G : Image} {injection : Injection} {s : mean
           → number ≡ y.type_number
       number_of y e = let z : new_segment number ≡ y = cc in ap (λ (t : Segment). t.type_number) z
 
-  module _ (within : k < x.slots) where
+  module _ (within : k < x.slots) (declared_so : (v : UnitVariable) → declared.variables x.name k ≡ Some v → HasType declared x.name v (type.Ordinal low high)) where
     -- the slot has the place of the new variable, and the others have theirs
     slot_making : (j : ℕ) (v : UnitVariable) (slot : Option Place) → declared.variables x.name j ≡ Some v
         → slice_get new_slots j ≡ Some slot
@@ -259,42 +257,60 @@ module _ {declared : Declarations} {G : Image} {injection : Injection} {s : mean
             let before : slice_get frame_here.slots j ≡ Some slot = sym (slice_get-set-other frame_here.slots k j (Some (new_place memory number)) e) ∙ q in
             subst (λ o. MatchesSlot (with_segment injection memory) later.segments o slot) (sym (bound-other x.name k (suc (length s.allocations)) s.variables x.name j (λ p. e))) (frame_here.matches j v slot is_declared before)
 
+    -- the type of the new place describes the declaration's, and those of the others theirs
+    described_making : (j : ℕ) (v : UnitVariable) (place : Place) (t : TypeValue)
+        → declared.variables x.name j ≡ Some v → slice_get new_slots j ≡ Some (Some place)
+        → HasType declared x.name v t → Describes memory.types place.type_number t
+    described_making j v place t is_declared q has_type = elim (ℕ_discrete k j) [ yes e ↦ same e | no e ↦ frame_here.described j v place t is_declared (sym (slice_get-set-other frame_here.slots k j (Some (new_place memory number)) e) ∙ q) has_type ]
+      where
+        same : k ≡ j → Describes memory.types place.type_number t
+        same e =
+            let old = slice_get-some frame_here.slots k (omega (arith, within, frame_here.count)) in
+            let now = slice_get-set-same frame_here.slots k (Some (new_place memory number)) old.0 old.1 in
+            let here : slice_get new_slots k ≡ Some (Some place) = subst (λ i. slice_get new_slots i ≡ Some (Some place)) (sym e) q in
+            let place_is : Some (new_place memory number) ≡ Some place = same_Some (Some (new_place memory number)) (Some place) (sym now ∙ here) in
+            let number_is : number ≡ place.type_number = ap (λ (p : Place). p.type_number) (same_Some (new_place memory number) place place_is) in
+            let its_type : type.Ordinal low high ≡ t = one_type (declared_so v (subst (λ i. declared.variables x.name i ≡ Some v) (sym e) is_declared)) has_type in
+            subst (λ n. Describes memory.types n t) number_is (subst (λ u. Describes memory.types number u) its_type described)
+
     -- the frame has the place of the new variable, and those of the others
-    frame_making : MatchesFrame declared (with_segment injection memory) later_state.variables later.frames.units later.segments memory.frames.unit x
+    frame_making : MatchesFrame declared (with_segment injection memory) later_state.variables later.frames.units later.segments later.types memory.frames.unit x
     frame_making =
         record {
           slots = new_slots;
           is = slice_get-set-same memory.frames.units memory.frames.unit new_slots frame_here.slots frame_here.is;
           count = length-set frame_here.slots k (Some (new_place memory number)) ∙ frame_here.count;
           matches = slot_making;
+          described = described_making;
         }
 
     module _ (distinct : HasDistinctNames G) where
       -- the frames of other units stay what they are
       frames_making : (unit : ℕ) (u : ImageUnit) → slice_get G.units unit ≡ Some u
-          → MatchesFrame declared (with_segment injection memory) later_state.variables later.frames.units later.segments unit u
+          → MatchesFrame declared (with_segment injection memory) later_state.variables later.frames.units later.segments later.types unit u
       frames_making unit u there = elim (ℕ_discrete memory.frames.unit unit) [ yes e ↦ same e | no e ↦ other e ]
         where
           same : memory.frames.unit ≡ unit
-              → MatchesFrame declared (with_segment injection memory) later_state.variables later.frames.units later.segments unit u
+              → MatchesFrame declared (with_segment injection memory) later_state.variables later.frames.units later.segments later.types unit u
           same e =
               let is_x : x ≡ u = same_Some x u (sym is_unit ∙ subst (λ i. slice_get G.units i ≡ Some u) (sym e) there) in
-              subst (λ i. MatchesFrame declared (with_segment injection memory) later_state.variables later.frames.units later.segments i u) e (subst (λ v. MatchesFrame declared (with_segment injection memory) later_state.variables later.frames.units later.segments memory.frames.unit v) is_x frame_making)
+              subst (λ i. MatchesFrame declared (with_segment injection memory) later_state.variables later.frames.units later.segments later.types i u) e (subst (λ v. MatchesFrame declared (with_segment injection memory) later_state.variables later.frames.units later.segments later.types memory.frames.unit v) is_x frame_making)
 
           other : (memory.frames.unit ≡ unit → ⊥)
-              → MatchesFrame declared (with_segment injection memory) later_state.variables later.frames.units later.segments unit u
+              → MatchesFrame declared (with_segment injection memory) later_state.variables later.frames.units later.segments later.types unit u
           other e =
               let units = h.units in
-              let f : MatchesFrame declared (with_segment injection memory) later_state.variables memory.frames.units later.segments unit u =
+              let f : MatchesFrame declared (with_segment injection memory) later_state.variables memory.frames.units later.segments later.types unit u =
               matches_frame-grown {before = s.variables} {after = with_variable number memory.frames memory} unit u (grown_same_frames injection memory number) refl (λ j. bound-other x.name k (suc (length s.allocations)) s.variables u.name j (λ p q. e (distinct memory.frames.unit unit x u is_unit there p))) (units.frames unit u there) in
               record {
                 slots = f.slots;
                 is = slice_get-set-other memory.frames.units memory.frames.unit unit new_slots e ∙ f.is;
                 count = f.count;
                 matches = f.matches;
+                described = f.described;
               }
 
-      module _ (types_valid : HaveValidTypes declared) (declared_so : (v : UnitVariable) → declared.variables x.name k ≡ Some v → HasType declared x.name v (type.Ordinal low high)) where
+      module _ (types_valid : HaveValidTypes declared) where
         -- the new allocation has the type of its declaration, and the others keep theirs
         typed_making : (unit : List ℕ) (j n : ℕ) (v : UnitVariable) → later_state.variables unit j ≡ Some n
             → declared.variables unit j ≡ Some v → HasType declared unit v (type_at n later_state)
@@ -324,10 +340,17 @@ module _ {declared : Declarations} {G : Image} {injection : Injection} {s : mean
               store = record { represented = represented_making };
               types = h.types;
               units = record { frames = frames_making; typed = typed_making };
-              outside = let outside = h.outside in record { output = is_in-longer injection (with_segment injection memory) 2 2 (record { rest = length memory.segments ∷ []; is = refl }) outside.output };
+              outside = let outside = h.outside in record { output = is_in-longer injection (with_segment injection memory) 2 2 (record { rest = length memory.segments ∷ []; is = refl }) outside.output; lives = output_lives };
               counts = counts_making;
             }
           where
+            -- `output` lives as before
+            output_lives : ended_in (allocation_at later_state.allocations 2) ≡ false
+            output_lives =
+                let outside = h.outside in
+                let a = allocated injection s 2 2 made_same outside.output in
+                ap ended_in (slice_get-prefix s.allocations later_state.allocations 1 a.0 (record { rest = new_allocation ∷ []; is = refl }) a.1) ∙ (sym (ap ended_in a.1) ∙ outside.lives)
+
             within_making : (n segment : ℕ) → IsOldOrNew injection memory n segment
                 → suc segment ≤ length later.segments
             within_making n segment (inl p) = let injected = h.injected in omega (arith, injected.within n segment p, length-append memory.segments (its_segment ∷ []))

@@ -1,10 +1,10 @@
 -- What stands in the store where a state of the machine matches.
-use Rattle.std.proofs.Common.{◌≡◌, ℕ, ℤ, pos, negsuc, zero, suc, ◌<◌, Bool, true, false, ◌&&◌, IsTrue, List, [], ◌∷◌, length, Some, slice_get, refl, sym, ap, ◌∙◌, subst, arith}
+use Rattle.std.proofs.Common.{◌≡◌, ℕ, ℤ, pos, negsuc, zero, suc, ◌<◌, Bool, true, false, ◌&&◌, IsTrue, List, [], ◌∷◌, length, Some, None, slice_get, refl, sym, ap, ◌∙◌, subst, arith}
 use Rattle.std.proofs.lemmas.Bool.Decides.{nat_tests}
 use Rattle.std.proofs.lemmas.Option.{slice_get_within, same_Some}
 use Rattle.std.specs.Prelude.{int_le, int_lt, neg_ℤ}
-use Rattle.ep_object.specs.Matching.{Memory, Injection, IsIn, IsPlaceOf, Describes, Represents, Matches}
-use Rattle.ep_object.specs.State.{TypeTable, text_entry, undefined}
+use Rattle.ep_object.specs.Matching.{Memory, Injection, IsIn, IsPlaceOf, Describes, Represents, IsRepresentedWhere, IsRepresented, Matches}
+use Rattle.ep_object.specs.State.{Segments, TypeTable, text_entry, undefined}
 use Rattle.ep_object.specs.Types.{ordinal_entry}
 use Rattle.ep_object.specs.declared.code.Image.{Image}
 use Rattle.ep_object.specs.declared.state.Place.{Place}
@@ -27,10 +27,36 @@ slice_get-some [] k h = absurd (omega arith)
 slice_get-some (x ∷ xs) zero h = (x, refl)
 slice_get-some (x ∷ xs) (suc k) h = slice_get-some xs k (omega arith)
 
--- the allocation at a place, and what the segment has of it
+-- what a segment represents it goes on representing where it stays what it is
+pub represented-same : (segments later : Segments) (types : TypeTable) (segment : ℕ) (a : Allocation)
+    → slice_get later segment ≡ slice_get segments segment → IsRepresented segments types segment a
+    → IsRepresented later types segment a
+represented-same segments later types segment a same h = go a.ended h
+  where
+    go : (b : Bool) → IsRepresentedWhere b segments types segment a → IsRepresentedWhere b later types segment a
+    go true stands = same ∙ stands
+    go false r = record { type_number = r.type_number; stands = same ∙ r.stands; described = r.described; value = r.value }
+
+-- what is represented and lives, the segment represents
+pub represents_living : (segments : Segments) (types : TypeTable) (segment : ℕ) (a : Allocation) → a.ended ≡ false
+    → IsRepresented segments types segment a → Represents segments types segment a
+represents_living segments types segment a living h = subst (λ b. IsRepresentedWhere b segments types segment a) living h
+
+-- the segment of what has ended has ended
+pub represents_ended : (segments : Segments) (types : TypeTable) (segment : ℕ) (a : Allocation) → a.ended ≡ true
+    → IsRepresented segments types segment a → slice_get segments segment ≡ Some None
+represents_ended segments types segment a ended h = subst (λ b. IsRepresentedWhere b segments types segment a) ended h
+
+-- an allocation that lives is represented by what represents it
+pub living_represented : (segments : Segments) (types : TypeTable) (segment : ℕ) (a : Allocation) → a.ended ≡ false
+    → Represents segments types segment a → IsRepresented segments types segment a
+living_represented segments types segment a living h = subst (λ b. IsRepresentedWhere b segments types segment a) (sym living) h
+
+-- the allocation at a place, which lives, and what the segment has of it
 pub record Stands (s : meaning.State) (memory : Memory) (n : ℕ) (place : Place) : Type 0 where
   pub allocation : Allocation
   pub is : allocation_at s.allocations n ≡ Some allocation
+  pub lives : allocation.ended ≡ false
   pub represents : Represents memory.segments memory.types place.segment allocation
   pub type_number : place.type_number ≡ represents.type_number
 
@@ -43,16 +69,27 @@ allocated injection s (suc n) segment made h =
     let w : n < length injection = slice_get_within injection n segment h in
     slice_get-some s.allocations n (omega arith)
 
--- at the place of an allocation stands that allocation
+-- at the place of an allocation that lives stands that allocation
 pub place_stands : {declared : Declarations} {G : Image} {injection : Injection} {s : meaning.State} {memory : Memory} {n : ℕ} {place : Place}
     → Matches declared G injection s memory → IsPlaceOf injection memory.segments n place
-    → Stands s memory n place
-place_stands {injection = injection} {s = s} {memory = memory} {n = n} {place = place} matches place_of =
+    → meaning.has_ended n s ≡ false → Stands s memory n place
+place_stands {injection = injection} {s = s} {memory = memory} {n = n} {place = place} matches place_of living =
     let injected = matches.injected in
     let store = matches.store in
     let a = allocated injection s n place.segment injected.made place_of.is_in in
-    let r : Represents memory.segments memory.types place.segment a.0 = store.represented n place.segment a.0 place_of.is_in a.1 in
-    record { allocation = a.0; is = a.1; represents = r; type_number = place_of.typed (record { type_number = r.type_number; words = _ }) r.stands }
+    let lives : (a.0).ended ≡ false = sym (ap meaning.ended_in a.1) ∙ living in
+    let r : Represents memory.segments memory.types place.segment a.0 = represents_living memory.segments memory.types place.segment a.0 lives (store.represented n place.segment a.0 place_of.is_in a.1) in
+    record { allocation = a.0; is = a.1; lives = lives; represents = r; type_number = place_of.typed (record { type_number = r.type_number; words = _ }) r.stands }
+
+-- the segment at the place of an allocation that has ended has ended
+pub place_ended : {declared : Declarations} {G : Image} {injection : Injection} {s : meaning.State} {memory : Memory} {n : ℕ} {place : Place}
+    → Matches declared G injection s memory → IsPlaceOf injection memory.segments n place
+    → meaning.has_ended n s ≡ true → slice_get memory.segments place.segment ≡ Some None
+place_ended {injection = injection} {s = s} {memory = memory} {n = n} {place = place} matches place_of ended =
+    let injected = matches.injected in
+    let store = matches.store in
+    let a = allocated injection s n place.segment injected.made place_of.is_in in
+    represents_ended memory.segments memory.types place.segment a.0 (sym (ap meaning.ended_in a.1) ∙ ended) (store.represented n place.segment a.0 place_of.is_in a.1)
 
 -- a type describes one type value
 pub described-same : (types : TypeTable) (n : ℕ) (t : TypeValue) (low high : ℤ) → Describes types n t
@@ -65,17 +102,6 @@ described-same types n type.Text low high p q =
     let e : text_entry ≡ ordinal_entry low high = same_Some text_entry (ordinal_entry low high) (sym p ∙ q) in
     let k : text_entry.kind ≡ (ordinal_entry low high).kind = ap (λ (x : TypeEntry). x.kind) e in
     cc
-
--- the type of a place of a variable describes the type of its declaration
-pub place_described : {declared : Declarations} {G : Image} {injection : Injection} {s : meaning.State} {memory : Memory} {n : ℕ} {place : Place} (t : TypeValue)
-    → Matches declared G injection s memory → IsPlaceOf injection memory.segments n place
-    → meaning.type_at n s ≡ t → Describes memory.types place.type_number t
-place_described {s = s} {memory = memory} {n = n} {place = place} t matches place_of typed =
-    let x : Stands s memory n place = place_stands matches place_of in
-    let a : Allocation = x.allocation in
-    let r : Represents memory.segments memory.types place.segment a = x.represents in
-    let e : a.type_value ≡ t = sym (ap type_in x.is) ∙ typed in
-    subst (λ k. Describes memory.types k t) (sym x.type_number) (subst (λ y. Describes memory.types r.type_number y) e r.described)
 
 -- ---- values of types
 

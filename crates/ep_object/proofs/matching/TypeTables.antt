@@ -6,7 +6,7 @@ use Rattle.std.proofs.lemmas.Option.{slice_get-get_or}
 use Rattle.std.proofs.lemmas.List.Quantifiers.{position-Some}
 use Rattle.std.proofs.lemmas.Bool.Decides.{nat_tests}
 use Rattle.std.proofs.lemmas.Int.{ints}
-use Rattle.ep_object.specs.Matching.{Memory, Injection, Describes, MatchesTypes, MatchesStore, MatchesCounts, Matches, Slots, Grown}
+use Rattle.ep_object.specs.Matching.{Memory, Injection, Describes, MatchesTypes, IsRepresentedWhere, MatchesStore, MatchesUnits, MatchesCounts, Matches, Slots, Grown}
 use Rattle.ep_object.specs.Runs.{after}
 use Rattle.ep_object.specs.State.{Segments, TypeTable, integer_entry, char_entry, boolean_entry, text_entry, pointer_entry, first_types}
 use Rattle.ep_object.specs.Types.{is_ordinal, ordinal_number, ordinal_entry}
@@ -22,6 +22,7 @@ use Rattle.ep_typed.specs.Steps.{Allocation}
 use Rattle.ep_typed.specs.Valid.{Declarations}
 use Rattle.ep_outside.specs.Known.{IsPrefix}
 use Rattle.ep_object.specs.declared.code.Image.{Image}
+use Rattle.ep_object.specs.declared.state.Place.{Place}
 use Rattle.ep_typed.specs.declared.value.TypeValue.{TypeValue}
 use Rattle.ep_typed.specs.declared.value.TypeValue.TheVariants as type
 
@@ -219,11 +220,32 @@ described-longer types longer n type.Text p h = slice_get-prefix types longer n 
 pub matches_store-types : {injection : Injection} {allocations : List Allocation} {segments : Segments} {types longer : TypeTable}
     → IsPrefix types longer → MatchesStore injection allocations segments types
     → MatchesStore injection allocations segments longer
-matches_store-types {types = types} {longer = longer} prefix m =
+matches_store-types {segments = segments} {types = types} {longer = longer} prefix m =
     record {
-      represented = λ n segment allocation is_in at_n.
-          let r = m.represented n segment allocation is_in at_n in
-          record { type_number = r.type_number; stands = r.stands; described = described-longer types longer r.type_number allocation.type_value prefix r.described; value = r.value };
+      represented = λ n segment allocation is_in at_n. go segment allocation allocation.ended (m.represented n segment allocation is_in at_n);
+    }
+  where
+    go : (segment : ℕ) (a : Allocation) (b : Bool) → IsRepresentedWhere b segments types segment a
+        → IsRepresentedWhere b segments longer segment a
+    go segment a true stands = stands
+    go segment a false r = record { type_number = r.type_number; stands = r.stands; described = described-longer types longer r.type_number a.type_value prefix r.described; value = r.value }
+
+-- and so do the units
+pub matches_units-types : {declared : Declarations} {G : Image} {injection : Injection} {allocations : List Allocation} {variables : List ℕ → ℕ → Option ℕ} {units : List (List (Option Place))} {segments : Segments} {types longer : TypeTable}
+    → IsPrefix types longer → MatchesUnits declared G injection allocations variables units segments types
+    → MatchesUnits declared G injection allocations variables units segments longer
+matches_units-types {types = types} {longer = longer} prefix m =
+    record {
+      frames = λ unit u there.
+          let f = m.frames unit u there in
+          record {
+            slots = f.slots;
+            is = f.is;
+            count = f.count;
+            matches = f.matches;
+            described = λ k v place t is_declared at_k has_type. described-longer types longer place.type_number t prefix (f.described k v place t is_declared at_k has_type);
+          };
+      typed = m.typed;
     }
 
 -- Matching with another table of types, where no number changes its type.
@@ -233,7 +255,7 @@ pub matches-types : {declared : Declarations} {G : Image} {injection : Injection
     → Matches declared G injection s memory
     → Matches declared G injection (record s { resources = resources }) (record memory { types = types; live = live })
 matches-types resources types live longer known counts m =
-    record { injected = m.injected; store = matches_store-types longer m.store; types = known; units = m.units; outside = m.outside; counts = counts }
+    record { injected = m.injected; store = matches_store-types longer m.store; types = known; units = matches_units-types longer m.units; outside = m.outside; counts = counts }
 
 -- grown by a longer table alone
 pub grown-types : {untouched : Slots} (injection : Injection) (memory : Memory) (types : TypeTable) (live : ℕ)

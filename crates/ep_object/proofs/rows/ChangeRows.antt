@@ -14,12 +14,12 @@ use Rattle.ep_object.proofs.matching.Changes.{storing, matches_events, grown_sto
 use Rattle.ep_object.proofs.following.Fragments.{Does, FailsWith}
 use Rattle.ep_object.proofs.matching.Growing.{slice_get-prefix, grown_refl, same_routine-refl, inside_here}
 use Rattle.ep_object.proofs.rows.Rows.{instr, in_one, outcome_at}
-use Rattle.ep_object.proofs.matching.Standing.{Stands, allocated, place_stands, described-same}
+use Rattle.ep_object.proofs.matching.Standing.{Stands, allocated, place_stands, place_ended, described-same, represents_living}
 use Rattle.ep_object.proofs.rows.TextRows.{written-same}
 use Rattle.ep_typed.specs.Events.{Trace}
 use Rattle.ep_typed.specs.Operations.{is_integer}
 use Rattle.ep_typed.specs.Printing.{piece_events}
-use Rattle.ep_typed.specs.Steps.{Value, Undefined, Allocation, type_in, type_at, is_within, assigned, with_events}
+use Rattle.ep_typed.specs.Steps.{Value, Undefined, Allocation, type_in, type_at, ended_in, has_ended, is_within, assigned, with_events}
 use Rattle.ep_typed.specs.Steps as meaning
 use Rattle.ep_typed.specs.Valid.{Declarations}
 use Rattle.ep_typed.specs.declared.value.TypeValue.TheVariants as type
@@ -44,7 +44,7 @@ module _ (declared : Declarations) (G : Image) (place line : ℕ) (below : List 
       let store = matches.store in
       let outside = matches.outside in
       let a = allocated injection s 2 2 injected.made outside.output in
-      let r : Represents memory.segments memory.types 2 a.0 = store.represented 2 2 a.0 outside.output a.1 in
+      let r : Represents memory.segments memory.types 2 a.0 = represents_living memory.segments memory.types 2 a.0 (sym (ap ended_in a.1) ∙ outside.lives) (store.represented 2 2 a.0 outside.output a.1) in
       let types = matches.types in
       record {
         injection = injection;
@@ -78,9 +78,19 @@ module _ (declared : Declarations) (G : Image) (place line : ℕ) (below : List 
   store_outcome memory trace p low high z type_number (meaning.Word w) false has typed stands offset within =
       outcome_at G (instr op.STORE (pos 0) 0 line) place (Word z ∷ operand.Place p ∷ below) memory trace has ∙ rw (typed, stands, offset, within) refl
 
-  module _ (low high z : ℤ) (n : ℕ) (p : Place) (has : slice_get G.instructions place ≡ Some (instr op.STORE (pos 0) 0 line)) (injection : Injection) (memory : Memory) (place_of : IsPlaceOf injection memory.segments n p) (described : Describes memory.types p.type_number (type.Ordinal low high)) (s : meaning.State) (matches : Matches declared G injection s memory) where
+  -- `Store` of a word in a variable that has ended
+  pub store_fails_ended : (low high z : ℤ) (n : ℕ) (p : Place)
+      → slice_get G.instructions place ≡ Some (instr op.STORE (pos 0) 0 line)
+      → (injection : Injection) (memory : Memory) → IsPlaceOf injection memory.segments n p
+      → Describes memory.types p.type_number (type.Ordinal low high) → (s : meaning.State)
+      → Matches declared G injection s memory → has_ended n s ≡ true
+      → FailsWith G (at place (Word z ∷ operand.Place p ∷ below) memory s.trace) 0 11 (unit_in G memory.frames) line s
+  store_fails_ended low high z n p has injection memory place_of described s matches ended =
+      record { fails = outcome_at G (instr op.STORE (pos 0) 0 line) place (Word z ∷ operand.Place p ∷ below) memory s.trace has ∙ rw (described, place_ended matches place_of ended) refl }
+
+  module _ (low high z : ℤ) (n : ℕ) (p : Place) (has : slice_get G.instructions place ≡ Some (instr op.STORE (pos 0) 0 line)) (injection : Injection) (memory : Memory) (place_of : IsPlaceOf injection memory.segments n p) (described : Describes memory.types p.type_number (type.Ordinal low high)) (s : meaning.State) (matches : Matches declared G injection s memory) (living : has_ended n s ≡ false) where
     here : Stands s memory n p
-    here = place_stands matches place_of
+    here = place_stands matches place_of living
 
     its_type : here.allocation.type_value ≡ type.Ordinal low high
     its_type =
@@ -104,9 +114,9 @@ module _ (declared : Declarations) (G : Image) (place line : ℕ) (below : List 
           memory = storing memory p.segment r.type_number (meaning.Word z);
           operands = below;
           does = store_outcome memory s.trace p low high z r.type_number a.value true has described r.stands place_of.offset inside;
-          matches = matches_assigned matches n p.segment a (meaning.Word z) place_of.is_in here.is r of_type;
-          here = lasts.by injection injection s (assigned n (meaning.Word z) s) memory (storing memory p.segment r.type_number (meaning.Word z)) (record { grown = grown_storing matches n p.segment a (meaning.Word z) place_of.is_in here.is r; routine = same_routine-refl memory.frames; calls = refl }) known;
-          post = record { grown = grown_storing matches n p.segment a (meaning.Word z) place_of.is_in here.is r; routine = same_routine-refl memory.frames; operands_are = refl };
+          matches = matches_assigned matches n p.segment a (meaning.Word z) place_of.is_in here.is here.lives r of_type;
+          here = lasts.by injection injection s (assigned n (meaning.Word z) s) memory (storing memory p.segment r.type_number (meaning.Word z)) (record { grown = grown_storing matches n p.segment a (meaning.Word z) place_of.is_in here.is here.lives r; routine = same_routine-refl memory.frames; calls = refl }) known;
+          post = record { grown = grown_storing matches n p.segment a (meaning.Word z) place_of.is_in here.is here.lives r; routine = same_routine-refl memory.frames; operands_are = refl };
         }
 
     pub store_fails : is_within (type_at n s) z ≡ false
@@ -115,3 +125,40 @@ module _ (declared : Declarations) (G : Image) (place line : ℕ) (below : List 
         let r : Represents memory.segments memory.types p.segment here.allocation = here.represents in
         let outside : is_within (type.Ordinal low high) z ≡ false = ap (λ t. is_within t z) (sym type_is) ∙ within in
         record { fails = store_outcome memory s.trace p low high z r.type_number here.allocation.value false has described r.stands place_of.offset outside }
+
+  -- `Undefine` of a variable of an ordinal type
+  undefine_outcome : (memory : Memory) (trace : Trace) (p : Place) (low high : ℤ) (type_number : ℕ) (value : Value)
+      → slice_get G.instructions place ≡ Some (instr op.UNDEFINE (pos 0) 0 line)
+      → slice_get memory.types p.type_number ≡ Some (ordinal_entry low high)
+      → slice_get memory.segments p.segment ≡ Some (Some (record { type_number = type_number; words = layout value }))
+      → p.offset ≡ 0
+      → outcome G (at place (operand.Place p ∷ below) memory trace) ≡ record { weight = 1; to = Running 0 (at (place + 1) below (storing memory p.segment type_number Undefined) trace) }
+  undefine_outcome memory trace p low high type_number Undefined has typed stands offset =
+      outcome_at G (instr op.UNDEFINE (pos 0) 0 line) place (operand.Place p ∷ below) memory trace has ∙ rw (typed, stands, offset) refl
+  undefine_outcome memory trace p low high type_number (meaning.Word w) has typed stands offset =
+      outcome_at G (instr op.UNDEFINE (pos 0) 0 line) place (operand.Place p ∷ below) memory trace has ∙ rw (typed, stands, offset) refl
+
+  -- it is undefined then on both sides
+  pub undefine_does : {untouched : Slots} {Here : Facts} (low high : ℤ) (n : ℕ) (p : Place)
+      → slice_get G.instructions place ≡ Some (instr op.UNDEFINE (pos 0) 0 line)
+      → (injection : Injection) (memory : Memory) → IsPlaceOf injection memory.segments n p
+      → Describes memory.types p.type_number (type.Ordinal low high) → (s : meaning.State)
+      → Matches declared G injection s memory → has_ended n s ≡ false
+      → Lasts untouched Here → Here injection s memory
+      → Does declared G Here (at place (operand.Place p ∷ below) memory s.trace) 1 (place + 1) (Inside untouched injection memory (Bare below tt)) (assigned n Undefined s)
+  undefine_does low high n p has injection memory place_of described s matches living lasts known =
+      let x : Stands s memory n p = place_stands matches place_of living in
+      let a : Allocation = x.allocation in
+      let r : Represents memory.segments memory.types p.segment a = x.represents in
+      let its_type : a.type_value ≡ type.Ordinal low high = described-same memory.types r.type_number a.type_value low high r.described (subst (λ k. Describes memory.types k (type.Ordinal low high)) x.type_number described) in
+      let ends = bounds low high a.value (subst (λ t. IsValueOf t a.value) its_type r.value) in
+      let of_type : IsValueOf a.type_value Undefined = subst (λ t. IsValueOf t Undefined) (sym its_type) (ends.0, ends.1) in
+      record {
+        injection = injection;
+        memory = storing memory p.segment r.type_number Undefined;
+        operands = below;
+        does = undefine_outcome memory s.trace p low high r.type_number a.value has described r.stands place_of.offset;
+        matches = matches_assigned matches n p.segment a Undefined place_of.is_in x.is x.lives r of_type;
+        here = lasts.by injection injection s (assigned n Undefined s) memory (storing memory p.segment r.type_number Undefined) (record { grown = grown_storing matches n p.segment a Undefined place_of.is_in x.is x.lives r; routine = same_routine-refl memory.frames; calls = refl }) known;
+        post = record { grown = grown_storing matches n p.segment a Undefined place_of.is_in x.is x.lives r; routine = same_routine-refl memory.frames; operands_are = refl };
+      }

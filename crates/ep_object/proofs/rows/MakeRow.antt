@@ -10,7 +10,7 @@ use Rattle.ep_object.specs.Operands.{Operand, Word}
 use Rattle.ep_object.specs.Placing.{HasDistinctNames}
 use Rattle.ep_object.specs.Runs.{outcome, unit_in}
 use Rattle.ep_object.specs.Scene.{HaveValidTypes}
-use Rattle.ep_object.specs.State.{Running, Stopped, Error, live_limit}
+use Rattle.ep_object.specs.State.{Frames, Running, Stopped, Error, live_limit}
 use Rattle.ep_object.specs.Types.{ordinal_entry}
 use Rattle.ep_object.specs.declared.code.Image.{Image}
 use Rattle.ep_object.specs.declared.code.ImageUnit.{ImageUnit}
@@ -19,6 +19,7 @@ use Rattle.ep_object.proofs.following.Bind.{gives_up}
 use Rattle.ep_object.proofs.matching.Elements.{slice_get-set-same, slice_get-set-other}
 use Rattle.ep_object.proofs.following.Fragments.{Does}
 use Rattle.ep_object.proofs.Grows.{is_prefix}
+use Rattle.ep_object.proofs.matching.Growing.{same_call-refl}
 use Rattle.ep_object.proofs.matching.Counts.{lost_words, past_limit, live_bounded}
 use Rattle.ep_object.proofs.rows.Rows.{instr, in_one, outcome_at}
 use Rattle.ep_typed.specs.Events.{Trace}
@@ -34,17 +35,22 @@ use Rattle.ep_object.proofs.matching.NewVariables.{new_segment, new_place, with_
 
 -- ---- the row
 
+-- no call is under way, and the routine runs in the frame of this unit
+pub record RunsInUnit (G : Image) (frames : Frames) (x : ImageUnit) : Type 0 where
+  pub calls : frames.calls ≡ []
+  pub unit : slice_get G.units frames.unit ≡ Some x
+
 -- what `Make` leads to: one more variable, or an error where too many words would live
 make_outcome : (G : Image) (place line : ℕ) (below : List Operand) (low high : ℤ) (number k : ℕ) (slots : List (Option Place)) (memory : Memory) (trace : Trace) (b : Bool)
     → slice_get G.instructions place ≡ Some (instr op.MAKE (pos k) 0 line)
-    → slice_get memory.frames.units memory.frames.unit ≡ Some slots
+    → memory.frames.calls ≡ [] → slice_get memory.frames.units memory.frames.unit ≡ Some slots
     → Describes memory.types number (type.Ordinal low high) → k < length slots
     → leb (memory.live + 2) live_limit ≡ b
     → outcome G (at place (Word (pos number) ∷ below) memory trace) ≡ cond b (record { weight = 1; to = Running 0 (at (place + 1) below (with_variable number (with_place number k slots memory) memory) trace) }) (in_one (Stopped (Error run_error.STORAGE_LIMIT (unit_in G memory.frames) line) trace))
-make_outcome G place line below low high number k slots memory trace true has frame described within fits =
-    outcome_at G (instr op.MAKE (pos k) 0 line) place (Word (pos number) ∷ below) memory trace has ∙ rw (frame, lt-ltb number (length memory.types) (slice_get_within memory.types number (ordinal_entry low high) described), described, lt-ltb k (length slots) within, fits) refl
-make_outcome G place line below low high number k slots memory trace false has frame described within fits =
-    outcome_at G (instr op.MAKE (pos k) 0 line) place (Word (pos number) ∷ below) memory trace has ∙ rw (frame, lt-ltb number (length memory.types) (slice_get_within memory.types number (ordinal_entry low high) described), described, lt-ltb k (length slots) within, fits) refl
+make_outcome G place line below low high number k slots memory trace true has alone frame described within fits =
+    outcome_at G (instr op.MAKE (pos k) 0 line) place (Word (pos number) ∷ below) memory trace has ∙ rw (alone, frame, lt-ltb number (length memory.types) (slice_get_within memory.types number (ordinal_entry low high) described), described, lt-ltb k (length slots) within, fits) refl
+make_outcome G place line below low high number k slots memory trace false has alone frame described within fits =
+    outcome_at G (instr op.MAKE (pos k) 0 line) place (Word (pos number) ∷ below) memory trace has ∙ rw (alone, frame, lt-ltb number (length memory.types) (slice_get_within memory.types number (ordinal_entry low high) described), described, lt-ltb k (length slots) within, fits) refl
 
 -- `Make` of an ordinal type in a slot of the unit's frame, over the number of the type
 pub make_does : {untouched : Slots} {Here : Facts} (declared : Declarations) (G : Image) (place line : ℕ) (below : List Operand) (low high : ℤ) (number k : ℕ) (x : ImageUnit)
@@ -53,15 +59,15 @@ pub make_does : {untouched : Slots} {Here : Facts} (declared : Declarations) (G 
     → HaveValidTypes declared
     → ((v : UnitVariable) → declared.variables x.name k ≡ Some v → HasType declared x.name v (type.Ordinal low high))
     → (injection : Injection) (memory : Memory) (s : meaning.State)
-    → slice_get G.units memory.frames.unit ≡ Some x → k < x.slots
+    → RunsInUnit G memory.frames x → k < x.slots
     → (IsTrue (untouched memory.frames.unit k) → ⊥)
     → Describes memory.types number (type.Ordinal low high) → Lasts untouched Here
     → Matches declared G injection s memory → Here injection s memory
     → Does declared G Here (at place (Word (pos number) ∷ below) memory s.trace) 1 (place + 1) (Inside untouched injection memory (Bare below tt)) (made x.name k (type.Ordinal low high) (counted (type.Ordinal low high) s)) ⊎ GivesUp G (at place (Word (pos number) ∷ below) memory s.trace) 0 1 (counted (type.Ordinal low high) s)
-make_does {untouched = untouched} {Here = Here} declared G place line below low high number k x has distinct low_fits high_fits types_valid declared_so injection memory s is_unit within free described lasts matches known = go (leb (memory.live + 2) live_limit) refl
+make_does {untouched = untouched} {Here = Here} declared G place line below low high number k x has distinct low_fits high_fits types_valid declared_so injection memory s home within free described lasts matches known = go (leb (memory.live + 2) live_limit) refl
   where
-    frame : MatchesFrame declared (with_segment injection memory) s.variables memory.frames.units (memory.segments ++ Some (new_segment number) ∷ []) memory.frames.unit x
-    frame = frame_here matches x low high number k is_unit described low_fits high_fits
+    frame : MatchesFrame declared (with_segment injection memory) s.variables memory.frames.units (memory.segments ++ Some (new_segment number) ∷ []) memory.types memory.frames.unit x
+    frame = frame_here matches x low high number k home.unit described low_fits high_fits
 
     -- the slots that are kept are what they were
     kept : (unit j : ℕ) → IsTrue (untouched unit j)
@@ -84,7 +90,7 @@ make_does {untouched = untouched} {Here = Here} declared G place line below low 
 
     leads : (b : Bool) → leb (memory.live + 2) live_limit ≡ b
         → outcome G (at place (Word (pos number) ∷ below) memory s.trace) ≡ cond b (record { weight = 1; to = Running 0 (at (place + 1) below (with_variable number (with_place number k frame.slots memory) memory) s.trace) }) (in_one (Stopped (Error run_error.STORAGE_LIMIT (unit_in G memory.frames) line) s.trace))
-    leads b e = make_outcome G place line below low high number k frame.slots memory s.trace b has frame.is described (omega (arith, within, frame.count)) e
+    leads b e = make_outcome G place line below low high number k frame.slots memory s.trace b has home.calls frame.is described (omega (arith, within, frame.count)) e
 
     go : (b : Bool) → leb (memory.live + 2) live_limit ≡ b
         → Does declared G Here (at place (Word (pos number) ∷ below) memory s.trace) 1 (place + 1) (Inside untouched injection memory (Bare below tt)) (made x.name k (type.Ordinal low high) (counted (type.Ordinal low high) s)) ⊎ GivesUp G (at place (Word (pos number) ∷ below) memory s.trace) 0 1 (counted (type.Ordinal low high) s)
@@ -94,9 +100,9 @@ make_does {untouched = untouched} {Here = Here} declared G place line below low 
           memory = with_variable number (with_place number k frame.slots memory) memory;
           operands = below;
           does = leads true e;
-          matches = matches_making matches x low high number k is_unit described low_fits high_fits within distinct types_valid declared_so;
-          here = lasts.by injection (with_segment injection memory) s (made x.name k (type.Ordinal low high) (counted (type.Ordinal low high) s)) memory (with_variable number (with_place number k frame.slots memory) memory) (record { grown = grown_making injection memory number (with_place number k frame.slots memory) kept; routine = record { turn = refl; routine = refl; unit = refl }; calls = refl }) known;
-          post = record { grown = grown_making injection memory number (with_place number k frame.slots memory) kept; routine = record { turn = refl; routine = refl; unit = refl }; operands_are = refl };
+          matches = matches_making matches x low high number k home.unit described low_fits high_fits within declared_so distinct types_valid;
+          here = lasts.by injection (with_segment injection memory) s (made x.name k (type.Ordinal low high) (counted (type.Ordinal low high) s)) memory (with_variable number (with_place number k frame.slots memory) memory) (record { grown = grown_making injection memory number (with_place number k frame.slots memory) kept; routine = record { turn = refl; routine = refl; unit = refl; calls = same_call-refl memory.frames.calls }; calls = refl }) known;
+          post = record { grown = grown_making injection memory number (with_place number k frame.slots memory) kept; routine = record { turn = refl; routine = refl; unit = refl; calls = same_call-refl memory.frames.calls }; operands_are = refl };
         })
     go false e =
         let many : live_limit < memory.live + 2 = grind (arith, nat_tests) in

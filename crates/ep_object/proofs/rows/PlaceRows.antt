@@ -1,5 +1,5 @@
 -- What the rows on places and variables lead to, where the machine matches.
-use Rattle.std.proofs.Common.{◌≡◌, ℕ, ℤ, pos, negsuc, ◌+◌, ◌<◌, true, List, [], ◌∷◌, Option, Some, None, slice_get, refl, ap, ◌∙◌, subst, arith}
+use Rattle.std.proofs.Common.{◌≡◌, ℕ, ℤ, pos, negsuc, ◌+◌, ◌<◌, true, false, List, [], ◌∷◌, Option, Some, None, slice_get, refl, ap, ◌∙◌, subst, arith}
 use Rattle.std.specs.Prelude.{int_lt}
 use Rattle.ep_object.specs.Follows.{Facts, OnTop, PlaceOnTop, Inside}
 use Rattle.ep_object.specs.Matching.{Memory, at, Injection, MatchesSlot, MatchesFrame, IsPlaceOf, Describes, IsValueOf, layout, Represents, HasType, Matches, Slots}
@@ -14,12 +14,13 @@ use Rattle.ep_object.specs.declared.code.Image.{Image}
 use Rattle.ep_object.specs.declared.code.ImageUnit.{ImageUnit}
 use Rattle.ep_object.specs.declared.state.Place.{Place}
 use Rattle.ep_object.proofs.following.Choices.{Reads, Misses, Finds}
+use Rattle.ep_object.proofs.following.Fragments.{FailsWith}
 use Rattle.ep_object.proofs.matching.Growing.{inside_here}
 use Rattle.ep_object.proofs.rows.Rows.{instr, in_one, RowPushes, outcome_at}
-use Rattle.ep_object.proofs.matching.Standing.{slice_get-some, Stands, place_stands, described-same, place_described, one_type, within_host, word_defined}
+use Rattle.ep_object.proofs.matching.Standing.{slice_get-some, Stands, place_stands, place_ended, described-same, within_host, word_defined}
 use Rattle.ep_typed.specs.Events.{Trace}
 use Rattle.ep_typed.specs.Printing.{Number}
-use Rattle.ep_typed.specs.Steps.{type_at, Value, Undefined, Allocation, allocation_at, word_of, word_in, word_at, is_within}
+use Rattle.ep_typed.specs.Steps.{has_ended, Value, Undefined, Allocation, allocation_at, word_of, word_in, word_at, is_within}
 use Rattle.ep_typed.specs.Steps as meaning
 use Rattle.ep_typed.specs.Valid as kind
 use Rattle.ep_typed.specs.Valid.{Declarations, IsTypeOf}
@@ -44,22 +45,20 @@ module _ (declared : Declarations) (G : Image) (place line : ℕ) (below : List 
       → Reads declared G Here (at place below memory s.trace) 1 (unit_in G memory.frames) line (place + 1) (λ n. Inside untouched injection memory (PlaceOnTop t below n)) s (s.variables unit.name k)
   unit_reads {untouched = untouched} {Here = Here} u k unit v t has there inside is_declared has_type injection memory s matches known =
       let units = matches.units in
-      let f : MatchesFrame declared injection s.variables memory.frames.units memory.segments u unit = units.frames u unit there in
+      let f : MatchesFrame declared injection s.variables memory.frames.units memory.segments memory.types u unit = units.frames u unit there in
       let x = slice_get-some f.slots k (omega (arith, f.count)) in
-      go f.slots f.is x.0 x.1 (s.variables unit.name k) refl (f.matches k v x.0 is_declared x.1)
+      go f.slots f.is x.0 x.1 (λ p slot_is. f.described k v p t is_declared slot_is has_type) (s.variables unit.name k) refl (f.matches k v x.0 is_declared x.1)
     where
-      typed : (n : ℕ) → s.variables unit.name k ≡ Some n → HasType declared unit.name v (type_at n s)
-      typed n e = let units = matches.units in units.typed unit.name k n v e is_declared
-
       go : (slots : List (Option Place)) → slice_get memory.frames.units u ≡ Some slots → (slot : Option Place)
-          → slice_get slots k ≡ Some slot → (o : Option ℕ) → s.variables unit.name k ≡ o
+          → slice_get slots k ≡ Some slot
+          → ((p : Place) → slice_get slots k ≡ Some (Some p) → Describes memory.types p.type_number t) → (o : Option ℕ) → s.variables unit.name k ≡ o
           → MatchesSlot injection memory.segments o slot
           → Reads declared G Here (at place below memory s.trace) 1 (unit_in G memory.frames) line (place + 1) (λ n. Inside untouched injection memory (PlaceOnTop t below n)) s (s.variables unit.name k)
-      go slots is None slot_is None o_is h =
+      go slots is None slot_is described None o_is h =
           Misses o_is (record { fails = outcome_at G (instr op.UNIT (pos u) k line) place below memory s.trace has ∙ rw (is, slot_is) refl })
-      go slots is (Some p) slot_is None o_is h = absurd h
-      go slots is None slot_is (Some n) o_is h = absurd h
-      go slots is (Some p) slot_is (Some n) o_is h =
+      go slots is (Some p) slot_is described None o_is h = absurd h
+      go slots is None slot_is described (Some n) o_is h = absurd h
+      go slots is (Some p) slot_is described (Some n) o_is h =
           Finds n o_is (record {
             injection = injection;
             memory = memory;
@@ -67,7 +66,7 @@ module _ (declared : Declarations) (G : Image) (place line : ℕ) (below : List 
             does = outcome_at G (instr op.UNIT (pos u) k line) place below memory s.trace has ∙ rw (is, slot_is) refl;
             matches = matches;
             here = known;
-            post = inside_here (record { place = p; is = refl; place_of = h; described = place_described t matches h (one_type (typed n o_is) has_type) });
+            post = inside_here (record { place = p; is = refl; place_of = h; described = described p slot_is });
           })
 
   -- what `Load` finds
@@ -80,16 +79,26 @@ module _ (declared : Declarations) (G : Image) (place line : ℕ) (below : List 
   load_outcome memory trace p low high type_number w has typed stands offset =
       outcome_at G (instr op.LOAD (pos 0) 0 line) place (operand.Place p ∷ below) memory trace has ∙ rw (typed, stands, offset) refl
 
-  -- `Load`, of a variable of an ordinal type of the host
+  -- `Load`, of a variable that has ended
+  pub load_fails : (low high : ℤ) (n : ℕ) (p : Place)
+      → slice_get G.instructions place ≡ Some (instr op.LOAD (pos 0) 0 line)
+      → (injection : Injection) (memory : Memory) → IsPlaceOf injection memory.segments n p
+      → Describes memory.types p.type_number (type.Ordinal low high) → (s : meaning.State)
+      → Matches declared G injection s memory → has_ended n s ≡ true
+      → FailsWith G (at place (operand.Place p ∷ below) memory s.trace) 0 11 (unit_in G memory.frames) line s
+  load_fails low high n p has injection memory place_of described s matches ended =
+      record { fails = outcome_at G (instr op.LOAD (pos 0) 0 line) place (operand.Place p ∷ below) memory s.trace has ∙ rw (described, place_ended matches place_of ended) refl }
+
+  -- `Load`, of a variable of an ordinal type of the host, which lives
   pub load_reads : {untouched : Slots} {Here : Facts} (host : Host) (low high : ℤ) (n : ℕ) (p : Place)
       → IsTypeOf host (type.Ordinal low high)
       → slice_get G.instructions place ≡ Some (instr op.LOAD (pos 0) 0 line)
       → (injection : Injection) (memory : Memory) → IsPlaceOf injection memory.segments n p
       → Describes memory.types p.type_number (type.Ordinal low high) → (s : meaning.State)
-      → Matches declared G injection s memory → Here injection s memory
+      → Matches declared G injection s memory → Here injection s memory → has_ended n s ≡ false
       → Reads declared G Here (at place (operand.Place p ∷ below) memory s.trace) 1 (unit_in G memory.frames) line (place + 1) (λ w. Inside untouched injection memory (OnTop (kind.Ordinal host) below (Number w))) s (word_at n s)
-  load_reads {untouched = untouched} {Here = Here} host low high n p of_host has injection memory place_of described s matches known =
-      let x : Stands s memory n p = place_stands matches place_of in
+  load_reads {untouched = untouched} {Here = Here} host low high n p of_host has injection memory place_of described s matches known living =
+      let x : Stands s memory n p = place_stands matches place_of living in
       let a : Allocation = x.allocation in
       let r : Represents memory.segments memory.types p.segment a = x.represents in
       let e : a.type_value ≡ type.Ordinal low high = described-same memory.types r.type_number a.type_value low high r.described (subst (λ k. Describes memory.types k (type.Ordinal low high)) x.type_number described) in

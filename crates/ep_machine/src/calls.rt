@@ -1,0 +1,193 @@
+//! The calls under way and their frames.
+
+ghost use Rattle.std.specs.Bool.{OnTrue, OnFalse};
+ghost use Rattle.std.specs.Prelude.{◌≡◌, ◌<◌, ◌≤◌, ℕ, List, [], ◌∷◌, ◌++◌, Option, Some, None, MatchOption, OnOk, option_map, slice_get, slice_set, length, reverse};
+ghost use Rattle.ep_object.specs.Frames.{call_at, parent_of};
+ghost use Rattle.ep_machine.specs.Calls.{innermost_routine, innermost_slots, innermost_parent, IsSlot, bound, placed, first};
+
+use ep_base::Bytes;
+use ep_object::{FrameNumber, Place};
+use std::alloc::Global;
+use std::marker::Model;
+
+/// An argument of a call.
+#[derive(Drop)]
+pub enum Argument {
+    /// A word.
+    Word(i64),
+    /// A place.
+    Place(Place),
+    /// A text.
+    Text(Bytes),
+}
+
+/// A call under way. Its slots and arguments stand among those of all calls, behind those of the calls below it, and
+/// so do the segments that were made in it.
+#[derive(Clone, Copy, Drop)]
+pub struct Activation {
+    /// The routine.
+    pub routine: u32,
+    /// The frame in which the routine is declared.
+    pub parent: FrameNumber,
+    /// The place at which the caller goes on.
+    pub back: u32,
+    /// How many slots stand before its own.
+    pub slots_from: usize,
+    /// How many slots it has.
+    pub slots: usize,
+    /// How many arguments stand before its own.
+    pub arguments_from: usize,
+    /// How many arguments it has.
+    pub arguments: usize,
+    /// How many segments were made before.
+    pub made_from: usize,
+}
+
+/// The frames of all calls under way, which contracts see with the innermost first.
+#[derive(Drop)]
+pub struct Calls {
+    calls: Vec<Activation>,
+    slots: Vec<Option<Place>>,
+    arguments: Vec<Option<Argument>>,
+    made: Vec<u64>,
+}
+
+impl Model for Calls {
+    ghost use Rattle.std.specs.Prelude.{List, reverse, length};
+    ghost use Rattle.ep_object.specs.State.{Frame};
+    ghost use Rattle.ep_machine.specs.Calls.{frames_over, operands_in, AreBelow};
+
+    ghost Value = { List Frame };
+
+    ghost view = { λ s. frames_over s.slots.items (operands_in s.arguments.items) s.made.items
+        (reverse s.calls.items) };
+
+    ghost invariant = { λ s. AreBelow (length s.slots.items) (length s.arguments.items)
+        (length s.made.items) (reverse s.calls.items) };
+}
+
+/// The call over so many others.
+fn call(calls: &[Activation], number: usize) -> Option<Activation>
+    ensures { result ≡ slice_get calls.now number }
+{
+    calls.get(number).copied()
+}
+
+/// The innermost call.
+#[inline(always)]
+fn last(calls: &[Activation]) -> Option<Activation>
+    ensures { result ≡ first (reverse calls.now) }
+{
+    if calls.is_empty() {
+        return None;
+    }
+    Some(calls[calls.len() - 1])
+}
+
+impl Calls {
+    /// No calls.
+    pub fn new(alloc: Global) -> Calls
+        ensures { result ≡ [] }
+    {
+        Calls {
+            calls: Vec::new(alloc),
+            slots: Vec::new(alloc),
+            arguments: Vec::new(alloc),
+            made: Vec::new(alloc),
+        }
+    }
+
+    /// How many there are.
+    #[tactic(auto, using(crate::proofs::CallFrames::frames_count))]
+    #[inline(always)]
+    pub fn count(&self) -> usize
+        ensures { result ≡ length self.now }
+    {
+        self.calls.len()
+    }
+
+    /// The routine of the innermost call.
+    #[inline(always)]
+    pub fn routine(&self) -> Option<u32>
+        ensures { result ≡ innermost_routine self.now }
+    {
+        match last(&self.calls) {
+            Some(call) => Some(call.routine),
+            None => None,
+        }
+    }
+
+    /// The slots of the innermost call.
+    #[inline(always)]
+    pub fn slots(&self) -> Option<&[Option<Place>]>
+        ensures { option_map (λ s. s.now) result ≡ innermost_slots self.now }
+    {
+        if self.calls.is_empty() {
+            return None;
+        }
+        let call = self.calls[self.calls.len() - 1];
+        Some(&self.slots[call.slots_from..call.slots_from + call.slots])
+    }
+
+    /// The frame in which the routine of the innermost call is declared.
+    pub fn parent(&self) -> Option<FrameNumber>
+        ensures { result ≡ innermost_parent self.now }
+    {
+        if self.calls.is_empty() {
+            return None;
+        }
+        Some(self.calls[self.calls.len() - 1].parent)
+    }
+
+    /// The frame in which the routine is declared of the call over so many others.
+    #[tactic(auto, using(crate::proofs::CallFrames::parent_of_call))]
+    pub fn parent_at(&self, number: usize) -> Option<FrameNumber>
+        ensures { result ≡ option_map (λ c. c.parent) (call_at self.now number) }
+    {
+        let Some(call) = call(&self.calls, number) else {
+            return None;
+        };
+        Some(call.parent)
+    }
+
+    /// The slots of the call over so many others.
+    #[tactic(auto, using(crate::proofs::CallFrames::slots_of_call, crate::proofs::CallFrames::slots_within))]
+    pub fn slots_at(&self, number: usize) -> Option<&[Option<Place>]>
+        ensures { option_map (λ s. s.now) result
+            ≡ option_map (λ c. c.slots) (call_at self.now number) }
+    {
+        let Some(call) = call(&self.calls, number) else {
+            return None;
+        };
+        Some(&self.slots[call.slots_from..call.slots_from + call.slots])
+    }
+
+    /// A slot of the innermost call holds the place of a variable that was made in it. Answers whether there was memory.
+    pub fn place(&mut self, slot: usize, place: Place, segment: u64) -> bool
+        requires { IsSlot self.old slot }
+        ensures placed { OnTrue result (self.new ≡ placed self.old slot place segment) }
+        ensures kept { OnFalse result (self.new ≡ self.old) }
+    {
+        let Some(call) = last(&self.calls) else {
+            return false;
+        };
+        if self.made.push(segment).is_err() {
+            return false;
+        }
+        self.slots[call.slots_from + slot] = Some(place);
+        true
+    }
+
+    /// A slot of the innermost call holds a place. Answers whether there is one.
+    pub fn bind(&mut self, slot: usize, place: Place) -> bool
+        requires { IsSlot self.old slot }
+        ensures bound { OnTrue result (self.new ≡ bound self.old slot place) }
+        ensures kept { OnFalse result (self.new ≡ self.old) }
+    {
+        let Some(call) = last(&self.calls) else {
+            return false;
+        };
+        self.slots[call.slots_from + slot] = Some(place);
+        true
+    }
+}
