@@ -14,7 +14,10 @@ use Rattle.ep_gen_unit.proofs.Starts.{MakesFollow, body_follows}
 use Rattle.ep_object.proofs.following.Bind.{follows_less, follows_post, follows_from, follows_give}
 use Rattle.ep_object.proofs.following.Fragments.{fragment_to}
 use Rattle.ep_object.proofs.rows.MakeRow.{RunsInUnit}
-use Rattle.ep_object.proofs.matching.Growing.{inside_here, since_here, since_lasts}
+use Rattle.ep_object.proofs.matching.Growing.{inside_here, no_calls, since_here, since_lasts}
+use Rattle.ep_object.specs.Effects.{Returns, light}
+use Rattle.ep_object.specs.Table.{obey}
+use Rattle.ep_typed.specs.Events.{Trace}
 use Rattle.ep_object.specs.Follows.{Facts, Lasts, Since, Bare}
 use Rattle.ep_object.specs.Matching.{Memory, Injection, is_undeclared, is_hidden_in, is_hidden_slot, at as standing}
 use Rattle.ep_object.specs.Operands.{Operand}
@@ -101,6 +104,11 @@ module _ (u : TypedUnit) (o : Object) (is : IsProgramCode u o) (G : Image) (ps :
       let same : enters.image_routine ≡ placed_routine p r = same_Some enters.image_routine (placed_routine p r) (sym enters.there ∙ routine_there n r has) in
       enters.is ∙ (ap (λ (x : ImageRoutine). standing x.entry below memory s.trace) same ∙ ap (λ place. standing place below memory s.trace) (moved_own p.instructions r.entry inside))
 
+  -- where no call is under way the `Return` leaves the start or the stop
+  returns_from : (place : ℕ) (below : List Operand) (memory : Memory) (trace : Trace) → memory.frames.calls ≡ []
+      → obey G return_code (standing place below memory trace) ≡ light Returns
+  returns_from place below memory trace alone = rw alone refl
+
   start_is : slice_get o.routines o.start ≡ Some (routine_at 0)
   start_is = rw (is.start, is.routines) refl
 
@@ -122,7 +130,7 @@ module _ (u : TypedUnit) (o : Object) (is : IsProgramCode u o) (G : Image) (ps :
               place = p.instructions.before + (ends_block + 1);
               instruction = return_code;
               stands = returns_stand.1.0;
-              returns = refl;
+              returns = returns_from (p.instructions.before + (ends_block + 1)) below memory s.trace enters.without_calls;
               lands = record { injection = injection; memory = memory; operands = below; is = refl; matches = enters.matches; here = since_here injection s memory; post = inside_here refl };
             }));
       }
@@ -158,7 +166,7 @@ module _ (u : TypedUnit) (o : Object) (is : IsProgramCode u o) (G : Image) (ps :
               (λ of_unit slot v t is_declared has_type line at code is_code x_stands v1 m1 operands d enough x_home. place_follows ps p o.texts o.references scene call steady_call n u.name n of_unit slot v t is_declared has_type line at code is_code x_stands v1 m1 operands d (omega arith) x_home)
               valid (makes since_lasts) injection memory below routine_credit (omega arith) (home o.start (routine_at 0) start_is memory.frames enters.without_calls enters.runs) (record { calls = enters.without_calls; unit = enters.in_unit }) in
               follows_from (at_entry o.start (routine_at 0) start_is (omega (arith, instructions_own)) enters)
-              (follows_less {n = n} (omega arith) (follows_post (λ a t l lands. record { place = p.instructions.before + ends_block; instruction = return_code; stands = returns_stand.0; returns = refl; lands = lands }) (body.by s enters.matches (since_here injection s memory))));
+              (follows_less {n = n} (omega arith) (follows_post (λ a t l lands. record { place = p.instructions.before + ends_block; instruction = return_code; stands = returns_stand.0; returns = (let routine = lands.post.routine in subst (λ (x : State). obey G return_code x ≡ light Returns) (sym lands.is) (returns_from (p.instructions.before + ends_block) lands.operands lands.memory t.trace (no_calls memory.frames.calls lands.memory.frames.calls routine.calls enters.without_calls))); lands = lands }) (body.by s enters.matches (since_here injection s memory))));
         }
 
   -- the variables of the unit have their slots

@@ -1,5 +1,6 @@
 mod CallFrames
 mod Decoding
+mod Endings
 mod Ends
 mod Fusion
 mod Leads

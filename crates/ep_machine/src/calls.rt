@@ -1,9 +1,12 @@
 //! The calls under way and their frames.
 
 ghost use Rattle.std.specs.Bool.{OnTrue, OnFalse};
-ghost use Rattle.std.specs.Prelude.{◌≡◌, ◌<◌, ◌≤◌, ℕ, List, [], ◌∷◌, ◌++◌, Option, Some, None, MatchOption, OnOk, option_map, slice_get, slice_set, length, reverse};
-ghost use Rattle.ep_object.specs.Frames.{call_at, parent_of};
-ghost use Rattle.ep_machine.specs.Calls.{innermost_routine, innermost_slots, innermost_parent, IsSlot, bound, placed, first};
+ghost use Rattle.std.specs.Prelude.{◌^◌, IfSome, IsTrue, is_some, ◌≡◌, ◌<◌, ◌≤◌, ℕ, List, [], ◌∷◌, ◌++◌, Option, Some, None, MatchOption, OnOk, option_map, slice_get, slice_set, length, reverse};
+ghost use Rattle.ep_object.specs.Calls.{word_of};
+ghost use Rattle.ep_object.specs.Frames.{call_at, found_by};
+ghost use Rattle.std.specs.Prelude.{◌+◌};
+ghost use Rattle.ep_machine.specs.Calls.{innermost_routine, innermost_slots, innermost_parent, IsSlot, bound, placed, first, innermost_made, innermost_back, rest_of, argument_of, argument_among, operand_of, operands_in, without};
+ghost use Rattle.ep_object.specs.Operands.{weight};
 
 use ep_base::Bytes;
 use ep_object::{FrameNumber, Place};
@@ -19,6 +22,19 @@ pub enum Argument {
     Place(Place),
     /// A text.
     Text(Bytes),
+}
+
+impl Argument {
+    /// How many ticks it costs to push it, besides the one of each instruction.
+    fn weight(&self) -> u64
+        ensures weight { result ≡ weight (operand_of self.now) }
+        ensures small { result < 2 ^ 63 }
+    {
+        match self {
+            Argument::Text(bytes) => bytes.items().len() as u64,
+            Argument::Word(_) | Argument::Place(_) => 0,
+        }
+    }
 }
 
 /// A call under way. Its slots and arguments stand among those of all calls, behind those of the calls below it, and
@@ -190,4 +206,95 @@ impl Calls {
         self.slots[call.slots_from + slot] = Some(place);
         true
     }
+
+    /// The segments that were made in the innermost call.
+    pub fn made(&self) -> Option<&[u64]>
+        ensures { option_map (λ s. s.now) result ≡ innermost_made self.now }
+    {
+        let Some(call) = last(&self.calls) else {
+            return None;
+        };
+        Some(&self.made[call.made_from..])
+    }
+
+    /// The place at which the caller of the innermost call goes on.
+    pub fn back(&self) -> Option<u32>
+        ensures { result ≡ innermost_back self.now }
+    {
+        match last(&self.calls) {
+            Some(call) => Some(call.back),
+            None => None,
+        }
+    }
+
+    /// The innermost call is no longer under way.
+    #[tactic(auto, using(crate::proofs::CallFrames::left_view, crate::proofs::CallFrames::left_below))]
+    pub fn leave(&mut self)
+        ensures { self.new ≡ rest_of self.old }
+    {
+        let Some(call) = self.calls.pop() else {
+            return;
+        };
+        self.made.truncate(call.made_from);
+        self.slots.truncate(call.slots_from);
+        self.arguments.truncate(call.arguments_from);
+    }
+
+    /// The weight of an argument of the innermost call.
+    #[tactic(auto, using(crate::proofs::CallFrames::argument_view))]
+    pub fn weight(&self, number: usize) -> Option<u64>
+        ensures weight { result ≡ option_map weight (argument_of self.now number) }
+        ensures small { IfSome result (λ w. w < 2 ^ 63) }
+    {
+        let Some(call) = last(&self.calls) else {
+            return None;
+        };
+        match find_argument(call, number, &self.arguments) {
+            Some(argument) => Some(argument.weight()),
+            None => None,
+        }
+    }
+
+    /// Takes an argument out of the innermost call, where it is there.
+    #[tactic(auto, using(crate::proofs::CallFrames::without_view, crate::proofs::CallFrames::argument_view))]
+    pub fn take(&mut self, number: usize) -> Option<Argument>
+        requires { IsTrue (is_some (argument_of self.old number)) }
+        ensures taken { option_map operand_of result ≡ argument_of self.old number }
+        ensures left { self.new ≡ without self.old number }
+    {
+        let Some(call) = last(&self.calls) else {
+            return None;
+        };
+        self.arguments[call.arguments_from + (call.arguments - number - 1)].take()
+    }
+
+    /// An argument of the innermost call that is a word.
+    #[tactic(auto, using(crate::proofs::CallFrames::argument_view))]
+    pub fn word(&self, number: usize) -> Option<i64>
+        ensures { result ≡ found_by (argument_of self.now number) word_of }
+    {
+        let Some(call) = last(&self.calls) else {
+            return None;
+        };
+        match find_argument(call, number, &self.arguments) {
+            Some(Argument::Word(w)) => Some(*w),
+            _ => None,
+        }
+    }
+}
+
+/// An argument of a call, the first one for 0.
+#[tactic(auto, using(crate::proofs::CallFrames::argument_read, crate::proofs::CallFrames::argument_past))]
+fn find_argument(
+    call: Activation,
+    number: usize,
+    arguments: &[Option<Argument>],
+) -> Option<&Argument>
+    requires { call.arguments_from + call.arguments ≤ length arguments.now }
+    ensures { option_map (λ a. operand_of a.now) result ≡ argument_among call number (operands_in arguments.now) }
+{
+    if number >= call.arguments {
+        return None;
+    }
+    arguments[call.arguments_from + (call.arguments - number - 1)].as_ref()
 }

@@ -10,6 +10,7 @@
 //! makes a frequent one slow.
 #![tactic(auto)]
 
+mod arguments;
 mod calls;
 mod cell;
 mod code;
@@ -21,6 +22,7 @@ mod output;
 mod pairs;
 mod places;
 mod run;
+mod segments;
 mod stack;
 mod start;
 mod state;

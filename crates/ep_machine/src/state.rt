@@ -1,11 +1,14 @@
 //! The state of a machine.
 
-ghost use Rattle.std.specs.Prelude.{◌≡◌, suc, option_map, length};
+ghost use Rattle.ep_object.specs.Calls.{ended, words_of};
+ghost use Rattle.ep_machine.specs.Calls.{made_in, rest_of};
+ghost use Rattle.std.specs.Prelude.{◌≡◌, ◌-◌, suc, option_map, length};
 ghost use Rattle.ep_object.specs.Frames.{routine_in, slots_of, frame_above, parent_of as parent_of_frame, slots_up};
 ghost use Rattle.ep_machine.specs.Views.{frames_of, routines_of, HasSlot, IsPlaced, IsBound};
 ghost use Rattle.std.specs.Bool.{OnTrue};
 
 use crate::calls::Calls;
+use crate::segments;
 use crate::stack::Stack;
 use ep_base::List;
 use ep_object::{FrameNumber, Place, Segment, TypeEntry};
@@ -106,6 +109,26 @@ impl Memory {
         }
         self.units[unit].set(number, Some(place));
         true
+    }
+
+    /// The innermost call is left, and the segments that were made in it end.
+    #[tactic(auto, using(crate::proofs::CallFrames::made_innermost))]
+    pub fn leave(&mut self)
+        ensures calls { self.new.calls ≡ rest_of self.old.calls }
+        ensures segments { self.new.segments.items
+            ≡ ended (made_in self.old.calls) self.old.segments.items }
+        ensures live { self.new.live
+            ≡ self.old.live - words_of (made_in self.old.calls) self.old.segments.items }
+        ensures rest { self.new ≡ record self.old {
+          calls = self.new.calls;
+          segments = self.new.segments;
+          live = self.new.live;
+        } }
+    {
+        if let Some(made) = self.calls.made() {
+            segments::end(made, &mut self.segments, &mut self.live);
+        }
+        self.calls.leave();
     }
 
     /// The slots of the frame one level up from the one in which the routine runs and so many more.

@@ -1,9 +1,10 @@
 -- What holds of every state that an instruction leaves, where it holds after each change that an instruction makes.
-use Rattle.std.proofs.Common.{◌≡◌, List, refl, Option, Some, None, Bool, true, false}
-use Rattle.ep_object.specs.Effects.{Effect, Continues, Jumps, Returns, Fails, Halts, Breaks, Work, mapped, mapped_work, having, having_weighed, provided, only_a_weighed, has_no_field, has_one_field}
+use Rattle.std.proofs.Common.{◌≡◌, ℤ, List, [], ◌∷◌, length, refl, Option, Some, None, Bool, true, false}
+use Rattle.ep_object.specs.Effects.{Effect, Continues, Jumps, Returns, Fails, Halts, Breaks, Work, mapped, mapped_work, having, having_weighed, provided, provided_weighed, only_a_weighed, has_no_field, has_one_field, index}
+use Rattle.ep_object.specs.Calls.{left, return_over, return_row, argument_at, arg_of, arg_over, arg_row}
 use Rattle.ep_object.specs.Operands.{Operand}
 use Rattle.ep_object.specs.Places.{Making, make_row, bind_row}
-use Rattle.ep_object.specs.State.{State}
+use Rattle.ep_object.specs.State.{State, Frame}
 use Rattle.ep_object.specs.Table as table
 use Rattle.ep_object.specs.Frames.{slots_of}
 use Rattle.ep_object.specs.Table.{Op, obey, obey_op, op_of, on_operands, in_segments, with_bound, bind_in, making, with_making, typing, with_typing, with_events}
@@ -40,6 +41,14 @@ module _ (Holds : State → Type 0) where
   only_where true e h = h
   only_where false e h = tt
 
+  only_where_weighed : (b : Bool) (w : Work State) → HoldsAfter w.effect → HoldsAfter (provided_weighed b w).effect
+  only_where_weighed true w h = h
+  only_where_weighed false w h = tt
+
+  if_there_weighed : {A : Type 0} (o : Option A) (f : A → Work State) → ((a : A) → HoldsAfter (f a).effect) → HoldsAfter (having_weighed o f).effect
+  if_there_weighed None f h = tt
+  if_there_weighed (Some a) f h = h a
+
   module _ (s : State) (operands : (st : List Operand) → Holds (record s { operands = st })) (segments : (p : List Operand × List (Option Segment)) → Holds (in_segments s p)) (makes : (m : Making) → Holds (with_making s m)) (types : (t : Typing) → Holds (with_typing s t)) (events : (p : List Operand × Trace) → Holds (with_events s p)) (quiet : (t : State) → t.trace ≡ s.trace → Holds t) where
     kept : (e : Effect (List Operand)) → HoldsAfter (on_operands s e)
     kept e = mapped_keeps (λ st. record s { operands = st }) operands e
@@ -47,6 +56,14 @@ module _ (Holds : State → Type 0) where
     in_frame : (row : List (Option Place) → Work Making) (o : Option (List (Option Place))) → HoldsAfter (having_weighed o (λ slots. mapped_work (with_making s) (row slots))).effect
     in_frame row None = tt
     in_frame row (Some slots) = mapped_keeps (with_making s) makes (row slots).effect
+
+    return_keeps : (calls : List Frame) → HoldsAfter (return_over calls s)
+    return_keeps [] = tt
+    return_keeps (c ∷ calls) = quiet (left c calls s) refl
+
+    arg_keeps : (a : ℤ) (calls : List Frame) → HoldsAfter (arg_over calls a s).effect
+    arg_keeps a [] = tt
+    arg_keeps a (c ∷ calls) = if_there_weighed (index (length c.arguments) a) _ (λ k. if_there_weighed (argument_at c.arguments k) _ (λ x. quiet (arg_of c calls k x s) refl))
 
     bind_keeps : (slots : Option (List (Option Place))) (row : List (Option Place) → Effect (List (Option Place) × List Operand))
         → HoldsAfter (having slots (λ slots. mapped (with_bound s) (row slots)))
@@ -85,7 +102,9 @@ module _ (Holds : State → Type 0) where
     op_keeps G i (Some table.Chars) = kept _
     op_keeps G i (Some table.Form) = kept _
     op_keeps G i (Some table.Halt) = halts (has_no_field i)
-    op_keeps G i (Some table.Return) = only_where (has_no_field i) Returns tt
+    op_keeps G i (Some table.Return) = only_where (has_no_field i) (return_row s) (return_keeps s.frames.calls)
+    op_keeps G i (Some table.Arg) = only_where_weighed (has_one_field i) (arg_row i.a s) (arg_keeps i.a s.frames.calls)
+    op_keeps G i (Some table.Peek) = kept _
     op_keeps G i (Some table.Bind) = only_where (has_one_field i) (bind_in i s) (bind_keeps (slots_of s.frames) (λ slots. bind_row slots i.a s.operands))
     op_keeps G i (Some table.Undefine) = mapped_keeps (in_segments s) segments _
     op_keeps G i (Some table.Like) = kept _

@@ -1,3 +1,4 @@
+pub mod Calls
 pub mod Control
 pub mod Effects
 pub mod Follows

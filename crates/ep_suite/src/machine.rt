@@ -236,6 +236,14 @@ Push:7 Like Make:0 Slot:0 Push:9 Store Unit:-1:1 Slot:0 Load Form Put Return=9|n
 Text:0 Like=|broken at 1|4\n\
 Like=|broken at 0|1";
 
+/// Arguments, which a start has none of.
+const ARGUMENTS: &str = "\
+Arg:0=|broken at 0|1\n\
+Arg:0:1=|broken at 0|1\n\
+Peek:0=|broken at 0|1\n\
+Push:7 Peek:0=|broken at 1|2\n\
+Return:1=|broken at 0|1";
+
 /// Numbers.
 const SUMS: &str = "\
 Push:9223372036854775807 Push:1 Add=|error 8 at 3|3\n\
@@ -292,7 +300,7 @@ Push:0 Make:0 Slot:0 Text:0 Put=|broken at 4|8";
 #[test]
 fn each_row_comes_to_what_the_table_of_instructions_says(rt: HostRuntime) -> Result<(), Fail> {
     for table in [
-        OPERANDS, JUMPS, VARIABLES, PLACES, SUMS, TRUTHS, TYPES, PRINTS,
+        OPERANDS, JUMPS, VARIABLES, PLACES, ARGUMENTS, SUMS, TRUTHS, TYPES, PRINTS,
     ] {
         let differing = differing(rt.alloc(), table)?;
         assert_eq!(rt; differing.as_str(), "");

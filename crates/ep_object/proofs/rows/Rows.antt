@@ -1,5 +1,5 @@
 -- What the rows of the table lead to, for the instructions that code is made of.
-use Rattle.std.proofs.Common.{◌≡◌, ℕ, ℤ, pos, ◌+◌, ◌<◌, Bool, true, false, not, ◌&&◌, ◌||◌, cond, IsTrue, List, ◌∷◌, length, Some, slice_get, refl, ap, ◌∙◌}
+use Rattle.std.proofs.Common.{◌≡◌, ℕ, ℤ, pos, ◌+◌, ◌<◌, Bool, true, false, not, ◌&&◌, ◌||◌, cond, IsTrue, List, [], ◌∷◌, length, Some, slice_get, refl, ap, ◌∙◌}
 use Rattle.std.proofs.lemmas.Bool.{lt-ltb}
 use Rattle.std.specs.Prelude.{if◌then◌else◌, ◌+ℤ◌, ◌-ℤ◌, ◌*ℤ◌, neg_ℤ, int_le, int_lt, int_div, unsigned_abs}
 use Rattle.ep_object.specs.Control.{jump_where}
@@ -200,5 +200,5 @@ module _ (G : Image) (place line : ℕ) (below : List Operand) where
   halt_halts has memory trace = outcome_at G (instr op.HALT (pos 0) 0 line) place below memory trace has
 
   -- `Return`, after which the next start or stop begins
-  pub return_enters : slice_get G.instructions place ≡ Some (instr op.RETURN (pos 0) 0 line) → (memory : Memory) (trace : Trace) → outcome G (at place below memory trace) ≡ record { weight = 0; to = enter G (memory.frames.turn + 1) (at place below memory trace) }
-  return_enters has memory trace = outcome_at G (instr op.RETURN (pos 0) 0 line) place below memory trace has
+  pub return_enters : slice_get G.instructions place ≡ Some (instr op.RETURN (pos 0) 0 line) → (memory : Memory) (trace : Trace) → memory.frames.calls ≡ [] → outcome G (at place below memory trace) ≡ record { weight = 0; to = enter G (memory.frames.turn + 1) (at place below memory trace) }
+  return_enters has memory trace alone = outcome_at G (instr op.RETURN (pos 0) 0 line) place below memory trace has ∙ rw alone refl
