@@ -177,7 +177,8 @@ impl Block {
         named: NamedType,
         name: &Name,
     ) -> Result<(), Refusal>
-        ensures { AnswersBlock result self.new (variable_entered line (denoter_named named.name) named.host name.now self.old) }
+        ensures { AnswersBlock result self.new
+            (variable_entered line (denoter_named named.name) named.host name.now self.old) }
     {
         let number = number(self.variables.items().len())?;
         let kind = Kind::Ordinal(named.host);

@@ -314,7 +314,9 @@ impl Context<'_> {
     ) -> Result<Option<Boxed<TypedStmt>>, Refusal>
         requires target { built_target access.now ≡ true }
         requires value { component_value_unbuilt value.now ≡ None }
-        ensures { AnswersForm (option_map stmt_of) result (both (assigned line) (target_judged (context_of self.now) (out-Access access.now).name (out-Access access.now).selectors) (judged_value self.now.scopes.now value.now)) }
+        ensures { AnswersForm (option_map stmt_of) result (both (assigned line)
+            (target_judged (context_of self.now) (out-Access access.now).name (out-Access access.now).selectors)
+            (judged_value self.now.scopes.now value.now)) }
     {
         let target = self.target(&access.name)?;
         let value = typed_value(self.alloc, value, self.scopes)?;
@@ -340,7 +342,8 @@ impl Context<'_> {
     fn call(&self, line: Line, access: &Access) -> Result<Option<Boxed<TypedStmt>>, Refusal>
         requires call { built_call access.now ≡ true }
         requires arguments { call_unbuilt access.now ≡ None }
-        ensures { AnswersForm (option_map stmt_of) result (name_called (context_of self.now) line (out-Access access.now).name (spec.call_arguments (out-Access access.now).selectors)) }
+        ensures { AnswersForm (option_map stmt_of) result (name_called (context_of self.now) line
+            (out-Access access.now).name (spec.call_arguments (out-Access access.now).selectors)) }
     {
         let arguments = call_arguments(access);
         match &meaning_of(self.scopes, &access.name) {
@@ -359,7 +362,8 @@ impl Context<'_> {
         arguments: &[Argument],
     ) -> Result<Option<Boxed<TypedStmt>>, Refusal>
         requires { first_in (map written_unbuilt arguments.now) ≡ None }
-        ensures { AnswersForm (option_map stmt_of) result (required_called (context_of self.now) line required arguments.now) }
+        ensures { AnswersForm (option_map stmt_of) result
+            (required_called (context_of self.now) line required arguments.now) }
     {
         match required {
             Required::Constant(_) => Err(Refusal::Rule(rule::OTHER_THING)),

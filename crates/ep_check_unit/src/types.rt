@@ -217,7 +217,8 @@ impl Block {
     ) -> Result<Written, Refusal>
         requires low { expression_unbuilt low.now ≡ None }
         requires high { expression_unbuilt high.now ≡ None }
-        ensures { AnswersForm (written_in self.new) result (both (range line self.old) (bound_judged (scopes_of self.old) low.now) (bound_judged (scopes_of self.old) high.now)) }
+        ensures { AnswersForm (written_in self.new) result (both (range line self.old)
+            (bound_judged (scopes_of self.old) low.now) (bound_judged (scopes_of self.old) high.now)) }
     {
         let least = bound_value(alloc, low, slice::from_ref(&self.scope))?;
         let greatest = bound_value(alloc, high, slice::from_ref(&self.scope))?;

@@ -40,7 +40,8 @@ fn item_form(
     value: Option<Boxed<TypedExpr>>,
     width: Option<Option<Boxed<TypedExpr>>>,
 ) -> Option<WriteItem>
-    ensures { option_map item_of result ≡ item_form print (option_map expr_of value) (option_map (option_map expr_of) width) }
+    ensures { option_map item_of result
+        ≡ item_form print (option_map expr_of value) (option_map (option_map expr_of) width) }
 {
     let value = value?;
     let width = match width {
@@ -80,7 +81,8 @@ impl Context<'_> {
         arguments: &[Argument],
     ) -> Result<Option<Boxed<TypedStmt>>, Refusal>
         requires { first_in (map written_unbuilt arguments.now) ≡ None }
-        ensures { AnswersForm (option_map stmt_of) result (write_judged (context_of self.now) line ends_line arguments.now) }
+        ensures { AnswersForm (option_map stmt_of) result
+            (write_judged (context_of self.now) line ends_line arguments.now) }
     {
         if let Some((first, more)) = arguments.split_first() {
             if let Some(file) = self.file_given(first) {
@@ -118,7 +120,8 @@ impl Context<'_> {
         arguments: &[Argument],
     ) -> Result<Option<Boxed<TypedStmt>>, Refusal>
         requires { first_in (map written_unbuilt arguments.now) ≡ None }
-        ensures { AnswersForm (option_map stmt_of) result (written file line ends_line (map (given self.now.scopes.now) arguments.now)) }
+        ensures { AnswersForm (option_map stmt_of) result
+            (written file line ends_line (map (given self.now.scopes.now) arguments.now)) }
     {
         if !ends_line && arguments.is_empty() {
             return Err(Refusal::Rule(rule::ARGUMENTS));
@@ -136,7 +139,8 @@ impl Context<'_> {
     /// What is written for parameters, where all are built.
     fn items(&self, arguments: &[Argument]) -> Result<Option<WriteItems>, Refusal>
         requires { first_in (map written_unbuilt arguments.now) ≡ None }
-        ensures { AnswersForm (option_map items_of) result (items_judged (map (given self.now.scopes.now) arguments.now)) }
+        ensures { AnswersForm (option_map items_of) result
+            (items_judged (map (given self.now.scopes.now) arguments.now)) }
     {
         let mut items = List::new(self.alloc);
         let mut built = true;
@@ -166,7 +170,8 @@ impl Context<'_> {
         width: &Option<Boxed<Expression>>,
     ) -> Result<Option<Option<Boxed<TypedExpr>>>, Refusal>
         requires { first_if (option_map expression_unbuilt width.now) ≡ None }
-        ensures { AnswersForm (option_map (option_map expr_of)) result (width_judged (option_map (judged self.now.scopes.now) width.now)) }
+        ensures { AnswersForm (option_map (option_map expr_of)) result
+            (width_judged (option_map (judged self.now.scopes.now) width.now)) }
     {
         let Some(width) = width else {
             return Ok(None);

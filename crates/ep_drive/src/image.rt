@@ -48,7 +48,8 @@ fn unit_alone(alloc: Global, object: &Object) -> Result<ImageUnit, NoMemory>
 /// The object's routines.
 #[tactic(auto, using(crate::proofs::Placed::mapped))]
 fn routines_alone(alloc: Global, object: &Object) -> Result<ImageRoutines, NoMemory>
-    ensures { IfOk result (λ routines. routines ≡ map (placed_routine (first_placement object.now)) object.now.routines) }
+    ensures { IfOk result (λ routines. routines
+        ≡ map (placed_routine (first_placement object.now)) object.now.routines) }
 {
     let mut routines = List::new(alloc);
     for routine in object.routines.items() {
@@ -140,8 +141,11 @@ fn placed_unit(object: &Object, instr: Instr) -> Instr
 
 /// The number that a field's reference names, where it names the object's own unit.
 fn own_number(object: &Object, field: i64) -> Option<u32>
-    ensures { MatchOption result (referred (placements_in object.now) (reference_at object.now.references field) ≡ None)
-        (λ number. (referred (placements_in object.now) (reference_at object.now.references field) ≡ Some (first_placement object.now)) × (number_of (reference_at object.now.references field) ≡ number)) }
+    ensures { MatchOption result
+        (referred (placements_in object.now) (reference_at object.now.references field) ≡ None)
+        (λ number. (referred (placements_in object.now) (reference_at object.now.references field)
+        ≡ Some (first_placement object.now))
+        × (number_of (reference_at object.now.references field) ≡ number)) }
 {
     let reference = reference_at(object.references.items(), field)?;
     if object.name.bytes() == reference.unit.bytes() {
@@ -153,7 +157,8 @@ fn own_number(object: &Object, field: i64) -> Option<u32>
 
 /// The reference that a field names.
 fn reference_at(references: &[Reference], field: i64) -> Option<&Reference>
-    ensures { MatchOption result (reference_at references.now field ≡ None) (λ reference. reference_at references.now field ≡ Some reference.now) }
+    ensures { MatchOption result (reference_at references.now field ≡ None)
+        (λ reference. reference_at references.now field ≡ Some reference.now) }
 {
     if field < 0 {
         return None;

@@ -43,7 +43,8 @@ fn status_of(end: &End) -> Status
 
 /// The line that reports such an end, where there is one.
 fn line_of(alloc: Global, end: &End) -> Result<Option<Vec<u8>>, NoMemory>
-    ensures { IfOk result (λ line. MatchOption line (answer_line end.now ≡ None) (λ text. answer_line end.now ≡ Some text.items)) }
+    ensures { IfOk result (λ line. MatchOption line (answer_line end.now ≡ None)
+        (λ text. answer_line end.now ≡ Some text.items)) }
 {
     match end {
         End::Error { number, unit, line } => Ok(Some(error_line(alloc, *number, unit, *line)?)),

@@ -129,7 +129,8 @@ fn broken_line(alloc: Global, file: &str, broken: Broken) -> Result<Vec<u8>, NoM
 
 /// The line that reports a unit that is too large.
 fn large_line(alloc: Global, file: &str, unit: &Name, nodes: u64) -> Result<Vec<u8>, NoMemory>
-    ensures { IfOk result (λ line. line.items ≡ file.now ++ codes ": unit " ++ unit.now ++ codes " too large " ++ decimal nodes ++ codes "\n") }
+    ensures { IfOk result (λ line. line.items ≡
+        file.now ++ codes ": unit " ++ unit.now ++ codes " too large " ++ decimal nodes ++ codes "\n") }
 {
     let mut text = format!(in alloc; "{file}: unit ")?.into_bytes();
     text.extend_from_slice(unit.bytes())?;

@@ -125,7 +125,8 @@ fn components_of(alloc: Global, text: &[u8]) -> Result<Vec<Component>, SourceSto
 /// The typed program of the components of a text, of which there is one at least.
 fn program_of(alloc: Global, all: &[Component]) -> Result<Unit, SourceStop>
     requires { all.now ≢ [] }
-    ensures { (text : List ℕ) → HasComponents text all.now → MatchResult result (λ unit. IsProgramText text unit × IsValid unit) (StopsText text) }
+    ensures { (text : List ℕ) → HasComponents text all.now
+        → MatchResult result (λ unit. IsProgramText text unit × IsValid unit) (StopsText text) }
 {
     if let Some(line) = first_unbuilt(all) {
         return Err(SourceStop::Refused(SourceRefusal::NotBuilt(line)));

@@ -50,7 +50,9 @@ struct Row<'a> {
 
 /// The command that the words are, or `None` exactly where they are none.
 pub fn command_of(words: &[String]) -> Option<Command<'_>>
-    ensures { MatchOption result ((other : Asked) → WordsOf (bytes_of words.now) other → ⊥) (λ command. WordsOf (bytes_of words.now) (asked_by command) × ((other : Asked) → WordsOf (bytes_of words.now) other → other ≡ asked_by command)) }
+    ensures { MatchOption result ((other : Asked) → WordsOf (bytes_of words.now) other → ⊥)
+        (λ command. WordsOf (bytes_of words.now) (asked_by command)
+        × ((other : Asked) → WordsOf (bytes_of words.now) other → other ≡ asked_by command)) }
 {
     read_words(words)
 }

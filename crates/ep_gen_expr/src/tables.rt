@@ -64,7 +64,8 @@ fn find_text(texts: &[Bytes], bytes: &[u8]) -> Option<usize>
 
 /// The place of a reference.
 fn find_reference(references: &[Reference], unit: &Name, number: u32) -> Option<usize>
-    ensures { MatchOption result (IsNowhere references.now (reference unit.now number)) (λ k. slice_get references.now k ≡ Some (reference unit.now number)) }
+    ensures { MatchOption result (IsNowhere references.now (reference unit.now number))
+        (λ k. slice_get references.now k ≡ Some (reference unit.now number)) }
 {
     for (place, known) in references.iter().enumerate() {
         if is_reference(known, unit, number) {

@@ -87,7 +87,8 @@ fn if_code(
     else_part: &TypedStmt,
     code: &mut Code,
 ) -> Result<(), NoMemory>
-    ensures { OnOk result (AppendsStmt code.old code.new (If line (expr_of condition.now) (stmt_of then_part.now) (stmt_of else_part.now))) }
+    ensures { OnOk result (AppendsStmt code.old code.new
+        (If line (expr_of condition.now) (stmt_of then_part.now) (stmt_of else_part.now))) }
 {
     code.line = line;
     expression_code(alloc, condition, code)?;
