@@ -6,7 +6,8 @@ use Rattle.ep_object.proofs.Views.{runs_agree}
 use Rattle.ep_object.specs.Follows.{end_of}
 use Rattle.ep_object.specs.Implements.{Implements}
 use Rattle.ep_object.specs.Laws.{settled, settled_going}
-use Rattle.ep_object.specs.Runs.{timed, begin, run_to, run_from, advance, trace_of, entering_next, entering, activation, routine_of, Activation}
+use Rattle.ep_object.specs.Routines.{routine_of}
+use Rattle.ep_object.specs.Runs.{timed, begin, run_to, run_from, advance, trace_of, entering_next, entering, activation, Activation}
 use Rattle.ep_object.specs.State.{State, Going, Running, Stopped, End, Error, Broken, first_state}
 use Rattle.ep_object.specs.Tells.{Tells}
 use Rattle.ep_object.specs.declared.code.Image.{Image}

@@ -22,7 +22,8 @@ use Rattle.ep_object.specs.Follows.{Facts, Lasts, Since, Bare}
 use Rattle.ep_object.specs.Matching.{Memory, Injection, is_undeclared, is_hidden_in, is_hidden_slot, at as standing}
 use Rattle.ep_object.specs.Operands.{Operand}
 use Rattle.ep_object.specs.Placing.{Placement, Span, CodeStands, IsPlacementOf, Stands, HasDistinctNames, moved, placed_routine, placed_object_unit}
-use Rattle.ep_object.specs.Runs.{routine_of, unit_in}
+use Rattle.ep_object.specs.Routines.{routine_of}
+use Rattle.ep_object.specs.Runs.{unit_in}
 use Rattle.ep_object.specs.Scene.{VariableStands, Scene}
 use Rattle.ep_object.specs.Simulates.{routine_credit, Enters, Simulates}
 use Rattle.ep_object.specs.State.{State, Frames}

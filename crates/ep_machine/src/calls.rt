@@ -1,15 +1,16 @@
 //! The calls under way and their frames.
 
 ghost use Rattle.std.specs.Bool.{OnTrue, OnFalse};
-ghost use Rattle.std.specs.Prelude.{◌^◌, IfSome, IsTrue, is_some, ◌≡◌, ◌<◌, ◌≤◌, ℕ, List, [], ◌∷◌, ◌++◌, Option, Some, None, MatchOption, OnOk, option_map, slice_get, slice_set, length, reverse};
-ghost use Rattle.ep_object.specs.Calls.{word_of};
+ghost use Rattle.std.specs.Prelude.{◌^◌, IfSome, IsTrue, is_some, ◌≡◌, ◌<◌, ◌≤◌, ℕ, List, [], ◌∷◌, ◌++◌, Option, Some, None, MatchOption, OnOk, option_map, slice_get, slice_set, length, map, take, drop, reverse};
+ghost use Rattle.ep_object.specs.Calls.{new_frame, word_of};
 ghost use Rattle.ep_object.specs.Frames.{call_at, found_by};
 ghost use Rattle.std.specs.Prelude.{◌+◌};
-ghost use Rattle.ep_machine.specs.Calls.{innermost_routine, innermost_slots, innermost_parent, IsSlot, bound, placed, first, innermost_made, innermost_back, rest_of, argument_of, argument_among, operand_of, operands_in, without};
+ghost use Rattle.ep_machine.specs.Calls.{innermost_routine, innermost_slots, innermost_parent, IsSlot, bound, placed, first, innermost_made, innermost_back, rest_of, argument_of, argument_among, operand_of, operands_in, StartsWith, without};
 ghost use Rattle.ep_object.specs.Operands.{weight};
 
+use crate::stack::Stack;
 use ep_base::Bytes;
-use ep_object::{FrameNumber, Place};
+use ep_object::{FrameNumber, ImageRoutine, Place};
 use std::alloc::Global;
 use std::marker::Model;
 
@@ -227,6 +228,46 @@ impl Calls {
         }
     }
 
+    /// A routine is called, which takes its arguments from the operands and goes on at a place when it is left. Answers
+    /// whether there was memory.
+    pub fn enter(
+        &mut self,
+        number: u32,
+        routine: ImageRoutine,
+        parent: FrameNumber,
+        back: u32,
+        alloc: Global,
+        stack: &mut Stack,
+    ) -> bool
+        requires { routine.arguments ≤ length stack.old }
+        ensures entered { OnTrue result (self.new ≡ new_frame number routine parent back
+            (take routine.arguments stack.old) ∷ self.old) }
+        ensures below { OnTrue result (stack.new ≡ drop routine.arguments stack.old) }
+        ensures kept { OnFalse result (self.new ≡ self.old) }
+    {
+        let call = Activation {
+            routine: number,
+            parent,
+            back,
+            slots_from: self.slots.len(),
+            slots: routine.slots as usize,
+            arguments_from: self.arguments.len(),
+            arguments: routine.arguments as usize,
+            made_from: self.made.len(),
+        };
+        if !take_arguments(call.arguments, stack, &mut self.arguments) {
+            return false;
+        }
+        if self
+            .slots
+            .resize(call.slots_from + call.slots, None)
+            .is_err()
+        {
+            return false;
+        }
+        self.calls.push(call).is_ok()
+    }
+
     /// The innermost call is no longer under way.
     #[tactic(auto, using(crate::proofs::CallFrames::left_view, crate::proofs::CallFrames::left_below))]
     pub fn leave(&mut self)
@@ -281,6 +322,26 @@ impl Calls {
             _ => None,
         }
     }
+}
+
+/// So many operands are taken from the top and become arguments, the top one first. Answers whether there was memory.
+#[tactic(auto, using(crate::proofs::CallEntry::taken_one, crate::proofs::CallEntry::left_one))]
+fn take_arguments(count: usize, stack: &mut Stack, arguments: &mut Vec<Option<Argument>>) -> bool
+    requires { count ≤ length stack.old }
+    ensures taken { OnTrue result (operands_in arguments.new.items
+        ≡ operands_in arguments.old.items ++ map Some (take count stack.old)) }
+    ensures below { OnTrue result (stack.new ≡ drop count stack.old) }
+    ensures before { StartsWith arguments.old.items arguments.new.items }
+{
+    for taken in 0..count {
+        let Some(argument) = stack.pop_argument() else {
+            return false;
+        };
+        if arguments.push(Some(argument)).is_err() {
+            return false;
+        }
+    }
+    true
 }
 
 /// An argument of a call, the first one for 0.

@@ -1,5 +1,8 @@
 //! What stands on the operand stack for an operand.
 
+ghost use Rattle.std.specs.Prelude.{◌≡◌, ◌∷◌, []};
+ghost use Rattle.ep_machine.specs.Stacks.{text_bytes};
+
 use ep_object::Place;
 
 /// An operand. Of a text only the length stands here, and its bytes stand on a stack of their own, so that every
@@ -12,4 +15,16 @@ pub enum Cell {
     Place(Place),
     /// A text of so many bytes.
     Text(usize),
+}
+
+impl Cell {
+    /// How many bytes its text has.
+    pub fn text_bytes(&self) -> usize
+        ensures { result ≡ text_bytes (self.now ∷ []) }
+    {
+        match self {
+            Cell::Text(bytes) => *bytes,
+            Cell::Word(_) | Cell::Place(_) => 0,
+        }
+    }
 }

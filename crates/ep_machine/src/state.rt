@@ -1,9 +1,9 @@
 //! The state of a machine.
 
-ghost use Rattle.ep_object.specs.Calls.{ended, words_of};
+ghost use Rattle.ep_object.specs.Calls.{ended, parent_by, words_of};
 ghost use Rattle.ep_machine.specs.Calls.{made_in, rest_of};
 ghost use Rattle.std.specs.Prelude.{◌≡◌, ◌-◌, suc, option_map, length};
-ghost use Rattle.ep_object.specs.Frames.{routine_in, slots_of, frame_above, parent_of as parent_of_frame, slots_up};
+ghost use Rattle.ep_object.specs.Frames.{routine_in, slots_of, frame_above, frame_over, frame_up, parent_of as parent_of_frame, slots_up};
 ghost use Rattle.ep_machine.specs.Views.{frames_of, routines_of, HasSlot, IsPlaced, IsBound};
 ghost use Rattle.std.specs.Bool.{OnTrue};
 
@@ -11,7 +11,7 @@ use crate::calls::Calls;
 use crate::segments;
 use crate::stack::Stack;
 use ep_base::List;
-use ep_object::{FrameNumber, Place, Segment, TypeEntry};
+use ep_object::{FrameNumber, ImageRoutine, Place, Segment, TypeEntry};
 use std::alloc::Global;
 
 /// What a machine has besides its place, its ticks and its operands.
@@ -131,14 +131,45 @@ impl Memory {
         self.calls.leave();
     }
 
-    /// The slots of the frame one level up from the one in which the routine runs and so many more.
-    pub fn slots_up(&self, up: u32) -> Option<&[Option<Place>]>
-        ensures { option_map (λ s. s.now) result ≡ slots_up (frames_of self.now) (suc up) }
+    /// The frame so many levels over the one in which the innermost routine is declared.
+    fn frame_over(&self, up: u32) -> Option<FrameNumber>
+        ensures { result ≡ frame_over self.now.calls up }
     {
         let Some(parent) = self.calls.parent() else {
             return None;
         };
-        match above(&self.calls, up, parent) {
+        above(&self.calls, up, parent)
+    }
+
+    /// The frame so many levels up from the one in which the routine runs.
+    fn frame_up(&self, up: u32) -> Option<FrameNumber>
+        ensures { result ≡ frame_up (frames_of self.now) up }
+    {
+        if up > 0 {
+            return self.frame_over(up - 1);
+        }
+        if self.calls.count() == 0 {
+            return Some(FrameNumber::Unit(self.unit));
+        }
+        Some(FrameNumber::Call(self.calls.count() - 1))
+    }
+
+    /// The frame in which a routine that is called is declared: for 0 that of its unit, and else the one so many levels
+    /// less one up.
+    pub fn parent_by(&self, routine: ImageRoutine, up: u32) -> Option<FrameNumber>
+        ensures { result ≡ parent_by (frames_of self.now) routine up }
+    {
+        if up > 0 {
+            return self.frame_up(up - 1);
+        }
+        Some(FrameNumber::Unit(routine.unit as usize))
+    }
+
+    /// The slots of the frame one level up from the one in which the routine runs and so many more.
+    pub fn slots_up(&self, up: u32) -> Option<&[Option<Place>]>
+        ensures { option_map (λ s. s.now) result ≡ slots_up (frames_of self.now) (suc up) }
+    {
+        match self.frame_over(up) {
             Some(FrameNumber::Unit(number)) => match self.units.get(number) {
                 Some(slots) => Some(slots.items()),
                 None => None,

@@ -1,9 +1,10 @@
 -- What holds of every state that an instruction leaves, where it holds after each change that an instruction makes.
-use Rattle.std.proofs.Common.{◌≡◌, ℤ, List, [], ◌∷◌, length, refl, Option, Some, None, Bool, true, false}
+use Rattle.std.proofs.Common.{◌≡◌, ℕ, ℤ, List, [], ◌∷◌, length, refl, Option, Some, None, Bool, true, false, cond, ltb}
 use Rattle.ep_object.specs.Effects.{Effect, Continues, Jumps, Returns, Fails, Halts, Breaks, Work, mapped, mapped_work, having, having_weighed, provided, provided_weighed, only_a_weighed, has_no_field, has_one_field, index}
-use Rattle.ep_object.specs.Calls.{left, return_over, return_row, argument_at, arg_of, arg_over, arg_row}
+use Rattle.ep_object.specs.Calls.{call_limit, parent_by, top_of, called, call_row, left, return_over, return_row, argument_at, arg_of, arg_over, arg_row}
 use Rattle.ep_object.specs.Operands.{Operand}
 use Rattle.ep_object.specs.Places.{Making, make_row, bind_row}
+use Rattle.ep_object.specs.Routines.{routine_of}
 use Rattle.ep_object.specs.State.{State, Frame}
 use Rattle.ep_object.specs.Table as table
 use Rattle.ep_object.specs.Frames.{slots_of}
@@ -14,6 +15,7 @@ use Rattle.ep_object.specs.declared.code.Instr.{Instr}
 use Rattle.ep_object.specs.declared.state.Place.{Place}
 use Rattle.ep_object.specs.declared.state.Segment.{Segment}
 use Rattle.ep_typed.specs.Events.{Trace}
+use Rattle.ep_typed.specs.declared.run_error.TheConstants as run_error
 
 module _ (Holds : State → Type 0) where
   -- it holds of the state that the effect leaves, where there is one
@@ -61,6 +63,19 @@ module _ (Holds : State → Type 0) where
     return_keeps [] = tt
     return_keeps (c ∷ calls) = quiet (left c calls s) refl
 
+    entry_keeps : (b : Bool) (to : ℕ) (t : State) (number : ℕ) → t.trace ≡ s.trace
+        → HoldsAfter (cond b (Jumps to t) (Fails number))
+    entry_keeps true to t number e = quiet t e
+    entry_keeps false to t number e = tt
+
+    call_keeps : (G : Image) (a : ℤ) (b : ℕ) → HoldsAfter (call_row G a b s).effect
+    call_keeps G a b =
+        if_there_weighed (index (length G.routines) a) _ (λ n.
+        if_there_weighed (routine_of G n) _ (λ r.
+        if_there_weighed (parent_by s.frames r b) _ (λ parent.
+        if_there_weighed (top_of r.arguments s.operands) _ (λ p.
+        entry_keeps (ltb (length s.frames.calls) call_limit) r.entry (called n r parent p.0 p.1 s) run_error.CALL_DEPTH refl))))
+
     arg_keeps : (a : ℤ) (calls : List Frame) → HoldsAfter (arg_over calls a s).effect
     arg_keeps a [] = tt
     arg_keeps a (c ∷ calls) = if_there_weighed (index (length c.arguments) a) _ (λ k. if_there_weighed (argument_at c.arguments k) _ (λ x. quiet (arg_of c calls k x s) refl))
@@ -102,6 +117,7 @@ module _ (Holds : State → Type 0) where
     op_keeps G i (Some table.Chars) = kept _
     op_keeps G i (Some table.Form) = kept _
     op_keeps G i (Some table.Halt) = halts (has_no_field i)
+    op_keeps G i (Some table.Call) = call_keeps G i.a i.b
     op_keeps G i (Some table.Return) = only_where (has_no_field i) (return_row s) (return_keeps s.frames.calls)
     op_keeps G i (Some table.Arg) = only_where_weighed (has_one_field i) (arg_row i.a s) (arg_keeps i.a s.frames.calls)
     op_keeps G i (Some table.Peek) = kept _

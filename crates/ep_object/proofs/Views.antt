@@ -3,7 +3,8 @@ use Rattle.std.proofs.Common.{◌≡◌, ℕ, zero, suc, ◌<◌, ◌≤◌, ◌
 use Rattle.std.specs.Fn.{iterate}
 use Rattle.ep_object.specs.Effects.{Effect, Continues, Jumps, Returns, Fails, Halts, Breaks}
 use Rattle.ep_object.specs.Laws.{settled, RunsAgree, EndsStay, EventsGrow, RunsExtend}
-use Rattle.ep_object.specs.Runs.{Activation, activation, routine_of, entering, entering_next, enter, after, Outcome, outcome, outcome_of, Timed, timed, advance, run_to, tick, and_then, run, run_from}
+use Rattle.ep_object.specs.Routines.{routine_of}
+use Rattle.ep_object.specs.Runs.{Activation, activation, entering, entering_next, enter, after, Outcome, outcome, outcome_of, Timed, timed, advance, run_to, tick, and_then, run, run_from}
 use Rattle.ep_object.specs.State.{State, Going, Running, Stopped, End}
 use Rattle.ep_object.specs.Table.{obey}
 use Rattle.ep_object.specs.declared.code.Image.{Image}

@@ -10,6 +10,7 @@ pub mod Operands
 pub mod Places
 pub mod Placing
 pub mod Promises
+pub mod Routines
 pub mod Runs
 pub mod Scene
 pub mod Simulates

@@ -11,7 +11,8 @@ use Rattle.ep_object.specs.Follows.{end_of, Follows, GivesUp, Since, Lands, Oper
 use Rattle.ep_object.specs.Laws.{EndsAt}
 use Rattle.ep_object.specs.Matching.{Memory, at, Injection, Matches, is_hidden_slot}
 use Rattle.ep_object.specs.Operands.{Operand}
-use Rattle.ep_object.specs.Runs.{run, routine_of, trace_of}
+use Rattle.ep_object.specs.Routines.{routine_of}
+use Rattle.ep_object.specs.Runs.{run, trace_of}
 use Rattle.ep_object.specs.State.{State, End, Running}
 use Rattle.ep_object.specs.Table.{obey}
 use Rattle.ep_object.specs.declared.code.Image.{Image}

@@ -4,3 +4,5 @@
 pub const LIVE_WORDS: u64 = 16_777_216;
 /// The most types that there may be.
 pub const TYPES: u64 = 1_048_576;
+/// The most calls that may be under way.
+pub const CALLS: usize = 10_000;

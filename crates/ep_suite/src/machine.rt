@@ -1,6 +1,7 @@
 //! Rows of the machine's table, on code that is written as texts: `Unit:-1:1 Push:7` is `Unit` with -1 and 1 and then
-//! `Push` with 7. Each line of a table is the code, what is written, the end and the ticks of one run of 10,000 ticks
-//! or of two runs with the budgets that follow.
+//! `Push` with 7. The routine that starts the unit is routine 0, and before the first instruction of each other one
+//! stands `Routine` with its arguments and its slots. Each line of a table is the code, what is written, the end and the
+//! ticks of one run of 10,000 ticks or of two runs with the budgets that follow.
 
 use ep_base::{Bytes, List, Name};
 use ep_machine::{End, Machine};
@@ -16,6 +17,9 @@ Dispose Deref Field Index Disc Load Store Undefine Add Sub Mul Div Mod Neg Abs S
 And Or Cmp Between Check Step SetNone SetAdd SetSpan SetOp SetCmp In Card Next Like Same \
 TOrd TSet TArr TStr TRec TSch TInit TConst Chars ToChar Join TextCmp Length Find Cut Trim \
 Form Put Get GetLine Eof Eoln Open BindFile Unbind Binding Defined";
+
+/// What stands before the code of a routine.
+const ROUTINE: &str = "Routine";
 
 /// The code of an instruction, or the first one that is not in the table.
 fn op_named(name: &str) -> u8 {
@@ -41,7 +45,11 @@ fn code(alloc: Global, text: &str) -> Result<Instrs, AllocError> {
     let mut line: u32 = 1;
     for token in text.split_whitespace() {
         let mut fields = token.split(':');
-        let op = op_named(fields.next().unwrap_or(""));
+        let name = fields.next().unwrap_or("");
+        if name == ROUTINE {
+            continue;
+        }
+        let op = op_named(name);
         let a = field(fields.next());
         let b = u32::try_from(field(fields.next())).unwrap_or(0);
         code.push(Instr { op, a, b, line })?;
@@ -66,7 +74,8 @@ fn units(alloc: Global) -> Result<ImageUnits, Fail> {
     Ok(units)
 }
 
-fn routines(alloc: Global) -> Result<ImageRoutines, AllocError> {
+/// The routine that starts the unit, and those of the code.
+fn routines(alloc: Global, text: &str) -> Result<ImageRoutines, AllocError> {
     let mut routines = List::new(alloc);
     routines.push(ImageRoutine {
         entry: 0,
@@ -74,6 +83,20 @@ fn routines(alloc: Global) -> Result<ImageRoutines, AllocError> {
         arguments: 0,
         slots: 0,
     })?;
+    let mut entry: u32 = 0;
+    for token in text.split_whitespace() {
+        let mut fields = token.split(':');
+        if fields.next().unwrap_or("") == ROUTINE {
+            routines.push(ImageRoutine {
+                entry,
+                unit: 0,
+                arguments: u32::try_from(field(fields.next())).unwrap_or(0),
+                slots: u32::try_from(field(fields.next())).unwrap_or(0),
+            })?;
+        } else {
+            entry = entry.wrapping_add(1);
+        }
+    }
     Ok(routines)
 }
 
@@ -88,7 +111,7 @@ fn texts(alloc: Global) -> Result<Texts, AllocError> {
 /// The code alone in a unit.
 fn image(alloc: Global, text: &str) -> Result<Image, Fail> {
     let instructions = code(alloc, text)?;
-    let routines = routines(alloc)?;
+    let routines = routines(alloc, text)?;
     let texts = texts(alloc)?;
     let units = units(alloc)?;
     Ok(Image {
@@ -244,6 +267,38 @@ Peek:0=|broken at 0|1\n\
 Push:7 Peek:0=|broken at 1|2\n\
 Return:1=|broken at 0|1";
 
+/// Calls, what they take and give, what ends with them, and how many there may be.
+const CALLS: &str = "\
+Unit:-1:1 Call:1 Form Put Return Routine Push:7 Return=7|normal|9\n\
+Unit:-1:1 Push:7 Push:2 Call:1 Form Put Return Routine:2 Arg:0 Arg:1 Sub Return=5|normal|13\n\
+Unit:-1:1 Push:7 Call:1 Form Put Return Routine:1 Peek:0 Arg:0 Add Return=14|normal|14\n\
+Unit:-1:1 Text:0 Call:1 Put Return Routine:1 Arg:0 Return=hi|normal|15\n\
+Unit:-1:1 Call:1 Return Routine:1:1 Arg:0 Bind:0 Slot:0 Text:0 Put Return=hi|normal|13\n\
+Push:1 Call:1 Return Routine:1 Arg:0 Arg:0=|broken at 4|4\n\
+Push:1 Call:1 Return Routine:1 Arg:1=|broken at 3|3\n\
+Push:1 Call:1 Return Routine:2 Return=|broken at 1|2\n\
+Text:0 Call:1 Return Routine:1 Peek:0=|broken at 3|7\n\
+Call:1=|broken at 0|1\n\
+Call:-1=|broken at 0|1\n\
+Call:0:2=|broken at 0|1\n\
+Call:1 Return Routine:0:1 Slot:0=|error 1 at 3|2\n\
+Call:1 Load Return Routine:0:1 Push:0 Make:0 Slot:0 Return=|error 11 at 2|7\n\
+Call:0=|budget|10000\n\
+Call:0=|error 25 at 1|10001=20000\n\
+Text:0 Call:1 Return Routine:1 Arg:0 Call:1=|error 25 at 5|60006=80000";
+
+/// Levels of routines: the second one is declared in the first, and the third in it too.
+const LEVELS: &str = "\
+Call:1 Return Routine:0:1 Push:0 Make:0 Slot:0 Push:5 Store Call:2:1 Return \
+Routine Unit:-1:1 Slot:0:1 Load Form Put Return=5|normal|18\n\
+Call:1 Return Routine:0:1 Push:0 Make:0 Slot:0 Push:6 Store Call:2:1 Return \
+Routine Call:3:2 Return Routine Unit:-1:1 Slot:0:1 Load Form Put Return=6|normal|20\n\
+Call:1 Return Routine:0:1 Call:2:1 Return Routine Slot:0:1=|error 1 at 5|3\n\
+Call:1 Return Routine:0:1 Call:2:1 Return Routine Slot:0:2=|error 1 at 5|3\n\
+Call:1 Return Routine:0:1 Call:2:1 Return Routine Slot:0:3=|broken at 4|3\n\
+Call:1 Return Routine:0:1 Call:2 Return Routine Slot:0:2=|broken at 4|3\n\
+Call:1 Return Routine:0:1 Call:2:3 Return Routine Return=|broken at 2|2";
+
 /// Numbers.
 const SUMS: &str = "\
 Push:9223372036854775807 Push:1 Add=|error 8 at 3|3\n\
@@ -300,7 +355,7 @@ Push:0 Make:0 Slot:0 Text:0 Put=|broken at 4|8";
 #[test]
 fn each_row_comes_to_what_the_table_of_instructions_says(rt: HostRuntime) -> Result<(), Fail> {
     for table in [
-        OPERANDS, JUMPS, VARIABLES, PLACES, ARGUMENTS, SUMS, TRUTHS, TYPES, PRINTS,
+        OPERANDS, JUMPS, VARIABLES, PLACES, ARGUMENTS, CALLS, LEVELS, SUMS, TRUTHS, TYPES, PRINTS,
     ] {
         let differing = differing(rt.alloc(), table)?;
         assert_eq!(rt; differing.as_str(), "");

@@ -10,7 +10,8 @@ use Rattle.ep_object.specs.Follows.{end_of, Reaches, EndsToo, RunsOn, Follows, O
 use Rattle.ep_object.specs.Laws.{IsRunning}
 use Rattle.ep_object.specs.Matching.{at, Memory, Injection}
 use Rattle.ep_object.specs.Operands.{Operand}
-use Rattle.ep_object.specs.Runs.{Activation, activation, routine_of, entering, entering_next, run, run_from, trace_of, outcome, outcome_of, after, enter}
+use Rattle.ep_object.specs.Routines.{routine_of}
+use Rattle.ep_object.specs.Runs.{Activation, activation, entering, entering_next, run, run_from, trace_of, outcome, outcome_of, after, enter}
 use Rattle.ep_object.specs.Simulates.{routine_credit, Enters, Leaves, Simulates, StaysIn, LeavesAfter, EndsAfter, StaysAfter, AnswersInRoom}
 use Rattle.ep_object.specs.State.{State, Frames, Going, Running, Stopped}
 use Rattle.ep_object.specs.declared.code.Image.{Image}

@@ -6,7 +6,8 @@ use Rattle.ep_typed.specs.Steps as meaning
 use Rattle.ep_object.specs.Frames.{routine_over}
 use Rattle.ep_object.specs.Matching.{Memory, Injection, IsIn, IsPlaceOf, Describes, Slots, Grown}
 use Rattle.ep_object.specs.Operands.{Operand}
-use Rattle.ep_object.specs.Runs.{unit_of, name_of, unit_in}
+use Rattle.ep_object.specs.Routines.{unit_of}
+use Rattle.ep_object.specs.Runs.{name_of, unit_in}
 use Rattle.ep_object.specs.State.{Frame, Frames, text_entry}
 use Rattle.ep_object.specs.Types.{ordinal_entry}
 use Rattle.ep_object.specs.declared.code.Image.{Image}
