@@ -52,7 +52,7 @@ module _ (u : TypedUnit) (o : Object) (is : IsProgramCode u o) where
         runs = rw (is.start, is.routines) refl;
         in_unit = refl;
         without_calls = refl;
-        matches = first_matches (own u) (alone o) start_frames refl;
+        matches = first_matches (own u) (alone o) start_frames refl refl;
       }
 
   -- after the start of the only unit the run ends

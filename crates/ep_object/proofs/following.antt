@@ -3,6 +3,7 @@ pub mod Calling
 pub mod Choices
 pub mod Fragments
 pub mod Losing
+pub mod Procedures
 pub mod Promising
 pub mod Simulating
 pub mod Weights

@@ -131,15 +131,32 @@ pub record Lands (declared : Declarations) (G : Image) (Here : Facts) (place : �
   pub here : Here injection s memory
   pub post : Post injection memory operands
 
--- The same call is the innermost one, of whose frame arguments, slots and what was made in it may differ; the calls
--- below it are what they were.
+-- The innermost call is still the same one, of whose frame arguments, slots and what was made in it may differ; the
+-- calls below it are what they were.
+abbrev pub IsStillCall : List Frame → List Frame → Type 0
+IsStillCall [] [] = ⊤
+IsStillCall [] (d ∷ later) = ⊥
+IsStillCall (c ∷ calls) [] = ⊥
+IsStillCall (c ∷ calls) (d ∷ later) = (d.routine ≡ c.routine) × (d.parent ≡ c.parent) × (d.back ≡ c.back) × (later ≡ calls)
+
+-- The same, and nothing was made in it and no argument was taken out since.
 abbrev pub IsSameCall : List Frame → List Frame → Type 0
 IsSameCall [] [] = ⊤
 IsSameCall [] (d ∷ later) = ⊥
 IsSameCall (c ∷ calls) [] = ⊥
-IsSameCall (c ∷ calls) (d ∷ later) = (d.routine ≡ c.routine) × (d.parent ≡ c.parent) × (d.back ≡ c.back) × (later ≡ calls)
+IsSameCall (c ∷ calls) (d ∷ later) =
+    (d.routine ≡ c.routine) × (d.parent ≡ c.parent) × (d.back ≡ c.back) × (later ≡ calls)
+    × (d.arguments ≡ c.arguments) × (d.made ≡ c.made)
 
--- the same routine runs, in the same call or else in the same unit's frame
+-- the routine still runs, in the same call or else in the same unit's frame
+pub record StillRuns (before after : Frames) : Type 0 where
+  pub turn : after.turn ≡ before.turn
+  pub routine : after.routine ≡ before.routine
+  pub unit : after.unit ≡ before.unit
+  pub calls : IsStillCall before.calls after.calls
+
+-- The same, and its call has the arguments that it had and has made what it had made. Once a routine has taken its
+-- arguments and made its variables, this holds of all its code.
 pub record SameRoutine (before after : Frames) : Type 0 where
   pub turn : after.turn ≡ before.turn
   pub routine : after.routine ≡ before.routine
@@ -151,7 +168,7 @@ pub record IsNotLeft (before now : Frames) : Type 0 where
   pub over : List Frame
   pub own : List Frame
   pub is : now.calls ≡ over ++ own
-  pub runs : SameRoutine before (record now { calls = own })
+  pub runs : StillRuns before (record now { calls = own })
 
 -- The calls under way are the same, memory has grown and these slots are untouched, and the same routine runs.
 pub record HasGrown (untouched : Slots) (injection : Injection) (s : meaning.State) (memory : Memory)

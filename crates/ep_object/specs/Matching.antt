@@ -190,6 +190,8 @@ pub record Matches (declared : Declarations) (G : Image) (injection : Injection)
   pub units : MatchesUnits declared G injection s.allocations s.variables memory.frames.units memory.segments memory.types
   pub outside : MatchesOutside injection s.allocations
   pub counts : MatchesCounts injection s.resources memory.segments memory.types memory.live
+  -- no more calls are under way than the meaning has under way
+  pub depth : length memory.frames.calls ≤ length s.calls
 
 -- ---- growing
 

@@ -1,7 +1,7 @@
 -- Calls of routines: what is handed over, what a call does, and how long it is under way.
-use Rattle.std.specs.Prelude.{ℕ, ◌+◌, List, ◌∷◌}
+use Rattle.std.specs.Prelude.{ℕ, suc, ◌+◌, ◌||◌, not, nat_le, List, ◌∷◌, length}
 use Rattle.ep_typed.specs.Printing.{Result}
-use Rattle.ep_typed.specs.Steps.{Call, State, Outcome, Gives, Ends, Cut, Computation, watched}
+use Rattle.ep_typed.specs.Steps.{Call, State, Resources, Outcome, Gives, Ends, Cut, Computation, watched}
 
 -- what is handed over for a formal: a value, or a variable by the number of its allocation (ISO 10206, 6.7.3)
 pub data Argument : Type 0 where
@@ -17,9 +17,21 @@ Handler = List ℕ → ℕ → List ℕ → ℕ → List Argument → Computatio
 abbrev pub activation_words : ℕ
 activation_words = 64
 
+-- every run has room for so many calls in each other
+abbrev pub room_for_calls : ℕ
+room_for_calls = 9000
+
+-- so many calls are under way
+abbrev pub nested : ℕ → Resources → Resources
+nested depth r = record r { lost = r.lost || not (nat_le depth room_for_calls) }
+
 -- one more call is under way, and words are set aside for its activation
 abbrev pub entered : Call → State → State
-entered x s = record s { calls = x ∷ s.calls; resources = watched (record s.resources { reserved = s.resources.reserved + activation_words }) }
+entered x s =
+    record s {
+      calls = x ∷ s.calls;
+      resources = nested (suc (length s.calls)) (watched (record s.resources { reserved = s.resources.reserved + activation_words }));
+    }
 
 -- after the call those before it are under way, and what was set aside for it is given back
 abbrev pub left_from : State → State → State

@@ -220,7 +220,7 @@ enters_next {G = G} {memory = memory} {below = below} {s = s} {k = k} alone leav
             runs = refl;
             in_unit = refl;
             without_calls = no_calls memory.frames.calls lands.memory.frames.calls inside.routine.calls alone;
-            matches = let m = lands.matches in record { injected = m.injected; store = m.store; types = m.types; units = m.units; outside = m.outside; counts = m.counts };
+            matches = let m = lands.matches in record { injected = m.injected; store = m.store; types = m.types; units = m.units; outside = m.outside; counts = m.counts; depth = m.depth };
           },
         ),
       ),

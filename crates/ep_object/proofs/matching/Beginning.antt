@@ -91,9 +91,9 @@ nothing n h = cc
 
 -- no variable is made, no type is met, and nothing is written
 pub first_matches : (declared : Declarations) (G : Image) (frames : Frames)
-    → frames.units ≡ map empty_slots G.units
+    → frames.units ≡ map empty_slots G.units → frames.calls ≡ []
     → Matches declared G first_injection meaning.first_state (first_memory frames)
-first_matches declared G frames empty =
+first_matches declared G frames empty alone =
     record {
       injected = record { made = refl; apart = first_apart; within = first_within };
       store = record { represented = first_represented };
@@ -110,4 +110,5 @@ first_matches declared G frames empty =
       };
       outside = record { output = refl; lives = refl };
       counts = record { words = omega arith; hidden = omega arith; number = omega arith };
+      depth = omega (arith, ap length alone);
     }

@@ -1,5 +1,5 @@
 -- The machine goes on matching where a value is assigned or events are added.
-use Rattle.std.proofs.Common.{◌≡◌, ℕ, zero, suc, true, false, ◌<◌, ◌⊎◌, inl, inr, List, length, Option, Some, None, slice_get, slice_set, refl, sym, ap, ◌∙◌, subst, arith}
+use Rattle.std.proofs.Common.{◌≡◌, ℕ, zero, suc, true, false, ◌<◌, ◌≤◌, ◌⊎◌, inl, inr, List, length, Option, Some, None, slice_get, slice_set, refl, sym, ap, ◌∙◌, subst, arith}
 use Rattle.std.proofs.lemmas.Option.{same_Some, slice_get_within}
 use Rattle.ep_object.specs.Matching.{Memory, Injection, IsIn, MatchesSlot, MatchesInjection, MatchesFrame, MatchesUnits, MatchesCounts, hidden_words, IsValueOf, layout, Represents, IsRepresented, HasType, Matches, Slots, Grown}
 use Rattle.ep_object.specs.declared.code.Image.{Image}
@@ -68,7 +68,7 @@ matches_units-grown {declared = declared} {variables = variables} g same types h
 pub matches_events : {declared : Declarations} {G : Image} {injection : Injection} {s : meaning.State} {memory : Memory} (events : Trace)
     → Matches declared G injection s memory → Matches declared G injection (with_events events s) memory
 matches_events events h =
-    record { injected = h.injected; store = h.store; types = h.types; units = h.units; outside = h.outside; counts = h.counts }
+    record { injected = h.injected; store = h.store; types = h.types; units = h.units; outside = h.outside; counts = h.counts; depth = h.depth }
 
 -- ---- a value that is assigned
 
@@ -156,6 +156,7 @@ module _ {declared : Declarations} {G : Image} {injection : Injection} {s : mean
         units = matches_units-grown grown_whole refl (λ m. type_at_assigned m (same_or_not n m)) h.units;
         outside = let outside = h.outside in record { output = outside.output; lives = ended_assigned 2 (same_or_not n 2) ∙ outside.lives };
         counts = counts;
+        depth = h.depth;
       }
     where
       new : Segment
@@ -224,13 +225,14 @@ pub matches_entered : {declared : Declarations} {G : Image} {injection : Injecti
     → Matches declared G injection s memory → Matches declared G injection (entered x s) memory
 matches_entered x h =
     let counts = h.counts in
-    record { injected = h.injected; store = h.store; types = h.types; units = h.units; outside = h.outside; counts = record { words = counts.words; hidden = omega (arith, counts.hidden); number = counts.number } }
+    record { injected = h.injected; store = h.store; types = h.types; units = h.units; outside = h.outside; counts = record { words = counts.words; hidden = omega (arith, counts.hidden); number = counts.number }; depth = omega (arith, h.depth) }
 
 -- What was set aside for a call is given back where memory has grown since it began.
 pub matches_left : {untouched : Slots} {declared : Declarations} {G : Image} {injection longer : Injection} {before t : meaning.State} {memory after : Memory}
     → Grown untouched injection memory longer after → Matches declared G injection before memory
+    → length after.frames.calls ≤ length before.calls
     → Matches declared G longer t after → Matches declared G longer (left_from before t) after
-matches_left g old h =
+matches_left g old fewer h =
     let counts = h.counts in
     let first = old.counts in
-    record { injected = h.injected; store = h.store; types = h.types; units = h.units; outside = h.outside; counts = record { words = counts.words; hidden = omega (arith, first.hidden, hidden_words-grown g); number = counts.number } }
+    record { injected = h.injected; store = h.store; types = h.types; units = h.units; outside = h.outside; counts = record { words = counts.words; hidden = omega (arith, first.hidden, hidden_words-grown g); number = counts.number }; depth = fewer }

@@ -1,7 +1,7 @@
 -- Memory grows while a routine runs.
 use Rattle.std.proofs.Common.{◌≡◌, ℕ, zero, suc, ◌≤◌, ◌<◌, ◌⊎◌, inl, inr, List, [], ◌∷◌, ◌++◌, length, Option, Some, slice_get, refl, sym, ap, ◌∙◌, subst, arith}
 use Rattle.std.proofs.lemmas.Option.{slice_get_within}
-use Rattle.ep_object.specs.Follows.{Facts, IsSameCall, IsNotLeft, HasGrown, Lasts, Since, SameRoutine, Inside, Operands}
+use Rattle.ep_object.specs.Follows.{Facts, IsStillCall, IsSameCall, IsNotLeft, HasGrown, Lasts, Since, SameRoutine, Inside, Operands}
 use Rattle.ep_typed.specs.Steps as meaning
 use Rattle.ep_object.specs.Frames.{routine_over}
 use Rattle.ep_object.specs.Matching.{Memory, Injection, IsIn, IsPlaceOf, Describes, Slots, Grown}
@@ -115,7 +115,7 @@ describes-grown {memory = memory} {after = after} n type.Text g h = slice_get-pr
 -- the innermost call is the same as itself
 pub same_call-refl : (calls : List Frame) → IsSameCall calls calls
 same_call-refl [] = tt
-same_call-refl (c ∷ calls) = (refl, refl, refl, refl)
+same_call-refl (c ∷ calls) = (refl, refl, refl, refl, refl, refl)
 
 -- and the same as one that is the same
 same_call-trans : (a b c : List Frame) → IsSameCall a b → IsSameCall b c → IsSameCall a c
@@ -124,7 +124,23 @@ same_call-trans [] [] (z ∷ c) p q = q
 same_call-trans [] (y ∷ b) c p q = absurd p
 same_call-trans (x ∷ a) [] c p q = absurd p
 same_call-trans (x ∷ a) (y ∷ b) [] p q = q
-same_call-trans (x ∷ a) (y ∷ b) (z ∷ c) (p, r, s, t) (p2, r2, s2, t2) = (p2 ∙ p, r2 ∙ r, s2 ∙ s, t2 ∙ t)
+same_call-trans (x ∷ a) (y ∷ b) (z ∷ c) (p, r, s, t, u, v) (p2, r2, s2, t2, u2, v2) = (p2 ∙ p, r2 ∙ r, s2 ∙ s, t2 ∙ t, u2 ∙ u, v2 ∙ v)
+
+-- the same call is still the same one
+still_same : (a b : List Frame) → IsSameCall a b → IsStillCall a b
+still_same [] [] p = tt
+still_same [] (y ∷ b) p = p
+still_same (x ∷ a) [] p = p
+still_same (x ∷ a) (y ∷ b) (p, r, s, t, u, v) = (p, r, s, t)
+
+-- and so is one that is still that one
+still_trans : (a b c : List Frame) → IsStillCall a b → IsStillCall b c → IsStillCall a c
+still_trans [] [] [] p q = tt
+still_trans [] [] (z ∷ c) p q = q
+still_trans [] (y ∷ b) c p q = absurd p
+still_trans (x ∷ a) [] c p q = absurd p
+still_trans (x ∷ a) (y ∷ b) [] p q = q
+still_trans (x ∷ a) (y ∷ b) (z ∷ c) (p, r, s, t) (p2, r2, s2, t2) = (p2 ∙ p, r2 ∙ r, s2 ∙ s, t2 ∙ t)
 
 -- where there is no call there is none
 pub no_calls : (a b : List Frame) → IsSameCall a b → a ≡ [] → b ≡ []
@@ -149,7 +165,7 @@ same_routine-trans {a = a} {b = b} {c = c} p q = record { turn = q.turn ∙ p.tu
 
 -- the routine that runs is not left
 pub not_left-same : {a b : Frames} → SameRoutine a b → IsNotLeft a b
-not_left-same {b = b} p = record { over = []; own = b.calls; is = refl; runs = record { turn = p.turn; routine = p.routine; unit = p.unit; calls = p.calls } }
+not_left-same {a = a} {b = b} p = record { over = []; own = b.calls; is = refl; runs = record { turn = p.turn; routine = p.routine; unit = p.unit; calls = still_same a.calls b.calls p.calls } }
 
 -- a routine that has just been entered is not left
 pub not_left-here : (frames : Frames) → IsNotLeft frames frames
@@ -157,7 +173,19 @@ not_left-here frames = not_left-same (same_routine-refl frames)
 
 -- nor is one while it runs, or after that while it is not left
 pub not_left-after : {a b c : Frames} → SameRoutine a b → IsNotLeft b c → IsNotLeft a c
-not_left-after p q = record { over = q.over; own = q.own; is = q.is; runs = same_routine-trans p q.runs }
+not_left-after {a = a} {b = b} p q =
+    let r = q.runs in
+    record {
+      over = q.over;
+      own = q.own;
+      is = q.is;
+      runs = record {
+        turn = r.turn ∙ p.turn;
+        routine = r.routine ∙ p.routine;
+        unit = r.unit ∙ p.unit;
+        calls = still_trans a.calls b.calls q.own (still_same a.calls b.calls p.calls) r.calls;
+      };
+    }
 
 -- while the same routine runs, errors tell the same unit
 pub unit_in-same : (G : Image) {before after : Frames} → SameRoutine before after

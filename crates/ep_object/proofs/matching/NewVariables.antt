@@ -342,6 +342,7 @@ module _ {declared : Declarations} {G : Image} {injection : Injection} {s : mean
               units = record { frames = frames_making; typed = typed_making };
               outside = let outside = h.outside in record { output = is_in-longer injection (with_segment injection memory) 2 2 (record { rest = length memory.segments ∷ []; is = refl }) outside.output; lives = output_lives };
               counts = counts_making;
+              depth = h.depth;
             }
           where
             -- `output` lives as before

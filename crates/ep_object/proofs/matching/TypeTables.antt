@@ -255,7 +255,7 @@ pub matches-types : {declared : Declarations} {G : Image} {injection : Injection
     → Matches declared G injection s memory
     → Matches declared G injection (record s { resources = resources }) (record memory { types = types; live = live })
 matches-types resources types live longer known counts m =
-    record { injected = m.injected; store = matches_store-types longer m.store; types = known; units = matches_units-types longer m.units; outside = m.outside; counts = counts }
+    record { injected = m.injected; store = matches_store-types longer m.store; types = known; units = matches_units-types longer m.units; outside = m.outside; counts = counts; depth = m.depth }
 
 -- grown by a longer table alone
 pub grown-types : {untouched : Slots} (injection : Injection) (memory : Memory) (types : TypeTable) (live : ℕ)
