@@ -2,17 +2,19 @@
 use Rattle.std.proofs.Common.{◌≡◌, ℕ, ℤ, pos, negsuc, zero, suc, ◌+◌, List, [], ◌∷◌, Option, Some, None, Bool, true, false, length, refl, ap, arith}
 use Rattle.std.specs.Prelude.{if◌then◌else◌}
 use Rattle.ep_typed.specs.Denoters.{type_of}
-use Rattle.ep_typed.specs.Meaning.{answered, place, eval, write_piece, write_wide, write_item, write_items, assign, turns, turns_until, exec, exec_all, elaborated, make, make_all, start_of, starts_of, routine_of, read, assign_living}
+use Rattle.ep_typed.specs.Meaning.{answered, place, eval, write_piece, write_wide, write_item, write_items, assign, turns, turns_until, exec, exec_all, elaborated, make, make_all, start_of, starts_of, routine_in, routine_does, routine_of, read, assign_living}
 use Rattle.ep_typed.specs.Operations.{Answer, Number, Fault, is_true, decides}
 use Rattle.ep_typed.specs.Printing.{Result, number_of, plain_text, wide_text, piece_events}
 use Rattle.ep_typed.specs.Printing as result
 use Rattle.ep_typed.specs.Calls.{Argument, Handler, entered, given_back, in_call}
 use Rattle.ep_typed.specs.Steady.{Grows, Steady, IsSteadyHandler}
 use Rattle.ep_typed.specs.Steps.{Call, End, Normal, Halted, Error, Word, State, Outcome, Gives, Ends, Cut, state_of, Computation, give, cut, stop, go_on, bind, spend, change, found, fetch, assigned, type_at, is_within, size_of, with_type, counted, made, allocate, standard_file, first_state, using, has_ended}
-use Rattle.ep_typed.specs.Trees.{Place, Variable, Standard, Expr, Constant, Text, Read, One, Two, Short, Step, Item, Plain, Wide, Stmt, Stmts, Empty, Compound, Assign, If, While, Repeat, Halt, Write, none, next}
+use Rattle.ep_typed.specs.Trees.{Place, Variable, Standard, Expr, Constant, Text, Read, One, Two, Short, Step, Item, Plain, Wide, Stmt, Stmts, Empty, Compound, Assign, If, While, Repeat, Procedure, Halt, Write, none, next}
 use Rattle.ep_typed.specs.Viewed.{denoter_of, stmt_of}
 use Rattle.ep_typed.specs.declared.operations.Print.{Print}
 use Rattle.ep_typed.specs.declared.unit.Unit.{Unit as TypedUnit}
+use Rattle.ep_typed.specs.declared.unit.UnitRoutine.{UnitRoutine}
+use Rattle.ep_typed.specs.declared.unit.UnitRoutine.TheViews.{out-UnitRoutine}
 use Rattle.ep_typed.specs.declared.unit.UnitType.{UnitType}
 use Rattle.ep_typed.specs.declared.unit.UnitVariable.{UnitVariable}
 use Rattle.ep_typed.specs.declared.value.TypeValue.{TypeValue}
@@ -200,6 +202,7 @@ module _ (call other : Handler) (lasts : IsLastingHandler call other) (g j : ℕ
         lasting_bind (lasting_eval line x) (λ r. lasting_if (is_true (number_of r)) (lasting_bind (lasting_exec a) (λ _. lasting_spend 1 (lasting_give tt))) (lasting_bind (lasting_exec b) (λ _. lasting_spend 1 (lasting_give tt))))
     lasting_exec (While line x s) = lasting_turns call other g (g + j) g j unit (lasting_eval line x) (lasting_exec s)
     lasting_exec (Repeat line ss x) = lasting_turns_until call other g (g + j) g j unit (lasting_exec_all ss) (lasting_eval line x)
+    lasting_exec (Procedure line of_unit number) = lasting_bind (lasts.by unit line of_unit number []) (λ results. lasting_spend 1 (lasting_give tt))
     lasting_exec (Halt line) = lasting_stop Halted
     lasting_exec (Write line items ends_line) = lasting_write_items line items ends_line
 
@@ -249,9 +252,29 @@ lasting_in_call {A = A} x {c = c} {d = d} p = record { steady = steady_in_call x
     go k s (Ends left e t) r is = ap (given_back s) is
     go k s (Cut t) r is = after s t r is
 
--- no routine has a meaning so far
+-- a routine
+lasting_routine_does : (call other : Handler) → IsLastingHandler call other → (g j : ℕ) (from : List ℕ) (line : ℕ) (unit : List ℕ) (r : Option UnitRoutine)
+    → Lasting (routine_does call g from line unit r) (routine_does other (g + j) from line unit r)
+lasting_routine_does call other lasts g j from line unit None = lasting_cut
+lasting_routine_does call other lasts g j from line unit (Some r) =
+    lasting_in_call _ (lasting_spend 1 (lasting_bind (lasting_exec call other lasts g j unit (stmt_of (out-UnitRoutine r).block)) (λ a. lasting_give [])))
+
+-- where calls may nest deeper
 lasting_routine_of : (units : List TypedUnit) (depth more : ℕ) → IsLastingHandler (routine_of units depth) (routine_of units (depth + more))
-lasting_routine_of units depth more = record { steady = steady_routine_of units (depth + more); by = λ from line unit number arguments. lasting_cut }
+lasting_routine_of units zero more =
+    let steady = steady_routine_of units (0 + more) in
+    record {
+      steady = steady;
+      by = λ from line unit number arguments.
+          let longer = steady from line unit number arguments in
+          record { steady = longer; by = λ m k s. longer.by (m + k) s };
+    }
+lasting_routine_of units (suc depth) more =
+    let one : suc depth + more ≡ suc (depth + more) = omega arith in
+    rw one (record {
+      steady = steady_routine_of units (suc (depth + more));
+      by = λ from line unit number arguments. lasting_routine_does (routine_of units depth) (routine_of units (depth + more)) (lasting_routine_of units depth more) depth more from line unit (routine_in units unit number);
+    })
 
 -- The meaning of units with more steps.
 pub meanings_last : MeaningsLast

@@ -5,18 +5,20 @@ use Rattle.std.specs.List.{list_any}
 use Rattle.ep_outside.specs.Known.{IsPrefix}
 use Rattle.ep_typed.specs.Denoters.{type_of}
 use Rattle.ep_typed.specs.Events.{Trace}
-use Rattle.ep_typed.specs.Meaning.{answered, place, eval, write_piece, write_wide, write_item, write_items, assign, turns, turns_until, exec, exec_all, elaborated, make, make_all, start_of, starts_of, routine_of, read, assign_living}
+use Rattle.ep_typed.specs.Meaning.{answered, place, eval, write_piece, write_wide, write_item, write_items, assign, turns, turns_until, exec, exec_all, elaborated, make, make_all, start_of, starts_of, routine_in, routine_does, routine_of, read, assign_living}
 use Rattle.ep_typed.specs.Operations.{Answer, Number, Fault, is_true, decides}
 use Rattle.ep_typed.specs.Printing.{Result, number_of, plain_text, wide_text, piece_events}
 use Rattle.ep_typed.specs.Printing as result
 use Rattle.ep_typed.specs.Calls.{Handler, entered, given_back, in_call}
 use Rattle.ep_typed.specs.Steady.{Grows, Steady, IsSteadyHandler}
 use Rattle.ep_typed.specs.Steps.{Call, End, Normal, Halted, Error, Word, State, Outcome, Gives, Ends, Cut, state_of, Computation, give, cut, stop, go_on, bind, spend, change, found, fetch, with_events, assigned, type_at, is_within, size_of, same_type, Resources, watched, words_of_type, met, with_type, counted, made, allocate, standard_file, using, has_ended}
-use Rattle.ep_typed.specs.Trees.{Place, Variable, Standard, Expr, Constant, Text, Read, One, Two, Short, Step, Item, Plain, Wide, Stmt, Stmts, Empty, Compound, Assign, If, While, Repeat, Halt, Write, none, next}
+use Rattle.ep_typed.specs.Trees.{Place, Variable, Standard, Expr, Constant, Text, Read, One, Two, Short, Step, Item, Plain, Wide, Stmt, Stmts, Empty, Compound, Assign, If, While, Repeat, Procedure, Halt, Write, none, next}
 use Rattle.ep_typed.specs.Viewed.{denoter_of, stmt_of}
 use Rattle.ep_typed.specs.declared.operations.Print.{Print}
 use Rattle.ep_typed.specs.declared.value.TypeValue.{TypeValue}
 use Rattle.ep_typed.specs.declared.unit.Unit.{Unit as TypedUnit}
+use Rattle.ep_typed.specs.declared.unit.UnitRoutine.{UnitRoutine}
+use Rattle.ep_typed.specs.declared.unit.UnitRoutine.TheViews.{out-UnitRoutine}
 use Rattle.ep_typed.specs.declared.unit.UnitType.{UnitType}
 use Rattle.ep_typed.specs.declared.unit.UnitVariable.{UnitVariable}
 use Rattle.ep_typed.specs.declared.run_error.TheConstants as run_error
@@ -222,6 +224,7 @@ module _ (call : Handler) (steady : IsSteadyHandler call) (g : ℕ) (unit : List
         steady_bind (steady_eval line x) (λ r. steady_if (is_true (number_of r)) (steady_bind (steady_exec a) (λ _. steady_spend 1 (steady_give tt))) (steady_bind (steady_exec b) (λ _. steady_spend 1 (steady_give tt))))
     steady_exec (While line x s) = steady_turns call g g unit (steady_eval line x) (steady_exec s)
     steady_exec (Repeat line ss x) = steady_turns_until call g g unit (steady_exec_all ss) (steady_eval line x)
+    steady_exec (Procedure line of_unit number) = steady_bind (steady unit line of_unit number []) (λ results. steady_spend 1 (steady_give tt))
     steady_exec (Halt line) = steady_stop Halted
     steady_exec (Write line items ends_line) = steady_write_items line items ends_line
 
@@ -266,6 +269,15 @@ steady_in_call {A = A} x {c = c} g = record { by = λ m s. go m s (c m (entered 
     go m s (Ends left e t) h = h
     go m s (Cut t) h = h
 
--- no routine has a meaning so far
+-- a routine
+steady_routine_does : (call : Handler) → IsSteadyHandler call → (g : ℕ) (from : List ℕ) (line : ℕ) (unit : List ℕ) (r : Option UnitRoutine)
+    → Steady (routine_does call g from line unit r)
+steady_routine_does call steady g from line unit None = steady_cut
+steady_routine_does call steady g from line unit (Some r) =
+    steady_in_call _ (steady_spend 1 (steady_bind (steady_exec call steady g unit (stmt_of (out-UnitRoutine r).block)) (λ a. steady_give [])))
+
+-- however deep calls nest
 pub steady_routine_of : (units : List TypedUnit) (depth : ℕ) → IsSteadyHandler (routine_of units depth)
-steady_routine_of units depth from line unit number arguments = steady_cut
+steady_routine_of units zero from line unit number arguments = steady_cut
+steady_routine_of units (suc depth) from line unit number arguments =
+    steady_routine_does (routine_of units depth) (steady_routine_of units depth) depth from line unit (routine_in units unit number)

@@ -1,8 +1,9 @@
 -- The meaning of typed trees, by recursion on them, in counted steps.
-use Rattle.std.specs.Prelude.{ℕ, ℤ, pos, negsuc, zero, suc, Bool, true, false, List, [], ◌∷◌, length, Option, Some, None, if◌then◌else◌}
-use Rattle.ep_typed.specs.Calls.{Handler}
+use Rattle.std.specs.Str.{bytes_eq}
+use Rattle.std.specs.Prelude.{ℕ, ℤ, pos, negsuc, zero, suc, Bool, true, false, List, [], ◌∷◌, length, slice_get, Option, Some, None, if◌then◌else◌}
+use Rattle.ep_typed.specs.Calls.{Handler, in_call}
 use Rattle.ep_typed.specs.Denoters.{type_of}
-use Rattle.ep_typed.specs.Trees.{Denoter, Place, Variable, Standard, Expr, Constant, Text, Read, One, Two, Short, Step, Item, Plain, Wide, Stmt, Stmts, Empty, Compound, Assign, If, While, Repeat, Halt, Write, none, next}
+use Rattle.ep_typed.specs.Trees.{Denoter, Place, Variable, Standard, Expr, Constant, Text, Read, One, Two, Short, Step, Item, Plain, Wide, Stmt, Stmts, Empty, Compound, Assign, If, While, Repeat, Procedure, Halt, Write, none, next}
 use Rattle.ep_typed.specs.Viewed.{denoter_of, stmt_of}
 use Rattle.ep_typed.specs.Steps.{Normal, Halted, Error, Word, Outcome, Computation, give, cut, stop, bind, spend, change, fetch, with_events, word_at, assigned, type_at, is_within, with_type, allocate, standard_file, first_state, using}
 use Rattle.ep_typed.specs.Operations.{Answer, Number, Fault, unary_answer, binary_answer, step_answer, is_true, decides}
@@ -10,6 +11,8 @@ use Rattle.ep_typed.specs.Printing.{Result, Bytes, number_of, line_end, plain_te
 use Rattle.ep_typed.specs.Printing as result
 use Rattle.ep_typed.specs.declared.operations.Print.{Print}
 use Rattle.ep_typed.specs.declared.run_error.TheConstants as run_error
+use Rattle.ep_typed.specs.declared.unit.UnitRoutine.{UnitRoutine}
+use Rattle.ep_typed.specs.declared.unit.UnitRoutine.TheViews.{out-UnitRoutine}
 use Rattle.ep_typed.specs.declared.unit.UnitType.{UnitType}
 use Rattle.ep_typed.specs.declared.unit.UnitVariable.{UnitVariable}
 use Rattle.ep_typed.specs.declared.value.TypeValue.{TypeValue}
@@ -94,6 +97,7 @@ module _ (call : Handler) (g : ℕ) (unit : List ℕ) where
     exec (If line x a b) = bind (eval line x) (λ r. if is_true (number_of r) then bind (exec a) (λ _. spend 1 (give tt)) else bind (exec b) (λ _. spend 1 (give tt)))
     exec (While line x s) = turns g (eval line x) (exec s)
     exec (Repeat line ss x) = turns_until g (exec_all ss) (eval line x)
+    exec (Procedure line of_unit number) = bind (call unit line of_unit number []) (λ results. spend 1 (give tt))
     exec (Halt line) = stop Halted
     exec (Write line items ends_line) = write_items line items ends_line
 
@@ -128,10 +132,24 @@ abbrev pub starts_of : Handler → ℕ → List TypedUnit → Computation (Unit 
 starts_of call g [] = stop Normal
 starts_of call g (u ∷ us) = bind (start_of call g u) (λ _. starts_of call g us)
 
--- What a call does, where calls nest at most so deep. No form makes one so far, and no valid unit has a routine, so none
--- has a meaning.
+-- the routine of this number of the unit of this name
+abbrev pub routine_in : List TypedUnit → List ℕ → ℕ → Option UnitRoutine
+routine_in [] unit number = None
+routine_in (u ∷ us) unit number = if bytes_eq u.name unit then slice_get u.routines number else routine_in us unit number
+
+-- What a routine does: its call spends a step, and then it runs its block. No routine has parameters so far, nor variables.
+-- What is none has no meaning, and no valid unit calls one.
+abbrev pub routine_does : Handler → ℕ → List ℕ → ℕ → List ℕ → Option UnitRoutine → Computation (List Result)
+routine_does call g from line unit None = cut
+routine_does call g from line unit (Some r) =
+    in_call (record { routine = (out-UnitRoutine r).name; unit = from; line = line })
+    (spend 1 (bind (exec call g unit (stmt_of (out-UnitRoutine r).block)) (λ _. give [])))
+
+-- What a call does, where calls nest at most so deep, and loops turn at most so often in each.
 abbrev pub routine_of : List TypedUnit → ℕ → Handler
-routine_of units depth from line unit number arguments = cut
+routine_of units zero from line unit number arguments = cut
+routine_of units (suc depth) from line unit number arguments =
+    routine_does (routine_of units depth) depth from line unit (routine_in units unit number)
 
 -- The meaning of joined units within so many steps. Loops turn and calls nest at most that often, which is enough,
 -- since each turn and each call spends a step.

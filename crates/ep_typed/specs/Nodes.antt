@@ -1,6 +1,6 @@
 -- How many typed nodes a unit has: its expressions, places, statements, imports, routines, formals, variables, denoters, bounds and values. An expression that is a constant or a text counts one, and its value one more.
 use Rattle.std.specs.Prelude.{ℕ, ◌+◌, List, [], ◌∷◌, length, map, sum, Option, Some, None}
-use Rattle.ep_typed.specs.Trees.{Denoter, Required, Named, Subrange, Enumeration, Place, Variable, Standard, Expr, Constant, Text, Read, One, Two, Short, Step, Item, Plain, Wide, Stmt, Stmts, Empty, Compound, Assign, If, While, Repeat, Halt, Write, none, next}
+use Rattle.ep_typed.specs.Trees.{Denoter, Required, Named, Subrange, Enumeration, Place, Variable, Standard, Expr, Constant, Text, Read, One, Two, Short, Step, Item, Plain, Wide, Stmt, Stmts, Empty, Compound, Assign, If, While, Repeat, Procedure, Halt, Write, none, next}
 use Rattle.ep_typed.specs.Viewed.{denoter_of, expr_of, stmt_of}
 use Rattle.ep_typed.specs.declared.interface.ConstantEntry.{ConstantEntry}
 use Rattle.ep_typed.specs.declared.interface.Formal.{Formal}
@@ -56,6 +56,7 @@ abbrev mutual
   stmt_nodes (If line x a b) = 1 + expr_nodes x + stmt_nodes a + stmt_nodes b
   stmt_nodes (While line x s) = 1 + expr_nodes x + stmt_nodes s
   stmt_nodes (Repeat line ss x) = 1 + stmts_nodes ss + expr_nodes x
+  stmt_nodes (Procedure line unit number) = 1
   stmt_nodes (Halt line) = 1
   stmt_nodes (Write line items ends_line) = 1 + items_nodes items
 

@@ -52,6 +52,8 @@ mutual
     While : (line : ℕ) (condition : Expr) (body : Stmt) → Stmt
     -- the statements, and then the condition
     Repeat : (line : ℕ) (body : Stmts) (condition : Expr) → Stmt
+    -- the procedure of this number of the unit of this name is called
+    Procedure : (line : ℕ) (unit : List ℕ) (number : ℕ) → Stmt
     Halt : (line : ℕ) → Stmt
     -- `write`, or with the mark `writeln`
     Write : (line : ℕ) (items : List Item) (ends_line : Bool) → Stmt

@@ -6,7 +6,7 @@ use Rattle.ep_typed.specs.Hosts.{Host, least, greatest, is_of_host}
 use Rattle.ep_typed.specs.Hosts as host
 use Rattle.ep_typed.specs.Operations.{is_integer}
 use Rattle.ep_typed.specs.Steps.{is_within}
-use Rattle.ep_typed.specs.Trees.{Denoter, Place, Variable, Standard, Expr, Constant, Text, Read, One, Two, Short, Step, Item, Plain, Wide, Stmt, Stmts, Empty, Compound, Assign, If, While, Repeat, Halt, Write, none, next}
+use Rattle.ep_typed.specs.Trees.{Denoter, Place, Variable, Standard, Expr, Constant, Text, Read, One, Two, Short, Step, Item, Plain, Wide, Stmt, Stmts, Empty, Compound, Assign, If, While, Repeat, Procedure, Halt, Write, none, next}
 use Rattle.ep_typed.specs.Viewed.{denoter_of, stmt_of}
 use Rattle.ep_typed.specs.declared.operations.Unary.{Unary}
 use Rattle.ep_typed.specs.declared.operations.Unary.TheVariants as unary
@@ -84,6 +84,10 @@ printed_kind print.Char = Ordinal host.Char
 printed_kind print.Boolean = Ordinal host.Boolean
 printed_kind print.Text = Bytes
 
+-- the heading of a procedure without parameters
+abbrev pub IsProcedure : RoutineEntry → Type 0
+IsProcedure r = (r.formals ≡ []) × (r.result ≡ None)
+
 module _ (declared : Declarations) where
   -- the place of a variable that is declared, whose type has this host; a standard file is of no ordinal type
   abbrev pub IsPlace : Host → Place → Type 0
@@ -122,6 +126,7 @@ module _ (declared : Declarations) where
     IsStmt (If line x a b) = IsExpr (Ordinal host.Boolean) x × IsStmt a × IsStmt b
     IsStmt (While line x s) = IsExpr (Ordinal host.Boolean) x × IsStmt s
     IsStmt (Repeat line ss x) = AreStmts ss × IsExpr (Ordinal host.Boolean) x
+    IsStmt (Procedure line unit number) = (r : RoutineEntry) × (slice_get (declared.routines unit) number ≡ Some r) × IsProcedure r
     IsStmt (Halt line) = ⊤
     IsStmt (Write line items ends_line) = AreItems items × WritesSomething items ends_line
 
@@ -180,12 +185,19 @@ own u =
       routines = own_list u.name (map heading_of u.routines);
     }
 
--- a unit that names no other one, and so far has no interface, no routine and nothing to do when it is stopped
+-- A procedure under these declarations, which so far has no parameters, no variables and no routines of its own.
+pub record IsRoutine (declared : Declarations) (r : UnitRoutine) : Type 0 where
+  pub heading : IsProcedure (heading_of r)
+  pub variables : (out-UnitRoutine r).variables ≡ []
+  pub routines : (out-UnitRoutine r).routines ≡ []
+  pub block : IsStmt declared (stmt_of (out-UnitRoutine r).block)
+
+-- a unit that names no other one, and so far has no interface and nothing to do when it is stopped
 pub record IsValid (u : TypedUnit) : Type 0 where
   pub interface : u.interface ≡ None
   pub types : All (IsType u.types) u.types
   pub constants : All (IsConstant u.types) u.constants
   pub variables : All (IsVariable u.types) u.variables
-  pub routines : u.routines ≡ []
+  pub routines : All (IsRoutine (own u)) u.routines
   pub start : IsStmt (own u) (stmt_of u.start)
   pub stop : stmt_of u.stop ≡ Empty

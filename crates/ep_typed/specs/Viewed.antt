@@ -62,6 +62,7 @@ stmt_step (stmt.Assign line place value) = tree.Assign line (place_of place) (ex
 stmt_step (stmt.If line condition then_part else_part) = tree.If line (expr_of condition) then_part else_part
 stmt_step (stmt.While line condition body) = tree.While line (expr_of condition) body
 stmt_step (stmt.Repeat line body condition) = tree.Repeat line (tree.stmts body) (expr_of condition)
+stmt_step (stmt.Procedure line unit number) = tree.Procedure line unit number
 stmt_step (stmt.Halt line) = tree.Halt line
 stmt_step (stmt.Write line items ends_line) = tree.Write line (map item_of items) ends_line
 

@@ -155,7 +155,7 @@ fn statement(s: &TypedStmt) -> u64
     ensures { result ≡ min (nodes.stmt_nodes (stmt_of s.now)) u64.MAX }
 {
     match s {
-        TypedStmt::Empty | TypedStmt::Halt(_) => 1,
+        TypedStmt::Empty | TypedStmt::Procedure(_, _, _) | TypedStmt::Halt(_) => 1,
         TypedStmt::Compound(all) => statements(all.items()).saturating_add(1),
         TypedStmt::Assign(_, p, value) => {
             place(p)

@@ -90,6 +90,9 @@ pub enum TypedStmt {
     While(Line, Boxed<TypedExpr>, Boxed<TypedStmt>),
     /// `repeat`: the statements, and then the condition.
     Repeat(Line, TypedStmts, Boxed<TypedExpr>),
+    /// A procedure statement of the procedure of this number of the unit of this name, which has no parameters
+    /// (ISO 10206, 6.9.2.3).
+    Procedure(Line, Name, u32),
     /// `halt`
     Halt(Line),
     /// `write`, or with the flag `writeln`, to `output`.
