@@ -5,8 +5,10 @@ pub mod Following
 pub mod ItemForms
 pub mod Makes
 pub mod Parts
+mod ProcedureMoves
 pub mod ProgramForms
 pub mod Programs
+mod Routines
 pub mod Simple
 pub mod Starts
 pub mod StmtMoves

@@ -1,14 +1,19 @@
 -- The object of a program, from the code of its parts.
-use Rattle.std.proofs.Common.{◌≡◌, ℕ, ℤ, suc, pos, ◌+◌, ◌<◌, List, [], ◌∷◌, ◌++◌, take, length, get_or, refl, sym, ap, ◌∙◌, subst, append_assoc, append-nil, arith}
+use Rattle.std.proofs.Common.{◌≡◌, ℕ, ℤ, suc, pos, ◌+◌, ◌<◌, List, [], ◌∷◌, ◌++◌, take, length, length-append, get_or, slice_get, ◌⊎◌, inl, inr, Some, refl, sym, ap, ◌∙◌, subst, append_assoc, append-nil, arith}
 use Rattle.std.proofs.lemmas.List.{take_more, length-take-le}
+use Rattle.std.proofs.lemmas.Option.{slice_get_within}
+use Rattle.ep_object.proofs.matching.Elements.{slice_get-push}
+use Rattle.ep_object.specs.declared.code.Instr.{Instr}
 use Rattle.ep_object.specs.declared.code.CodeRoutine.{CodeRoutine}
 use Rattle.ep_object.specs.declared.code.Object.{Object}
 use Rattle.ep_typed.specs.Viewed.{denoter_of, stmt_of}
 use Rattle.ep_typed.specs.declared.value.TypeValue.TheVariants.{Ordinal}
 use Rattle.ep_typed.specs.declared.unit.Unit.{Unit as TypedUnit}
+use Rattle.ep_typed.specs.declared.unit.UnitRoutine.{UnitRoutine}
+use Rattle.ep_typed.specs.declared.unit.UnitRoutine.TheViews.{out-UnitRoutine}
 use Rattle.ep_typed.specs.declared.unit.UnitVariable.{UnitVariable}
 use Rattle.ep_gen_expr.specs.ExprCode.{instr, bare, push}
-use Rattle.ep_gen_expr.specs.Growth.{Grows, AreDistinct, empty_code}
+use Rattle.ep_gen_expr.specs.Growth.{Grows, IsTable, AreDistinct, empty_code}
 use Rattle.ep_typed.specs.Denoters.{type_of}
 use Rattle.ep_typed.specs.declared.unit.UnitType.{UnitType}
 use Rattle.ep_gen_expr.specs.declared.code.Code.{Code}
@@ -16,9 +21,9 @@ use Rattle.ep_gen_expr.specs.declared.code.TheConstants as code
 use Rattle.ep_gen_expr.proofs.Forms.{grows_at}
 use Rattle.ep_gen_unit.specs.StmtCode.{IsStmtCode, type_code, elaborating_code, make_code, make_all_code, return_code}
 use Rattle.ep_gen_expr.specs.Jumps.{IsNextPlace}
-use Rattle.ep_gen_unit.specs.StmtGrowth.{Follows, AppendsStmt, AppendsRoutines, IsCompact, assembled}
-use Rattle.ep_gen_unit.specs.UnitCode.{IsProgramCode, routine_at}
-use Rattle.ep_gen_unit.proofs.Following.{later_follows, stmt_later, follows_grows, follows_line, follows_then, grown_length}
+use Rattle.ep_gen_unit.specs.StmtGrowth.{Follows, AppendsStmt, AppendsStart, AppendsRoutine, AppendsRoutines, IsCompact, assembled}
+use Rattle.ep_gen_unit.specs.UnitCode.{IsProgramCode, IsRoutineCode, AreRoutinesCode, StandsIn, routine_at}
+use Rattle.ep_gen_unit.proofs.Following.{later_follows, stmt_later, follows_none, follows_grows, follows_line, follows_then, grown_length}
 use Rattle.ep_object.specs.declared.op.TheConstants as op
 
 pub grows_ordinal : {a b c d : Code} (low high : ℤ) → Grows a b (push a.line low ∷ []) → Grows b c (push b.line high ∷ []) → Grows c d (bare c.line op.T_ORD ∷ []) → Grows a d (type_code a.line (Ordinal low high))
@@ -48,7 +53,7 @@ makes_more {a = a} {c = c} types vs k slot v h e at p q =
 nothing_distinct : {A : Type 0} → AreDistinct {A = A} []
 nothing_distinct = λ j k x p q. cc
 
--- the code of both routines, from that of their parts
+-- the code of the start and of the stop, from that of their parts
 module _ (u : TypedUnit) {a b c d e : Code} (ts : List UnitType) (types_are : ts ≡ u.types) (vs : List UnitVariable) (variables_are : vs ≡ u.variables) (makes : Follows a b (make_all_code ts 0 vs)) (s : AppendsStmt b c (stmt_of u.start)) (r : Grows (record c { line = code.NO_LINE }) d (return_code ∷ [])) (last : Grows d e (bare d.line op.RETURN ∷ [])) (stop_entry : ℕ) (next : IsNextPlace d stop_entry) where
   m : Follows a b (make_all_code u.types 0 u.variables)
   m = subst (λ l. Follows a b (make_all_code u.types 0 l)) variables_are (subst (λ l. Follows a b (make_all_code l 0 vs)) types_are makes)
@@ -59,8 +64,8 @@ module _ (u : TypedUnit) {a b c d e : Code} (ts : List UnitType) (types_are : ts
   made : length b.instructions ≡ length a.instructions + length (make_all_code u.types 0 u.variables)
   made = grown_length m
 
-  pub appends_routines : AppendsRoutines a e u stop_entry
-  appends_routines = record {
+  pub appends_start : AppendsStart a e u stop_entry
+  appends_start = record {
     code = s.code;
     is_code = subst (λ at. IsStmtCode e.texts e.references at (stmt_of u.start) s.code) made (stmt_later (length b.instructions) (stmt_of u.start) s.code (later_follows ends) s.is_code);
     follows = follows_then m (follows_then s.follows ends);
@@ -68,10 +73,95 @@ module _ (u : TypedUnit) {a b c d e : Code} (ts : List UnitType) (types_are : ts
     small = omega (arith, next.is_length, next.small, grown_length (follows_grows last));
   }
 
--- the object of a program, from the code of its routines
-module _ (u : TypedUnit) {a e : Code} (begins : a ≡ empty_code) (name : List ℕ) (named : name ≡ u.name) (slots stop_entry : ℕ) (appends : AppendsRoutines a e u stop_entry) (routines : List CodeRoutine) (two : routines ≡ routine_at 0 ∷ routine_at stop_entry ∷ []) (o : Object) (is : o ≡ assembled name e routines slots) where
-  whole : AppendsRoutines empty_code e u stop_entry
-  whole = subst (λ code. AppendsRoutines code e u stop_entry) begins appends
+-- ---- routines
+
+-- the code of a routine, from that of its block
+pub appends_routine : {b c : Code} (a : Code) (r : UnitRoutine) (entry : ℕ) (x : CodeRoutine) → IsNextPlace a entry → AppendsStmt a b (stmt_of (out-UnitRoutine r).block)
+    → Grows (record b { line = code.NO_LINE }) c (return_code ∷ []) → x ≡ routine_at entry → AppendsRoutine a c r x
+appends_routine {b = b} {c = c} a r entry x next s last is =
+    let ends : Follows b c (return_code ∷ []) = follows_line b code.NO_LINE (follows_grows last) in
+    record {
+      plain = is ∙ ap routine_at next.is_length;
+      code = s.code;
+      is_code = stmt_later (length a.instructions) (stmt_of (out-UnitRoutine r).block) s.code (later_follows ends) s.is_code;
+      follows = follows_then s.follows ends;
+    }
+
+-- what stands in code stands in longer code
+stands_longer : {instructions later : List Instr} {place : ℕ} {is : List Instr} (more : List Instr) → later ≡ instructions ++ more
+    → StandsIn instructions place is → StandsIn later place is
+stands_longer {is = is} more e s =
+    record {
+      before = s.before;
+      after = s.after ++ more;
+      is = e ∙ (ap (λ l. l ++ more) s.is ∙ (append_assoc s.before (is ++ s.after) more ∙ ap (λ l. s.before ++ l) (append_assoc is s.after more)));
+      from = s.from;
+    }
+
+routine_longer : {a b : Code} {is : List Instr} (r : UnitRoutine) (x : CodeRoutine) → Follows a b is
+    → IsRoutineCode a.texts a.references a.instructions r x → IsRoutineCode b.texts b.references b.instructions r x
+routine_longer {a = a} {b = b} {is = is} r x p h =
+    record {
+      plain = h.plain;
+      code = h.code;
+      is_code = stmt_later x.entry (stmt_of (out-UnitRoutine r).block) h.code (later_follows p) h.is_code;
+      stands = stands_longer is p.instructions h.stands;
+    }
+
+-- no routine yet
+pub no_routines : (a : Code) → AppendsRoutines a a [] []
+no_routines a = record { code = []; follows = follows_none a; blocks = record { count = refl; each = λ k r x p q. cc } }
+
+-- one more routine
+routines_then : {a b c : Code} (rs : List UnitRoutine) (entries : List CodeRoutine) (r : UnitRoutine) (x : CodeRoutine)
+    → AppendsRoutines a b rs entries → AppendsRoutine b c r x → AppendsRoutines a c (rs ++ r ∷ []) (entries ++ x ∷ [])
+routines_then {b = b} {c = c} rs entries r x p q =
+    let blocks = p.blocks in
+    record {
+      code = p.code ++ (q.code ++ return_code ∷ []);
+      follows = follows_then p.follows q.follows;
+      blocks = record {
+        count = omega (arith, blocks.count, length-append entries (x ∷ []), length-append rs (r ∷ []));
+        each = λ k s y at_rs at_entries. either k s y (slice_get-push rs r s k at_rs) (slice_get-push entries x y k at_entries);
+      };
+    }
+  where
+    newest : IsRoutineCode c.texts c.references c.instructions r x
+    newest =
+        let entry : x.entry ≡ length b.instructions = ap (λ (y : CodeRoutine). y.entry) q.plain in
+        record {
+          plain = q.plain ∙ ap routine_at (sym entry);
+          code = q.code;
+          is_code = subst (λ k. IsStmtCode c.texts c.references k (stmt_of (out-UnitRoutine r).block) q.code) (sym entry) q.is_code;
+          stands = record {
+            before = b.instructions;
+            after = [];
+            is = let f = q.follows in f.instructions ∙ ap (λ l. b.instructions ++ l) (sym (append-nil (q.code ++ return_code ∷ [])));
+            from = sym entry;
+          };
+        }
+
+    either : (k : ℕ) (s : UnitRoutine) (y : CodeRoutine) → (slice_get rs k ≡ Some s) ⊎ ((k ≡ length rs) × (s ≡ r))
+        → (slice_get entries k ≡ Some y) ⊎ ((k ≡ length entries) × (y ≡ x)) → IsRoutineCode c.texts c.references c.instructions s y
+    either k s y (inl at_rs) (inl at_entries) = let blocks = p.blocks in routine_longer s y q.follows (blocks.each k s y at_rs at_entries)
+    either k s y (inl at_rs) (inr last) = let blocks = p.blocks in absurd (omega (arith, slice_get_within rs k s at_rs, last.0, blocks.count))
+    either k s y (inr last) (inl at_entries) = let blocks = p.blocks in absurd (omega (arith, slice_get_within entries k y at_entries, last.0, blocks.count))
+    either k s y (inr last) (inr newer) =
+        subst (λ z. IsRoutineCode c.texts c.references c.instructions z y) (sym last.1) (subst (IsRoutineCode c.texts c.references c.instructions r) (sym newer.1) newest)
+
+-- one more routine of a slice
+pub routines_more : {a b c : Code} (rs : List UnitRoutine) (k : ℕ) (entries : List CodeRoutine) (r : UnitRoutine) (x : CodeRoutine) → k < length rs → r ≡ get_or rs k r
+    → AppendsRoutines a b (take k rs) entries → AppendsRoutine b c r x → AppendsRoutines a c (take (k + 1) rs) (entries ++ x ∷ [])
+routines_more {a = a} {c = c} rs k entries r x less e p q =
+    let grown : take k rs ++ r ∷ [] ≡ take (k + 1) rs = ap (λ y. take k rs ++ y ∷ []) e ∙ sym (take_more rs k r less) in
+    subst (λ l. AppendsRoutines a c l (entries ++ x ∷ [])) grown (routines_then (take k rs) entries r x p q)
+
+-- the object of a program, from the code of its start and of its routines
+module _ (u : TypedUnit) {a b e : Code} (begins : a ≡ empty_code) (name : List ℕ) (named : name ≡ u.name) (slots stop_entry start : ℕ) (appends : AppendsStart a b u stop_entry)
+    (rs : List UnitRoutine) (routines_are : rs ≡ u.routines) (entries : List CodeRoutine) (more : AppendsRoutines b e rs entries) (routines : List CodeRoutine)
+    (all : routines ≡ entries ++ routine_at 0 ∷ routine_at stop_entry ∷ []) (starts : start ≡ length entries) (o : Object) (is : o ≡ assembled name e routines start slots) where
+  whole : AppendsStart empty_code b u stop_entry
+  whole = subst (λ code. AppendsStart code b u stop_entry) begins appends
 
   begins_block : 0 + length (make_all_code u.types 0 u.variables) ≡ length (make_all_code u.types 0 u.variables)
   begins_block = omega arith
@@ -79,27 +169,40 @@ module _ (u : TypedUnit) {a e : Code} (begins : a ≡ empty_code) (name : List �
   stops : stop_entry ≡ length (make_all_code u.types 0 u.variables) + length whole.code + 1
   stops = omega (arith, whole.stops)
 
+  its_blocks : AreRoutinesCode e.texts e.references e.instructions u.routines entries
+  its_blocks = subst (λ l. AreRoutinesCode e.texts e.references e.instructions l entries) routines_are more.blocks
+
   pub is_program : slots ≡ length u.variables → IsProgramCode u o
   is_program n = subst (λ object. IsProgramCode u object) (sym is) (record {
     code = whole.code;
-    is_code = subst (λ at. IsStmtCode e.texts e.references at (stmt_of u.start) whole.code) begins_block whole.is_code;
-    instructions = whole.follows.instructions;
-    routines = two ∙ ap (λ at. routine_at 0 ∷ routine_at at ∷ []) stops;
-    start = refl;
-    stop = refl;
+    is_code = subst (λ at. IsStmtCode e.texts e.references at (stmt_of u.start) whole.code) begins_block (stmt_later (0 + length (make_all_code u.types 0 u.variables)) (stmt_of u.start) whole.code (later_follows more.follows) whole.is_code);
+    others = more.code;
+    instructions =
+        let first = whole.follows in
+        let rest = more.follows in
+        rest.instructions ∙ (ap (λ l. l ++ more.code) first.instructions ∙ (append_assoc (make_all_code u.types 0 u.variables) (whole.code ++ return_code ∷ return_code ∷ []) more.code
+        ∙ ap (λ l. make_all_code u.types 0 u.variables ++ l) (append_assoc whole.code (return_code ∷ return_code ∷ []) more.code)));
+    entries = entries;
+    blocks = its_blocks;
+    routines = all ∙ ap (λ at. entries ++ routine_at 0 ∷ routine_at at ∷ []) stops;
+    start = starts ∙ its_blocks.count;
+    stop = ap (λ k. k + 1) (starts ∙ its_blocks.count);
     unit_slots = n;
     name = named;
     is_program = refl;
     interface = refl;
     imports = refl;
-    constant_types = whole.follows.constant_types;
+    constant_types = let first = whole.follows in let rest = more.follows in rest.constant_types ∙ first.constant_types;
   })
 
-  pub is_compact : IsCompact o
-  is_compact = subst (λ object. IsCompact object) (sym is) (record {
-    few_texts = whole.follows.texts.small (omega arith);
-    few_references = whole.follows.references.small (omega arith);
-    few_instructions = whole.small;
-    texts = whole.follows.texts.distinct nothing_distinct;
-    references = whole.follows.references.distinct nothing_distinct;
+  both : Follows empty_code e (make_all_code u.types 0 u.variables ++ (whole.code ++ return_code ∷ return_code ∷ []) ++ more.code)
+  both = follows_then whole.follows more.follows
+
+  pub is_compact : IsTable e.instructions → IsCompact o
+  is_compact small = subst (λ object. IsCompact object) (sym is) (record {
+    few_texts = both.texts.small (omega arith);
+    few_references = both.references.small (omega arith);
+    few_instructions = small;
+    texts = both.texts.distinct nothing_distinct;
+    references = both.references.distinct nothing_distinct;
   })

@@ -1,9 +1,10 @@
 -- The machine follows a whole program.
-use Rattle.std.proofs.Common.{◌≡◌, ℕ, ◌+◌, ◌<◌, false, [], ◌∷◌, ◌++◌, length, length-append, refl, sym, ap, ◌∙◌, subst, arith}
+use Rattle.std.proofs.Common.{◌≡◌, ℕ, ◌+◌, ◌<◌, false, [], ◌∷◌, ◌++◌, length, length-append, Some, refl, sym, ap, ◌∙◌, subst, arith}
 use Rattle.std.proofs.lemmas.Bool.{lt-ltb}
 use Rattle.ep_gen_unit.specs.StmtCode.{make_all_code, return_code}
 use Rattle.ep_gen_unit.specs.UnitCode.{IsProgramCode, routine_at}
-use Rattle.ep_gen_unit.proofs.Units.{unit_simulates}
+use Rattle.ep_gen_unit.proofs.Routines.{routines_kept}
+use Rattle.ep_gen_unit.proofs.Units.{start_is, unit_simulates, routine_there as routine_of_object}
 use Rattle.ep_object.proofs.Alone.{placements_alone, stands-alone, distinct-alone}
 use Rattle.ep_object.proofs.matching.Beginning.{first_memory, first_injection, first_matches}
 use Rattle.ep_object.proofs.following.Bind.{follows_bind, follows_stop}
@@ -14,6 +15,7 @@ use Rattle.ep_object.specs.Follows.{Follows, Bare, SameRoutine, IsNotLeft}
 use Rattle.ep_object.specs.Laws.{EndsAt}
 use Rattle.ep_object.specs.Matching.{at as standing}
 use Rattle.ep_object.specs.Placing.{alone, first_placement, moved, placed_routine}
+use Rattle.ep_object.specs.Routines.{routine_of as routine_there}
 use Rattle.ep_object.specs.Runs.{begin, outcome, enter, run_from}
 use Rattle.ep_object.specs.Simulates.{Enters, Leaves}
 use Rattle.ep_object.specs.State.{State, Frames, End, Running, Stopped, Normal, first_frames}
@@ -29,27 +31,31 @@ use Rattle.ep_typed.specs.declared.unit.Unit.{Unit as TypedUnit}
 module _ (u : TypedUnit) (o : Object) (is : IsProgramCode u o) where
   -- the frames when the start of the program begins
   abbrev pub start_frames : Frames
-  start_frames = record (first_frames (alone o)) { turn = 0; routine = 0; unit = 0 }
+  start_frames = record (first_frames (alone o)) { turn = 0; routine = moved (first_placement o).routines o.start; unit = 0 }
 
   -- the state then
   abbrev pub start_state : State
   start_state = standing 0 [] (first_memory start_frames) []
 
   not_empty : 0 < length o.instructions
-  not_empty = omega (arith, ap length is.instructions, length-append (make_all_code u.types 0 u.variables) (is.code ++ return_code ∷ return_code ∷ []), length-append is.code (return_code ∷ return_code ∷ []))
+  not_empty = omega (arith, ap length is.instructions, length-append (make_all_code u.types 0 u.variables) (is.code ++ return_code ∷ return_code ∷ is.others), length-append is.code (return_code ∷ return_code ∷ is.others))
+
+  -- its start routine is there
+  start_there : routine_there (alone o) (moved (first_placement o).routines o.start) ≡ Some (placed_routine (first_placement o) (routine_at 0))
+  start_there = routine_of_object u o is (alone o) (placements_alone o) (first_placement o) (stands-alone o) o.start (routine_at 0) (start_is u o is (alone o) (placements_alone o) (first_placement o) (stands-alone o))
 
   -- a run begins with the start of the program
   pub begins : begin (alone o) ≡ Running 0 start_state
-  begins = rw (is.start, is.routines, lt-ltb 0 (length o.instructions) not_empty) refl
+  begins = rw (start_there, lt-ltb 0 (length o.instructions) not_empty) refl
 
   -- the machine enters the start routine
   enters : Enters (own u) (alone o) 0 (moved (first_placement o).routines o.start) first_injection (first_memory start_frames) [] meaning.first_state start_state
   enters =
       record {
         image_routine = placed_routine (first_placement o) (routine_at 0);
-        there = rw (is.start, is.routines) refl;
+        there = start_there;
         is = rw (lt-ltb 0 (length o.instructions) not_empty) refl;
-        runs = rw (is.start, is.routines) refl;
+        runs = refl;
         in_unit = refl;
         without_calls = refl;
         matches = first_matches (own u) (alone o) start_frames refl refl;
@@ -69,7 +75,7 @@ module _ (u : TypedUnit) (o : Object) (is : IsProgramCode u o) where
     pub program_follows : (n : ℕ) → Follows (λ k. IsNotLeft start_frames k.frames) (alone o) n start_state meaning.first_state (starts_of (routine_of (u ∷ []) n) n (u ∷ [])) Never spare_ticks (λ a. 41)
     program_follows n =
         follows_bind {e = λ a. 41} (λ a. steady_stop meaning.Normal)
-        (simulation_follows (unit_simulates u o is (alone o) (placements_alone o) (first_placement o) (stands-alone o) valid (distinct-alone o) (routine_of (u ∷ []) n) (steady_routine_of (u ∷ []) n) n) first_injection (first_memory start_frames) [] meaning.first_state start_state enters)
+        (simulation_follows (unit_simulates u o is (alone o) (placements_alone o) (first_placement o) (stands-alone o) valid (distinct-alone o) (routine_of (u ∷ []) n) (steady_routine_of (u ∷ []) n) n (routines_kept u o is valid (alone o) (placements_alone o) (first_placement o) (stands-alone o) (distinct-alone o) n)) first_injection (first_memory start_frames) [] meaning.first_state start_state enters)
         (λ a s k leaves. let lands = leaves.lands in let inside = lands.post in follows_stop {v = 0} (subst (λ (l : State). IsNotLeft start_frames l.frames) (sym lands.is) (not_left-same inside.routine)) (ends s k leaves) (omega arith))
 
     -- What a run of the program's image tells of the meaning of the program.

@@ -1,14 +1,15 @@
 -- The code of each form of statement, from that of its parts.
-use Rattle.std.proofs.Common.{◌≡◌, ℕ, pos, ◌+◌, ◌<◌, Bool, List, [], ◌∷◌, ◌++◌, map, take, length, get_or, refl, sym, ap, ◌∙◌, subst, append_assoc, append-nil, arith, length-append}
+use Rattle.std.proofs.Common.{◌≡◌, ℕ, pos, ◌+◌, ◌<◌, Bool, List, [], ◌∷◌, ◌++◌, map, take, length, get_or, slice_get, Some, refl, sym, ap, ◌∙◌, subst, append_assoc, append-nil, arith, length-append}
 use Rattle.std.proofs.lemmas.List.{map_more}
 use Rattle.ep_object.specs.declared.code.Instr.{Instr}
 use Rattle.ep_object.specs.declared.code.Reference.{Reference}
-use Rattle.ep_typed.specs.Trees.{Place, Expr, Item, Stmt, Stmts, Empty, Compound, Assign, If, While, Repeat, Halt, Write, stmts}
-use Rattle.ep_gen_expr.specs.ExprCode.{IsExprCode, bare, instr}
-use Rattle.ep_gen_expr.specs.Growth.{Grows, AppendsPlace, AppendsExpr}
+use Rattle.ep_typed.specs.Trees.{Place, Expr, Item, Stmt, Stmts, Empty, Compound, Assign, If, While, Repeat, Procedure, Halt, Write, stmts}
+use Rattle.ep_gen_expr.specs.ExprCode.{IsExprCode, bare, instr, reference}
+use Rattle.ep_gen_expr.specs.Growth.{Grows, NumbersReference, AppendsPlace, AppendsExpr}
 use Rattle.ep_gen_expr.specs.Jumps.{IsNextPlace, LeavesHole, landed}
 use Rattle.ep_gen_expr.specs.declared.code.Code.{Code}
 use Rattle.ep_gen_expr.proofs.Forms.{grows_at}
+use Rattle.ep_gen_expr.proofs.Pushed.{get_later}
 use Rattle.ep_gen_expr.proofs.Stays.{place_code_stays}
 use Rattle.ep_gen_unit.specs.StmtCode.{IsStmtCode, AreStmtsCode}
 use Rattle.ep_gen_unit.specs.StmtGrowth.{Follows, AppendsItems, AppendsStmt, AppendsStmts}
@@ -36,6 +37,17 @@ appends_assign {b = b} {c = c} {d = d} a line place x p q r =
       refl,
     )
     (follows_line a line (follows_grows (grows_at (λ l. q.code ++ bare l op.STORE ∷ []) p.grows after)))
+
+-- a call, and the jump behind it
+pub appends_procedure : {b c d : Code} (a : Code) (line : ℕ) (unit : List ℕ) (number k n : ℕ) → NumbersReference (record a { line = line }) b (reference unit number) k
+    → Grows b c (instr op.CALL (pos k) 0 b.line ∷ []) → IsNextPlace c n → Grows c d (instr op.JUMP (pos (n + 1)) 0 c.line ∷ []) → AppendsStmt a d (Procedure line unit number)
+appends_procedure {b = b} {c = c} {d = d} a line unit number k n p q next r =
+    let calls : Grows (record a { line = line }) c (instr op.CALL (pos k) 0 line ∷ []) = grows_at (λ l. instr op.CALL (pos k) 0 l ∷ []) p.grows q in
+    let whole_code : Grows (record a { line = line }) d (instr op.CALL (pos k) 0 line ∷ instr op.JUMP (pos (n + 1)) 0 line ∷ []) = grows_at (λ l. instr op.JUMP (pos (n + 1)) 0 l ∷ []) calls r in
+    let there : slice_get d.references k ≡ Some (reference unit number) = get_later k (reference unit number) r.references.begins (get_later k (reference unit number) q.references.begins p.there) in
+    let at : n + 1 ≡ length a.instructions + 2 = omega (arith, next.is_length, grown_length (follows_grows calls)) in
+    whole a (Procedure line unit number) (instr op.CALL (pos k) 0 line ∷ instr op.JUMP (pos (length a.instructions + 2)) 0 line ∷ []) (k, there, refl)
+    (subst (λ m. Follows a d (instr op.CALL (pos k) 0 line ∷ instr op.JUMP (pos m) 0 line ∷ [])) at (follows_line a line (follows_grows whole_code)))
 
 pub appends_halt : {b : Code} (a : Code) (line : ℕ) → Grows (record a { line = line }) b (bare line op.HALT ∷ []) → AppendsStmt a b (Halt line)
 appends_halt a line p = whole a (Halt line) (bare line op.HALT ∷ []) refl (follows_line a line (follows_grows p))

@@ -1,14 +1,16 @@
 -- The machine follows statements.
-use Rattle.std.proofs.Common.{◌≡◌, ℕ, pos, ◌+◌, ◌≤◌, ◌<◌, List, [], ◌∷◌, ◌++◌, length, length-append, refl, sym, ap, ◌∙◌, subst, arith}
+use Rattle.std.proofs.Common.{◌≡◌, ℕ, pos, ◌+◌, ◌≤◌, ◌<◌, IsTrue, List, [], ◌∷◌, ◌++◌, length, length-append, refl, sym, ap, ◌∙◌, subst, arith}
 use Rattle.ep_object.specs.Follows.{Facts, Lasts}
-use Rattle.ep_object.specs.Matching.{Slots}
+use Rattle.ep_object.specs.Matching.{Slots, is_hidden_slot}
 use Rattle.ep_gen_expr.specs.ExprCode.{instr}
 use Rattle.ep_gen_unit.specs.StmtCode.{IsStmtCode, AreStmtsCode}
 use Rattle.ep_gen_unit.proofs.Parts.{Moves, ExpressionsFollow, PlacesFollow, code_stands-parts}
 use Rattle.ep_gen_unit.proofs.Simple.{empty_moves, halt_moves, assign_moves}
 use Rattle.ep_gen_unit.proofs.Branching.{if_parts, repeat_parts, while_parts}
+use Rattle.ep_gen_unit.proofs.ProcedureMoves.{procedure_moves}
 use Rattle.ep_gen_unit.proofs.Writing.{write_moves}
 use Rattle.ep_object.specs.Placing.{Placement, CodeStands}
+use Rattle.ep_object.specs.Promises.{CallsAreKept}
 use Rattle.ep_object.specs.Scene.{Scene}
 use Rattle.ep_object.specs.declared.code.Image.{Image}
 use Rattle.ep_object.specs.declared.code.Instr.{Instr}
@@ -19,12 +21,13 @@ use Rattle.ep_typed.specs.Steady.{IsSteadyHandler}
 use Rattle.ep_typed.specs.Calls.{Handler}
 use Rattle.ep_typed.proofs.Steady.{steady_exec_all}
 use Rattle.ep_typed.specs.Meaning.{exec, exec_all}
-use Rattle.ep_typed.specs.Trees.{Stmt, Stmts, Empty, Compound, Assign, If, While, Repeat, Halt, Write, none, next}
+use Rattle.ep_typed.specs.Trees.{Stmt, Stmts, Empty, Compound, Assign, If, While, Repeat, Procedure, Halt, Write, none, next}
 use Rattle.ep_typed.specs.Valid.{Declarations, IsStmt, AreStmts}
 use Rattle.ep_object.specs.declared.op.TheConstants as op
 
 module _ {declared : Declarations} {G : Image} {untouched : Slots} {Here : Facts} (lasts : Lasts untouched Here) (ps : List Placement) (p : Placement) (texts : List (List ℕ)) (references : List Reference) (call : Handler) (steady_call : IsSteadyHandler call) (n : ℕ) (unit : List ℕ) (room : p.instructions.before + p.instructions.own ≤ length G.instructions) (scene : Scene declared G ps p texts)
-    (expressions : ExpressionsFollow declared G untouched Here ps p texts references call n unit) (places : PlacesFollow declared G untouched Here ps p texts references call n unit) where
+    (expressions : ExpressionsFollow declared G untouched Here ps p texts references call n unit) (places : PlacesFollow declared G untouched Here ps p texts references call n unit)
+    (among : (unit k : ℕ) → IsTrue (untouched unit k) → IsTrue (is_hidden_slot declared G unit k)) (kept : CallsAreKept declared G ps call n) where
   -- The code of a statement does what it means, where more code stands behind it.
   mutual
     pub statement_moves : (s : Stmt) (at : ℕ) (is : List Instr) → IsStmt declared s → IsStmtCode texts references at s is → CodeStands G ps p references at is → at + length is < p.instructions.own → Moves declared G untouched Here ps p texts references call n unit at (at + length is) (exec call n unit s)
@@ -67,6 +70,10 @@ module _ {declared : Declarations} {G : Image} {untouched : Slots} {Here : Facts
         let body_moves = statements_move ss at h.0 valid.0 h.2 first.0 (omega (arith, ends, inside)) in
         subst (λ k. Moves declared G untouched Here ps p texts references call n unit at k (exec call n unit (Repeat line ss x))) ends
         (repeat_parts ps p texts references call steady_call n unit room expressions line at body_end test_end ss x h.1 valid.1 h.3 refl (omega (arith, ends, inside)) (omega arith) second.0 second.1 body_moves)
+    statement_moves (Procedure line of_unit number) at is valid h stands inside =
+        let ends : at + 2 ≡ at + length is = omega (arith, ap length h.2) in
+        subst (λ k. Moves declared G untouched Here ps p texts references call n unit at k (exec call n unit (Procedure line of_unit number))) ends
+        (procedure_moves lasts among ps p texts references call n unit room kept line at of_unit number h.0 valid h.1 (subst (λ k. CodeStands G ps p references at k) h.2 stands) (omega (arith, ends, inside)))
     statement_moves (Halt line) at is valid h stands inside = halt_moves lasts ps p texts references call steady_call n unit line at (at + length is) (subst (λ k. CodeStands G ps p references at k) h stands)
     statement_moves (Write line items ends_line) at is valid h stands inside = write_moves lasts ps p texts references call steady_call n unit expressions line at items ends_line is valid.0 valid.1 h inside stands
 

@@ -3,10 +3,12 @@ use Rattle.std.proofs.Common.{◌≡◌, ℕ, ◌+◌, ◌*◌, ◌≤◌, Bool,
 use Rattle.ep_outside.specs.Known.{IsPrefix}
 use Rattle.ep_object.specs.declared.code.Instr.{Instr}
 use Rattle.ep_object.specs.declared.code.Reference.{Reference}
-use Rattle.ep_typed.specs.Trees.{Place, Variable, Standard, Item, Plain, Wide, Stmt, Stmts, Empty, Compound, Assign, If, While, Repeat, Halt, Write, none, next}
+use Rattle.ep_typed.specs.Trees.{Place, Variable, Standard, Item, Plain, Wide, Stmt, Stmts, Empty, Compound, Assign, If, While, Repeat, Procedure, Halt, Write, none, next}
 use Rattle.ep_typed.specs.declared.operations.Print.{Print}
 use Rattle.ep_typed.specs.declared.operations.Print.TheVariants as print
 use Rattle.ep_gen_expr.specs.ExprCode.{bare}
+use Rattle.ep_gen_expr.proofs.Pushed.{get_later}
+use Rattle.ep_gen_expr.specs.ExprCode.{reference}
 use Rattle.ep_gen_expr.proofs.Stays.{place_code_stays, expr_code_stays, place_code_short, expr_code_short}
 use Rattle.ep_gen_unit.specs.StmtCode.{IsItemCode, AreItemsCode, IsStmtCode, AreStmtsCode, plain_code, before_width, wide_code}
 use Rattle.ep_typed.specs.Nodes.{place_nodes, expr_nodes, item_nodes, items_nodes, stmt_nodes, stmts_nodes}
@@ -31,6 +33,7 @@ module _ (ts us : List (List ℕ)) (rs ss : List Reference) (a : IsPrefix ts us)
         (h.0, h.1, h.2, expr_code_stays ts us rs ss line a b at x h.0 h.3, stmt_code_stays (at + length h.0 + 1) s h.1 h.4, stmt_code_stays (at + length h.0 + 1 + length h.1 + 1) t h.2 h.5, h.6)
     stmt_code_stays at (While line x s) is h = (h.0, h.1, expr_code_stays ts us rs ss line a b at x h.0 h.2, stmt_code_stays (at + length h.0 + 1) s h.1 h.3, h.4)
     stmt_code_stays at (Repeat line statements x) is h = (h.0, h.1, stmts_code_stays at statements h.0 h.2, expr_code_stays ts us rs ss line a b (at + length h.0) x h.1 h.3, h.4)
+    stmt_code_stays at (Procedure line unit number) is h = (h.0, get_later h.0 (reference unit number) b h.1, h.2)
     stmt_code_stays at (Halt line) is h = h
     stmt_code_stays at (Write line items ends_line) is h = items_code_stays line at items ends_line is h
 
@@ -97,6 +100,7 @@ module _ (ts : List (List ℕ)) (rs : List Reference) where
         while_short h.0 h.1 _ _ is h.4 (expr_nodes x) (stmt_nodes s) (expr_code_short ts rs line at x h.0 h.2) (stmt_code_short (at + length h.0 + 1) s h.1 h.3)
     stmt_code_short at (Repeat line statements x) is h =
         repeat_short h.0 h.1 _ is h.4 (stmts_nodes statements) (expr_nodes x) (stmts_code_short at statements h.0 h.2) (expr_code_short ts rs line (at + length h.0) x h.1 h.3)
+    stmt_code_short at (Procedure line unit number) is h = omega (arith, ap length h.2)
     stmt_code_short at (Halt line) is h = omega (arith, ap length h)
     stmt_code_short at (Write line items ends_line) is h = omega (arith, items_code_short line at items ends_line is h)
 

@@ -1,5 +1,5 @@
 -- The routines of a unit whose object stands in an image simulate the start and the stop of the unit.
-use Rattle.std.proofs.Common.{◌≡◌, ℕ, ◌+◌, ◌≤◌, ◌<◌, List, [], ◌∷◌, ◌++◌, length, length-append, IsTrue, false, Some, slice_get, refl, sym, ap, ◌∙◌, subst, arith}
+use Rattle.std.proofs.Common.{◌≡◌, ℕ, ◌+◌, ◌≤◌, ◌<◌, List, [], ◌∷◌, ◌++◌, length, length-append, append_assoc, IsTrue, false, Some, slice_get, refl, sym, ap, ◌∙◌, subst, arith}
 use Rattle.std.specs.Prelude.{All}
 use Rattle.std.proofs.lemmas.Bool.{lt-ltb}
 use Rattle.std.proofs.lemmas.Option.{slice_get_within, same_Some}
@@ -21,7 +21,8 @@ use Rattle.ep_typed.specs.Events.{Trace}
 use Rattle.ep_object.specs.Follows.{Facts, Lasts, Since, Bare}
 use Rattle.ep_object.specs.Matching.{Memory, Injection, is_undeclared, is_hidden_in, is_hidden_slot, at as standing}
 use Rattle.ep_object.specs.Operands.{Operand}
-use Rattle.ep_object.specs.Placing.{Placement, Span, CodeStands, IsPlacementOf, Stands, HasDistinctNames, moved, placed_routine, placed_object_unit}
+use Rattle.ep_object.specs.Placing.{Placement, Span, CodeStands, IsPlacementOf, Stands, HasDistinctNames, moved, placed, placed_routine, placed_object_unit}
+use Rattle.ep_object.specs.Promises.{CallsAreKept}
 use Rattle.ep_object.specs.Routines.{routine_of}
 use Rattle.ep_object.specs.Runs.{unit_in}
 use Rattle.ep_object.specs.Scene.{VariableStands, Scene}
@@ -30,7 +31,9 @@ use Rattle.ep_object.specs.State.{State, Frames}
 use Rattle.ep_object.specs.declared.code.CodeRoutine.{CodeRoutine}
 use Rattle.ep_object.specs.declared.code.Image.{Image}
 use Rattle.ep_object.specs.declared.code.ImageRoutine.{ImageRoutine}
+use Rattle.ep_object.specs.declared.code.Instr.{Instr}
 use Rattle.ep_object.specs.declared.code.Object.{Object}
+use Rattle.ep_object.specs.declared.code.Reference.{Reference}
 use Rattle.ep_typed.specs.Steady.{IsSteadyHandler}
 use Rattle.ep_typed.specs.Calls.{Handler}
 use Rattle.ep_typed.specs.Meaning.{make_all, exec, start_of}
@@ -42,8 +45,24 @@ use Rattle.ep_typed.specs.declared.unit.UnitVariable.{UnitVariable}
 use Rattle.ep_typed.specs.declared.unit.Unit.{Unit as TypedUnit}
 
 -- a number of an object's own stands behind what comes before
-moved_own : (span : Span) (n : ℕ) → n < span.own → moved span n ≡ span.before + n
+pub moved_own : (span : Span) (n : ℕ) → n < span.own → moved span n ≡ span.before + n
 moved_own span n h = rw (lt-ltb n span.own h) refl
+
+-- code that stands in an image ends in it
+code_within : (G : Image) (ps : List Placement) (p : Placement) (references : List Reference) (at : ℕ) (i : Instr) (is : List Instr)
+    → CodeStands G ps p references at (i ∷ is) → p.instructions.before + (at + length (i ∷ is)) ≤ length G.instructions
+code_within G ps p references at i [] h = omega (arith, slice_get_within G.instructions (p.instructions.before + at) (placed ps p references i) h.0)
+code_within G ps p references at i (j ∷ is) h = omega (arith, code_within G ps p references (at + 1) j is h.1)
+
+-- what stands behind a list
+behind : {A : Type 0} (xs : List A) (x : A) (ys : List A) → slice_get (xs ++ x ∷ ys) (length xs) ≡ Some x
+behind [] x ys = refl
+behind (y ∷ xs) x ys = behind xs x ys
+
+one_behind : {A : Type 0} (xs : List A) (x y : A) (ys : List A) → slice_get (xs ++ x ∷ y ∷ ys) (length xs + 1) ≡ Some y
+one_behind xs x y ys =
+    let size : length xs + 1 ≡ length (xs ++ x ∷ []) = omega (arith, length-append xs (x ∷ [])) in
+    rw size (ap (λ l. slice_get l (length (xs ++ x ∷ []))) (sym (append_assoc xs (x ∷ []) (y ∷ ys))) ∙ behind (xs ++ x ∷ []) y ys)
 
 module _ (u : TypedUnit) (o : Object) (is : IsProgramCode u o) (G : Image) (ps : List Placement) (p : Placement) (stands : Stands G ps p o) where
   -- the instructions behind the making of the variables
@@ -54,34 +73,34 @@ module _ (u : TypedUnit) (o : Object) (is : IsProgramCode u o) (G : Image) (ps :
   abbrev ends_block : ℕ
   ends_block = begins_block + length is.code
 
-  of_object : IsPlacementOf p o
+  pub of_object : IsPlacementOf p o
   of_object = stands.of_object
 
-  instructions_own : p.instructions.own ≡ ends_block + 2
+  pub instructions_own : p.instructions.own ≡ ends_block + 2 + length is.others
   instructions_own =
       let whole = of_object in
-      omega (arith, whole.instructions, ap length is.instructions, length-append (make_all_code u.types 0 u.variables) (is.code ++ return_code ∷ return_code ∷ []), length-append is.code (return_code ∷ return_code ∷ []))
+      omega (arith, whole.instructions, ap length is.instructions, length-append (make_all_code u.types 0 u.variables) (is.code ++ return_code ∷ return_code ∷ is.others), length-append is.code (return_code ∷ return_code ∷ is.others))
 
-  all_stands : CodeStands G ps p o.references 0 (make_all_code u.types 0 u.variables ++ (is.code ++ return_code ∷ return_code ∷ []))
+  all_stands : CodeStands G ps p o.references 0 (make_all_code u.types 0 u.variables ++ (is.code ++ return_code ∷ return_code ∷ is.others))
   all_stands = subst (λ k. CodeStands G ps p o.references 0 k) is.instructions stands.code
 
   makes_stand : CodeStands G ps p o.references 0 (make_all_code u.types 0 u.variables)
-  makes_stand = let parts = code_stands-parts G ps p o.references 0 (make_all_code u.types 0 u.variables) (is.code ++ return_code ∷ return_code ∷ []) all_stands in parts.0
+  makes_stand = let parts = code_stands-parts G ps p o.references 0 (make_all_code u.types 0 u.variables) (is.code ++ return_code ∷ return_code ∷ is.others) all_stands in parts.0
 
   -- the two `Return`s stand behind the block
-  returns_stand : CodeStands G ps p o.references ends_block (return_code ∷ return_code ∷ [])
+  returns_stand : CodeStands G ps p o.references ends_block (return_code ∷ return_code ∷ is.others)
   returns_stand =
-      let parts = code_stands-parts G ps p o.references 0 (make_all_code u.types 0 u.variables) (is.code ++ return_code ∷ return_code ∷ []) all_stands in
-      let block = code_stands-parts G ps p o.references (0 + begins_block) is.code (return_code ∷ return_code ∷ []) parts.1 in
-      subst (λ k. CodeStands G ps p o.references k (return_code ∷ return_code ∷ [])) {x = 0 + begins_block + length is.code} {y = ends_block} (omega arith) block.1
+      let parts = code_stands-parts G ps p o.references 0 (make_all_code u.types 0 u.variables) (is.code ++ return_code ∷ return_code ∷ is.others) all_stands in
+      let block = code_stands-parts G ps p o.references (0 + begins_block) is.code (return_code ∷ return_code ∷ is.others) parts.1 in
+      subst (λ k. CodeStands G ps p o.references k (return_code ∷ return_code ∷ is.others)) {x = 0 + begins_block + length is.code} {y = ends_block} (omega arith) block.1
 
-  room : p.instructions.before + p.instructions.own ≤ length G.instructions
+  pub room : p.instructions.before + p.instructions.own ≤ length G.instructions
   room =
-      let within = slice_get_within G.instructions (p.instructions.before + (ends_block + 1)) (return_code) returns_stand.1.0 in
-      omega (arith, instructions_own, within)
+      let size = code_within G ps p o.references ends_block return_code (return_code ∷ is.others) returns_stand in
+      omega (arith, instructions_own, size)
 
   -- a routine of the object is one of the image
-  routine_there : (n : ℕ) (r : CodeRoutine) → slice_get o.routines n ≡ Some r
+  pub routine_there : (n : ℕ) (r : CodeRoutine) → slice_get o.routines n ≡ Some r
       → routine_of G (moved p.routines n) ≡ Some (placed_routine p r)
   routine_there n r h =
       let whole = of_object in
@@ -110,11 +129,17 @@ module _ (u : TypedUnit) (o : Object) (is : IsProgramCode u o) (G : Image) (ps :
       → obey G return_code (standing place below memory trace) ≡ light Returns
   returns_from place below memory trace alone = rw alone refl
 
-  start_is : slice_get o.routines o.start ≡ Some (routine_at 0)
-  start_is = rw (is.start, is.routines) refl
+  pub start_is : slice_get o.routines o.start ≡ Some (routine_at 0)
+  start_is =
+      let blocks = is.blocks in
+      ap (slice_get o.routines) (is.start ∙ sym blocks.count)
+      ∙ (ap (λ l. slice_get l (length is.entries)) is.routines ∙ behind is.entries (routine_at 0) (routine_at (ends_block + 1) ∷ []))
 
   stop_is : slice_get o.routines o.stop ≡ Some (routine_at (ends_block + 1))
-  stop_is = rw (is.stop, is.routines) refl
+  stop_is =
+      let blocks = is.blocks in
+      ap (slice_get o.routines) (is.stop ∙ ap (λ k. k + 1) (sym blocks.count))
+      ∙ (ap (λ l. slice_get l (length is.entries + 1)) is.routines ∙ one_behind is.entries (routine_at 0) (routine_at (ends_block + 1)) [])
 
   -- the stop does nothing
   pub stop_simulates : (declared : Declarations) (n : ℕ)
@@ -136,7 +161,7 @@ module _ (u : TypedUnit) (o : Object) (is : IsProgramCode u o) (G : Image) (ps :
             }));
       }
 
-  module _ (declared : Declarations) (types : declared.types u.name ≡ u.types) (are_declared : AreDeclared declared u.name 0 u.variables) (valid : IsStmt declared (stmt_of u.start)) (distinct : HasDistinctNames G) (scene : Scene declared G ps p o.texts) (call : Handler) (steady_call : IsSteadyHandler call) (n : ℕ) where
+  module _ (declared : Declarations) (types : declared.types u.name ≡ u.types) (are_declared : AreDeclared declared u.name 0 u.variables) (valid : IsStmt declared (stmt_of u.start)) (distinct : HasDistinctNames G) (scene : Scene declared G ps p o.texts) (call : Handler) (steady_call : IsSteadyHandler call) (n : ℕ) (kept : CallsAreKept declared G ps call n) where
     -- the slots of the variables are not hidden
     free : VariablesAreFree declared G (is_hidden_slot declared G) (placed_object_unit p o)
     free unit there k v is_declared hidden = not_hidden (subst IsTrue (ap (λ x. is_hidden_in declared x k) there ∙ ap is_undeclared is_declared) hidden)
@@ -165,7 +190,7 @@ module _ (u : TypedUnit) (o : Object) (is : IsProgramCode u o) (G : Image) (ps :
               let body = body_follows {Here = Since (is_hidden_slot declared G) injection s memory} since_lasts ps p call steady_call n u o is stands.code room whole.instructions scene
               (λ x_kind x is_x line at code is_code x_stands inside v1 m1 operands d enough x_home. expression_follows ps p o.texts o.references scene call steady_call n u.name room n x_kind x is_x line at code is_code x_stands inside v1 m1 operands d (omega arith) x_home)
               (λ of_unit slot v t is_declared has_type line at code is_code x_stands v1 m1 operands d enough x_home. place_follows ps p o.texts o.references scene call steady_call n u.name n of_unit slot v t is_declared has_type line at code is_code x_stands v1 m1 operands d (omega arith) x_home)
-              valid (makes since_lasts) injection memory below routine_credit (omega arith) (home o.start (routine_at 0) start_is memory.frames enters.without_calls enters.runs) (record { calls = enters.without_calls; unit = enters.in_unit }) in
+              (λ unit k h. h) kept valid (makes since_lasts) injection memory below routine_credit (omega arith) (home o.start (routine_at 0) start_is memory.frames enters.without_calls enters.runs) (record { calls = enters.without_calls; unit = enters.in_unit }) in
               follows_from (at_entry o.start (routine_at 0) start_is (omega (arith, instructions_own)) enters)
               (follows_less {n = n} (omega arith) (follows_post (λ a t l lands. record { place = p.instructions.before + ends_block; instruction = return_code; stands = returns_stand.0; returns = (let routine = lands.post.routine in subst (λ (x : State). obey G return_code x ≡ light Returns) (sym lands.is) (returns_from (p.instructions.before + ends_block) lands.operands lands.memory t.trace (no_calls memory.frames.calls lands.memory.frames.calls routine.calls enters.without_calls))); lands = lands }) (body.by s enters.matches (since_here injection s memory))));
         }
@@ -188,7 +213,7 @@ module _ (u : TypedUnit) (o : Object) (is : IsProgramCode u o) (G : Image) (ps :
       }
 
   -- what the code of the unit needs of the image is there
-  scene_of : All (IsVariable u.types) u.variables → Scene (own u) G ps p o.texts
+  pub scene_of : All (IsVariable u.types) u.variables → Scene (own u) G ps p o.texts
   scene_of variables =
       let whole = of_object in
       record {
@@ -197,6 +222,6 @@ module _ (u : TypedUnit) (o : Object) (is : IsProgramCode u o) (G : Image) (ps :
         types_valid = own_valid u variables;
       }
 
-  pub unit_simulates : IsValid u → HasDistinctNames G → (call : Handler) → IsSteadyHandler call → (n : ℕ)
+  pub unit_simulates : IsValid u → HasDistinctNames G → (call : Handler) → IsSteadyHandler call → (n : ℕ) → CallsAreKept (own u) G ps call n
       → Simulates (own u) G p.unit (moved p.routines o.start) n (start_of call n u) Bare
-  unit_simulates valid distinct call steady_call n = start_simulates (own u) (own_types u) (own_declared u) valid.start distinct (scene_of valid.variables) call steady_call n
+  unit_simulates valid distinct call steady_call n kept = start_simulates (own u) (own_types u) (own_declared u) valid.start distinct (scene_of valid.variables) call steady_call n kept

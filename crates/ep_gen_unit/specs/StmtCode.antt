@@ -1,12 +1,12 @@
 -- Which instructions are the code of a statement, under given tables of texts and references. Jumps name places of
 -- the object, so the code of a statement depends on where it begins.
-use Rattle.std.specs.Prelude.{◌≡◌, ℕ, pos, suc, ◌+◌, Bool, true, false, List, [], ◌∷◌, ◌++◌, length, Option, Some, None}
+use Rattle.std.specs.Prelude.{◌≡◌, ℕ, pos, suc, ◌+◌, Bool, true, false, List, [], ◌∷◌, ◌++◌, length, slice_get, Option, Some, None}
 use Rattle.ep_typed.specs.Denoters.{type_of}
-use Rattle.ep_gen_expr.specs.ExprCode.{instr, bare, push, standard_code, IsPlaceCode, IsExprCode}
+use Rattle.ep_gen_expr.specs.ExprCode.{instr, bare, reference, push, standard_code, IsPlaceCode, IsExprCode}
 use Rattle.ep_gen_expr.specs.declared.code.TheConstants as code
 use Rattle.ep_object.specs.declared.code.Instr.{Instr}
 use Rattle.ep_object.specs.declared.code.Reference.{Reference}
-use Rattle.ep_typed.specs.Trees.{Item, Plain, Wide, Stmt, Stmts, Empty, Compound, Assign, If, While, Repeat, Halt, Write, none, next}
+use Rattle.ep_typed.specs.Trees.{Item, Plain, Wide, Stmt, Stmts, Empty, Compound, Assign, If, While, Repeat, Procedure, Halt, Write, none, next}
 use Rattle.ep_typed.specs.Viewed.{denoter_of}
 use Rattle.ep_typed.specs.declared.operations.Print.{Print}
 use Rattle.ep_typed.specs.declared.operations.Print.TheVariants as print
@@ -76,6 +76,9 @@ module _ (texts : List (List ℕ)) (references : List Reference) where
         × (is ≡ xs ++ instr op.JUMP_FALSE (pos (at + length xs + 1 + length ys + 1)) 0 line ∷ (ys ++ instr op.JUMP (pos at) 0 line ∷ []))
     IsStmtCode at (Repeat line ss x) is =
         (ys xs : List Instr) × AreStmtsCode at ss ys × IsExprCode texts references line (at + length ys) x xs × (is ≡ ys ++ (xs ++ instr op.JUMP_FALSE (pos at) 0 line ∷ []))
+    -- The jump to what comes next has the tick for the step that the statement spends when the call is done.
+    IsStmtCode at (Procedure line unit number) is =
+        (k : ℕ) × (slice_get references k ≡ Some (reference unit number)) × (is ≡ instr op.CALL (pos k) 0 line ∷ instr op.JUMP (pos (at + 2)) 0 line ∷ [])
     IsStmtCode at (Halt line) is = is ≡ bare line op.HALT ∷ []
     IsStmtCode at (Write line items ends_line) is = AreItemsCode line at items ends_line is
 

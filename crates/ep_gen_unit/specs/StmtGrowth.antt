@@ -3,12 +3,15 @@ use Rattle.std.specs.Prelude.{◌≡◌, ℕ, ◌+◌, ◌*◌, ◌≤◌, Bool,
 use Rattle.ep_gen_expr.specs.Growth.{TableGrows, Grows, IsTable, AreDistinct}
 use Rattle.ep_gen_expr.specs.declared.code.Code.{Code}
 use Rattle.ep_gen_unit.specs.StmtCode.{IsItemCode, AreItemsCode, IsStmtCode, AreStmtsCode, make_all_code, return_code}
+use Rattle.ep_gen_unit.specs.UnitCode.{AreRoutinesCode, routine_at}
 use Rattle.ep_object.specs.declared.code.CodeRoutine.{CodeRoutine}
 use Rattle.ep_object.specs.declared.code.Instr.{Instr}
 use Rattle.ep_object.specs.declared.code.Object.{Object}
 use Rattle.ep_typed.specs.Nodes.{stmt_nodes}
 use Rattle.ep_typed.specs.Viewed.{stmt_of}
 use Rattle.ep_typed.specs.declared.unit.Unit.{Unit as TypedUnit}
+use Rattle.ep_typed.specs.declared.unit.UnitRoutine.{UnitRoutine}
+use Rattle.ep_typed.specs.declared.unit.UnitRoutine.TheViews.{out-UnitRoutine}
 use Rattle.ep_typed.specs.Trees.{Item, Stmt, Stmts}
 
 -- these instructions are appended, the line is any, and all else is as before but for new items of the two tables
@@ -43,15 +46,28 @@ pub record AppendsStmts (old new : Code) (ss : Stmts) : Type 0 where
   pub is_code : AreStmtsCode new.texts new.references (length old.instructions) ss code
   pub follows : Follows old new code
 
--- The code of the two routines of a program is appended. The first makes the variables and runs the block; the second
--- does nothing, and this is its entry.
-pub record AppendsRoutines (old new : Code) (u : TypedUnit) (stop_entry : ℕ) : Type 0 where
+-- The code of the start and of the stop of a program is appended. The start makes the variables and runs the block; the
+-- stop does nothing, and this is its entry.
+pub record AppendsStart (old new : Code) (u : TypedUnit) (stop_entry : ℕ) : Type 0 where
   -- the code of the block
   pub code : List Instr
   pub is_code : IsStmtCode new.texts new.references (length old.instructions + length (make_all_code u.types 0 u.variables)) (stmt_of u.start) code
   pub follows : Follows old new (make_all_code u.types 0 u.variables ++ (code ++ return_code ∷ return_code ∷ []))
   pub stops : stop_entry ≡ length old.instructions + length (make_all_code u.types 0 u.variables) + length code + 1
   pub small : IsTable new.instructions
+
+-- the code of a routine is appended: its block, and a `Return`
+pub record AppendsRoutine (old new : Code) (r : UnitRoutine) (x : CodeRoutine) : Type 0 where
+  pub plain : x ≡ routine_at (length old.instructions)
+  pub code : List Instr
+  pub is_code : IsStmtCode new.texts new.references (length old.instructions) (stmt_of (out-UnitRoutine r).block) code
+  pub follows : Follows old new (code ++ return_code ∷ [])
+
+-- the code of routines is appended, and these are their entries
+pub record AppendsRoutines (old new : Code) (rs : List UnitRoutine) (entries : List CodeRoutine) : Type 0 where
+  pub code : List Instr
+  pub follows : Follows old new code
+  pub blocks : AreRoutinesCode new.texts new.references new.instructions rs entries
 
 -- the tables and the code of an object have places that a field of 32 bits holds, and each text and reference is there once
 pub record IsCompact (o : Object) : Type 0 where
@@ -61,9 +77,10 @@ pub record IsCompact (o : Object) : Type 0 where
   pub texts : AreDistinct o.texts
   pub references : AreDistinct o.references
 
--- the object of a program of this name, from its code, its routines and the number of its variables
-abbrev pub assembled : List ℕ → Code → List CodeRoutine → ℕ → Object
-assembled name code routines slots = record {
+-- the object of a program of this name, from its code, its routines, the number of those before its start, and the number
+-- of its variables
+abbrev pub assembled : List ℕ → Code → List CodeRoutine → ℕ → ℕ → Object
+assembled name code routines start slots = record {
   «module» = false;
   name = name;
   interface = [];
@@ -73,7 +90,7 @@ assembled name code routines slots = record {
   constant_types = code.constant_types;
   routines = routines;
   unit_slots = slots;
-  start = 0;
-  stop = 1;
+  start = start;
+  stop = start + 1;
   instructions = code.instructions;
 }

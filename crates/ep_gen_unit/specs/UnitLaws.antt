@@ -1,15 +1,16 @@
 -- What holds of the code of every unit: wherever its object stands in an image, its routines simulate the start and the stop of the unit.
-use Rattle.std.specs.Prelude.{◌≡◌, ℕ, ◌+◌, List, Some, slice_get}
+use Rattle.std.specs.Prelude.{◌≡◌, ℕ, ◌+◌, List, [], ◌∷◌, Some, slice_get}
 use Rattle.ep_gen_unit.specs.UnitCode.{IsProgramCode}
 use Rattle.ep_object.specs.Follows.{Bare}
 use Rattle.ep_object.specs.Placing.{Placement, Stands, HasDistinctNames, moved}
+use Rattle.ep_object.specs.Promises.{CallsAreKept}
 use Rattle.ep_object.specs.Scene.{Scene}
 use Rattle.ep_object.specs.Simulates.{Simulates}
 use Rattle.ep_object.specs.declared.code.Image.{Image}
 use Rattle.ep_object.specs.declared.code.Object.{Object}
 use Rattle.ep_typed.specs.Steady.{IsSteadyHandler}
 use Rattle.ep_typed.specs.Calls.{Handler}
-use Rattle.ep_typed.specs.Meaning.{start_of}
+use Rattle.ep_typed.specs.Meaning.{start_of, routine_of}
 use Rattle.ep_typed.specs.Steps.{Computation, give, spend}
 use Rattle.ep_typed.specs.Valid.{Declarations, IsStmt, IsValid, own}
 use Rattle.ep_typed.specs.Viewed.{stmt_of}
@@ -25,12 +26,13 @@ AreDeclared declared unit number vs = (i : ℕ) (v : UnitVariable) → slice_get
 abbrev pub idle_stop : Computation (Unit {0})
 idle_stop = spend 1 (give tt)
 
--- Wherever the object of a valid unit stands in an image whose units have names of their own, its start routine simulates the meaning of the start, whatever calls do, with any number of steps.
+-- Wherever the object of a valid unit stands in an image whose units have names of their own, its start routine simulates
+-- the meaning of the start with so many steps, whatever calls do for which the routines keep their promises.
 abbrev pub StartsAreSimulated : Type 0
 StartsAreSimulated =
     (u : TypedUnit) (o : Object) → IsProgramCode u o → IsValid u
     → (G : Image) (ps : List Placement) (p : Placement) → Stands G ps p o → HasDistinctNames G
-    → (call : Handler) → IsSteadyHandler call → (n : ℕ)
+    → (call : Handler) → IsSteadyHandler call → (n : ℕ) → CallsAreKept (own u) G ps call n
     → Simulates (own u) G p.unit (moved p.routines o.start) n (start_of call n u) Bare
 
 -- The same under any declarations that have the types and the variables of the unit, where all that is declared stands in the image and the block is valid under them.
@@ -40,8 +42,15 @@ StartsAreSimulatedUnder =
     → AreDeclared declared u.name 0 u.variables → IsStmt declared (stmt_of u.start)
     → (G : Image) (ps : List Placement) (p : Placement) → Stands G ps p o → HasDistinctNames G
     → Scene declared G ps p o.texts
-    → (call : Handler) → IsSteadyHandler call → (n : ℕ)
+    → (call : Handler) → IsSteadyHandler call → (n : ℕ) → CallsAreKept declared G ps call n
     → Simulates declared G p.unit (moved p.routines o.start) n (start_of call n u) Bare
+
+-- The routines of a valid unit keep their promises for what calls mean, with any number of steps.
+abbrev pub RoutinesAreKept : Type 0
+RoutinesAreKept =
+    (u : TypedUnit) (o : Object) → IsProgramCode u o → IsValid u
+    → (G : Image) (ps : List Placement) (p : Placement) → Stands G ps p o → HasDistinctNames G
+    → (n : ℕ) → CallsAreKept (own u) G ps (routine_of (u ∷ []) n) n
 
 -- Its stop routine simulates a stop that does nothing, under any declarations.
 abbrev pub StopsAreSimulated : Type 0

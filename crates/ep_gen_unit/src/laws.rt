@@ -2,7 +2,7 @@
 
 ghost use Rattle.ep_gen_unit.specs.Laws.{StmtCodeStays, StmtCodeIsShort};
 ghost use Rattle.ep_gen_unit.specs.ProgramLaws.{ProgramsTell, ProgramsTellAtEnd, ProgramsSpend};
-ghost use Rattle.ep_gen_unit.specs.UnitLaws.{StartsAreSimulated, StartsAreSimulatedUnder, StopsAreSimulated};
+ghost use Rattle.ep_gen_unit.specs.UnitLaws.{StartsAreSimulated, StartsAreSimulatedUnder, RoutinesAreKept, StopsAreSimulated};
 
 /// Does nothing: its contract states what holds of the code of every statement. It stays code when the tables grow,
 /// and has at most 32 instructions for each typed node.
@@ -16,6 +16,7 @@ pub fn laws_of_statements()
 pub fn laws_of_units()
     ensures starts { StartsAreSimulated }
     ensures starts_under { StartsAreSimulatedUnder }
+    ensures routines { RoutinesAreKept }
     ensures stops { StopsAreSimulated }
 {}
 

@@ -1,21 +1,21 @@
 //! The object of a program.
 
-ghost use Rattle.std.specs.Prelude.{◌≡◌, [], ◌∷◌, OnOk, IfOk};
+ghost use Rattle.std.specs.Prelude.{◌≡◌, ◌+◌, ◌<◌, ◌^◌, OnOk, IfOk};
 ghost use Rattle.ep_typed.specs.declared.value.TypeValue.TheVariants.{Ordinal};
 ghost use Rattle.ep_gen_expr.specs.Growth.{Grows};
 ghost use Rattle.ep_gen_unit.specs.StmtCode.{type_code, elaborating_code, make_code, make_all_code};
-ghost use Rattle.ep_gen_unit.specs.StmtGrowth.{AppendsRoutines, Follows, IsCompact, assembled};
+ghost use Rattle.ep_gen_unit.specs.StmtGrowth.{AppendsStart, AppendsRoutine, AppendsRoutines, Follows, IsCompact, assembled};
 ghost use Rattle.ep_gen_unit.specs.UnitCode.{IsProgramCode, routine_at};
 
 use crate::statements::statement_code;
 use ep_base::{List, Name, NoMemory};
 use ep_gen_expr::{Code, NO_LINE, emit, field_number, next_place};
 use ep_object::{CodeRoutine, CodeRoutines, Object, op};
-use ep_typed::{TypeValue, Unit, UnitType, UnitVariable, type_of};
+use ep_typed::{TypeValue, Unit, UnitRoutine, UnitType, UnitVariable, type_of};
 use std::alloc::Global;
 
-/// The object of a program. Its routine 0 makes the variables and runs the block, and its routine 1 does nothing.
-/// Where memory is wanting, or the code or a table would reach 2 ^ 32 - 1 entries, the program is refused.
+/// The object of a program. Its first routines are those of the program, by their numbers; the one after them makes
+/// the variables and runs the block, and the last one does nothing. Where memory is wanting, or the code or a table would reach 2 ^ 32 - 1 entries, the program is refused.
 pub fn program_code(alloc: Global, u: &Unit) -> Result<Object, NoMemory>
     ensures program { IfOk result (λ o. IsProgramCode u.now o) }
     ensures compact { IfOk result (λ o. IsCompact o) }
@@ -23,14 +23,19 @@ pub fn program_code(alloc: Global, u: &Unit) -> Result<Object, NoMemory>
     let unit_slots = field_number(u.variables.items().len())?;
     let name = u.name.copy(alloc)?;
     let mut code = Code::new(alloc, u);
-    let stop_entry = routines_code(alloc, u, &mut code)?;
-    let routines = two_routines(alloc, stop_entry)?;
-    Ok(assemble(alloc, name, code, routines, unit_slots))
+    let stop_entry = start_code(alloc, u, &mut code)?;
+    let mut routines = routines_code(alloc, u.routines.items(), &mut code)?;
+    // A place of the code has to fit a field of an instruction.
+    next_place(&code)?;
+    let start = field_number(routines.items().len())?;
+    routines.push(routine_at(0))?;
+    routines.push(routine_at(stop_entry))?;
+    Ok(assemble(alloc, name, code, routines, start, unit_slots))
 }
 
-/// Appends the code of the two routines, and answers the entry of the second one.
-fn routines_code(alloc: Global, u: &Unit, code: &mut Code) -> Result<u32, NoMemory>
-    ensures { IfOk result (λ k. AppendsRoutines code.old code.new u.now k) }
+/// Appends the code of the start and of the stop, and answers the entry of the stop.
+fn start_code(alloc: Global, u: &Unit, code: &mut Code) -> Result<u32, NoMemory>
+    ensures { IfOk result (λ k. AppendsStart code.old code.new u.now k) }
 {
     make_all(u.types.items(), u.variables.items(), code)?;
     statement_code(alloc, &u.start, code)?;
@@ -41,15 +46,59 @@ fn routines_code(alloc: Global, u: &Unit, code: &mut Code) -> Result<u32, NoMemo
     Ok(stop_entry)
 }
 
+/// A routine with this entry, which has no arguments and no slots.
+fn routine_at(entry: u32) -> CodeRoutine
+    ensures { result ≡ routine_at entry }
+{
+    CodeRoutine {
+        entry,
+        arguments: 0,
+        slots: 0,
+    }
+}
+
+/// Appends the code of routines, and answers their entries.
+fn routines_code(
+    alloc: Global,
+    routines: &[UnitRoutine],
+    code: &mut Code,
+) -> Result<CodeRoutines, NoMemory>
+    ensures { IfOk result (λ entries. AppendsRoutines code.old code.new routines.now entries) }
+{
+    let mut entries = List::new(alloc);
+    for routine in routines {
+        let entry = routine_code(alloc, routine, code)?;
+        entries.push(entry)?;
+    }
+    Ok(entries)
+}
+
+/// Appends the code of a routine.
+fn routine_code(
+    alloc: Global,
+    routine: &UnitRoutine,
+    code: &mut Code,
+) -> Result<CodeRoutine, NoMemory>
+    ensures { IfOk result (λ entry. AppendsRoutine code.old code.new routine.now entry) }
+{
+    let entry = next_place(code)?;
+    statement_code(alloc, &routine.block, code)?;
+    code.line = NO_LINE;
+    emit(code, op::RETURN, 0, 0)?;
+    Ok(routine_at(entry))
+}
+
 /// The object of the code.
 fn assemble(
     alloc: Global,
     name: Name,
     code: Code,
     routines: CodeRoutines,
+    start: u32,
     unit_slots: u32,
 ) -> Object
-    ensures { result ≡ assembled name code routines unit_slots }
+    requires { start + 1 < 2 ^ 32 }
+    ensures { result ≡ assembled name code routines start unit_slots }
 {
     Object {
         module: false,
@@ -61,27 +110,10 @@ fn assemble(
         constant_types: code.constant_types,
         routines,
         unit_slots,
-        start: 0,
-        stop: 1,
+        start,
+        stop: start + 1,
         instructions: code.instructions,
     }
-}
-
-/// A routine at the first instruction and one at this place, which have no arguments and no slots.
-fn two_routines(alloc: Global, stop_entry: u32) -> Result<CodeRoutines, NoMemory>
-    ensures { IfOk result (λ l. l ≡ routine_at 0 ∷ routine_at stop_entry ∷ []) }
-{
-    let start = CodeRoutine {
-        entry: 0,
-        arguments: 0,
-        slots: 0,
-    };
-    let stop = CodeRoutine {
-        entry: stop_entry,
-        arguments: 0,
-        slots: 0,
-    };
-    List::from_slice(alloc, &[start, stop])
 }
 
 /// Appends the code that makes the variables of a unit with these types, in order.

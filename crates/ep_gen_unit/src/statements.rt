@@ -3,13 +3,13 @@
 //! A statement sets the line, so it is set again after a part that is a statement.
 
 ghost use Rattle.std.specs.Prelude.{OnOk, map};
-ghost use Rattle.ep_typed.specs.Trees.{Compound, Assign, If, While, Repeat, Halt, Write, stmts};
+ghost use Rattle.ep_typed.specs.Trees.{Compound, Assign, If, While, Repeat, Procedure, Halt, Write, stmts};
 ghost use Rattle.ep_typed.specs.Viewed.{expr_of, item_of, place_of, stmt_of};
 ghost use Rattle.ep_gen_unit.specs.StmtGrowth.{AppendsStmt, AppendsStmts};
 
 use crate::items::items_code;
-use ep_base::{Line, NoMemory};
-use ep_gen_expr::{Code, emit, expression_code, land, leave_hole, next_place, place_code};
+use ep_base::{Line, Name, NoMemory};
+use ep_gen_expr::{Code, emit, expression_code, land, leave_hole, next_place, place_code, reference_number};
 use ep_object::op;
 use ep_typed::{TypedExpr, TypedPlace, TypedStmt, WriteItem};
 use std::alloc::Global;
@@ -41,6 +41,9 @@ pub fn statement_code(alloc: Global, s: &TypedStmt, code: &mut Code) -> Result<(
         }
         TypedStmt::Repeat(line, body, condition) => {
             repeat_code(alloc, *line, body.items(), condition.get(), code)
+        }
+        TypedStmt::Procedure(line, unit, number) => {
+            procedure_code(alloc, *line, unit, *number, code)
         }
         TypedStmt::Halt(line) => halt_code(*line, code),
         TypedStmt::Write(line, items, ends_line) => {
@@ -137,6 +140,24 @@ fn repeat_code(
     code.line = line;
     expression_code(alloc, condition, code)?;
     emit(code, op::JUMP_FALSE, start as i64, 0)
+}
+
+/// Appends the code of a procedure statement: the call, and a jump to what comes next, which takes the tick for the
+/// step that the statement spends when the call is done.
+fn procedure_code(
+    alloc: Global,
+    line: Line,
+    unit: &Name,
+    number: u32,
+    code: &mut Code,
+) -> Result<(), NoMemory>
+    ensures { OnOk result (AppendsStmt code.old code.new (Procedure line unit.now number)) }
+{
+    code.line = line;
+    let routine = reference_number(alloc, unit, number, code)?;
+    emit(code, op::CALL, routine as i64, 0)?;
+    let next = next_place(code)? + 1;
+    emit(code, op::JUMP, next as i64, 0)
 }
 
 /// Appends the code of `halt`.

@@ -12,13 +12,15 @@ use Rattle.ep_object.specs.Table.{op_of}
 use Rattle.ep_object.specs.declared.code.Image.{Image}
 use Rattle.ep_object.specs.declared.code.Instr.{Instr}
 use Rattle.ep_object.specs.declared.state.Place.{Place as PlaceOf}
-use Rattle.ep_typed.specs.Calls.{Argument, Value, Variable}
+use Rattle.ep_object.specs.Placing.{Placement, placed_call}
+use Rattle.ep_typed.specs.Calls.{Argument, Value, Variable, Handler}
 use Rattle.ep_typed.specs.Hosts.{is_of_host}
 use Rattle.ep_typed.specs.Printing.{Result, Number, Bytes}
 use Rattle.ep_typed.specs.Steps.{Outcome, Gives, Ends, Cut, Computation, state_of}
 use Rattle.ep_typed.specs.Steps as meaning
 use Rattle.ep_typed.specs.Valid as kind
-use Rattle.ep_typed.specs.Valid.{Declarations, Kind}
+use Rattle.ep_typed.specs.Valid.{Declarations, Kind, IsProcedure}
+use Rattle.ep_typed.specs.declared.interface.RoutineEntry.{RoutineEntry}
 
 -- how a formal takes its argument: a value of a kind, or a variable
 pub data Passing : Type 0 where
@@ -81,6 +83,19 @@ pub record Promises (declared : Declarations) (G : Image) (routine n : ℕ) (for
       → Fragment declared G (Since (is_hidden_slot declared G) injection begun memory) n
       (point injection memory place operands) (called (unit_in G memory.frames) line arguments) (place + 1)
       (λ rs. Inside (is_hidden_slot declared G) injection memory (ResultsOnTop results below rs)) 0 (λ rs. 0)
+
+-- A routine of a unit has a number in the image, by which a call that names it is placed, and keeps its promise for what
+-- these calls do. So far it has no parameters and no result.
+pub record RoutineKeeps (declared : Declarations) (G : Image) (ps : List Placement) (call : Handler) (n : ℕ)
+    (unit : List ℕ) (number : ℕ) : Type 0 where
+  pub routine : ℕ
+  pub placed : (i : Instr) → placed_call ps (Some (record { unit = unit; number = number })) i ≡ record i { a = pos routine }
+  pub promise : Promises declared G routine n [] [] (λ from line arguments. call from line unit number arguments)
+
+-- every procedure that is declared does so
+abbrev pub CallsAreKept : Declarations → Image → List Placement → Handler → ℕ → Type 0
+CallsAreKept declared G ps call n = (unit : List ℕ) (number : ℕ) (r : RoutineEntry)
+    → slice_get (declared.routines unit) number ≡ Some r → IsProcedure r → RoutineKeeps declared G ps call n unit number
 
 -- ---- what this says of runs from a call
 
