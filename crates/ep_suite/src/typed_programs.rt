@@ -148,6 +148,18 @@ const STATEMENTS: &[Trees] = &[
         0,
         0,
     ),
+    // the same procedure twice
+    (
+        &[Step::Procedure(4, 2), Step::Procedure(5, 2)],
+        &[
+            (op::CALL, 0, 0, 4),
+            (op::JUMP, 2, 0, 4),
+            (op::CALL, 0, 0, 5),
+            (op::JUMP, 4, 0, 5),
+        ],
+        0,
+        1,
+    ),
     // writeln
     (
         &[Step::Write(4, true)],

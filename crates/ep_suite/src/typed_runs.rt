@@ -3,7 +3,7 @@
 use crate::machine::end_of;
 use crate::typed_programs::builder::{Builder, Step, Unbuilt};
 use crate::typed_programs::{unit_of, variable};
-use ep_base::{Bytes, List};
+use ep_base::{Bytes, List, Name};
 use ep_gen_unit::program_code;
 use ep_machine::{End, Machine};
 use ep_object::{
@@ -11,15 +11,27 @@ use ep_object::{
     Texts, op,
 };
 use ep_outside::SureSink;
-use ep_typed::{Binary, Denoter, Print, RequiredType, Unary, UnitVariables};
+use ep_typed::{
+    Binary, Denoter, Print, RequiredType, TypedStmt, Unary, UnitRoutine, UnitRoutines,
+    UnitVariables,
+};
 use std::alloc::{AllocError, Global};
 use std::test::Fail;
 
-/// The statements of a program `main` with an integer variable, the budget of its run, and what is written and how the
-/// run stands then. Of more than ten bytes that are all the same one is told, and that there are more.
-const RUNS: &[(&[Step], u32, &str)] = &[
+/// The statements of the procedures of a program `main` with an integer variable, those of the program, the budget of its
+/// run, and what is written and how the run stands then.
+type Run = (
+    &'static [&'static [Step]],
+    &'static [Step],
+    u32,
+    &'static str,
+);
+
+/// Programs. Of more than ten bytes that are all the same one is told, and that there are more.
+const RUNS: &[Run] = &[
     // x := maxint; x := x + 1, on lines 3 and 4
     (
+        &[],
         &[
             Step::Constant(i64::MAX),
             Step::Assign(3, 0),
@@ -33,6 +45,7 @@ const RUNS: &[(&[Step], u32, &str)] = &[
     ),
     // writeln((-7) div 2: 1, (-7) mod 2: 1)
     (
+        &[],
         &[
             Step::Constant(7),
             Step::One(Unary::Negate),
@@ -53,6 +66,7 @@ const RUNS: &[(&[Step], u32, &str)] = &[
     ),
     // writeln(7 mod (-2))
     (
+        &[],
         &[
             Step::Constant(7),
             Step::Constant(2),
@@ -66,6 +80,7 @@ const RUNS: &[(&[Step], u32, &str)] = &[
     ),
     // while True do write('x')
     (
+        &[],
         &[
             Step::Constant(120),
             Step::Plain(Print::Char),
@@ -76,6 +91,124 @@ const RUNS: &[(&[Step], u32, &str)] = &[
         1_000,
         "x..|budget",
     ),
+    // procedure 0 is x := x + 1; x := 0; it is called twice; writeln(x: 1)
+    (
+        &[&[
+            Step::Variable(0),
+            Step::Constant(1),
+            Step::Two(Binary::Add),
+            Step::Assign(2, 0),
+        ]],
+        &[
+            Step::Constant(0),
+            Step::Assign(4, 0),
+            Step::Procedure(5, 0),
+            Step::Procedure(6, 0),
+            Step::Variable(0),
+            Step::Constant(1),
+            Step::Wide(Print::Integer),
+            Step::Write(7, true),
+        ],
+        10_000,
+        "2\n|normal",
+    ),
+    // two procedures that call one another until x is 0: the first writes x and takes 1 away, the second does nothing
+    (
+        &[
+            &[
+                Step::Variable(0),
+                Step::Constant(1),
+                Step::Wide(Print::Integer),
+                Step::Write(2, false),
+                Step::Variable(0),
+                Step::Constant(1),
+                Step::Two(Binary::Subtract),
+                Step::Assign(3, 0),
+                Step::Procedure(4, 1),
+            ],
+            &[
+                Step::Procedure(6, 0),
+                Step::Empty,
+                Step::Constant(0),
+                Step::Variable(0),
+                Step::Two(Binary::Less),
+                Step::If(5),
+            ],
+        ],
+        &[Step::Constant(3), Step::Assign(8, 0), Step::Procedure(9, 0)],
+        10_000,
+        "321|normal",
+    ),
+    // an error in a procedure is told with its own line
+    (
+        &[&[
+            Step::Constant(i64::MAX),
+            Step::Constant(1),
+            Step::Two(Binary::Add),
+            Step::Assign(2, 0),
+        ]],
+        &[Step::Procedure(4, 0)],
+        10_000,
+        "|error 8 in main at line 2",
+    ),
+    // a procedure that calls itself for ever, on line 2
+    (
+        &[&[Step::Procedure(2, 0)]],
+        &[Step::Procedure(4, 0)],
+        10_000,
+        "|budget",
+    ),
+    (
+        &[&[Step::Procedure(2, 0)]],
+        &[Step::Procedure(4, 0)],
+        100_000,
+        "|error 25 in main at line 2",
+    ),
+    // calls in each other, 9,000, 10,000 and 10,001 of them
+    (
+        &[FALLING],
+        &[
+            Step::Constant(9_000),
+            Step::Assign(4, 0),
+            Step::Procedure(5, 0),
+        ],
+        400_000,
+        "|normal",
+    ),
+    (
+        &[FALLING],
+        &[
+            Step::Constant(10_000),
+            Step::Assign(4, 0),
+            Step::Procedure(5, 0),
+        ],
+        400_000,
+        "|normal",
+    ),
+    (
+        &[FALLING],
+        &[
+            Step::Constant(10_001),
+            Step::Assign(4, 0),
+            Step::Procedure(5, 0),
+        ],
+        400_000,
+        "|error 25 in main at line 3",
+    ),
+];
+
+/// x := x - 1, and the procedure again where x is not 0
+const FALLING: &[Step] = &[
+    Step::Variable(0),
+    Step::Constant(1),
+    Step::Two(Binary::Subtract),
+    Step::Assign(2, 0),
+    Step::Procedure(3, 0),
+    Step::Empty,
+    Step::Constant(0),
+    Step::Variable(0),
+    Step::Two(Binary::Less),
+    Step::If(3),
 ];
 
 /// The variable `x` of the type integer, on line 1.
@@ -86,11 +219,35 @@ fn integer(alloc: Global) -> Result<UnitVariables, Unbuilt> {
     Ok(variables)
 }
 
+/// A procedure that does these statements.
+fn procedure(alloc: Global, steps: &[Step]) -> Result<UnitRoutine, Unbuilt> {
+    let statements = Builder::after(alloc, steps)?.into_statements();
+    Ok(UnitRoutine {
+        name: Name::from_bytes(alloc, b"p")?,
+        line: 1,
+        formals: List::new(alloc),
+        result: None,
+        variables: List::new(alloc),
+        routines: List::new(alloc),
+        block: TypedStmt::Compound(statements),
+    })
+}
+
+/// Procedures that do these statements.
+fn procedures(alloc: Global, all: &[&[Step]]) -> Result<UnitRoutines, Unbuilt> {
+    let mut routines = List::new(alloc);
+    for steps in all {
+        routines.push(procedure(alloc, *steps)?)?;
+    }
+    Ok(routines)
+}
+
 /// The object of the program.
-fn object(alloc: Global, steps: &[Step]) -> Result<Object, Unbuilt> {
+fn object(alloc: Global, routines: &[&[Step]], steps: &[Step]) -> Result<Object, Unbuilt> {
     let variables = integer(alloc)?;
     let statements = Builder::after(alloc, steps)?.into_statements();
-    let unit = unit_of(alloc, List::new(alloc), variables, statements)?;
+    let mut unit = unit_of(alloc, List::new(alloc), variables, statements)?;
+    unit.routines = procedures(alloc, routines)?;
     Ok(program_code(alloc, &unit)?)
 }
 
@@ -128,18 +285,22 @@ fn texts(alloc: Global, object: &Object) -> Result<Texts, AllocError> {
     Ok(texts)
 }
 
-/// An instruction as it stands in the image, where all references name slots of unit 0.
+/// An instruction as it stands in the image, where all references name slots and routines of unit 0.
 fn placed(references: &[Reference], instr: Instr) -> Instr {
-    if instr.op != op::UNIT || instr.a < 0 {
+    if instr.a < 0 {
         return instr;
     }
-    match references.get(instr.a as usize) {
-        Some(reference) => Instr {
+    match (instr.op, references.get(instr.a as usize)) {
+        (op::UNIT, Some(reference)) => Instr {
             a: 0,
             b: reference.number,
             ..instr
         },
-        None => instr,
+        (op::CALL, Some(reference)) => Instr {
+            a: reference.number as i64,
+            ..instr
+        },
+        _ => instr,
     }
 }
 
@@ -186,11 +347,17 @@ fn shown(written: &[u8]) -> (&[u8], &'static str) {
     (written, "")
 }
 
-/// What is written within the budget, and how the run stands then.
-fn ran(alloc: Global, image: &Image, budget: u32) -> Result<String, AllocError> {
+/// How a run ends within the budget, with what it writes.
+fn ended(alloc: Global, image: &Image, budget: u32) -> Result<(End, SureSink), AllocError> {
     let mut output = SureSink::new(alloc);
     let mut machine = Machine::new(alloc, image)?;
     let end = end_of(alloc, &mut machine, budget, &mut output);
+    Ok((end, output))
+}
+
+/// What is written within the budget, and how the run stands then.
+fn ran(alloc: Global, image: &Image, budget: u32) -> Result<String, AllocError> {
+    let (end, output) = ended(alloc, image, budget)?;
     let told = told(alloc, &end)?;
     let (bytes, more) = shown(output.held());
     let written = str::from_utf8(bytes).unwrap_or("no text");
@@ -198,17 +365,18 @@ fn ran(alloc: Global, image: &Image, budget: u32) -> Result<String, AllocError> 
 }
 
 /// What a program comes to.
-fn outcome(alloc: Global, steps: &[Step], budget: u32) -> Result<String, Unbuilt> {
-    let object = object(alloc, steps)?;
+fn outcome(alloc: Global, run: Run) -> Result<String, Unbuilt> {
+    let (routines, steps, budget, _) = run;
+    let object = object(alloc, routines, steps)?;
     let image = image(alloc, &object)?;
     Ok(ran(alloc, &image, budget)?)
 }
 
 /// The first program that comes to something else than the table says.
 fn first_wrong(alloc: Global) -> Result<Option<usize>, Unbuilt> {
-    for (number, (steps, budget, wanted)) in RUNS.iter().enumerate() {
-        let found = outcome(alloc, steps, *budget)?;
-        if found.as_str() != *wanted {
+    for (number, run) in RUNS.iter().enumerate() {
+        let found = outcome(alloc, *run)?;
+        if found.as_str() != run.3 {
             return Ok(Some(number));
         }
     }
@@ -218,5 +386,36 @@ fn first_wrong(alloc: Global) -> Result<Option<usize>, Unbuilt> {
 #[test]
 fn typed_programs_do_what_they_mean(rt: HostRuntime) -> Result<(), Fail> {
     assert_eq!(rt; first_wrong(rt.alloc())?, None);
+    Ok(())
+}
+
+/// Whether a program writes a front of what it writes within its own budget with each of the first budgets.
+fn writes_fronts(alloc: Global, run: Run) -> Result<bool, Unbuilt> {
+    let (routines, steps, budget, _) = run;
+    let object = object(alloc, routines, steps)?;
+    let image = image(alloc, &object)?;
+    let (_, all) = ended(alloc, &image, budget)?;
+    for smaller in 0..150 {
+        let (_, some) = ended(alloc, &image, smaller)?;
+        if !all.held().starts_with(some.held()) {
+            return Ok(false);
+        }
+    }
+    Ok(true)
+}
+
+/// The first program that writes something else with a smaller budget.
+fn first_wrong_front(alloc: Global) -> Result<Option<usize>, Unbuilt> {
+    for (number, run) in RUNS.iter().enumerate() {
+        if !writes_fronts(alloc, *run)? {
+            return Ok(Some(number));
+        }
+    }
+    Ok(None)
+}
+
+#[test]
+fn a_smaller_budget_writes_a_front(rt: HostRuntime) -> Result<(), Fail> {
+    assert_eq!(rt; first_wrong_front(rt.alloc())?, None);
     Ok(())
 }

@@ -1,12 +1,12 @@
 -- A typed unit that the rules give is valid.
-use Rattle.std.proofs.Common.{◌≡◌, ℕ, ◌≤◌, length, Option, Some, None, refl, sym, ap, subst, arith}
+use Rattle.std.proofs.Common.{◌≡◌, ℕ, ◌≤◌, [], length, Option, Some, None, refl, sym, ap, subst, arith}
 use Rattle.std.proofs.lemmas.List.Elements.{All-nil, All-same}
 use Rattle.ep_outside.specs.Known.{IsPrefix}
 use Rattle.ep_tree.specs.declared.component.Component.TheVariants as component_is
 use Rattle.ep_tree.specs.declared.component.Program.{Program}
 use Rattle.ep_typed.specs.Operations.{maxint}
 use Rattle.ep_typed.specs.Trees.{Stmts}
-use Rattle.ep_typed.specs.Valid.{AreStmts, IsConstant, IsStmt, IsType, IsValid, IsVariable, own}
+use Rattle.ep_typed.specs.Valid.{AreStmts, IsConstant, IsRoutine, IsStmt, IsType, IsValid, IsVariable, own}
 use Rattle.ep_typed.specs.declared.unit.Unit.{Unit as TypedUnit}
 use Rattle.ep_check_expr.specs.Judgements.{Judged, Accepts, Breaks}
 use Rattle.ep_check_expr.specs.Laws.{BoundsAreKnown, BoundsAreSound, ConstantsAreKnown, ConstantsAreSound, ExpressionsAreSound, ValuesAreSound}
@@ -85,7 +85,7 @@ module _ (expressions : ExpressionsAreSound) (values : ValuesAreSound) (constant
         types = All-same (IsType u.types) u.types t.form.block.types t.unit.types held.types;
         constants = All-same (IsConstant u.types) u.constants t.form.block.constants t.unit.constants held.constants;
         variables = All-same (IsVariable u.types) u.variables t.form.block.variables t.unit.variables held.variables;
-        routines = t.unit.routines;
+        routines = All-same (IsRoutine (own u)) u.routines [] t.unit.routines (All-nil (IsRoutine (own u)));
         start = subst (IsStmt (own u)) (sym t.unit.start)
             (subst (FitsRow (AreStmts (own u))) made.statements (compound_fits u expressions values (length t.form.block.types) t.form.block le held (context_of p t.form.block) refl p.body));
         stop = t.unit.stop;

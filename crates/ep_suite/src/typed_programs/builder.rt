@@ -31,6 +31,8 @@ pub(crate) enum Step {
     If(Line),
     /// `while` with a condition and a statement.
     While(Line),
+    /// A call of the procedure of this number of `main`.
+    Procedure(Line, u32),
     /// `halt`
     Halt(Line),
     /// `write` of all values that are written, or with the flag `writeln`.
@@ -104,10 +106,17 @@ impl Builder {
             Step::Assign(line, number) => self.assign(line, number),
             Step::If(line) => self.choice(line),
             Step::While(line) => self.repetition(line),
+            Step::Procedure(line, number) => self.call(line, number),
             Step::Halt(line) => self.put(TypedStmt::Halt(line)),
             Step::Write(line, ends_line) => self.write(line, ends_line),
             Step::Compound => self.compound(),
         }
+    }
+
+    /// A call of a procedure of `main`.
+    fn call(&mut self, line: Line, number: u32) -> Result<(), Unbuilt> {
+        let unit = Name::from_bytes(self.alloc, b"main")?;
+        self.put(TypedStmt::Procedure(line, unit, number))
     }
 
     /// The last expression.
