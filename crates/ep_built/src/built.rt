@@ -2,7 +2,7 @@
 //! table in built/forms.rt alone; the other functions go through the nodes in the order of the text.
 
 ghost use Rattle.std.specs.Prelude.{◌≡◌, map};
-ghost use Rattle.ep_built.specs.Built.{first_of, first_in, at_node, import_unbuilt, program_unbuilt, component_unbuilt};
+ghost use Rattle.ep_built.specs.Built.{first_of, first_in, at_node, expression_unbuilt, import_unbuilt, program_unbuilt, component_unbuilt};
 
 mod expressions;
 mod forms;
@@ -12,7 +12,7 @@ mod statements;
 mod types;
 
 use ep_base::Line;
-use ep_tree::{Component, Import, Program};
+use ep_tree::{Component, Expression, Import, Program};
 
 /// The line of the first node in text order that is not built, the outer one first, or `None` exactly where
 /// every node is built. It takes no memory.
@@ -26,6 +26,13 @@ pub fn unbuilt(c: &Component) -> Option<Line>
         Component::Block(b) => at_node(built, b.line, None),
         Component::Module(m) => at_node(built, m.line, None),
     }
+}
+
+/// Alike, of an expression on its own.
+pub fn expression_unbuilt(e: &Expression) -> Option<Line>
+    ensures { result ≡ expression_unbuilt e.now }
+{
+    expressions::expression(e)
 }
 
 /// The first line of two parts of a node.
