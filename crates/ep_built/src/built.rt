@@ -2,7 +2,7 @@
 //! table in built/forms.rt alone; the other functions go through the nodes in the order of the text.
 
 ghost use Rattle.std.specs.Prelude.{◌≡◌, map};
-ghost use Rattle.ep_built.specs.Built.{first_of, first_in, at_node, expression_unbuilt, import_unbuilt, program_unbuilt, component_unbuilt};
+ghost use Rattle.ep_built.specs.Built.{first_in, at_node, expression_unbuilt, import_unbuilt, program_unbuilt, component_unbuilt};
 
 mod expressions;
 mod forms;
@@ -35,13 +35,6 @@ pub fn expression_unbuilt(e: &Expression) -> Option<Line>
     expressions::expression(e)
 }
 
-/// The first line of two parts of a node.
-fn first_of(line: Option<Line>, other: Option<Line>) -> Option<Line>
-    ensures { result ≡ first_of line other }
-{
-    if line.is_some() { line } else { other }
-}
-
 /// The line of a node that is not built, or else the first line in its parts.
 fn at_node(built: bool, line: Line, inner: Option<Line>) -> Option<Line>
     ensures { result ≡ at_node built line inner }
@@ -52,8 +45,8 @@ fn at_node(built: bool, line: Line, inner: Option<Line>) -> Option<Line>
 fn program(p: &Program) -> Option<Line>
     ensures { result ≡ program_unbuilt p.now }
 {
-    let declared = first_of(imports(p.imports.items()), parts::parts(p.parts.items()));
-    let inner = first_of(declared, statements::compound(&p.body));
+    let declared = imports(p.imports.items()).or(parts::parts(p.parts.items()));
+    let inner = declared.or(statements::compound(&p.body));
     at_node(forms::program_is_built(p), p.line, inner)
 }
 
