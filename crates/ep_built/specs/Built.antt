@@ -19,7 +19,7 @@
 -- An identifier that is spelled as a required one counts as the required one, also where the text declares it anew. Only uses of names count, and not their declarations.
 use Rattle.std.specs.Prelude.{ℕ, pos, int_le, Bool, true, false, if◌then◌else◌, ◌&&◌, ◌||◌, not, is_none, is_some, length, ◌==◌, List, [], ◌∷◌, map, codes, Option, Some, None}
 use Rattle.std.specs.List.{list_any, list_all}
-use Rattle.std.specs.Option.{option_map}
+use Rattle.std.specs.Option.{option_map, option_or}
 use Rattle.std.specs.Str.{bytes_eq}
 use Rattle.ep_tree.specs.Shapes.{bare}
 use Rattle.ep_tree.specs.declared.operator.QualifiedName.{QualifiedName}
@@ -221,15 +221,10 @@ brackets_are_built = false
 abbrev pub Found : Type 0
 Found = Option ℕ
 
--- the first line, of two parts of a node
-abbrev pub first_of : Found → Found → Found
-first_of None line = line
-first_of (Some line) other = Some line
-
 -- the first line, of a list of parts
 abbrev pub first_in : List Found → Found
 first_in [] = None
-first_in (line ∷ lines) = first_of line (first_in lines)
+first_in (line ∷ lines) = option_or line (first_in lines)
 
 -- the line, of a part that may be there
 abbrev pub first_if : Option Found → Found
@@ -267,7 +262,7 @@ all_are_built (part ∷ parts) = is_built part && all_are_built parts
 -- the first line in them
 abbrev pub lines_in : List Belonging → Found
 lines_in [] = None
-lines_in (part ∷ parts) = first_of part.1 (lines_in parts)
+lines_in (part ∷ parts) = option_or part.1 (lines_in parts)
 
 -- a node whose line the node around it needs: its line, and the first line in it
 abbrev pub Placed : Type 0
@@ -282,8 +277,8 @@ at_component_value (ComponentValue-F.Bracketed line values) = at_node brackets_a
 
 -- the labels before their value, and a tag's value before those of its variant
 abbrev pub at_element : Element-F Found Found Found Belonging Placed Belonging Found Belonging Found Found Belonging Found Found Found → Found
-at_element (Element-F.Labelled line labels value) = first_of (first_in labels) value
-at_element (Element-F.Variant line tag selector values) = first_of selector (first_if values)
+at_element (Element-F.Labelled line labels value) = option_or (first_in labels) value
+at_element (Element-F.Variant line tag selector values) = option_or selector (first_if values)
 
 -- the first line inside a factor
 abbrev pub in_factor : Factor-F Found Found Found Belonging Placed Belonging Found Belonging Found Found Belonging Found Found Found → Found
@@ -332,7 +327,7 @@ at_addend a = (built_adding a.operator, a.term)
 
 -- the value of an argument before its width
 abbrev pub at_argument : Argument-F Found Found Found Belonging Placed Belonging Found Belonging Found Found Belonging Found Found Found → Found
-at_argument a = first_of a.value (first_if a.width)
+at_argument a = option_or a.value (first_if a.width)
 
 -- a relational operator with what follows it, for the expression
 abbrev pub at_comparison : Comparison-F Found Found Found Belonging Placed Belonging Found Belonging Found Found Belonging Found Found Found → Belonging
@@ -340,11 +335,11 @@ at_comparison c = (built_relation c.operator, c.right)
 
 -- an expression before its two sides
 abbrev pub at_expression : Expression-F Found Found Found Belonging Placed Belonging Found Belonging Found Found Belonging Found Found Found → Found
-at_expression e = at_node (is_built_if e.right) e.line (first_of e.left (line_if e.right))
+at_expression e = at_node (is_built_if e.right) e.line (option_or e.left (line_if e.right))
 
 -- the one expression of a label before the other
 abbrev pub at_label : Label-F Found Found Found Belonging Placed Belonging Found Belonging Found Found Belonging Found Found Found → Found
-at_label l = first_of l.low (first_if l.high)
+at_label l = option_or l.low (first_if l.high)
 
 -- a multiplying operator with its factor, for the term
 abbrev pub at_multiplier : Multiplier-F Found Found Found Belonging Placed Belonging Found Belonging Found Found Belonging Found Found Found → Belonging
@@ -352,15 +347,15 @@ at_multiplier m = (built_multiplying m.operator, m.factor)
 
 -- a simple expression before its terms
 abbrev pub at_simple : Simple-F Found Found Found Belonging Placed Belonging Found Belonging Found Found Belonging Found Found Found → Found
-at_simple s = at_node (all_are_built s.more) s.line (first_of s.first (lines_in s.more))
+at_simple s = at_node (all_are_built s.more) s.line (option_or s.first (lines_in s.more))
 
 -- a term before its factors
 abbrev pub at_term : Term-F Found Found Found Belonging Placed Belonging Found Belonging Found Found Belonging Found Found Found → Found
-at_term t = at_node (all_are_built t.more) t.line (first_of t.first (lines_in t.more))
+at_term t = at_node (all_are_built t.more) t.line (option_or t.first (lines_in t.more))
 
 -- the elements before the value of `otherwise`
 abbrev pub at_values : Values-F Found Found Found Belonging Placed Belonging Found Belonging Found Found Belonging Found Found Found → Found
-at_values v = first_of (first_in v.elements) (first_if v.otherwise)
+at_values v = option_or (first_in v.elements) (first_if v.otherwise)
 
 -- the first line in a component value
 abbrev pub component_value_unbuilt : ComponentValue → Found
@@ -426,7 +421,7 @@ access_unbuilt a = (placed_access a).1
 
 -- the first line inside a type
 abbrev pub in_core : {A B C D E F G H : Type 0} → Core-F A B C D E F G H → Found
-in_core (Core-F.Range line low high) = first_of (expression_unbuilt low) (expression_unbuilt high)
+in_core (Core-F.Range line low high) = option_or (expression_unbuilt low) (expression_unbuilt high)
 in_core _ = None
 
 -- the line of a type
@@ -469,7 +464,7 @@ written_value_unbuilt e = if is_bare_text (bare e) then None else expression_unb
 
 -- the first line in an argument that is written
 abbrev pub written_unbuilt : Argument → Found
-written_unbuilt a = first_of (written_value_unbuilt (out-Argument a).value) (first_if (option_map expression_unbuilt (out-Argument a).width))
+written_unbuilt a = option_or (written_value_unbuilt (out-Argument a).value) (first_if (option_map expression_unbuilt (out-Argument a).width))
 
 -- the first line in the arguments of a call, which are written or not
 abbrev pub in_arguments : Bool → List Argument → Found
@@ -493,16 +488,16 @@ call_unbuilt a = in_arguments (writes (out-Access a).name) (call_arguments (out-
 -- the first line inside a statement
 abbrev pub in_statement : Statement-F Found Found Placed Found → Found
 in_statement (Statement-F.Empty line) = None
-in_statement (Statement-F.Assignment line access value) = first_of (access_unbuilt access) (component_value_unbuilt value)
+in_statement (Statement-F.Assignment line access value) = option_or (access_unbuilt access) (component_value_unbuilt value)
 in_statement (Statement-F.Call line access) = call_unbuilt access
 in_statement (Statement-F.Compound compound) = compound.1
-in_statement (Statement-F.If line condition body other) = first_of (expression_unbuilt condition) (first_of body (first_if other))
-in_statement (Statement-F.Case line selector arms other) = first_of (expression_unbuilt selector) (first_of (first_in arms) (first_if other))
-in_statement (Statement-F.While line condition body) = first_of (expression_unbuilt condition) body
-in_statement (Statement-F.Repeat line statements condition) = first_of (first_in statements) (expression_unbuilt condition)
-in_statement (Statement-F.For line variable start direction end body) = first_of (expression_unbuilt start) (first_of (expression_unbuilt end) body)
-in_statement (Statement-F.ForIn line variable members body) = first_of (expression_unbuilt members) body
-in_statement (Statement-F.With line accesses body) = first_of (first_in (map access_unbuilt accesses)) body
+in_statement (Statement-F.If line condition body other) = option_or (expression_unbuilt condition) (option_or body (first_if other))
+in_statement (Statement-F.Case line selector arms other) = option_or (expression_unbuilt selector) (option_or (first_in arms) (first_if other))
+in_statement (Statement-F.While line condition body) = option_or (expression_unbuilt condition) body
+in_statement (Statement-F.Repeat line statements condition) = option_or (first_in statements) (expression_unbuilt condition)
+in_statement (Statement-F.For line variable start direction end body) = option_or (expression_unbuilt start) (option_or (expression_unbuilt end) body)
+in_statement (Statement-F.ForIn line variable members body) = option_or (expression_unbuilt members) body
+in_statement (Statement-F.With line accesses body) = option_or (first_in (map access_unbuilt accesses)) body
 
 -- the line of a statement
 abbrev pub statement_line : Statement-F Found Found Placed Found → ℕ
@@ -524,7 +519,7 @@ at_statement s = at_node (built_statement s) (statement_line s) (in_statement s)
 
 -- the labels of an arm before its statement
 abbrev pub at_arm : Arm-F Found Found Placed Found → Found
-at_arm a = first_of (first_in (map label_unbuilt a.labels)) a.body
+at_arm a = option_or (first_in (map label_unbuilt a.labels)) a.body
 
 -- the statements of a compound, for the node around it
 abbrev pub at_compound : Compound-F Found Found Placed Found → Placed
@@ -584,7 +579,7 @@ import_unbuilt i = at_node (built_import i) i.line None
 
 -- the imports, then the parts, then the statements
 abbrev pub in_program : Program → Found
-in_program p = first_of (first_of (first_in (map import_unbuilt p.imports)) (first_in (map part_unbuilt p.parts))) (compound_unbuilt p.body)
+in_program p = option_or (option_or (first_in (map import_unbuilt p.imports)) (first_in (map part_unbuilt p.parts))) (compound_unbuilt p.body)
 
 -- the first line in a program
 abbrev pub program_unbuilt : Program → Found

@@ -2,7 +2,7 @@
 //! table in built/forms.rt alone; the other functions go through the nodes in the order of the text.
 
 ghost use Rattle.std.specs.Prelude.{◌≡◌, map};
-ghost use Rattle.ep_built.specs.Built.{first_of, first_in, at_node, import_unbuilt, program_unbuilt, component_unbuilt};
+ghost use Rattle.ep_built.specs.Built.{first_in, at_node, expression_unbuilt, import_unbuilt, program_unbuilt, component_unbuilt};
 
 mod expressions;
 mod forms;
@@ -12,7 +12,7 @@ mod statements;
 mod types;
 
 use ep_base::Line;
-use ep_tree::{Component, Import, Program};
+use ep_tree::{Component, Expression, Import, Program};
 
 /// The line of the first node in text order that is not built, the outer one first, or `None` exactly where
 /// every node is built. It takes no memory.
@@ -28,11 +28,11 @@ pub fn unbuilt(c: &Component) -> Option<Line>
     }
 }
 
-/// The first line of two parts of a node.
-fn first_of(line: Option<Line>, other: Option<Line>) -> Option<Line>
-    ensures { result ≡ first_of line other }
+/// Alike, of an expression on its own.
+pub fn expression_unbuilt(e: &Expression) -> Option<Line>
+    ensures { result ≡ expression_unbuilt e.now }
 {
-    if line.is_some() { line } else { other }
+    expressions::expression(e)
 }
 
 /// The line of a node that is not built, or else the first line in its parts.
@@ -45,8 +45,8 @@ fn at_node(built: bool, line: Line, inner: Option<Line>) -> Option<Line>
 fn program(p: &Program) -> Option<Line>
     ensures { result ≡ program_unbuilt p.now }
 {
-    let declared = first_of(imports(p.imports.items()), parts::parts(p.parts.items()));
-    let inner = first_of(declared, statements::compound(&p.body));
+    let declared = imports(p.imports.items()).or(parts::parts(p.parts.items()));
+    let inner = declared.or(statements::compound(&p.body));
     at_node(forms::program_is_built(p), p.line, inner)
 }
 

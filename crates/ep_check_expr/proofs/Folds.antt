@@ -1,7 +1,8 @@
 -- What the folds give of the nodes of expressions that rows have.
 use Rattle.std.proofs.Common.{◌≡◌, List, map}
+use Rattle.std.specs.Option.{option_or}
 use Rattle.ep_built.specs.Built as built
-use Rattle.ep_built.specs.Built.{Belonging, Found, Placed, addend_belonging, multiplier_belonging, built_adding, built_multiplying, simple_unbuilt, term_unbuilt, factor_unbuilt, at_node, first_of, all_are_built, lines_in}
+use Rattle.ep_built.specs.Built.{Belonging, Found, Placed, addend_belonging, multiplier_belonging, built_adding, built_multiplying, simple_unbuilt, term_unbuilt, factor_unbuilt, at_node, all_are_built, lines_in}
 use Rattle.ep_scope.specs.Scopes.{Region}
 use Rattle.ep_tree.specs.declared.expression.ComponentValue.TheFolds.{fold_out-Addend, fold_out-Multiplier, fold_out-Simple, fold_out-Term}
 use Rattle.ep_tree.specs.declared.expression.Addend.{Addend, out-Addend}
@@ -32,8 +33,8 @@ addend_belonging-is a = fold_out-Addend Found Found Found Belonging Placed Belon
 pub multiplier_belonging-is : (a : Multiplier) → multiplier_belonging a ≡ (built_multiplying (out-Multiplier a).operator, factor_unbuilt (out-Multiplier a).factor)
 multiplier_belonging-is a = fold_out-Multiplier Found Found Found Belonging Placed Belonging Found Belonging Found Found Belonging Found Found Found built.at_component_value built.at_element built.at_factor built.at_selector built.at_access built.at_addend built.at_argument built.at_comparison built.at_expression built.at_label built.at_multiplier built.at_simple built.at_term built.at_values a
 
-pub simple_unbuilt-is : (s : Simple) → simple_unbuilt s ≡ at_node (all_are_built (map addend_belonging (out-Simple s).more)) (out-Simple s).line (first_of (term_unbuilt (out-Simple s).first) (lines_in (map addend_belonging (out-Simple s).more)))
+pub simple_unbuilt-is : (s : Simple) → simple_unbuilt s ≡ at_node (all_are_built (map addend_belonging (out-Simple s).more)) (out-Simple s).line (option_or (term_unbuilt (out-Simple s).first) (lines_in (map addend_belonging (out-Simple s).more)))
 simple_unbuilt-is s = fold_out-Simple Found Found Found Belonging Placed Belonging Found Belonging Found Found Belonging Found Found Found built.at_component_value built.at_element built.at_factor built.at_selector built.at_access built.at_addend built.at_argument built.at_comparison built.at_expression built.at_label built.at_multiplier built.at_simple built.at_term built.at_values s
 
-pub term_unbuilt-is : (t : Term) → term_unbuilt t ≡ at_node (all_are_built (map multiplier_belonging (out-Term t).more)) (out-Term t).line (first_of (factor_unbuilt (out-Term t).first) (lines_in (map multiplier_belonging (out-Term t).more)))
+pub term_unbuilt-is : (t : Term) → term_unbuilt t ≡ at_node (all_are_built (map multiplier_belonging (out-Term t).more)) (out-Term t).line (option_or (factor_unbuilt (out-Term t).first) (lines_in (map multiplier_belonging (out-Term t).more)))
 term_unbuilt-is t = fold_out-Term Found Found Found Belonging Placed Belonging Found Belonging Found Found Belonging Found Found Found built.at_component_value built.at_element built.at_factor built.at_selector built.at_access built.at_addend built.at_argument built.at_comparison built.at_expression built.at_label built.at_multiplier built.at_simple built.at_term built.at_values t

@@ -1,6 +1,7 @@
 -- Rows of operands, read from the left.
 use Rattle.std.proofs.Common.{◌≡◌, ℕ, suc, ◌+◌, ◌<◌, Bool, true, false, ◌&&◌, List, ◌∷◌, drop, get_or, length, map, Some, None, refl, sym, ap, ◌∙◌, add-one, drop-cons}
-use Rattle.ep_built.specs.Built.{Belonging, Found, at_node, first_of, lines_in, all_are_built}
+use Rattle.std.specs.Option.{option_or}
+use Rattle.ep_built.specs.Built.{Belonging, Found, at_node, lines_in, all_are_built}
 use Rattle.ep_check_expr.proofs.Breaking.{both-second, chained-first}
 use Rattle.ep_check_expr.specs.Expressions.{Operand, chained}
 use Rattle.ep_check_expr.specs.Judgements.{Judged, Accepts, Typed, breaks, both}
@@ -27,13 +28,13 @@ module _ {I O : Type 0} (rule : O → Typed → Typed → Judged Typed) (f : I �
   pub chained-operator : (b : Typed) → J ≡ Accepts b → (n : ℕ) → breaks n (rule operator a b) ≡ true → breaks n (chained rule (Accepts a) (map f (drop i xs))) ≡ true
   chained-operator b operand n h = rw (chained-left, operand) (chained-first n rule (rule operator a b) (map f (drop (i + 1) xs)) h)
 
-pub first_of-first : (a b : Found) → first_of a b ≡ None → a ≡ None
-first_of-first None b h = refl
-first_of-first (Some line) b h = h
+pub or-first : (a b : Found) → option_or a b ≡ None → a ≡ None
+or-first None b h = refl
+or-first (Some line) b h = h
 
-pub first_of-second : (a b : Found) → first_of a b ≡ None → b ≡ None
-first_of-second None b h = h
-first_of-second (Some line) b h = cc
+pub or-second : (a b : Found) → option_or a b ≡ None → b ≡ None
+or-second None b h = h
+or-second (Some line) b h = cc
 
 and_first : (a b : Bool) → (a && b) ≡ true → a ≡ true
 and_first true b e = refl
@@ -53,15 +54,15 @@ at_node-inner true line f h = h
 at_node-inner false line f h = cc
 
 module _ {I : Type 0} (g : I → Belonging) (xs : List I) (i : ℕ) (x : I) (within : i < length xs) (is : x ≡ get_or xs i x) (b : Bool) (o : Found) (form : g x ≡ (b, o)) where
-  lines_in-left : lines_in (map g (drop i xs)) ≡ first_of o (lines_in (map g (drop (i + 1) xs)))
-  lines_in-left = ap (λ ys. lines_in (map g ys)) (left-cons xs i x within is) ∙ ap (λ p. first_of p.1 (lines_in (map g (drop (i + 1) xs)))) form
+  lines_in-left : lines_in (map g (drop i xs)) ≡ option_or o (lines_in (map g (drop (i + 1) xs)))
+  lines_in-left = ap (λ ys. lines_in (map g ys)) (left-cons xs i x within is) ∙ ap (λ p. option_or p.1 (lines_in (map g (drop (i + 1) xs)))) form
 
   built-left : all_are_built (map g (drop i xs)) ≡ (b && all_are_built (map g (drop (i + 1) xs)))
   built-left = ap (λ ys. all_are_built (map g ys)) (left-cons xs i x within is) ∙ ap (λ p. p.0 && all_are_built (map g (drop (i + 1) xs))) form
 
   -- the operands that are left are built
   pub operands-built : lines_in (map g (drop i xs)) ≡ None → lines_in (map g (drop (i + 1) xs)) ≡ None
-  operands-built h = first_of-second o (lines_in (map g (drop (i + 1) xs))) (sym lines_in-left ∙ h)
+  operands-built h = or-second o (lines_in (map g (drop (i + 1) xs))) (sym lines_in-left ∙ h)
 
   -- an operator is, and those that are left
   pub operator-built : all_are_built (map g (drop i xs)) ≡ true → b ≡ true

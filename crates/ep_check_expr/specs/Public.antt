@@ -1,5 +1,5 @@
 -- What the public calls answer of an expression on its own.
-use Rattle.std.specs.Prelude.{◌≡◌, ℕ, List, true, false, Some, None, Result, Ok, Err, IsTrue, ⊤}
+use Rattle.std.specs.Prelude.{◌≡◌, ℕ, List, true, false, Option, Some, None, Result, Ok, Err, IsTrue, ⊤}
 use Rattle.ep_typed.specs.Viewed.{expr_of}
 use Rattle.ep_typed.specs.declared.tree.TypedExpr.{TypedExpr}
 use Rattle.ep_typed.specs.declared.value.Value.{Value}
@@ -17,6 +17,11 @@ use Rattle.ep_check_expr.specs.declared.forms.Refusal.TheVariants.{Rule, NoMemor
 abbrev pub refused : Refusal → ℕ → ExpressionRefusal
 refused (Rule rule) line = refusal.Broken (record { rule = rule; line = line })
 refused NoMemory line = refusal.NoMemory
+
+-- Where a node on this line is not built, the refusal says so. Else the answer is by the rules.
+abbrev pub UnlessUnbuilt : {A : Type 0} → Option ℕ → Result A ExpressionRefusal → Type 0 → Type 0
+UnlessUnbuilt (Some line) result by_rules = result ≡ Err (refusal.NotBuilt line)
+UnlessUnbuilt None result by_rules = by_rules
 
 -- The typed form exactly where the expression has one, a rule that fails in it on its line exactly where rules fail, and that it is not built exactly where it is accepted and has no code.
 abbrev pub AnswersExpression : Result TypedExpr ExpressionRefusal → ℕ → Judged Typed → Type 0

@@ -1,5 +1,5 @@
 -- Expressions that are a name after the name of an interface, `i.a`.
-use Rattle.std.specs.Prelude.{ℕ, Bool, ◌||◌, is_none, is_some, List, [], ◌∷◌, Option, Some, None}
+use Rattle.std.specs.Prelude.{ℕ, if◌then◌else◌, is_some, List, [], ◌∷◌, Option, Some, None}
 use Rattle.std.specs.Borrow.{Bor}
 use Rattle.ep_built.specs.Built.{expression_unbuilt}
 use Rattle.ep_tree.specs.Shapes.{bare, when_some, access_in, field_in}
@@ -22,9 +22,9 @@ field_alone a = when_some (only_field (out-Access a).selectors) (λ name. Some (
 abbrev pub qualified_name : Expression → Option (List ℕ × List ℕ)
 qualified_name e = when_some (bare e) (λ f. when_some (access_in (out-Factor f)) field_alone)
 
--- the forms are all built, or the expression is `i.a`
-abbrev pub may_be_judged : Expression → Bool
-may_be_judged e = is_some (qualified_name e) || is_none (expression_unbuilt e)
+-- the line of the first node that is not built in an expression that is not `i.a`
+abbrev pub unjudged : Expression → Option ℕ
+unjudged e = if is_some (qualified_name e) then None else expression_unbuilt e
 
 -- two names behind references
 abbrev pub names_of : Bor (List ℕ) × Bor (List ℕ) → List ℕ × List ℕ

@@ -1,15 +1,15 @@
 //! What is answered of an expression on its own.
 
-ghost use Rattle.std.specs.Prelude.{◌≡◌, IfOk, IsTrue};
+ghost use Rattle.std.specs.Prelude.{◌≡◌, IfOk};
 ghost use Rattle.ep_tree.specs.declared.expression.Expression.{out-Expression};
 ghost use Rattle.ep_check_expr.specs.Constants.{constant_expression};
 ghost use Rattle.ep_check_expr.specs.Expressions.{judged};
-ghost use Rattle.ep_check_expr.specs.Public.{AnswersExpression, AnswersConstant, IsValidForm, IsValidConstant, refused};
-ghost use Rattle.ep_check_expr.specs.Qualified.{may_be_judged};
+ghost use Rattle.ep_check_expr.specs.Public.{AnswersExpression, AnswersConstant, IsValidForm, IsValidConstant, UnlessUnbuilt, refused};
+ghost use Rattle.ep_check_expr.specs.Qualified.{unjudged};
 
 use crate::constants::as_constant;
 use crate::forms::Refusal;
-use crate::shapes::any_form;
+use crate::shapes::{any_form, unjudged};
 use ep_base::Line;
 use ep_scope::Scope;
 use ep_tree::Expression;
@@ -30,23 +30,30 @@ pub struct Broken {
 pub enum ExpressionRefusal {
     /// A static rule fails.
     Broken(Broken),
-    /// No rule fails, and the code of the expression on this line is not built.
+    /// A node that begins on this line has a form that is not built; or no rule fails, and the
+    /// expression, whose first token is on this line, has no code yet.
     NotBuilt(Line),
     /// Memory is wanting.
     NoMemory,
 }
 
-/// The typed form of an expression whose forms are all built, or of `i.a`. Else a rule that fails in it, or that it has no
-/// code yet, with the line of its first token.
+/// The typed form of an expression. It is refused as `NotBuilt`, with the line of the first node
+/// that is not built, exactly where there is one and the expression is not `i.a`: no rule is tried
+/// then, and no memory is taken. Else it is `Broken` exactly where rules fail, with one of them, and
+/// `NotBuilt` exactly where none fails and it has no code yet, both with the line of its first token;
+/// where memory is wanting, `NoMemory` takes the place of each of these answers.
 pub fn expression(
     alloc: Global,
     tree: &Expression,
     scopes: &[Scope],
 ) -> Result<TypedExpr, ExpressionRefusal>
-    requires { IsTrue (may_be_judged tree.now) }
-    ensures judged { AnswersExpression result (out-Expression tree.now).line (judged scopes.now tree.now) }
+    ensures judged { UnlessUnbuilt (unjudged tree.now) result
+        (AnswersExpression result (out-Expression tree.now).line (judged scopes.now tree.now)) }
     ensures valid { IfOk result (λ e. IsValidForm scopes.now (judged scopes.now tree.now)) }
 {
+    if let Some(line) = unjudged(tree) {
+        return Err(ExpressionRefusal::NotBuilt(line));
+    }
     match any_form(alloc, tree, scopes) {
         Ok(typed) => match typed.into_form() {
             Some(form) => Ok(form.into_inner()),
@@ -56,16 +63,19 @@ pub fn expression(
     }
 }
 
-/// The value of a constant expression, alike.
+/// The value of a constant expression. The refusals come as those of `expression`.
 pub fn constant(
     alloc: Global,
     tree: &Expression,
     scopes: &[Scope],
 ) -> Result<Value, ExpressionRefusal>
-    requires { IsTrue (may_be_judged tree.now) }
-    ensures judged { AnswersConstant result (out-Expression tree.now).line (constant_expression scopes.now tree.now) }
+    ensures judged { UnlessUnbuilt (unjudged tree.now) result
+        (AnswersConstant result (out-Expression tree.now).line (constant_expression scopes.now tree.now)) }
     ensures valid { IfOk result (λ v. IsValidConstant scopes.now (constant_expression scopes.now tree.now)) }
 {
+    if let Some(line) = unjudged(tree) {
+        return Err(ExpressionRefusal::NotBuilt(line));
+    }
     match any_form(alloc, tree, scopes) {
         Ok(typed) => match as_constant(alloc, &typed) {
             Ok(form) => {

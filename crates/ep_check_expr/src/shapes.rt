@@ -1,17 +1,18 @@
 //! Expressions that are one factor and nothing more.
 
-ghost use Rattle.std.specs.Prelude.{◌≡◌, None, IsTrue};
+ghost use Rattle.std.specs.Prelude.{◌≡◌, None};
 ghost use Rattle.std.specs.Option.{option_copied, option_map};
 ghost use Rattle.ep_built.specs.Built.{written_value_unbuilt};
 ghost use Rattle.ep_tree.specs.Shapes.{bare};
 ghost use Rattle.ep_check_expr.specs.Answers.{AnswersTyped};
 ghost use Rattle.ep_check_expr.specs.Expressions.{judged};
-ghost use Rattle.ep_check_expr.specs.Qualified.{field_alone, qualified_name, may_be_judged, names_of};
+ghost use Rattle.ep_check_expr.specs.Qualified.{field_alone, qualified_name, unjudged, names_of};
 
 use crate::expressions::{string, typed_expression};
 use crate::forms::{Refusal, Typed};
 use crate::names::qualified;
-use ep_base::Name;
+use ep_base::{Line, Name};
+use ep_built::expression_unbuilt;
 use ep_scope::Scope;
 use ep_tree::{Access, Expression, Factor, Selector};
 use std::alloc::Global;
@@ -71,9 +72,19 @@ fn qualified_name(e: &Expression) -> Option<(&Name, &Name)>
     }
 }
 
+/// The line of the first node that is not built in an expression that is not `i.a`.
+pub(crate) fn unjudged(e: &Expression) -> Option<Line>
+    ensures { result ≡ unjudged e.now }
+{
+    match qualified_name(e) {
+        Some(_) => None,
+        None => expression_unbuilt(e),
+    }
+}
+
 /// The typed form of an expression whose forms are all built, or of `i.a`, or a rule that fails in it.
 pub(crate) fn any_form(alloc: Global, e: &Expression, scopes: &[Scope]) -> Result<Typed, Refusal>
-    requires { IsTrue (may_be_judged e.now) }
+    requires { unjudged e.now ≡ None }
     ensures { AnswersTyped result (judged scopes.now e.now) }
 {
     match qualified_name(e) {

@@ -1,7 +1,7 @@
 -- Statements in statements.
 use Rattle.std.proofs.Common.{◌≡◌, ℕ, Option, Some, None, ap, sym, ◌∙◌}
-use Rattle.std.specs.Option.{option_map}
-use Rattle.ep_built.specs.Built.{Found, Placed, expression_unbuilt, first_if, first_of, statement_unbuilt}
+use Rattle.std.specs.Option.{option_map, option_or}
+use Rattle.ep_built.specs.Built.{Found, Placed, expression_unbuilt, first_if, statement_unbuilt}
 use Rattle.ep_built.specs.Built as built
 use Rattle.ep_tree.specs.declared.expression.Expression.{Expression}
 use Rattle.ep_tree.specs.declared.statement.Statement.{Statement, fold-roll-Statement}
@@ -20,7 +20,7 @@ while_is context line e body =
     ∙ fold-roll-Statement (Judgement Stmt) (Unit {0}) (Judgement Stmts) (Unit {0}) (at_statement context) (at_arm context) (at_compound context) (at_otherwise context) (Statement-F.While line e body)
 
 if_unbuilt : (line : ℕ) (e : Expression) (then : Statement) (other : Option Statement)
-    → statement_unbuilt (statement.If line e then other) ≡ first_of (expression_unbuilt e) (first_of (statement_unbuilt then) (first_if (option_map statement_unbuilt other)))
+    → statement_unbuilt (statement.If line e then other) ≡ option_or (expression_unbuilt e) (option_or (statement_unbuilt then) (first_if (option_map statement_unbuilt other)))
 if_unbuilt line e then None =
     ap statement_unbuilt (sym (statement.rolls-If line e then None))
     ∙ fold-roll-Statement Found Found Placed Found built.at_statement built.at_arm built.at_compound built.at_otherwise (Statement-F.If line e then None)
@@ -29,9 +29,9 @@ if_unbuilt line e then (Some other) =
     ∙ fold-roll-Statement Found Found Placed Found built.at_statement built.at_arm built.at_compound built.at_otherwise (Statement-F.If line e then (Some other))
 
 branches_built : (line : ℕ) (e : Expression) (then : Statement) (other : Option Statement) → statement_unbuilt (statement.If line e then other) ≡ None
-    → first_of (statement_unbuilt then) (first_if (option_map statement_unbuilt other)) ≡ None
+    → option_or (statement_unbuilt then) (first_if (option_map statement_unbuilt other)) ≡ None
 branches_built line e then other h =
-    rest_of (expression_unbuilt e) (first_of (statement_unbuilt then) (first_if (option_map statement_unbuilt other))) (sym (if_unbuilt line e then other) ∙ h)
+    rest_of (expression_unbuilt e) (option_or (statement_unbuilt then) (first_if (option_map statement_unbuilt other))) (sym (if_unbuilt line e then other) ∙ h)
 
 -- the branches of an `if` statement that is built
 pub then_built : (line : ℕ) (e : Expression) (then : Statement) (other : Option Statement) → statement_unbuilt (statement.If line e then other) ≡ None → statement_unbuilt then ≡ None

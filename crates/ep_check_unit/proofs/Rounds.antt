@@ -1,6 +1,7 @@
 -- A loop over items that a definition takes one after another: the item that comes next, and its refusal.
 use Rattle.std.proofs.Common.{◌≡◌, ℕ, ◌+◌, ◌<◌, suc, List, ◌∷◌, map, drop, length, get_or, Option, Some, None, refl, sym, ap, ◌∙◌, subst, add-one, drop-cons}
-use Rattle.ep_built.specs.Built.{first_of, first_in}
+use Rattle.std.specs.Option.{option_or}
+use Rattle.ep_built.specs.Built.{first_in}
 use Rattle.ep_check_expr.specs.Judgements.{Judged, when_accepted}
 use Rattle.ep_check_expr.specs.declared.forms.Refusal.{Refusal}
 use Rattle.ep_check_unit.specs.Answers.{Refuses, RefusesItems}
@@ -14,7 +15,7 @@ use Rattle.ep_check_unit.proofs.Refusing.{part_refused, line_refused, then_refus
 pub next_item : {X : Type 0} (all : List X) (i : ℕ) (x : X) → i < length all → x ≡ get_or all i x → drop i all ≡ x ∷ drop (i + 1) all
 next_item all i x h e = let k : drop i all ≡ get_or all i x ∷ drop (suc i) all = drop-cons all i x h in cc (add-one i)
 
-pub first_built : (a b : Option ℕ) → first_of a b ≡ None → a ≡ None
+pub first_built : (a b : Option ℕ) → option_or a b ≡ None → a ≡ None
 first_built None b h = refl
 first_built (Some line) b h = h
 
@@ -52,7 +53,7 @@ pub item_falls : {X : Type 0} (line_of : X → ℕ) (all_of : List X → Block �
 item_falls line_of all_of one_of takes all i x first now e h is same f =
     part_falls all_of (λ y b. at_line (line_of y) (one_of y b)) takes all i x first now (refused_at (line_of x) e) h is same (line_refused (line_of x) e (one_of x now) f)
 
-pub rest_of : (a b : Option ℕ) → first_of a b ≡ None → b ≡ None
+pub rest_of : (a b : Option ℕ) → option_or a b ≡ None → b ≡ None
 rest_of None b h = h
 rest_of (Some line) b h = cc
 

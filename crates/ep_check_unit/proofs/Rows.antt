@@ -1,14 +1,13 @@
 -- Rows of items: an item on its line, statements one after another, and the refusal of a part.
 use Rattle.std.proofs.Common.{◌≡◌, ℕ, nat_eq, ◌==◌, eq-eqb, ◌+◌, ◌<◌, ◌≤◌, Bool, true, false, ◌&&◌, List, [], ◌∷◌, ◌++◌, map, drop, length, get_or, Option, Some, None, Result, Ok, Err, refl, sym, ap, ◌∙◌, subst}
 use Rattle.std.specs.List.{list_any}
-use Rattle.std.specs.Option.{option_map}
+use Rattle.std.specs.Option.{option_map, option_or}
 use Rattle.std.proofs.lemmas.List.{drop_all}
 use Rattle.ep_tree.specs.declared.expression.Access.{Access}
 use Rattle.ep_tree.specs.declared.expression.ComponentValue.{ComponentValue}
 use Rattle.ep_tree.specs.declared.statement.Statement.TheOpen.{Statement-F}
 use Rattle.ep_tree.specs.declared.statement.Statement.TheVariants as statement
 use Rattle.ep_tree.specs.declared.statement.Statement.{fold-roll-Statement}
-use Rattle.ep_built.specs.Built.{first_of}
 use Rattle.ep_typed.specs.Trees.{Stmt, Stmts, none, next, stmts}
 use Rattle.ep_typed.specs.Viewed.{stmt_of}
 use Rattle.ep_typed.specs.declared.tree.TypedStmt.{TypedStmt}
@@ -89,7 +88,7 @@ one_passes found None s (Waits line) = refl
 one_passes found (Some first) s (Waits line) = refl
 one_passes found waits s (Fails line rules) = refl
 
-one_waits : (found : List Stmt) (waits : Option ℕ) (line : ℕ) (rest : Judgement Stmts) → together found waits (after next (Waits line) rest) ≡ together found (first_of waits (Some line)) rest
+one_waits : (found : List Stmt) (waits : Option ℕ) (line : ℕ) (rest : Judgement Stmts) → together found waits (after next (Waits line) rest) ≡ together found (option_or waits (Some line)) rest
 one_waits found None line (Passes ss) = refl
 one_waits found (Some first) line (Passes ss) = refl
 one_waits found None line (Waits other) = refl
@@ -117,7 +116,7 @@ module _ {X : Type 0} (judge : X → Judgement Stmt) (all : List X) (n : ℕ) (x
 
   -- with one that is not
   pub less_together : (found : List Stmt) (waits : Option ℕ) (line : ℕ) → judge x ≡ Waits line → together found waits (in_order (map judge (drop n all))) ≡ in_order (map judge all)
-      → together found (first_of waits (Some line)) (in_order (map judge (drop (n + 1) all))) ≡ in_order (map judge all)
+      → together found (option_or waits (Some line)) (in_order (map judge (drop (n + 1) all))) ≡ in_order (map judge all)
   less_together found waits line e same =
       sym (one_waits found waits line (in_order (map judge (drop (n + 1) all))))
       ∙ (sym (ap (together found waits) (at_next ∙ ap (λ j. after next j (in_order (map judge (drop (n + 1) all)))) e)) ∙ same)

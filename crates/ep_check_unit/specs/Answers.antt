@@ -1,12 +1,15 @@
 -- What the functions answer of what is judged: the form, or a rule that fails first; want of memory is free.
 use Rattle.std.specs.Prelude.{◌≡◌, ℕ, nat_eq, Bool, List, [], ◌∷◌, ◌++◌, length, map, Option, Result, Ok, Err, IsTrue, ⊤}
 use Rattle.std.specs.List.{list_any}
+use Rattle.std.specs.Option.{option_map}
 use Rattle.ep_typed.specs.Trees.{Item, Stmts, stmts}
-use Rattle.ep_typed.specs.Viewed.{item_of, place_of, stmt_of}
+use Rattle.ep_typed.specs.Viewed.{expr_of, item_of, place_of, stmt_of}
 use Rattle.ep_typed.specs.declared.denoter.Denoter.{Denoter}
 use Rattle.ep_typed.specs.declared.denoter.Denoter.TheVariants as denoter
 use Rattle.ep_typed.specs.declared.value.Value.{Value}
 use Rattle.ep_scope.specs.declared.kind.Host.{Host}
+use Rattle.ep_typed.specs.declared.operations.Print.{Print}
+use Rattle.ep_typed.specs.declared.tree.TypedExpr.{TypedExpr}
 use Rattle.ep_typed.specs.declared.tree.TypedStmt.{TypedStmt}
 use Rattle.ep_typed.specs.declared.tree.WriteItem.{WriteItem}
 use Rattle.ep_check_expr.specs.Judgements.{Judged, Accepts, breaks}
@@ -14,7 +17,7 @@ use Rattle.ep_check_expr.specs.declared.forms.Refusal.{Refusal}
 use Rattle.ep_check_expr.specs.declared.forms.Refusal.TheVariants.{Rule, NoMemory}
 use Rattle.ep_check_unit.specs.Declarations as spec
 use Rattle.ep_check_unit.specs.Declarations.{Standing, Stands, falls_at}
-use Rattle.ep_check_unit.specs.Statements.{Judgement, Passes, Waits, fails_at}
+use Rattle.ep_check_unit.specs.Statements.{Judgement, Passes, Shown, Waits, fails_at}
 use Rattle.ep_check_unit.specs.Statements as rows
 use Rattle.ep_check_unit.specs.declared.block.Block.{Block}
 use Rattle.ep_check_unit.specs.declared.outcome.CheckRefusal.{CheckRefusal}
@@ -106,6 +109,10 @@ stmts_of ts = stmts (map stmt_of ts)
 
 abbrev pub items_of : List WriteItem → List Item
 items_of is = map item_of is
+
+-- a value that is written
+abbrev pub shown_of : Print × Option TypedExpr → Shown
+shown_of p = record { print = p.0; form = option_map expr_of p.1 }
 
 -- a constant's entry more
 abbrev pub with_constant_entry : List ℕ → Host → Value → Block → Block

@@ -3,6 +3,7 @@
 -- Items are taken in the order of the text. A constant definition and a variable declaration are items, on the line of their first token, and a type part is one, on the line of the word `type`. A name means what is declared before its use, or outside of the block: a later declaration of it plays no part (own).
 use Rattle.std.specs.List.{list_any}
 use Rattle.std.specs.Prelude.{ℕ, nat_eq, ◌==◌, ℤ, pos, suc, int_le, Bool, true, false, ◌&&◌, List, [], ◌∷◌, ◌++◌, length, Option, Some, None, if◌then◌else◌}
+use Rattle.std.specs.Option.{option_or}
 use Rattle.ep_tree.specs.declared.types.Core.TheOpen.{Core-F}
 use Rattle.ep_tree.specs.declared.types.Core.{Core, out-Core}
 use Rattle.ep_tree.specs.declared.types.Plain.{out-Plain}
@@ -12,7 +13,6 @@ use Rattle.ep_tree.specs.declared.declaration.TypeDefinition.{TypeDefinition}
 use Rattle.ep_tree.specs.declared.declaration.VariableDeclaration.{VariableDeclaration}
 use Rattle.ep_tree.specs.declared.routine.Part.TheOpen.{Part-F}
 use Rattle.ep_tree.specs.declared.routine.Part.{Part, out-Part}
-use Rattle.ep_built.specs.Built.{first_of}
 use Rattle.ep_typed.specs.declared.denoter.Bound.TheVariants.{Constant as Fixed}
 use Rattle.ep_typed.specs.declared.denoter.Denoter.{Denoter}
 use Rattle.ep_typed.specs.declared.denoter.Denoter.TheVariants as denoter
@@ -69,7 +69,7 @@ entered name t b = when_accepted (λ _. Accepts (with_name name t b)) (unused na
 -- an item on this line that is accepted, and maybe not built
 abbrev pub noted : Bool → ℕ → Block → Block
 noted true line b = b
-noted false line b = record b { waits = first_of b.waits (Some line) }
+noted false line b = record b { waits = option_or b.waits (Some line) }
 
 -- ---- types
 

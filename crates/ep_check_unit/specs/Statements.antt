@@ -1,7 +1,7 @@
 -- What the static rules say of statements: their typed forms, or the first item that breaks a rule.
 --
 -- Items are taken in the order of the text: a statement without its inner statements is one, on the line of its first token. A form that is no form of a program that is built fails by no rule here.
-use Rattle.std.specs.Prelude.{ℕ, nat_eq, ◌==◌, ◌&&◌, Bool, true, false, List, [], ◌∷◌, map, Option, Some, None, if◌then◌else◌}
+use Rattle.std.specs.Prelude.{ℕ, nat_eq, ◌==◌, ◌&&◌, Bool, true, false, List, [], ◌∷◌, ◌++◌, map, Option, Some, None, if◌then◌else◌}
 use Rattle.std.specs.List.{list_any}
 use Rattle.std.specs.Option.{option_map}
 use Rattle.ep_tree.specs.declared.expression.Access.{out-Access}
@@ -164,6 +164,12 @@ item_judged g = both (λ value width. Accepts (item_form value.print value.form 
 abbrev pub one_more : Option Item → Option (List Item) → Option (List Item)
 one_more None more = None
 one_more (Some i) more = option_map (λ is. i ∷ is) more
+
+-- items with one more at the end, where all are built
+abbrev pub one_after : Option (List Item) → Option Item → Option (List Item)
+one_after items None = None
+one_after None (Some i) = None
+one_after (Some items) (Some i) = Some (items ++ i ∷ [])
 
 abbrev pub items_judged : List Given → Judged (Option (List Item))
 items_judged [] = Accepts (Some [])

@@ -1,19 +1,20 @@
 //! `write` and `writeln`.
 
-ghost use Rattle.std.specs.Prelude.{◌≡◌, None, map};
+ghost use Rattle.std.specs.Prelude.{◌≡◌, IfOk, None, map};
 ghost use Rattle.std.specs.Option.{option_copied, option_map};
-ghost use Rattle.ep_built.specs.Built.{expression_unbuilt, first_if, first_in, written_unbuilt};
+ghost use Rattle.ep_built.specs.Built.{expression_unbuilt, first_if, first_in, written_unbuilt, written_value_unbuilt};
 ghost use Rattle.ep_tree.specs.Shapes.{as_identifier};
 ghost use Rattle.ep_tree.specs.declared.expression.Argument.{out-Argument};
 ghost use Rattle.ep_typed.specs.Viewed.{expr_of, item_of, stmt_of};
 ghost use Rattle.ep_check_expr.specs.Answers.{typed_of};
 ghost use Rattle.ep_check_expr.specs.Expressions.{given, judged};
-ghost use Rattle.ep_check_unit.specs.Answers.{AnswersForm, context_of, items_of};
+ghost use Rattle.ep_check_expr.specs.Judgements.{Accepts, when_accepted};
+ghost use Rattle.ep_check_unit.specs.Answers.{AnswersForm, context_of, items_of, shown_of};
 ghost use Rattle.ep_check_unit.specs.Statements as spec;
-ghost use Rattle.ep_check_unit.specs.Statements.{file_given, item_form, item_judged, items_judged, printed, width_judged, write_judged, written};
+ghost use Rattle.ep_check_unit.specs.Statements.{file_given, item_form, item_judged, items_judged, one_after, printed, shown, width_judged, write_judged, written};
 
 use crate::statements::Context;
-use ep_base::{Boxed, Line, List, Name};
+use ep_base::{Boxed, Line, List, Name, NoMemory};
 use ep_check_expr::{Refusal, typed_expression, written_expression};
 use ep_scope::{Host, Kind, Meaning, meaning_of, rule};
 use ep_tree::{Argument, Expression, Factor};
@@ -54,6 +55,21 @@ fn item_form(
         value,
         width,
     })
+}
+
+/// The items with one more at the end, where all are built.
+fn added(items: Option<WriteItems>, item: Option<WriteItem>) -> Result<Option<WriteItems>, NoMemory>
+    ensures { IfOk result (λ now. option_map items_of now
+        ≡ one_after (option_map items_of items) (option_map item_of item)) }
+{
+    let Some(mut items) = items else {
+        return Ok(None);
+    };
+    let Some(item) = item else {
+        return Ok(None);
+    };
+    items.push(item)?;
+    Ok(Some(items))
 }
 
 /// The name that an expression is, where it is nothing more.
@@ -142,15 +158,26 @@ impl Context<'_> {
         ensures { AnswersForm (option_map items_of) result
             (items_judged (map (given self.now.scopes.now) arguments.now)) }
     {
-        let mut items = List::new(self.alloc);
-        let mut built = true;
+        let mut items = Some(List::new(self.alloc));
         for argument in arguments {
-            match self.item(argument)? {
-                Some(item) => items.push(item)?,
-                None => built = false,
-            }
+            items = self.add_item(items, argument)?;
         }
-        Ok(if built { Some(items) } else { None })
+        Ok(items)
+    }
+
+    /// The items with what is written for a parameter more, where all are built.
+    fn add_item(
+        &self,
+        items: Option<WriteItems>,
+        argument: &Argument,
+    ) -> Result<Option<WriteItems>, Refusal>
+        requires { written_unbuilt argument.now ≡ None }
+        ensures { AnswersForm (option_map items_of) result
+            (when_accepted (λ item. Accepts (one_after (option_map items_of items) item))
+            (item_judged (given self.now.scopes.now argument.now))) }
+    {
+        let item = self.item(argument)?;
+        Ok(added(items, item)?)
     }
 
     /// What is written for a parameter, where it is built.
@@ -158,10 +185,19 @@ impl Context<'_> {
         requires { written_unbuilt argument.now ≡ None }
         ensures { AnswersForm (option_map item_of) result (item_judged (given self.now.scopes.now argument.now)) }
     {
-        let value = written_expression(self.alloc, argument.value.get(), self.scopes)?;
-        let print = printed(value.kind)?;
+        let (print, value) = self.shown(argument.value.get())?;
         let width = self.width(&argument.width)?;
-        Ok(item_form(print, value.into_form(), width))
+        Ok(item_form(print, value, width))
+    }
+
+    /// How a value is printed, and its form where it is built.
+    fn shown(&self, value: &Expression) -> Result<(Print, Option<Boxed<TypedExpr>>), Refusal>
+        requires { written_value_unbuilt value.now ≡ None }
+        ensures { AnswersForm shown_of result (when_accepted shown (judged self.now.scopes.now value.now)) }
+    {
+        let value = written_expression(self.alloc, value, self.scopes)?;
+        let print = printed(value.kind)?;
+        Ok((print, value.into_form()))
     }
 
     /// The width of a parameter, where it has one.

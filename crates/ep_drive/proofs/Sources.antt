@@ -1,9 +1,10 @@
 -- Which texts are programs and which are refused: no text is both, and a text is one program at most.
 use Rattle.std.proofs.Common.{◌≡◌, ℕ, ◌+◌, ◌≤◌, List, [], ◌∷◌, ◌++◌, length, inl, inr, Option, Some, None, Result, Ok, Err, get_or, refl, sym, ap, ◌∙◌, subst, arith}
 use Rattle.std.specs.Prelude.{IsOkUnless, MatchResult}
+use Rattle.std.specs.Option.{option_or}
 use Rattle.ep_token.specs.Tokens.{AreInOrder}
 use Rattle.ep_token.specs.declared.token.Token.{Token}
-use Rattle.ep_built.specs.Built.{component_line, component_unbuilt, first_of}
+use Rattle.ep_built.specs.Built.{component_line, component_unbuilt}
 use Rattle.ep_tree.specs.declared.component.Component.{Component}
 use Rattle.ep_grammar.specs.Rules.{Grammar}
 use Rattle.ep_grammar.specs.Units.{components}
@@ -35,11 +36,11 @@ not_empty k ts d =
     let all : [] ≡ first.2 ∷ row.2 = d.5 ∙ (λ i. (d.3.1 i) (row.6 i)) ∙ ap (λ (cs : List Component). cs ++ row.2) (first.5 ∙ (λ i. (first.3.1 i) first.2)) in
     absurd cc
 
-first_none : (first second : Option ℕ) → first_of first second ≡ None → first ≡ None
+first_none : (first second : Option ℕ) → option_or first second ≡ None → first ≡ None
 first_none None second e = refl
 first_none (Some line) second e = cc
 
-rest_unbuilt : (first second : Option ℕ) → first_of first second ≡ None → second ≡ None
+rest_unbuilt : (first second : Option ℕ) → option_or first second ≡ None → second ≡ None
 rest_unbuilt None second e = e
 rest_unbuilt (Some line) second e = cc
 
@@ -60,7 +61,7 @@ one_component (c ∷ b ∷ more) some e =
 
 -- all nodes of a text that is one built component are built
 pub has_built : (text : List ℕ) (P : Component → Type 0) → HasBuilt text P → IsBuilt text
-has_built text P p = record { tokens = p.tokens; are_tokens = p.are_tokens; components = p.component ∷ []; derived = p.derived; unbuilt = ap (λ o. first_of o None) p.built }
+has_built text P p = record { tokens = p.tokens; are_tokens = p.are_tokens; components = p.component ∷ []; derived = p.derived; unbuilt = ap (λ o. option_or o None) p.built }
 
 -- and so are those of a program
 pub sound_built : (text : List ℕ) → IsSound text → IsBuilt text

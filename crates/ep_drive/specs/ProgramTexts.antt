@@ -1,9 +1,10 @@
 -- Which texts have trees, which are built, and which typed program a text is.
 use Rattle.std.specs.Prelude.{◌≡◌, ℕ, ◌<◌, ◌≤◌, min, List, [], ◌∷◌, Option, Some, None}
+use Rattle.std.specs.Option.{option_or}
 use Rattle.ep_token.specs.Tokens.{Tokens}
 use Rattle.ep_token.specs.declared.token.Token.{Token}
 use Rattle.ep_tree.specs.declared.component.Component.{Component}
-use Rattle.ep_built.specs.Built.{component_line, component_unbuilt, first_of}
+use Rattle.ep_built.specs.Built.{component_line, component_unbuilt}
 use Rattle.ep_grammar.specs.Rules.{Grammar}
 use Rattle.ep_grammar.specs.declared.stop.TheConstants.{MAX_NESTING}
 use Rattle.ep_typed.specs.Nodes.{unit_nodes}
@@ -58,7 +59,7 @@ second_line (component ∷ components) = Some (component_line component)
 -- the line of the first node of a text's components that is not built, if there is one
 abbrev pub components_unbuilt : List Component → Option ℕ
 components_unbuilt [] = None
-components_unbuilt (component ∷ components) = first_of (component_unbuilt component) (second_line components)
+components_unbuilt (component ∷ components) = option_or (component_unbuilt component) (second_line components)
 
 -- the text has tokens, which derive components, and this is the line of their first node that is not built, if there is one
 pub record HasUnbuilt (text : List ℕ) (line : Option ℕ) : Type 0 where

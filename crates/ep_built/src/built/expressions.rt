@@ -3,7 +3,7 @@
 ghost use Rattle.std.specs.Prelude.{◌≡◌, map};
 ghost use Rattle.ep_built.specs.Built.{all_are_built, lines_in, addend_belonging, multiplier_belonging, selector_belonging, first_in, component_value_unbuilt, element_unbuilt, factor_unbuilt, argument_unbuilt, access_unbuilt, expression_unbuilt, label_unbuilt, simple_unbuilt, term_unbuilt, values_unbuilt};
 
-use crate::built::{at_node, first_of, forms};
+use crate::built::{at_node, forms};
 use ep_base::Line;
 use ep_tree::{
     Access, Addend, Argument, ComponentValue, Element, Expression, Factor, Label, Multiplier,
@@ -20,7 +20,7 @@ pub(super) fn expression(e: &Expression) -> Option<Line>
         Some(comparison) => at_node(
             forms::relation_is_built(comparison.get().operator),
             e.line,
-            first_of(left, simple(&comparison.get().right)),
+            left.or(simple(&comparison.get().right)),
         ),
     }
 }
@@ -33,7 +33,7 @@ fn simple(s: &Simple) -> Option<Line>
     at_node(
         addends_are_built(more),
         s.line,
-        first_of(term(&s.first), addends(more)),
+        term(&s.first).or(addends(more)),
     )
 }
 
@@ -69,7 +69,7 @@ fn term(t: &Term) -> Option<Line>
     at_node(
         multipliers_are_built(more),
         t.line,
-        first_of(factor(t.first.get()), multipliers(more)),
+        factor(t.first.get()).or(multipliers(more)),
     )
 }
 
@@ -180,7 +180,7 @@ fn argument(a: &Argument) -> Option<Line>
     let value = expression(a.value.get());
     match &a.width {
         None => value,
-        Some(width) => first_of(value, expression(width.get())),
+        Some(width) => value.or(expression(width.get())),
     }
 }
 
@@ -204,7 +204,7 @@ fn label(l: &Label) -> Option<Line>
     let low = expression(l.low.get());
     match &l.high {
         None => low,
-        Some(high) => first_of(low, expression(high.get())),
+        Some(high) => low.or(expression(high.get())),
     }
 }
 
@@ -227,7 +227,7 @@ fn values(v: &Values) -> Option<Line>
     let line = elements(v.elements.items());
     match &v.otherwise {
         None => line,
-        Some(other) => first_of(line, component_value(other.get())),
+        Some(other) => line.or(component_value(other.get())),
     }
 }
 
@@ -249,12 +249,10 @@ fn element(e: &Element) -> Option<Line>
     ensures { result ≡ element_unbuilt e.now }
 {
     match e {
-        Element::Labelled(_, all, value) => {
-            first_of(labels(all.items()), component_value(value))
-        }
+        Element::Labelled(_, all, value) => { labels(all.items()).or(component_value(value)) }
         Element::Variant(_, _, chosen, None) => expression(chosen.get()),
         Element::Variant(_, _, chosen, Some(inner)) => {
-            first_of(expression(chosen.get()), values(inner.get()))
+            expression(chosen.get()).or(values(inner.get()))
         }
     }
 }

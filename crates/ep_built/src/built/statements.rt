@@ -4,7 +4,7 @@ ghost use Rattle.std.specs.Prelude.{◌≡◌, map};
 ghost use Rattle.ep_built.specs.Built.{first_in, access_unbuilt, written_value_unbuilt, written_unbuilt, call_unbuilt, statement_unbuilt, arm_unbuilt, compound_unbuilt};
 
 use crate::built::expressions::{access, arguments, component_value, expression, labels};
-use crate::built::{at_node, first_of, forms, names};
+use crate::built::{at_node, forms, names};
 use ep_base::Line;
 use ep_tree::{Access, Argument, Arm, Compound, Expression, Selector, Statement};
 
@@ -37,45 +37,45 @@ fn statement(s: &Statement) -> Option<Line>
     match s {
         Statement::Empty(line) => at_node(built, *line, None),
         Statement::Assignment(line, a, value) => {
-            at_node(built, *line, first_of(access(a), component_value(value)))
+            at_node(built, *line, access(a).or(component_value(value)))
         }
         Statement::Call(line, a) => at_node(built, *line, call(a)),
         Statement::Compound(c) => at_node(built, c.line, compound(c)),
         Statement::If(line, condition, then, None) => {
-            let inner = first_of(expression(condition.get()), statement(then.get()));
+            let inner = expression(condition.get()).or(statement(then.get()));
             at_node(built, *line, inner)
         }
         Statement::If(line, condition, then, Some(other)) => {
-            let both = first_of(statement(then.get()), statement(other.get()));
-            at_node(built, *line, first_of(expression(condition.get()), both))
+            let both = statement(then.get()).or(statement(other.get()));
+            at_node(built, *line, expression(condition.get()).or(both))
         }
         Statement::Case(line, selector, all, None) => {
-            let inner = first_of(expression(selector.get()), arms(all.items()));
+            let inner = expression(selector.get()).or(arms(all.items()));
             at_node(built, *line, inner)
         }
         Statement::Case(line, selector, all, Some(other)) => {
             let otherwise = statements(other.statements.items());
-            let all = first_of(arms(all.items()), otherwise);
-            at_node(built, *line, first_of(expression(selector.get()), all))
+            let all = arms(all.items()).or(otherwise);
+            at_node(built, *line, expression(selector.get()).or(all))
         }
         Statement::While(line, condition, body) => {
-            let inner = first_of(expression(condition.get()), statement(body.get()));
+            let inner = expression(condition.get()).or(statement(body.get()));
             at_node(built, *line, inner)
         }
         Statement::Repeat(line, all, condition) => {
-            let inner = first_of(statements(all.items()), expression(condition.get()));
+            let inner = statements(all.items()).or(expression(condition.get()));
             at_node(built, *line, inner)
         }
         Statement::For(line, _, start, _, end, body) => {
-            let inner = first_of(expression(end.get()), statement(body.get()));
-            at_node(built, *line, first_of(expression(start.get()), inner))
+            let inner = expression(end.get()).or(statement(body.get()));
+            at_node(built, *line, expression(start.get()).or(inner))
         }
         Statement::ForIn(line, _, members, body) => {
-            let inner = first_of(expression(members.get()), statement(body.get()));
+            let inner = expression(members.get()).or(statement(body.get()));
             at_node(built, *line, inner)
         }
         Statement::With(line, all, body) => {
-            let inner = first_of(accesses(all.items()), statement(body.get()));
+            let inner = accesses(all.items()).or(statement(body.get()));
             at_node(built, *line, inner)
         }
     }
@@ -98,7 +98,7 @@ fn arms(all: &[Arm]) -> Option<Line>
 fn arm(a: &Arm) -> Option<Line>
     ensures { result ≡ arm_unbuilt a.now }
 {
-    first_of(labels(a.labels.items()), statement(a.body.get()))
+    labels(a.labels.items()).or(statement(a.body.get()))
 }
 
 fn accesses(all: &[Access]) -> Option<Line>
@@ -147,7 +147,7 @@ fn written_argument(a: &Argument) -> Option<Line>
     let value = written_value(a.value.get());
     match &a.width {
         None => value,
-        Some(width) => first_of(value, expression(width.get())),
+        Some(width) => value.or(expression(width.get())),
     }
 }
 

@@ -4,7 +4,7 @@ ghost use Rattle.std.specs.Prelude.{◌≡◌};
 ghost use Rattle.ep_built.specs.Built.{type_denoter_unbuilt, plain_unbuilt, core_unbuilt};
 
 use crate::built::expressions::expression;
-use crate::built::{at_node, first_of, forms};
+use crate::built::{at_node, forms};
 use ep_base::Line;
 use ep_tree::{Core, Plain, TypeDenoter};
 
@@ -31,7 +31,7 @@ fn core(c: &Core) -> Option<Line>
     match c {
         Core::Named(line, _, _) => at_node(built, *line, None),
         Core::Range(line, low, high) => {
-            let inner = first_of(expression(low.get()), expression(high.get()));
+            let inner = expression(low.get()).or(expression(high.get()));
             at_node(built, *line, inner)
         }
         Core::Enumeration(line, _) => at_node(built, *line, None),

@@ -1,8 +1,8 @@
 -- How a declaration leads from one block to the next: the lists grow, and where the unit has what is in the later block, it holds the later block if it holds the earlier one.
 use Rattle.std.proofs.Common.{◌≡◌, ℕ, suc, ◌≤◌, Bool, true, false, List, [], ◌∷◌, ◌++◌, length, Option, Some, None, slice_get, refl, sym, ap, ◌∙◌, arith, append_assoc}
 use Rattle.std.proofs.lemmas.List.{length-append}
+use Rattle.std.specs.Option.{option_or}
 use Rattle.ep_outside.specs.Known.{IsPrefix}
-use Rattle.ep_built.specs.Built.{first_of}
 use Rattle.ep_typed.specs.declared.unit.Unit.{Unit as TypedUnit}
 use Rattle.ep_scope.specs.declared.thing.Thing.{Thing}
 use Rattle.ep_check_expr.specs.Judgements.{Judged, Accepts, Breaks, when_accepted}
@@ -64,7 +64,7 @@ fits_is (Accepts a) = refl
 fits_is (Breaks rules) = tt
 
 -- an item that is not built makes the block wait
-pub waits_some : (o : Option ℕ) (line : ℕ) → first_of o (Some line) ≡ None → ⊥
+pub waits_some : (o : Option ℕ) (line : ℕ) → option_or o (Some line) ≡ None → ⊥
 waits_some None line e = cc
 waits_some (Some other) line e = cc
 

@@ -7,7 +7,7 @@ use Rattle.ep_built.specs.Built.{addend_belonging, multiplier_belonging}
 use Rattle.ep_check_expr.proofs.Breaking.{refused-exit, chained-first, when_accepted-part}
 use Rattle.ep_check_expr.proofs.Calls.{one-item, two-items, applied-one, applied-two, applied-fault, applied-number, fault-exit, first-fault, later-fault}
 use Rattle.ep_check_expr.proofs.Folds.{addend_judged-is, multiplier_judged-is, addend_belonging-is, multiplier_belonging-is, simple_judged-is, term_judged-is, simple_unbuilt-is, term_unbuilt-is}
-use Rattle.ep_check_expr.proofs.Rows.{chained-operand, chained-operator, chained-step, operands-built, operator-built, operators-built, at_node-built, at_node-inner, first_of-first, first_of-second}
+use Rattle.ep_check_expr.proofs.Rows.{chained-operand, chained-operator, chained-step, operands-built, operator-built, operators-built, at_node-built, at_node-inner, or-first, or-second}
 use Rattle.ep_check_expr.proofs.expressions.+typed.Goals as goal
 use Rattle.ep_check_expr.specs.Answers.{typed_of}
 use Rattle.ep_check_expr.specs.Expressions.{addend_judged, multiplier_judged, given}
@@ -74,7 +74,7 @@ simple-returns-in_err-sum t c =
 pub simple-addends-requires : goal.simple-addends-requires
 simple-addends-requires t c =
     let built = sym (simple_unbuilt-is c.args.s.now) ∙ c.requires.built in
-    (search (rules, the_lemmas), (rw c.items.ensures (at_node-built _ _ _ built), rw c.items.ensures (first_of-second _ _ (at_node-inner _ _ _ built))))
+    (search (rules, the_lemmas), (rw c.items.ensures (at_node-built _ _ _ built), rw c.items.ensures (or-second _ _ (at_node-inner _ _ _ built))))
 
 pub term-returns-in_err-first : goal.term-returns-in_err-first
 term-returns-in_err-first t c =
@@ -85,7 +85,7 @@ term-returns-in_err-first t c =
 pub term-multipliers-requires : goal.term-multipliers-requires
 term-multipliers-requires t c =
     let built = sym (term_unbuilt-is c.args.t.now) ∙ c.requires.built in
-    (search (rules, the_lemmas), (rw c.items.ensures (at_node-built _ _ _ built), rw c.items.ensures (first_of-second _ _ (at_node-inner _ _ _ built))))
+    (search (rules, the_lemmas), (rw c.items.ensures (at_node-built _ _ _ built), rw c.items.ensures (or-second _ _ (at_node-inner _ _ _ built))))
 
 pub application-returns-in_err-x-in-len1 : goal.application-returns-in_err-x-in-len1
 application-returns-in_err-x-in-len1 t c =
@@ -123,4 +123,4 @@ application-returns-then-not-takes t c =
 pub application-argument-requires-in-len2-2 : goal.application-argument-requires-in-len2-2
 application-argument-requires-in-len2-2 t c =
     let all = two-items c.args.arguments.now c.one-item-then-arguments-lt3.result c.two-item.result c.in-len2.len_at_least c.in-len2.len_below c.one-item-then-arguments-lt3.is c.two-item.is in
-    (search (rules, the_lemmas), first_of-first _ _ (first_of-second _ _ (rw all at c.requires.built)))
+    (search (rules, the_lemmas), or-first _ _ (or-second _ _ (rw all at c.requires.built)))
