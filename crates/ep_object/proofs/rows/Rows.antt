@@ -7,7 +7,7 @@ use Rattle.ep_object.specs.Effects.{Continues, Fails, is_zero}
 use Rattle.ep_object.specs.Matching.{Memory, at}
 use Rattle.ep_object.specs.Operands.{Operand, Word}
 use Rattle.ep_object.specs.Runs.{Outcome, outcome, outcome_of, after, enter, unit_in}
-use Rattle.ep_object.specs.State.{Going, Running, Stopped, Halt}
+use Rattle.ep_object.specs.State.{Going, Running, Stopped, Halt, Error}
 use Rattle.ep_object.specs.Table.{on_operands}
 use Rattle.ep_object.specs.WordRows as rows
 use Rattle.ep_object.specs.WordRows.{integer_row, div_of}
@@ -194,6 +194,11 @@ module _ (G : Image) (place line : ℕ) (below : List Operand) where
       either false = refl
 
   -- ---- ends
+
+  -- `Fail`, by an error that there is
+  pub fail_fails : (error : ℕ) → rows.is_error (pos error) ≡ true → slice_get G.instructions place ≡ Some (instr op.FAIL (pos error) 0 line) → (memory : Memory) (trace : Trace) → outcome G (at place below memory trace) ≡ record { weight = 0; to = Stopped (Error error (unit_in G memory.frames) line) trace }
+  fail_fails error is has memory trace =
+      outcome_at G (instr op.FAIL (pos error) 0 line) place below memory trace has ∙ rw is refl
 
   -- `Halt`
   pub halt_halts : slice_get G.instructions place ≡ Some (instr op.HALT (pos 0) 0 line) → (memory : Memory) (trace : Trace) → outcome G (at place below memory trace) ≡ record { weight = 0; to = Stopped Halt trace }
