@@ -177,6 +177,11 @@ module _ (G : Image) (place line : ℕ) (below : List Operand) where
       let z : ℤ = x +ℤ n in
       outcome_at G i place (Word high ∷ Word low ∷ Word n ∷ Word x ∷ below) memory trace has ∙ ap in_one (checked G i place (Word high ∷ Word low ∷ Word n ∷ Word x ∷ below) below memory trace (int_le low z && int_le z high) z run_error.SUCCESSOR)
 
+  -- `Between`, of three words
+  pub between_pushes : (x low high : ℤ) → slice_get G.instructions place ≡ Some (instr op.BETWEEN (pos 0) 0 line) → RowPushes G place (Word high ∷ Word low ∷ Word x ∷ below) 0 (Word (ordinal_of (int_le low x && int_le x high)) ∷ below)
+  between_pushes x low high has memory trace =
+      outcome_at G (instr op.BETWEEN (pos 0) 0 line) place (Word high ∷ Word low ∷ Word x ∷ below) memory trace has ∙ compared memory trace (int_le low x && int_le x high)
+
   -- ---- jumps
 
   -- `Jump`
