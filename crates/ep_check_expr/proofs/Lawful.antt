@@ -13,11 +13,11 @@ use Rattle.ep_scope.specs.declared.kind.Kind.{Kind}
 use Rattle.ep_scope.specs.declared.kind.Kind.TheVariants as kind
 use Rattle.ep_scope.specs.declared.rule.TheConstants as rule
 use Rattle.ep_check_expr.specs.Agreement.{Agrees, IsFormOf, IsHost}
-use Rattle.ep_check_expr.specs.Constants.{IsSoundConstant, as_constant, as_bound, constant_expression, constant_folded, constant_of, stand_in, varies}
+use Rattle.ep_check_expr.specs.Constants.{IsSoundConstant, as_constant, as_bound, as_label, constant_expression, constant_folded, constant_of, stand_in, varies}
 use Rattle.ep_check_expr.specs.Expressions.{judged, judged_value, spelled}
 use Rattle.ep_check_expr.specs.Hosts.{typed_host}
 use Rattle.ep_check_expr.specs.Judgements.{Judged, Accepts, Breaks, Typed, unbuilt, when_accepted}
-use Rattle.ep_check_expr.specs.Laws.{ExpressionsAreSound, ValuesAreSound, ConstantsAreSound, BoundsAreSound, ExpressionsAreKnown, ConstantsAreKnown, BoundsAreKnown}
+use Rattle.ep_check_expr.specs.Laws.{ExpressionsAreSound, ValuesAreSound, ConstantsAreSound, BoundsAreSound, LabelsAreSound, ExpressionsAreKnown, ConstantsAreKnown, BoundsAreKnown}
 use Rattle.ep_check_expr.specs.Origins.{IsKnownKind}
 use Rattle.ep_check_expr.specs.Folding.{folded}
 use Rattle.ep_check_expr.specs.declared.folding.Folded.{Folded}
@@ -79,6 +79,15 @@ as_bound-fits declared (Accepts t) p = bound-fits (varies t) (as_constant t) (co
     bound-fits false C q = q
 as_bound-fits declared (Breaks rules) p = tt
 
+-- and an end of a label
+as_label-fits : (declared : Declarations) (J : Judged Typed) → Fits declared J → IsJudgedConstant (when_accepted as_label J)
+as_label-fits declared (Accepts t) p = label-fits (varies t) (as_constant t) (constant-fits declared t.kind t.form p)
+  where
+    label-fits : (b : Bool) (C : Judged ConstantForm) → IsJudgedConstant C → IsJudgedConstant (if b then Breaks (rule.CASE_LABELS ∷ rule.CONSTANT ∷ []) else C)
+    label-fits true C q = tt
+    label-fits false C q = q
+as_label-fits declared (Breaks rules) p = tt
+
 pub constants_are_sound : ConstantsAreSound
 constants_are_sound scopes v c accepted declared agrees = subst IsJudgedConstant accepted (as_constant-fits declared (judged_value scopes v) (values-fit (IsForm declared) scopes (validity_is_kept declared scopes agrees) v))
 
@@ -88,6 +97,9 @@ constant_expressions_are_sound scopes e c accepted declared agrees = subst IsJud
 
 pub bounds_are_sound : BoundsAreSound
 bounds_are_sound scopes e c accepted declared agrees = subst IsJudgedConstant accepted (as_bound-fits declared (judged scopes e) (expressions-fit (IsForm declared) scopes (validity_is_kept declared scopes agrees) e))
+
+pub labels_are_sound : LabelsAreSound
+labels_are_sound scopes e c accepted declared agrees = subst IsJudgedConstant accepted (as_label-fits declared (judged scopes e) (expressions-fit (IsForm declared) scopes (validity_is_kept declared scopes agrees) e))
 
 -- ---- hosts
 

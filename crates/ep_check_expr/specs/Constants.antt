@@ -57,6 +57,10 @@ varies t = option_map_or (λ x. is_varying (folded x)) t.form false
 abbrev pub as_bound : Typed → Judged ConstantForm
 as_bound t = if varies t then Breaks (rule.BOUND_CONSTANT ∷ rule.CONSTANT ∷ []) else as_constant t
 
+-- a label of a `case` that varies breaks the rule of labels too (ISO 10206, 6.9.3.5)
+abbrev pub as_label : Typed → Judged ConstantForm
+as_label t = if varies t then Breaks (rule.CASE_LABELS ∷ rule.CONSTANT ∷ []) else as_constant t
+
 module _ (scopes : List Region) where
   -- the value of a constant definition
   abbrev pub constant_judged : ComponentValue → Judged ConstantForm
@@ -69,6 +73,10 @@ module _ (scopes : List Region) where
   -- a bound outside of a schema
   abbrev pub bound_judged : Expression → Judged ConstantForm
   bound_judged e = when_accepted as_bound (judged scopes e)
+
+  -- an end of a label of a `case`
+  abbrev pub label_judged : Expression → Judged ConstantForm
+  label_judged e = when_accepted as_label (judged scopes e)
 
 -- under all declarations that hold what the scopes declare, the constant is of its kind
 abbrev pub IsSoundConstant : List Region → ConstantForm → Type 0

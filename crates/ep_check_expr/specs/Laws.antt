@@ -4,7 +4,7 @@ use Rattle.ep_tree.specs.declared.expression.ComponentValue.{ComponentValue}
 use Rattle.ep_tree.specs.declared.expression.Expression.{Expression}
 use Rattle.ep_scope.specs.Scopes.{Region}
 use Rattle.ep_check_expr.specs.Agreement.{IsSound}
-use Rattle.ep_check_expr.specs.Constants.{IsSoundConstant, constant_judged, bound_judged}
+use Rattle.ep_check_expr.specs.Constants.{IsSoundConstant, constant_judged, bound_judged, label_judged}
 use Rattle.ep_check_expr.specs.Expressions.{judged, judged_value}
 use Rattle.ep_check_expr.specs.Judgements.{Accepts, Typed}
 use Rattle.ep_check_expr.specs.Origins.{IsKnownKind}
@@ -25,6 +25,10 @@ ConstantsAreSound = (scopes : List Region) (v : ComponentValue) (c : ConstantFor
 -- so is a bound
 abbrev pub BoundsAreSound : Type 0
 BoundsAreSound = (scopes : List Region) (e : Expression) (c : ConstantForm) → bound_judged scopes e ≡ Accepts c → IsSoundConstant scopes c
+
+-- and an end of a label
+abbrev pub LabelsAreSound : Type 0
+LabelsAreSound = (scopes : List Region) (e : Expression) (c : ConstantForm) → label_judged scopes e ≡ Accepts c → IsSoundConstant scopes c
 
 -- the host of an expression that is accepted is required or declared
 abbrev pub ExpressionsAreKnown : Type 0

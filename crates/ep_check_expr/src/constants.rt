@@ -3,7 +3,7 @@
 ghost use Rattle.std.specs.Prelude.{◌≡◌, None, false};
 ghost use Rattle.ep_built.specs.Built.{component_value_unbuilt, expression_unbuilt};
 ghost use Rattle.ep_check_expr.specs.Answers.{typed_of, AnswersJudged};
-ghost use Rattle.ep_check_expr.specs.Constants.{as_constant, constant_judged, constant_expression, bound_judged, known, stand_in, varies};
+ghost use Rattle.ep_check_expr.specs.Constants.{as_constant, constant_judged, constant_expression, bound_judged, label_judged, known, stand_in, varies};
 ghost use Rattle.ep_check_expr.specs.Judgements.{Accepts};
 
 use crate::expressions::typed_expression;
@@ -90,6 +90,22 @@ pub fn bound_value(
     let typed = typed_expression(alloc, tree, scopes)?;
     if varies(&typed) {
         return Err(Refusal::Rule(rule::BOUND_CONSTANT));
+    }
+    as_constant(alloc, &typed)
+}
+
+/// The value of an end of a label of a `case`, alike.
+pub fn label_value(
+    alloc: Global,
+    tree: &Expression,
+    scopes: &[Scope],
+) -> Result<ConstantForm, Refusal>
+    requires { expression_unbuilt tree.now ≡ None }
+    ensures form { AnswersJudged (λ c. c) result (label_judged scopes.now tree.now) }
+{
+    let typed = typed_expression(alloc, tree, scopes)?;
+    if varies(&typed) {
+        return Err(Refusal::Rule(rule::CASE_LABELS));
     }
     as_constant(alloc, &typed)
 }

@@ -1,9 +1,9 @@
 //! The static rules of expressions.
 //!
 //! `typed_expression` and `written_expression` answer the typed form of an expression whose forms are all built, or a rule
-//! that fails in it; `constant_value` and `bound_value` the value of a constant expression. specs/Expressions.antt says
-//! which typed form an expression has and which rules fail, by one clause for each production; specs/Operators.antt,
-//! specs/Functions.antt, specs/Names.antt and specs/Constants.antt have the rules, on parts that are accepted. By
+//! that fails in it; `constant_value`, `bound_value` and `label_value` the value of a constant expression.
+//! specs/Expressions.antt says which typed form an expression has and which rules fail, by one clause for each
+//! production; specs/Operators.antt, specs/Functions.antt, specs/Names.antt and specs/Constants.antt have the rules, on parts that are accepted. By
 //! `laws_of_expressions` what they accept is valid.
 #![tactic(auto)]
 
@@ -19,7 +19,7 @@ mod operators;
 mod shapes;
 
 pub use answers::{Broken, ExpressionRefusal, constant, expression};
-pub use constants::{ConstantForm, bound_value, constant_value};
+pub use constants::{ConstantForm, bound_value, constant_value, label_value};
 pub use expressions::{typed_expression, typed_value};
 pub use folding::{Folded, folded_form};
 pub use forms::{DEPTH, Refusal, Typed};

@@ -1,8 +1,8 @@
 -- Programs by their parts.
 use Rattle.std.proofs.Common.{◌≡◌, ℕ, List, map, Option, Some, None, Ok, Err, refl, sym, ap, ◌∙◌}
 use Rattle.ep_tree.specs.declared.component.Program.{Program}
-use Rattle.ep_typed.specs.Trees.{Stmt, Stmts, Compound, Empty, stmts}
-use Rattle.ep_typed.specs.Viewed.{stmt_of, stmt_step}
+use Rattle.ep_typed.specs.Trees.{Stmt, Stmts, Compound, Empty, Arm, stmts}
+use Rattle.ep_typed.specs.Viewed.{stmt_of, stmt_step, arm_step}
 use Rattle.ep_typed.specs.declared.tree.TypedStmt.{TypedStmt}
 use Rattle.ep_typed.specs.declared.tree.TypedStmt.TheVariants as typed
 use Rattle.ep_typed.specs.declared.tree.TypedStmt.TheOpen as layer
@@ -63,10 +63,10 @@ pub program_passes : (p : Program) (first second : Block) (found : Outcome (List
 program_passes p first second found ss e f g h = rw (program_is p first second e f, g) (all_pass second second.waits found ss h)
 
 compound_is : (ss : List TypedStmt) → stmt_of (typed.Compound ss) ≡ Compound (stmts (map stmt_of ss))
-compound_is ss = ap stmt_of (sym (typed.rolls-Compound ss)) ∙ fold-roll-TypedStmt Stmt stmt_step (layer.Compound ss)
+compound_is ss = ap stmt_of (sym (typed.rolls-Compound ss)) ∙ fold-roll-TypedStmt Stmt Arm stmt_step arm_step (layer.Compound ss)
 
 empty_is : stmt_of typed.Empty ≡ Empty
-empty_is = ap stmt_of (sym typed.rolls-Empty) ∙ fold-roll-TypedStmt Stmt stmt_step layer.Empty
+empty_is = ap stmt_of (sym typed.rolls-Empty) ∙ fold-roll-TypedStmt Stmt Arm stmt_step arm_step layer.Empty
 
 -- its unit
 pub program_typed : (p : Program) (first second : Block) (found : Outcome (List TypedStmt)) (ss : List TypedStmt) (u : TypedUnit) → parameters_entered p.parameters (first_block p.name) ≡ Accepts first → parts_declared p.parts first ≡ Stands second

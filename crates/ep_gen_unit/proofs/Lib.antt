@@ -1,4 +1,6 @@
 pub mod Branching
+pub mod CaseForms
+pub mod CaseMoves
 pub mod Compounds
 pub mod Declared
 pub mod Following

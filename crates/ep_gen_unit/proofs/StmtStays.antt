@@ -3,15 +3,16 @@ use Rattle.std.proofs.Common.{◌≡◌, ℕ, ◌+◌, ◌*◌, ◌≤◌, Bool,
 use Rattle.ep_outside.specs.Known.{IsPrefix}
 use Rattle.ep_object.specs.declared.code.Instr.{Instr}
 use Rattle.ep_object.specs.declared.code.Reference.{Reference}
-use Rattle.ep_typed.specs.Trees.{Place, Variable, Standard, Item, Plain, Wide, Stmt, Stmts, Empty, Compound, Assign, If, While, Repeat, Procedure, Halt, Write, none, next}
+use Rattle.ep_typed.specs.Trees.{Place, Variable, Standard, Item, Plain, Wide, Stmt, Stmts, Empty, Compound, Assign, If, While, Repeat, Procedure, Halt, Write, none, next, Case, Arms, no_arm, next_arm, Other, no_other, otherwise_do}
+use Rattle.ep_typed.specs.declared.tree.CaseRange.{CaseRange}
 use Rattle.ep_typed.specs.declared.operations.Print.{Print}
 use Rattle.ep_typed.specs.declared.operations.Print.TheVariants as print
 use Rattle.ep_gen_expr.specs.ExprCode.{bare}
 use Rattle.ep_gen_expr.proofs.Pushed.{get_later}
 use Rattle.ep_gen_expr.specs.ExprCode.{reference}
 use Rattle.ep_gen_expr.proofs.Stays.{place_code_stays, expr_code_stays, place_code_short, expr_code_short}
-use Rattle.ep_gen_unit.specs.StmtCode.{IsItemCode, AreItemsCode, IsStmtCode, AreStmtsCode, plain_code, before_width, wide_code}
-use Rattle.ep_typed.specs.Nodes.{place_nodes, expr_nodes, item_nodes, items_nodes, stmt_nodes, stmts_nodes}
+use Rattle.ep_gen_unit.specs.StmtCode.{IsItemCode, AreItemsCode, IsStmtCode, AreStmtsCode, AreArmsCode, IsOtherCode, plain_code, before_width, wide_code, test_code, tests_code}
+use Rattle.ep_typed.specs.Nodes.{place_nodes, expr_nodes, item_nodes, items_nodes, stmt_nodes, stmts_nodes, arms_nodes, other_nodes}
 use Rattle.ep_object.specs.declared.op.TheConstants as op
 
 module _ (ts us : List (List ℕ)) (rs ss : List Reference) (a : IsPrefix ts us) (b : IsPrefix rs ss) where
@@ -34,12 +35,23 @@ module _ (ts us : List (List ℕ)) (rs ss : List Reference) (a : IsPrefix ts us)
     stmt_code_stays at (While line x s) is h = (h.0, h.1, expr_code_stays ts us rs ss line a b at x h.0 h.2, stmt_code_stays (at + length h.0 + 1) s h.1 h.3, h.4)
     stmt_code_stays at (Repeat line statements x) is h = (h.0, h.1, stmts_code_stays at statements h.0 h.2, expr_code_stays ts us rs ss line a b (at + length h.0) x h.1 h.3, h.4)
     stmt_code_stays at (Procedure line unit number) is h = (h.0, get_later h.0 (reference unit number) b h.1, h.2)
+    stmt_code_stays at (Case line x arms o) is h =
+        (h.0, h.1, h.2, expr_code_stays ts us rs ss line a b at x h.0 h.3, arms_code_stays line (at + length h.0 + 1) (at + length h.0 + 2) arms h.1 h.4, other_code_stays line (at + length h.0 + 2 + length h.1) o h.2 h.5, h.6)
     stmt_code_stays at (Halt line) is h = h
     stmt_code_stays at (Write line items ends_line) is h = items_code_stays line at items ends_line is h
 
     pub stmts_code_stays : (at : ℕ) (statements : Stmts) (is : List Instr) → AreStmtsCode ts rs at statements is → AreStmtsCode us ss at statements is
     stmts_code_stays at none is h = h
     stmts_code_stays at (next s rest) is h = (h.0, h.1, stmt_code_stays at s h.0 h.2, stmts_code_stays (at + length h.0) rest h.1 h.3, h.4)
+
+    pub arms_code_stays : (line leave at : ℕ) (arms : Arms) (is : List Instr) → AreArmsCode ts rs line leave at arms is → AreArmsCode us ss line leave at arms is
+    arms_code_stays line leave at no_arm is h = h
+    arms_code_stays line leave at (next_arm ranges s arms) is h =
+        (h.0, h.1, stmt_code_stays (at + 6 * length ranges + 2) s h.0 h.2, arms_code_stays line leave (at + 6 * length ranges + 2 + length h.0 + 1) arms h.1 h.3, h.4)
+
+    pub other_code_stays : (line at : ℕ) (o : Other) (is : List Instr) → IsOtherCode ts rs line at o is → IsOtherCode us ss line at o is
+    other_code_stays line at no_other is h = h
+    other_code_stays line at (otherwise_do statements) is h = (h.0, stmts_code_stays (at + 1) statements h.0 h.1, h.2)
 
 plain_short : (line : ℕ) (print : Print) → length (plain_code line print) ≤ 1
 plain_short line print.Integer = omega arith
@@ -53,14 +65,25 @@ before_short line print.Char = omega arith
 before_short line print.Boolean = omega arith
 before_short line print.Text = omega arith
 
-if_short : (xs ys zs : List Instr) (i j : Instr) (is : List Instr) → is ≡ xs ++ i ∷ (ys ++ j ∷ zs) → (k m n : ℕ) → length xs + 8 ≤ 32 * k → length ys ≤ 32 * m → length zs ≤ 32 * n → length is ≤ 32 * (1 + k + m + n)
+if_short : (xs ys zs : List Instr) (i j : Instr) (is : List Instr) → is ≡ xs ++ i ∷ (ys ++ j ∷ zs) → (k m n : ℕ) → length xs + 8 ≤ 32 * k → length ys + 8 ≤ 32 * m → length zs + 8 ≤ 32 * n → length is + 8 ≤ 32 * (1 + k + m + n)
 if_short xs ys zs i j is e k m n p q r = omega (arith, ap length e, length-append xs (i ∷ (ys ++ j ∷ zs)), length-append ys (j ∷ zs), p, q, r)
 
-while_short : (xs ys : List Instr) (i j : Instr) (is : List Instr) → is ≡ xs ++ i ∷ (ys ++ j ∷ []) → (k m : ℕ) → length xs + 8 ≤ 32 * k → length ys ≤ 32 * m → length is ≤ 32 * (1 + k + m)
+while_short : (xs ys : List Instr) (i j : Instr) (is : List Instr) → is ≡ xs ++ i ∷ (ys ++ j ∷ []) → (k m : ℕ) → length xs + 8 ≤ 32 * k → length ys + 8 ≤ 32 * m → length is + 8 ≤ 32 * (1 + k + m)
 while_short xs ys i j is e k m p q = omega (arith, ap length e, length-append xs (i ∷ (ys ++ j ∷ [])), length-append ys (j ∷ []), p, q)
 
-repeat_short : (ys xs : List Instr) (i : Instr) (is : List Instr) → is ≡ ys ++ (xs ++ i ∷ []) → (k m : ℕ) → length ys ≤ 32 * k → length xs + 8 ≤ 32 * m → length is ≤ 32 * (1 + k + m)
+repeat_short : (ys xs : List Instr) (i : Instr) (is : List Instr) → is ≡ ys ++ (xs ++ i ∷ []) → (k m : ℕ) → length ys ≤ 32 * k → length xs + 8 ≤ 32 * m → length is + 8 ≤ 32 * (1 + k + m)
 repeat_short ys xs i is e k m p q = omega (arith, ap length e, length-append ys (xs ++ i ∷ []), length-append xs (i ∷ []), p, q)
+
+case_short : (xs ys zs : List Instr) (i j : Instr) (is : List Instr) → is ≡ xs ++ i ∷ j ∷ (ys ++ zs) → (k m n : ℕ) → length xs + 8 ≤ 32 * k → length ys ≤ 32 * m → length zs ≤ 32 * n + 1 → length is + 8 ≤ 32 * (1 + k + m + n)
+case_short xs ys zs i j is e k m n p q r = omega (arith, ap length e, length-append xs (i ∷ j ∷ (ys ++ zs)), length-append ys zs, p, q, r)
+
+-- how many instructions the tests of ranges are
+pub tests_length : (line body at : ℕ) (rs : List CaseRange) → length (tests_code line body at rs) ≡ 6 * length rs
+tests_length line body at [] = refl
+tests_length line body at (r ∷ rs) = omega (arith, length-append (test_code line body at r) (tests_code line body (at + 6) rs), tests_length line body (at + 6) rs)
+
+arms_short : (xs ss rest : List Instr) (i j l : Instr) (is : List Instr) → is ≡ xs ++ i ∷ j ∷ (ss ++ l ∷ rest) → (c k m : ℕ) → length xs ≡ 6 * c → length ss + 8 ≤ 32 * k → length rest ≤ 32 * m → length is ≤ 32 * (3 * c + k + m)
+arms_short xs ss rest i j l is e c k m p q r = omega (arith, ap length e, length-append xs (i ∷ j ∷ (ss ++ l ∷ rest)), length-append ss (l ∷ rest), p, q, r)
 
 place_one : (p : Place) → place_nodes p ≡ 1
 place_one (Variable unit number) = refl
@@ -87,23 +110,40 @@ module _ (ts : List (List ℕ)) (rs : List Reference) where
   items_code_short line at [] true is h = omega (arith, ap length h)
   items_code_short line at (i ∷ items) ends_line is h = omega (arith, ap length h.4, length-append h.0 h.1, item_code_short line at i h.0 h.2, items_code_short line (at + length h.0) items ends_line h.1 h.3)
 
+  -- The code of a statement, with some room for what the form around it adds.
   mutual
-    pub stmt_code_short : (at : ℕ) (s : Stmt) (is : List Instr) → IsStmtCode ts rs at s is → length is ≤ 32 * stmt_nodes s
-    stmt_code_short at Empty is h = omega (arith, ap length h)
-    stmt_code_short at (Compound statements) is h = omega (arith, stmts_code_short at statements is h)
-    stmt_code_short at (Assign line p x) is h =
+    stmt_code_room : (at : ℕ) (s : Stmt) (is : List Instr) → IsStmtCode ts rs at s is → length is + 8 ≤ 32 * stmt_nodes s
+    stmt_code_room at Empty is h = omega (arith, ap length h)
+    stmt_code_room at (Compound statements) is h = omega (arith, stmts_code_short at statements is h)
+    stmt_code_room at (Assign line p x) is h =
         omega (arith, ap length h.4, length-append h.0 (h.1 ++ bare line op.STORE ∷ []), length-append h.1 (bare line op.STORE ∷ []), place_code_short rs line p h.0 h.2, place_one p, expr_code_short ts rs line (at + length h.0) x h.1 h.3)
-    stmt_code_short at (If line x s t) is h =
+    stmt_code_room at (If line x s t) is h =
         if_short h.0 h.1 h.2 _ _ is h.6 (expr_nodes x) (stmt_nodes s) (stmt_nodes t)
-        (expr_code_short ts rs line at x h.0 h.3) (stmt_code_short (at + length h.0 + 1) s h.1 h.4) (stmt_code_short (at + length h.0 + 1 + length h.1 + 1) t h.2 h.5)
-    stmt_code_short at (While line x s) is h =
-        while_short h.0 h.1 _ _ is h.4 (expr_nodes x) (stmt_nodes s) (expr_code_short ts rs line at x h.0 h.2) (stmt_code_short (at + length h.0 + 1) s h.1 h.3)
-    stmt_code_short at (Repeat line statements x) is h =
+        (expr_code_short ts rs line at x h.0 h.3) (stmt_code_room (at + length h.0 + 1) s h.1 h.4) (stmt_code_room (at + length h.0 + 1 + length h.1 + 1) t h.2 h.5)
+    stmt_code_room at (While line x s) is h =
+        while_short h.0 h.1 _ _ is h.4 (expr_nodes x) (stmt_nodes s) (expr_code_short ts rs line at x h.0 h.2) (stmt_code_room (at + length h.0 + 1) s h.1 h.3)
+    stmt_code_room at (Repeat line statements x) is h =
         repeat_short h.0 h.1 _ is h.4 (stmts_nodes statements) (expr_nodes x) (stmts_code_short at statements h.0 h.2) (expr_code_short ts rs line (at + length h.0) x h.1 h.3)
-    stmt_code_short at (Procedure line unit number) is h = omega (arith, ap length h.2)
-    stmt_code_short at (Halt line) is h = omega (arith, ap length h)
-    stmt_code_short at (Write line items ends_line) is h = omega (arith, items_code_short line at items ends_line is h)
+    stmt_code_room at (Procedure line unit number) is h = omega (arith, ap length h.2)
+    stmt_code_room at (Case line x arms o) is h =
+        case_short h.0 h.1 h.2 _ _ is h.6 (expr_nodes x) (arms_nodes arms) (other_nodes o)
+        (expr_code_short ts rs line at x h.0 h.3) (arms_code_short line (at + length h.0 + 1) (at + length h.0 + 2) arms h.1 h.4) (other_code_short line (at + length h.0 + 2 + length h.1) o h.2 h.5)
+    stmt_code_room at (Halt line) is h = omega (arith, ap length h)
+    stmt_code_room at (Write line items ends_line) is h = omega (arith, items_code_short line at items ends_line is h)
 
     pub stmts_code_short : (at : ℕ) (ss : Stmts) (is : List Instr) → AreStmtsCode ts rs at ss is → length is ≤ 32 * stmts_nodes ss
     stmts_code_short at none is h = omega (arith, ap length h)
-    stmts_code_short at (next s rest) is h = omega (arith, ap length h.4, length-append h.0 h.1, stmt_code_short at s h.0 h.2, stmts_code_short (at + length h.0) rest h.1 h.3)
+    stmts_code_short at (next s rest) is h = omega (arith, ap length h.4, length-append h.0 h.1, stmt_code_room at s h.0 h.2, stmts_code_short (at + length h.0) rest h.1 h.3)
+
+    arms_code_short : (line leave at : ℕ) (arms : Arms) (is : List Instr) → AreArmsCode ts rs line leave at arms is → length is ≤ 32 * arms_nodes arms
+    arms_code_short line leave at no_arm is h = omega (arith, ap length h)
+    arms_code_short line leave at (next_arm ranges s arms) is h =
+        arms_short (tests_code line (at + 6 * length ranges + 1) at ranges) h.0 h.1 _ _ _ is h.4 (length ranges) (stmt_nodes s) (arms_nodes arms)
+        (tests_length line (at + 6 * length ranges + 1) at ranges) (stmt_code_room (at + 6 * length ranges + 2) s h.0 h.2) (arms_code_short line leave (at + 6 * length ranges + 2 + length h.0 + 1) arms h.1 h.3)
+
+    other_code_short : (line at : ℕ) (o : Other) (is : List Instr) → IsOtherCode ts rs line at o is → length is ≤ 32 * other_nodes o + 1
+    other_code_short line at no_other is h = omega (arith, ap length h)
+    other_code_short line at (otherwise_do statements) is h = omega (arith, ap length h.2, stmts_code_short (at + 1) statements h.0 h.1)
+
+  pub stmt_code_short : (at : ℕ) (s : Stmt) (is : List Instr) → IsStmtCode ts rs at s is → length is ≤ 32 * stmt_nodes s
+  stmt_code_short at s is h = omega (arith, stmt_code_room at s is h)

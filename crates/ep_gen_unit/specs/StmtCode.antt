@@ -1,17 +1,19 @@
 -- Which instructions are the code of a statement, under given tables of texts and references. Jumps name places of
 -- the object, so the code of a statement depends on where it begins.
-use Rattle.std.specs.Prelude.{◌≡◌, ℕ, pos, suc, ◌+◌, Bool, true, false, List, [], ◌∷◌, ◌++◌, length, slice_get, Option, Some, None}
+use Rattle.std.specs.Prelude.{◌≡◌, ℕ, pos, suc, ◌+◌, Bool, true, false, List, [], ◌∷◌, ◌++◌, length, slice_get, Option, Some, None, ◌*◌}
 use Rattle.ep_typed.specs.Denoters.{type_of}
 use Rattle.ep_gen_expr.specs.ExprCode.{instr, bare, reference, push, standard_code, IsPlaceCode, IsExprCode}
 use Rattle.ep_gen_expr.specs.declared.code.TheConstants as code
 use Rattle.ep_object.specs.declared.code.Instr.{Instr}
 use Rattle.ep_object.specs.declared.code.Reference.{Reference}
-use Rattle.ep_typed.specs.Trees.{Item, Plain, Wide, Stmt, Stmts, Empty, Compound, Assign, If, While, Repeat, Procedure, Halt, Write, none, next}
+use Rattle.ep_typed.specs.Trees.{Item, Plain, Wide, Stmt, Stmts, Empty, Compound, Assign, If, While, Repeat, Procedure, Halt, Write, none, next, Case, Arms, no_arm, next_arm, Other, no_other, otherwise_do}
 use Rattle.ep_typed.specs.Viewed.{denoter_of}
 use Rattle.ep_typed.specs.declared.operations.Print.{Print}
 use Rattle.ep_typed.specs.declared.operations.Print.TheVariants as print
 use Rattle.ep_typed.specs.declared.value.TypeValue.{TypeValue}
 use Rattle.ep_typed.specs.declared.value.TypeValue.TheVariants.{Ordinal, Text}
+use Rattle.ep_typed.specs.declared.run_error.TheConstants as run_error
+use Rattle.ep_typed.specs.declared.tree.CaseRange.{CaseRange}
 use Rattle.ep_typed.specs.declared.tree.StandardFile.TheVariants as file
 use Rattle.ep_typed.specs.declared.unit.UnitType.{UnitType}
 use Rattle.ep_typed.specs.declared.unit.UnitVariable.{UnitVariable}
@@ -48,6 +50,16 @@ module _ (line : ℕ) where
   abbrev pub line_end_code : List Instr
   line_end_code = output_code ∷ push line constant.LINE_END ∷ bare line op.CHARS ∷ bare line op.PUT ∷ []
 
+  -- with the value of a selector on top: on to the statement of the arm, at a place, where the range has it, and else on behind this code, which begins at another place
+  abbrev pub test_code : ℕ → ℕ → CaseRange → List Instr
+  test_code body at r =
+      bare line op.DUP ∷ push line r.low ∷ push line r.high ∷ bare line op.BETWEEN ∷ instr op.JUMP_FALSE (pos (at + 6)) 0 line ∷ instr op.JUMP (pos body) 0 line ∷ []
+
+  -- the ranges of an arm, one after another
+  abbrev pub tests_code : ℕ → ℕ → List CaseRange → List Instr
+  tests_code body at [] = []
+  tests_code body at (r ∷ rs) = test_code body at r ++ tests_code body (at + 6) rs
+
 module _ (texts : List (List ℕ)) (references : List Reference) where
   -- the code that writes an item, which has this line and begins at this place
   abbrev pub IsItemCode : ℕ → ℕ → Item → List Instr → Type 0
@@ -79,12 +91,27 @@ module _ (texts : List (List ℕ)) (references : List Reference) where
     -- The jump to what comes next has the tick for the step that the statement spends when the call is done.
     IsStmtCode at (Procedure line unit number) is =
         (k : ℕ) × (slice_get references k ≡ Some (reference unit number)) × (is ≡ instr op.CALL (pos k) 0 line ∷ instr op.JUMP (pos (at + 2)) 0 line ∷ [])
+    IsStmtCode at (Case line x arms o) is =
+        (xs ys zs : List Instr) × IsExprCode texts references line at x xs × AreArmsCode line (at + length xs + 1) (at + length xs + 2) arms ys × IsOtherCode line (at + length xs + 2 + length ys) o zs
+        × (is ≡ xs ++ instr op.JUMP (pos (at + length xs + 2)) 0 line ∷ instr op.JUMP (pos (at + length xs + 2 + length ys + length zs)) 0 line ∷ (ys ++ zs))
     IsStmtCode at (Halt line) is = is ≡ bare line op.HALT ∷ []
     IsStmtCode at (Write line items ends_line) is = AreItemsCode line at items ends_line is
 
     pub AreStmtsCode : ℕ → Stmts → List Instr → Type 0
     AreStmtsCode at none is = is ≡ []
     AreStmtsCode at (next s ss) is = (xs ys : List Instr) × IsStmtCode at s xs × AreStmtsCode (at + length xs) ss ys × (is ≡ xs ++ ys)
+
+    -- The code of the arms of a `case`, with the value of the selector on top: the tests of an arm, the jump over its statement, that statement without the value, and the jump to the place from which the `case` is left.
+    pub AreArmsCode : ℕ → ℕ → ℕ → Arms → List Instr → Type 0
+    AreArmsCode line leave at no_arm is = is ≡ []
+    AreArmsCode line leave at (next_arm ranges s arms) is =
+        (ss rest : List Instr) × IsStmtCode (at + 6 * length ranges + 2) s ss × AreArmsCode line leave (at + 6 * length ranges + 2 + length ss + 1) arms rest
+        × (is ≡ tests_code line (at + 6 * length ranges + 1) at ranges ++ instr op.JUMP (pos (at + 6 * length ranges + 2 + length ss + 1)) 0 line ∷ bare line op.DROP ∷ (ss ++ instr op.JUMP (pos leave) 0 line ∷ rest))
+
+    -- what a `case` does where no range has the value of the selector, which is on top
+    pub IsOtherCode : ℕ → ℕ → Other → List Instr → Type 0
+    IsOtherCode line at no_other is = is ≡ instr op.FAIL (pos run_error.NO_CASE) 0 line ∷ []
+    IsOtherCode line at (otherwise_do ss) is = (ys : List Instr) × AreStmtsCode (at + 1) ss ys × (is ≡ bare line op.DROP ∷ ys)
 
 -- the bounds and the type
 abbrev pub type_code : ℕ → TypeValue → List Instr

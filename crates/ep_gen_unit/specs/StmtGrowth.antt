@@ -1,18 +1,22 @@
 -- How code under construction grows by statements, whose lines differ.
-use Rattle.std.specs.Prelude.{◌≡◌, ℕ, ◌+◌, ◌*◌, ◌≤◌, Bool, false, List, [], ◌∷◌, ◌++◌, length}
+use Rattle.std.specs.Prelude.{◌≡◌, ℕ, pos, ◌+◌, ◌*◌, ◌<◌, ◌≤◌, Bool, false, List, [], ◌∷◌, ◌++◌, length}
+use Rattle.ep_gen_expr.specs.ExprCode.{IsExprCode, instr}
 use Rattle.ep_gen_expr.specs.Growth.{TableGrows, Grows, IsTable, AreDistinct}
+use Rattle.ep_gen_expr.specs.Jumps.{landed}
 use Rattle.ep_gen_expr.specs.declared.code.Code.{Code}
-use Rattle.ep_gen_unit.specs.StmtCode.{IsItemCode, AreItemsCode, IsStmtCode, AreStmtsCode, make_all_code, return_code}
+use Rattle.ep_gen_unit.specs.StmtCode.{IsItemCode, AreItemsCode, IsStmtCode, AreStmtsCode, make_all_code, return_code, AreArmsCode, IsOtherCode, tests_code}
 use Rattle.ep_gen_unit.specs.UnitCode.{AreRoutinesCode, routine_at}
 use Rattle.ep_object.specs.declared.code.CodeRoutine.{CodeRoutine}
 use Rattle.ep_object.specs.declared.code.Instr.{Instr}
 use Rattle.ep_object.specs.declared.code.Object.{Object}
+use Rattle.ep_object.specs.declared.op.TheConstants as op
 use Rattle.ep_typed.specs.Nodes.{stmt_nodes}
 use Rattle.ep_typed.specs.Viewed.{stmt_of}
 use Rattle.ep_typed.specs.declared.unit.Unit.{Unit as TypedUnit}
 use Rattle.ep_typed.specs.declared.unit.UnitRoutine.{UnitRoutine}
 use Rattle.ep_typed.specs.declared.unit.UnitRoutine.TheViews.{out-UnitRoutine}
-use Rattle.ep_typed.specs.Trees.{Item, Stmt, Stmts}
+use Rattle.ep_typed.specs.Trees.{Item, Stmt, Stmts, Expr, Arms, Other}
+use Rattle.ep_typed.specs.declared.tree.CaseRange.{CaseRange}
 
 -- these instructions are appended, the line is any, and all else is as before but for new items of the two tables
 pub record Follows (old new : Code) (is : List Instr) : Type 0 where
@@ -45,6 +49,39 @@ pub record AppendsStmts (old new : Code) (ss : Stmts) : Type 0 where
   pub code : List Instr
   pub is_code : AreStmtsCode new.texts new.references (length old.instructions) ss code
   pub follows : Follows old new code
+
+-- the code of arms of a `case` on this line is appended, which is left from this place
+pub record AppendsArms (line leave : ℕ) (old new : Code) (arms : Arms) : Type 0 where
+  pub code : List Instr
+  pub is_code : AreArmsCode new.texts new.references line leave (length old.instructions) arms code
+  pub follows : Follows old new code
+
+-- the code of the `otherwise` part of a `case` on this line is appended
+pub record AppendsOther (line : ℕ) (old new : Code) (other : Other) : Type 0 where
+  pub code : List Instr
+  pub is_code : IsOtherCode new.texts new.references line (length old.instructions) other code
+  pub follows : Follows old new code
+
+-- The beginning of a `case` on this line is appended: the selector, the jump over the place from which the `case` is left, an instruction at that place that is to be replaced by a jump, and the arms.
+pub record OpensCase (line leave : ℕ) (old new : Code) (x : Expr) (arms : Arms) : Type 0 where
+  pub selector : List Instr
+  pub filler : Instr
+  pub code : List Instr
+  pub is_selector : IsExprCode new.texts new.references line (length old.instructions) x selector
+  pub is_code : AreArmsCode new.texts new.references line leave (length old.instructions + length selector + 2) arms code
+  pub is_place : leave ≡ length old.instructions + length selector + 1
+  pub inside : leave < length new.instructions
+  pub follows : Follows old new (selector ++ instr op.JUMP (pos (length old.instructions + length selector + 2)) 0 line ∷ filler ∷ code)
+
+-- the `otherwise` part is appended, and at the place from which the `case` is left stands the jump behind it
+pub record ClosesCase (line leave : ℕ) (old new : Code) (other : Other) : Type 0 where
+  pub last : Code
+  pub appends : AppendsOther line old last other
+  pub lands : new ≡ landed last leave op.JUMP line
+
+-- The tests of an arm are appended. Its statement is to stand behind them and one more instruction.
+abbrev pub AppendsTests : Code → Code → List CaseRange → Type 0
+AppendsTests old new ranges = Grows old new (tests_code old.line (length old.instructions + 6 * length ranges + 1) (length old.instructions) ranges)
 
 -- The code of the start and of the stop of a program is appended. The start makes the variables and runs the block; the
 -- stop does nothing, and this is its entry.

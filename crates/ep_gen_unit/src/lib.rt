@@ -8,6 +8,7 @@
 mod items;
 mod laws;
 mod program;
+mod ranges;
 mod statements;
 
 pub use laws::{laws_of_programs, laws_of_statements, laws_of_units};

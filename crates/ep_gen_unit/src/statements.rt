@@ -2,16 +2,18 @@
 //!
 //! A statement sets the line, so it is set again after a part that is a statement.
 
-ghost use Rattle.std.specs.Prelude.{OnOk, map};
+ghost use Rattle.std.specs.Prelude.{OnOk, map, IfOk, ◌<◌, length, [], ◌∷◌};
 ghost use Rattle.ep_typed.specs.Trees.{Compound, Assign, If, While, Repeat, Procedure, Halt, Write, stmts};
-ghost use Rattle.ep_typed.specs.Viewed.{expr_of, item_of, place_of, stmt_of};
-ghost use Rattle.ep_gen_unit.specs.StmtGrowth.{AppendsStmt, AppendsStmts};
+ghost use Rattle.ep_typed.specs.Viewed.{expr_of, item_of, place_of, stmt_of, arm_of};
+ghost use Rattle.ep_gen_unit.specs.StmtGrowth.{AppendsStmt, AppendsStmts, AppendsArms, ClosesCase, OpensCase};
 
 use crate::items::items_code;
 use ep_base::{Line, Name, NoMemory};
 use ep_gen_expr::{Code, emit, expression_code, land, leave_hole, next_place, place_code, reference_number};
+ghost use Rattle.ep_typed.specs.Trees as tree;
+use crate::ranges::tests_code;
 use ep_object::op;
-use ep_typed::{TypedExpr, TypedPlace, TypedStmt, WriteItem};
+use ep_typed::{CaseArm, TypedExpr, TypedPlace, TypedStmt, WriteItem, run_error};
 use std::alloc::Global;
 
 /// Appends the code of a statement. Where memory is wanting, or the code or a table would reach 2 ^ 32 entries, it is
@@ -44,6 +46,15 @@ pub fn statement_code(alloc: Global, s: &TypedStmt, code: &mut Code) -> Result<(
         }
         TypedStmt::Procedure(line, unit, number) => {
             procedure_code(alloc, *line, unit, *number, code)
+        }
+        TypedStmt::Case(line, selector, arms, other) => {
+            let leave = open_case(alloc, *line, arms.items(), selector.get(), code)?;
+            match other {
+                None => fail_code(*line, leave, code),
+                Some(statements) => {
+                    otherwise_code(alloc, *line, leave, statements.items(), code)
+                }
+            }
         }
         TypedStmt::Halt(line) => halt_code(*line, code),
         TypedStmt::Write(line, items, ends_line) => {
@@ -158,6 +169,97 @@ fn procedure_code(
     emit(code, op::CALL, routine as i64, 0)?;
     let next = next_place(code)? + 1;
     emit(code, op::JUMP, next as i64, 0)
+}
+
+/// Appends the beginning of the code of a `case`: the selector, the jump over the one jump out of the `case`, a filler for
+/// that jump, by which each arm leaves, and the arms. It answers the place of the filler.
+#[cycle(statement)]
+fn open_case(
+    alloc: Global,
+    line: Line,
+    arms: &[CaseArm],
+    selector: &TypedExpr,
+    code: &mut Code,
+) -> Result<u32, NoMemory>
+    ensures { IfOk result (λ leave. OpensCase line leave code.old code.new
+        (expr_of selector.now) (tree.arms (map arm_of arms.now))) }
+{
+    code.line = line;
+    expression_code(alloc, selector, code)?;
+    let start = next_place(code)?;
+    emit(code, op::JUMP, (start as u64 + 2) as i64, 0)?;
+    let leave = leave_hole(code)?;
+    arms_code(alloc, line, leave, arms, code)?;
+    Ok(leave)
+}
+
+/// Appends the end of the code of a `case` without `otherwise`: the end by an error, and the jump out of the `case`.
+fn fail_code(line: Line, leave: u32, code: &mut Code) -> Result<(), NoMemory>
+    requires { leave < length code.old.instructions }
+    ensures { OnOk result (ClosesCase line leave code.old code.new tree.no_other) }
+{
+    code.line = line;
+    emit(code, op::FAIL, run_error::NO_CASE as i64, 0)?;
+    land(code, leave, op::JUMP, line)
+}
+
+/// Appends the end of the code of a `case` with `otherwise`: these statements without the value of the selector, and the
+/// jump out of the `case`.
+#[cycle(statement)]
+fn otherwise_code(
+    alloc: Global,
+    line: Line,
+    leave: u32,
+    statements: &[TypedStmt],
+    code: &mut Code,
+) -> Result<(), NoMemory>
+    requires { leave < length code.old.instructions }
+    ensures { OnOk result (ClosesCase line leave code.old code.new
+        (tree.otherwise_do (stmts (map stmt_of statements.now)))) }
+{
+    code.line = line;
+    emit(code, op::DROP, 0, 0)?;
+    compound_code(alloc, statements, code)?;
+    land(code, leave, op::JUMP, line)
+}
+
+/// Appends the code of arms one after another.
+#[cycle(statement)]
+fn arms_code(
+    alloc: Global,
+    line: Line,
+    leave: u32,
+    arms: &[CaseArm],
+    code: &mut Code,
+) -> Result<(), NoMemory>
+    ensures { OnOk result (AppendsArms line leave code.old code.new (tree.arms (map arm_of arms.now))) }
+{
+    for arm in arms {
+        arm_code(alloc, line, leave, arm, code)?;
+    }
+    Ok(())
+}
+
+/// Appends the code of an arm: its tests, the jump over its statement, the statement without the value of the selector,
+/// and the jump to the place from which the `case` is left.
+#[cycle(statement)]
+fn arm_code(
+    alloc: Global,
+    line: Line,
+    leave: u32,
+    arm: &CaseArm,
+    code: &mut Code,
+) -> Result<(), NoMemory>
+    ensures { OnOk result (AppendsArms line leave code.old code.new (tree.arms (arm_of arm.now ∷ []))) }
+{
+    code.line = line;
+    tests_code(arm.ranges.items(), code)?;
+    let over = leave_hole(code)?;
+    emit(code, op::DROP, 0, 0)?;
+    statement_code(alloc, arm.body.get(), code)?;
+    code.line = line;
+    emit(code, op::JUMP, leave as i64, 0)?;
+    land(code, over, op::JUMP, line)
 }
 
 /// Appends the code of `halt`.

@@ -1,7 +1,8 @@
 -- What holds of every state that an instruction leaves, where it holds after each change that an instruction makes.
-use Rattle.std.proofs.Common.{◌≡◌, ℕ, ℤ, List, [], ◌∷◌, length, refl, Option, Some, None, Bool, true, false, cond, ltb}
+use Rattle.std.proofs.Common.{◌≡◌, ℕ, ℤ, List, [], ◌∷◌, length, refl, Option, Some, None, Bool, true, false, cond, ltb, unsigned_abs}
 use Rattle.ep_object.specs.Effects.{Effect, Continues, Jumps, Returns, Fails, Halts, Breaks, Work, mapped, mapped_work, having, having_weighed, provided, provided_weighed, only_a_weighed, has_no_field, has_one_field, index}
 use Rattle.ep_object.specs.Calls.{call_limit, parent_by, top_of, called, call_row, left, return_over, return_row, argument_at, arg_of, arg_over, arg_row}
+use Rattle.ep_object.specs.Control.{fail_row}
 use Rattle.ep_object.specs.Operands.{Operand}
 use Rattle.ep_object.specs.Places.{Making, make_row, bind_row}
 use Rattle.ep_object.specs.Routines.{routine_of}
@@ -10,6 +11,7 @@ use Rattle.ep_object.specs.Table as table
 use Rattle.ep_object.specs.Frames.{slots_of}
 use Rattle.ep_object.specs.Table.{Op, obey, obey_op, op_of, on_operands, in_segments, with_bound, bind_in, making, with_making, typing, with_typing, with_events}
 use Rattle.ep_object.specs.Types.{Typing}
+use Rattle.ep_object.specs.WordRows.{is_error}
 use Rattle.ep_object.specs.declared.code.Image.{Image}
 use Rattle.ep_object.specs.declared.code.Instr.{Instr}
 use Rattle.ep_object.specs.declared.state.Place.{Place}
@@ -38,6 +40,10 @@ module _ (Holds : State → Type 0) where
   halts : (b : Bool) → HoldsAfter (provided b Halts)
   halts true = tt
   halts false = tt
+
+  fails : (b : Bool) (n : ℕ) → HoldsAfter (provided b (Fails n))
+  fails true n = tt
+  fails false n = tt
 
   only_where : (b : Bool) (e : Effect State) → HoldsAfter e → HoldsAfter (provided b e)
   only_where true e h = h
@@ -116,6 +122,7 @@ module _ (Holds : State → Type 0) where
     op_keeps G i (Some table.Dup) = kept _
     op_keeps G i (Some table.Chars) = kept _
     op_keeps G i (Some table.Form) = kept _
+    op_keeps G i (Some table.Fail) = only_where (has_one_field i) (fail_row i.a) (fails (is_error i.a) (unsigned_abs i.a))
     op_keeps G i (Some table.Halt) = halts (has_no_field i)
     op_keeps G i (Some table.Call) = call_keeps G i.a i.b
     op_keeps G i (Some table.Return) = only_where (has_no_field i) (return_row s) (return_keeps s.frames.calls)

@@ -211,7 +211,7 @@ Drop=|broken at 0|1\n\
 Text:0 Dup Halt=|halt|11\n\
 Unit:-1:1 Push:4 Dup Add Form Put Return=8|normal|9";
 
-/// Jumps, halt and what is not in the table.
+/// Jumps, ends and what is not in the table.
 const JUMPS: &str = "\
 Jump:2 Halt Return=|normal|2\n\
 Jump:3 Halt Return=|broken at 0|1\n\
@@ -222,7 +222,13 @@ Text:0 JumpFalse:2 Return=|broken at 1|4\n\
 Halt:1=|broken at 0|1\n\
 Push:1=|broken at 1|2\n\
 Unknown=|broken at 0|1\n\
-Fail:1=|broken at 0|1";
+Fail:1=|error 1 at 1|1\n\
+Push:7 Fail:12=|error 12 at 2|2\n\
+Unit:-1:1 Text:0 Put Fail:25=hi|error 25 at 4|8\n\
+Fail:0=|broken at 0|1\n\
+Fail:26=|broken at 0|1\n\
+Fail:-1=|broken at 0|1\n\
+Fail:1:1=|broken at 0|1";
 
 /// Slots and variables.
 const VARIABLES: &str = "\

@@ -1,7 +1,7 @@
 -- The meaning computes the answers of small programs.
 use Rattle.std.proofs.Common.{◌≡◌, ℕ, ℤ, pos, negsuc, true, false, [], ◌∷◌, refl, codes}
 use Rattle.ep_typed.specs.Events.{Trace, Write}
-use Rattle.ep_typed.specs.Trees.{Variable, Expr, Constant, Read, One, Two, Plain, Wide, Stmt, Compound, Assign, While, Repeat, Short, Write, stmts, none, next}
+use Rattle.ep_typed.specs.Trees.{Variable, Expr, Constant, Read, One, Two, Plain, Wide, Stmt, Compound, Assign, While, Repeat, Case, Short, Write, stmts, none, next, Other, no_other, otherwise_do, arms}
 use Rattle.ep_typed.specs.Trees as tree
 use Rattle.ep_typed.specs.Steps.{End, Normal, Error, Outcome, Gives, Ends, Cut, state_of, made, first_state}
 use Rattle.ep_typed.specs.Meaning.{exec, routine_of}
@@ -9,6 +9,7 @@ use Rattle.ep_typed.specs.declared.operations.Unary.TheVariants as unary
 use Rattle.ep_typed.specs.declared.operations.Binary.TheVariants as binary
 use Rattle.ep_typed.specs.declared.operations.ShortOperation.TheVariants as short
 use Rattle.ep_typed.specs.declared.operations.Print.TheVariants as print
+use Rattle.ep_typed.specs.declared.tree.CaseRange.{CaseRange}
 use Rattle.ep_typed.specs.declared.value.TypeValue.TheVariants.{Ordinal}
 use Rattle.ep_typed.specs.declared.run_error.TheConstants as run_error
 
@@ -61,3 +62,23 @@ once = refl
 
 until_false : trace_of (run (Repeat 3 (next (tree.Write 4 (Plain print.Char (Constant (pos 120)) ∷ []) false) none) (Constant (pos 0))) 20) ≡ Write (codes "x") ∷ Write (codes "x") ∷ Write (codes "x") ∷ []
 until_false = refl
+
+abbrev shows : ℕ → Stmt
+shows n = tree.Write 4 (Plain print.Char (Constant (pos n)) ∷ []) false
+
+abbrev range : ℕ → ℕ → CaseRange
+range low high = record { low = pos low; high = pos high }
+
+abbrev chosen : ℕ → Other → Stmt
+chosen z o = Case 3 (Constant (pos z)) (arms ((range 1 2 ∷ [], shows 120) ∷ (range 7 7 ∷ range 3 4 ∷ [], shows 121) ∷ [])) o
+
+-- The third range that is tried has the value: the selector spends a step, each range one, the statement four, and the `case` one.
+third_range : trace_of (run (chosen 4 no_other) 9) ≡ Write (codes "y") ∷ []
+third_range = refl
+
+-- no range has the value
+no_range : end_of (run (chosen 5 no_other) 4) ≡ Error run_error.NO_CASE (codes "p") 3
+no_range = refl
+
+otherwise : trace_of (run (chosen 5 (otherwise_do (next (shows 122) none))) 9) ≡ Write (codes "z") ∷ []
+otherwise = refl

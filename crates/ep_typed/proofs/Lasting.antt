@@ -2,14 +2,14 @@
 use Rattle.std.proofs.Common.{◌≡◌, ℕ, ℤ, pos, negsuc, zero, suc, ◌+◌, List, [], ◌∷◌, Option, Some, None, Bool, true, false, length, refl, ap, arith}
 use Rattle.std.specs.Prelude.{if◌then◌else◌}
 use Rattle.ep_typed.specs.Denoters.{type_of}
-use Rattle.ep_typed.specs.Meaning.{answered, place, eval, write_piece, write_wide, write_item, write_items, assign, turns, turns_until, exec, exec_all, elaborated, make, make_all, start_of, starts_of, routine_in, routine_does, routine_of, read, assign_living}
-use Rattle.ep_typed.specs.Operations.{Answer, Number, Fault, is_true, decides}
+use Rattle.ep_typed.specs.Meaning.{answered, place, eval, write_piece, write_wide, write_item, write_items, assign, turns, turns_until, exec, exec_all, elaborated, make, make_all, start_of, starts_of, routine_in, routine_does, routine_of, read, assign_living, tried, exec_arms, exec_other}
+use Rattle.ep_typed.specs.Operations.{Answer, Number, Fault, is_true, decides, is_in}
 use Rattle.ep_typed.specs.Printing.{Result, number_of, plain_text, wide_text, piece_events}
 use Rattle.ep_typed.specs.Printing as result
 use Rattle.ep_typed.specs.Calls.{Argument, Handler, entered, given_back, in_call}
 use Rattle.ep_typed.specs.Steady.{Grows, Steady, IsSteadyHandler}
 use Rattle.ep_typed.specs.Steps.{Call, End, Normal, Halted, Error, Word, State, Outcome, Gives, Ends, Cut, state_of, Computation, give, cut, stop, go_on, bind, spend, change, found, fetch, assigned, type_at, is_within, size_of, with_type, counted, made, allocate, standard_file, first_state, using, has_ended}
-use Rattle.ep_typed.specs.Trees.{Place, Variable, Standard, Expr, Constant, Text, Read, One, Two, Short, Step, Item, Plain, Wide, Stmt, Stmts, Empty, Compound, Assign, If, While, Repeat, Procedure, Halt, Write, none, next}
+use Rattle.ep_typed.specs.Trees.{Place, Variable, Standard, Expr, Constant, Text, Read, One, Two, Short, Step, Item, Plain, Wide, Stmt, Stmts, Empty, Compound, Assign, If, While, Repeat, Procedure, Halt, Write, none, next, Case, Arms, no_arm, next_arm, Other, no_other, otherwise_do}
 use Rattle.ep_typed.specs.Viewed.{denoter_of, stmt_of}
 use Rattle.ep_typed.specs.declared.operations.Print.{Print}
 use Rattle.ep_typed.specs.declared.unit.Unit.{Unit as TypedUnit}
@@ -17,6 +17,7 @@ use Rattle.ep_typed.specs.declared.unit.UnitRoutine.{UnitRoutine}
 use Rattle.ep_typed.specs.declared.unit.UnitRoutine.TheViews.{out-UnitRoutine}
 use Rattle.ep_typed.specs.declared.unit.UnitType.{UnitType}
 use Rattle.ep_typed.specs.declared.unit.UnitVariable.{UnitVariable}
+use Rattle.ep_typed.specs.declared.tree.CaseRange.{CaseRange}
 use Rattle.ep_typed.specs.declared.value.TypeValue.{TypeValue}
 use Rattle.ep_typed.specs.Laws.{IsLonger, MeaningsLast}
 use Rattle.ep_typed.proofs.Steady.{grows_refl, grows_trans, grows_quiet, grows_events, grows_type, grows_counted, grows_made, steady_give, steady_cut, steady_stop, steady_bind, steady_spend, steady_change, steady_fetch, steady_turns, steady_turns_until, steady_in_call, steady_routine_of, steady_using, steady_assign_living}
@@ -124,6 +125,11 @@ lasting_turns_until call other h i (suc g) j unit x y =
     let one : suc g + j ≡ suc (g + j) = omega arith in
     rw one (lasting_bind x (λ _. lasting_bind y (λ r. lasting_spend 1 (lasting_if (is_true (number_of r)) (lasting_spend 1 (lasting_give tt)) (lasting_turns_until call other h i g j unit x y)))))
 
+-- ranges that are tried
+lasting_tried : (call other : Handler) (h i : ℕ) (unit : List ℕ) (z : ℤ) (rs : List CaseRange) {fits fits2 fails fails2 : Computation (Unit {0})} → Lasting fits fits2 → Lasting fails fails2 → Lasting (tried call h unit z rs fits fails) (tried other i unit z rs fits2 fails2)
+lasting_tried call other h i unit z [] x y = y
+lasting_tried call other h i unit z (r ∷ rs) x y = lasting_spend 1 (lasting_if (is_in r z) x (lasting_tried call other h i unit z rs x y))
+
 -- ---- the forms
 
 module _ (call other : Handler) (lasts : IsLastingHandler call other) (g j : ℕ) (unit : List ℕ) where
@@ -203,12 +209,21 @@ module _ (call other : Handler) (lasts : IsLastingHandler call other) (g j : ℕ
     lasting_exec (While line x s) = lasting_turns call other g (g + j) g j unit (lasting_eval line x) (lasting_exec s)
     lasting_exec (Repeat line ss x) = lasting_turns_until call other g (g + j) g j unit (lasting_exec_all ss) (lasting_eval line x)
     lasting_exec (Procedure line of_unit number) = lasting_bind (lasts.by unit line of_unit number []) (λ results. lasting_spend 1 (lasting_give tt))
+    lasting_exec (Case line x arms o) = lasting_bind (lasting_eval line x) (λ r. lasting_exec_arms (number_of r) arms (lasting_exec_other line o))
     lasting_exec (Halt line) = lasting_stop Halted
     lasting_exec (Write line items ends_line) = lasting_write_items line items ends_line
 
     lasting_exec_all : (ss : Stmts) → Lasting (exec_all call g unit ss) (exec_all other (g + j) unit ss)
     lasting_exec_all none = lasting_give tt
     lasting_exec_all (next s ss) = lasting_bind (lasting_exec s) (λ _. lasting_exec_all ss)
+
+    lasting_exec_arms : (z : ℤ) (arms : Arms) {fails fails2 : Computation (Unit {0})} → Lasting fails fails2 → Lasting (exec_arms call g unit z arms fails) (exec_arms other (g + j) unit z arms fails2)
+    lasting_exec_arms z no_arm x = x
+    lasting_exec_arms z (next_arm ranges s arms) x = lasting_tried call other g (g + j) unit z ranges (lasting_bind (lasting_exec s) (λ _. lasting_spend 1 (lasting_give tt))) (lasting_exec_arms z arms x)
+
+    lasting_exec_other : (line : ℕ) (o : Other) → Lasting (exec_other call g unit line o) (exec_other other (g + j) unit line o)
+    lasting_exec_other line no_other = lasting_stop (Error run_error.NO_CASE unit line)
+    lasting_exec_other line (otherwise_do ss) = lasting_bind (lasting_exec_all ss) (λ _. lasting_spend 1 (lasting_give tt))
 
   -- a type that is elaborated
   lasting_elaborated : (o : Option TypeValue) → Lasting (elaborated call g unit o) (elaborated other (g + j) unit o)

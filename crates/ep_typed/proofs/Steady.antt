@@ -5,16 +5,17 @@ use Rattle.std.specs.List.{list_any}
 use Rattle.ep_outside.specs.Known.{IsPrefix}
 use Rattle.ep_typed.specs.Denoters.{type_of}
 use Rattle.ep_typed.specs.Events.{Trace}
-use Rattle.ep_typed.specs.Meaning.{answered, place, eval, write_piece, write_wide, write_item, write_items, assign, turns, turns_until, exec, exec_all, elaborated, make, make_all, start_of, starts_of, routine_in, routine_does, routine_of, read, assign_living}
-use Rattle.ep_typed.specs.Operations.{Answer, Number, Fault, is_true, decides}
+use Rattle.ep_typed.specs.Meaning.{answered, place, eval, write_piece, write_wide, write_item, write_items, assign, turns, turns_until, exec, exec_all, elaborated, make, make_all, start_of, starts_of, routine_in, routine_does, routine_of, read, assign_living, tried, exec_arms, exec_other}
+use Rattle.ep_typed.specs.Operations.{Answer, Number, Fault, is_true, decides, is_in}
 use Rattle.ep_typed.specs.Printing.{Result, number_of, plain_text, wide_text, piece_events}
 use Rattle.ep_typed.specs.Printing as result
 use Rattle.ep_typed.specs.Calls.{Handler, entered, given_back, in_call}
 use Rattle.ep_typed.specs.Steady.{Grows, Steady, IsSteadyHandler}
 use Rattle.ep_typed.specs.Steps.{Call, End, Normal, Halted, Error, Word, State, Outcome, Gives, Ends, Cut, state_of, Computation, give, cut, stop, go_on, bind, spend, change, found, fetch, with_events, assigned, type_at, is_within, size_of, same_type, Resources, watched, words_of_type, met, with_type, counted, made, allocate, standard_file, using, has_ended}
-use Rattle.ep_typed.specs.Trees.{Place, Variable, Standard, Expr, Constant, Text, Read, One, Two, Short, Step, Item, Plain, Wide, Stmt, Stmts, Empty, Compound, Assign, If, While, Repeat, Procedure, Halt, Write, none, next}
+use Rattle.ep_typed.specs.Trees.{Place, Variable, Standard, Expr, Constant, Text, Read, One, Two, Short, Step, Item, Plain, Wide, Stmt, Stmts, Empty, Compound, Assign, If, While, Repeat, Procedure, Halt, Write, none, next, Case, Arms, no_arm, next_arm, Other, no_other, otherwise_do}
 use Rattle.ep_typed.specs.Viewed.{denoter_of, stmt_of}
 use Rattle.ep_typed.specs.declared.operations.Print.{Print}
+use Rattle.ep_typed.specs.declared.tree.CaseRange.{CaseRange}
 use Rattle.ep_typed.specs.declared.value.TypeValue.{TypeValue}
 use Rattle.ep_typed.specs.declared.unit.Unit.{Unit as TypedUnit}
 use Rattle.ep_typed.specs.declared.unit.UnitRoutine.{UnitRoutine}
@@ -146,6 +147,11 @@ steady_turns_until call h zero unit x y = steady_cut
 steady_turns_until call h (suc g) unit x y =
     steady_bind x (λ _. steady_bind y (λ r. steady_spend 1 (steady_if (is_true (number_of r)) (steady_spend 1 (steady_give tt)) (steady_turns_until call h g unit x y))))
 
+-- ranges that are tried
+pub steady_tried : (call : Handler) (h : ℕ) (unit : List ℕ) (z : ℤ) (rs : List CaseRange) {fits fails : Computation (Unit {0})} → Steady fits → Steady fails → Steady (tried call h unit z rs fits fails)
+steady_tried call h unit z [] x y = y
+steady_tried call h unit z (r ∷ rs) x y = steady_spend 1 (steady_if (is_in r z) x (steady_tried call h unit z rs x y))
+
 -- ---- the forms
 
 module _ (call : Handler) (steady : IsSteadyHandler call) (g : ℕ) (unit : List ℕ) where
@@ -225,12 +231,21 @@ module _ (call : Handler) (steady : IsSteadyHandler call) (g : ℕ) (unit : List
     steady_exec (While line x s) = steady_turns call g g unit (steady_eval line x) (steady_exec s)
     steady_exec (Repeat line ss x) = steady_turns_until call g g unit (steady_exec_all ss) (steady_eval line x)
     steady_exec (Procedure line of_unit number) = steady_bind (steady unit line of_unit number []) (λ results. steady_spend 1 (steady_give tt))
+    steady_exec (Case line x arms o) = steady_bind (steady_eval line x) (λ r. steady_exec_arms (number_of r) arms (steady_exec_other line o))
     steady_exec (Halt line) = steady_stop Halted
     steady_exec (Write line items ends_line) = steady_write_items line items ends_line
 
     pub steady_exec_all : (ss : Stmts) → Steady (exec_all call g unit ss)
     steady_exec_all none = steady_give tt
     steady_exec_all (next s ss) = steady_bind (steady_exec s) (λ _. steady_exec_all ss)
+
+    pub steady_exec_arms : (z : ℤ) (arms : Arms) {fails : Computation (Unit {0})} → Steady fails → Steady (exec_arms call g unit z arms fails)
+    steady_exec_arms z no_arm x = x
+    steady_exec_arms z (next_arm ranges s arms) x = steady_tried call g unit z ranges (steady_bind (steady_exec s) (λ _. steady_spend 1 (steady_give tt))) (steady_exec_arms z arms x)
+
+    pub steady_exec_other : (line : ℕ) (o : Other) → Steady (exec_other call g unit line o)
+    steady_exec_other line no_other = steady_stop (Error run_error.NO_CASE unit line)
+    steady_exec_other line (otherwise_do ss) = steady_bind (steady_exec_all ss) (λ _. steady_spend 1 (steady_give tt))
 
   -- a type that is elaborated
   pub steady_elaborated : (o : Option TypeValue) → Steady (elaborated call g unit o)

@@ -3,16 +3,17 @@ use Rattle.std.specs.Str.{bytes_eq}
 use Rattle.std.specs.Prelude.{ℕ, ℤ, pos, negsuc, zero, suc, Bool, true, false, List, [], ◌∷◌, length, slice_get, Option, Some, None, if◌then◌else◌}
 use Rattle.ep_typed.specs.Calls.{Handler, in_call}
 use Rattle.ep_typed.specs.Denoters.{type_of}
-use Rattle.ep_typed.specs.Trees.{Denoter, Place, Variable, Standard, Expr, Constant, Text, Read, One, Two, Short, Step, Item, Plain, Wide, Stmt, Stmts, Empty, Compound, Assign, If, While, Repeat, Procedure, Halt, Write, none, next}
+use Rattle.ep_typed.specs.Trees.{Denoter, Place, Variable, Standard, Expr, Constant, Text, Read, One, Two, Short, Step, Item, Plain, Wide, Stmt, Stmts, Empty, Compound, Assign, If, While, Repeat, Procedure, Halt, Write, none, next, Case, Arms, no_arm, next_arm, Other, no_other, otherwise_do}
 use Rattle.ep_typed.specs.Viewed.{denoter_of, stmt_of}
 use Rattle.ep_typed.specs.Steps.{Normal, Halted, Error, Word, Outcome, Computation, give, cut, stop, bind, spend, change, fetch, with_events, word_at, assigned, type_at, is_within, with_type, allocate, standard_file, first_state, using}
-use Rattle.ep_typed.specs.Operations.{Answer, Number, Fault, unary_answer, binary_answer, step_answer, is_true, decides}
+use Rattle.ep_typed.specs.Operations.{Answer, Number, Fault, unary_answer, binary_answer, step_answer, is_true, decides, is_in}
 use Rattle.ep_typed.specs.Printing.{Result, Bytes, number_of, line_end, plain_text, wide_text, piece_events}
 use Rattle.ep_typed.specs.Printing as result
 use Rattle.ep_typed.specs.declared.operations.Print.{Print}
 use Rattle.ep_typed.specs.declared.run_error.TheConstants as run_error
 use Rattle.ep_typed.specs.declared.unit.UnitRoutine.{UnitRoutine}
 use Rattle.ep_typed.specs.declared.unit.UnitRoutine.TheViews.{out-UnitRoutine}
+use Rattle.ep_typed.specs.declared.tree.CaseRange.{CaseRange}
 use Rattle.ep_typed.specs.declared.unit.UnitType.{UnitType}
 use Rattle.ep_typed.specs.declared.unit.UnitVariable.{UnitVariable}
 use Rattle.ep_typed.specs.declared.value.TypeValue.{TypeValue}
@@ -88,6 +89,11 @@ module _ (call : Handler) (g : ℕ) (unit : List ℕ) where
   turns_until zero body test = cut
   turns_until (suc g) body test = bind body (λ _. bind test (λ r. spend 1 (if is_true (number_of r) then spend 1 (give tt) else turns_until g body test)))
 
+  -- The ranges of an arm are tried in order, up to the first one that has the value. One that is tried spends a step.
+  abbrev pub tried : ℤ → List CaseRange → Computation (Unit {0}) → Computation (Unit {0}) → Computation (Unit {0})
+  tried z [] fits fails = fails
+  tried z (r ∷ rs) fits fails = spend 1 (if is_in r z then fits else tried z rs fits fails)
+
   abbrev mutual
     -- a statement spends a step when it is done; the empty and the compound one spend none
     pub exec : Stmt → Computation (Unit {0})
@@ -98,12 +104,22 @@ module _ (call : Handler) (g : ℕ) (unit : List ℕ) where
     exec (While line x s) = turns g (eval line x) (exec s)
     exec (Repeat line ss x) = turns_until g (exec_all ss) (eval line x)
     exec (Procedure line of_unit number) = bind (call unit line of_unit number []) (λ results. spend 1 (give tt))
+    exec (Case line x arms o) = bind (eval line x) (λ r. exec_arms (number_of r) arms (exec_other line o))
     exec (Halt line) = stop Halted
     exec (Write line items ends_line) = write_items line items ends_line
 
     pub exec_all : Stmts → Computation (Unit {0})
     exec_all none = give tt
     exec_all (next s ss) = bind (exec s) (λ _. exec_all ss)
+
+    -- a `case`, whose selector has this value: the first arm with a range that has it, or what is done where none has it
+    pub exec_arms : ℤ → Arms → Computation (Unit {0}) → Computation (Unit {0})
+    exec_arms z no_arm fails = fails
+    exec_arms z (next_arm ranges s arms) fails = tried z ranges (bind (exec s) (λ _. spend 1 (give tt))) (exec_arms z arms fails)
+
+    pub exec_other : ℕ → Other → Computation (Unit {0})
+    exec_other line no_other = stop (Error run_error.NO_CASE unit line)
+    exec_other line (otherwise_do ss) = bind (exec_all ss) (λ _. spend 1 (give tt))
 
   -- A type is elaborated: it is counted, and then spends a step for its node. Constant bounds spend none, and a name
   -- spends what its definition does. A denoter without a type value has no meaning, and no valid unit has one.

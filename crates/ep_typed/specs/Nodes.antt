@@ -1,6 +1,9 @@
 -- How many typed nodes a unit has: its expressions, places, statements, imports, routines, formals, variables, denoters, bounds and values. An expression that is a constant or a text counts one, and its value one more.
 use Rattle.std.specs.Prelude.{ℕ, ◌+◌, List, [], ◌∷◌, length, map, sum, Option, Some, None}
 use Rattle.ep_typed.specs.Trees.{Denoter, Required, Named, Subrange, Enumeration, Place, Variable, Standard, Expr, Constant, Text, Read, One, Two, Short, Step, Item, Plain, Wide, Stmt, Stmts, Empty, Compound, Assign, If, While, Repeat, Procedure, Halt, Write, none, next}
+-- How many typed nodes a unit has: its expressions, places, statements, ranges of `case` statements, imports, routines, formals, variables, denoters, bounds and values. An expression that is a constant or a text counts one, and its value one more.
+use Rattle.std.specs.Prelude.{ℕ, ◌+◌, ◌*◌, List, [], ◌∷◌, length, map, sum, Option, Some, None}
+use Rattle.ep_typed.specs.Trees.{Denoter, Required, Named, Subrange, Enumeration, Place, Variable, Standard, Expr, Constant, Text, Read, One, Two, Short, Step, Item, Plain, Wide, Stmt, Stmts, Empty, Compound, Assign, If, While, Repeat, Case, Halt, Write, none, next, Arm, Arms, no_arm, next_arm, Other, no_other, otherwise_do}
 use Rattle.ep_typed.specs.Viewed.{denoter_of, expr_of, stmt_of}
 use Rattle.ep_typed.specs.declared.interface.ConstantEntry.{ConstantEntry}
 use Rattle.ep_typed.specs.declared.interface.Formal.{Formal}
@@ -57,12 +60,25 @@ abbrev mutual
   stmt_nodes (While line x s) = 1 + expr_nodes x + stmt_nodes s
   stmt_nodes (Repeat line ss x) = 1 + stmts_nodes ss + expr_nodes x
   stmt_nodes (Procedure line unit number) = 1
+  stmt_nodes (Case line x arms o) = 1 + expr_nodes x + arms_nodes arms + other_nodes o
   stmt_nodes (Halt line) = 1
   stmt_nodes (Write line items ends_line) = 1 + items_nodes items
 
   pub stmts_nodes : Stmts → ℕ
   stmts_nodes none = 0
   stmts_nodes (next s ss) = stmt_nodes s + stmts_nodes ss
+
+  -- each range is a node, and so are its two bounds
+  pub arms_nodes : Arms → ℕ
+  arms_nodes no_arm = 0
+  arms_nodes (next_arm ranges s arms) = 3 * length ranges + stmt_nodes s + arms_nodes arms
+
+  pub other_nodes : Other → ℕ
+  other_nodes no_other = 0
+  other_nodes (otherwise_do ss) = stmts_nodes ss
+
+abbrev pub arm_nodes : Arm → ℕ
+arm_nodes a = 3 * length a.0 + stmt_nodes a.1
 
 -- ---- declarations
 

@@ -8,6 +8,7 @@ use Rattle.ep_typed.specs.declared.operations.Binary.TheVariants as binary
 use Rattle.ep_typed.specs.declared.operations.ShortOperation.{ShortOperation}
 use Rattle.ep_typed.specs.declared.operations.ShortOperation.TheVariants as short
 use Rattle.ep_typed.specs.declared.run_error.TheConstants as run_error
+use Rattle.ep_typed.specs.declared.tree.CaseRange.{CaseRange}
 
 -- a number, or the number of an error
 pub data Answer : Type 0 where
@@ -83,3 +84,11 @@ decides short.OrElse x = is_true x
 abbrev pub step_answer : Bool → ℤ → ℤ → ℤ → ℤ → Answer
 step_answer false low high x n = within run_error.SUCCESSOR low high (x +ℤ n)
 step_answer true low high x n = within run_error.SUCCESSOR low high (x -ℤ n)
+
+-- whether a value is in a range of a `case`
+abbrev pub is_in : CaseRange → ℤ → Bool
+is_in r z = int_le r.low z && int_le z r.high
+
+-- whether no value is in two ranges of a `case`
+abbrev pub is_apart : CaseRange → CaseRange → Bool
+is_apart r s = int_lt r.high s.low || int_lt s.high r.low

@@ -1,10 +1,11 @@
 -- Typed trees as plain data, on which meaning, validity and code are defined by recursion.
-use Rattle.std.specs.Prelude.{ℕ, ℤ, Bool, List, [], ◌∷◌}
+use Rattle.std.specs.Prelude.{ℕ, ℤ, Bool, List, [], ◌∷◌, Option, Some, None}
 use Rattle.ep_typed.specs.declared.operations.Unary.{Unary}
 use Rattle.ep_typed.specs.declared.operations.Binary.{Binary}
 use Rattle.ep_typed.specs.declared.operations.ShortOperation.{ShortOperation}
 use Rattle.ep_typed.specs.declared.operations.Print.{Print}
 use Rattle.ep_typed.specs.declared.denoter.RequiredType.{RequiredType}
+use Rattle.ep_typed.specs.declared.tree.CaseRange.{CaseRange}
 use Rattle.ep_typed.specs.declared.tree.StandardFile.{StandardFile}
 
 -- a bound of a type: a constant, by its ordinal number
@@ -54,6 +55,8 @@ mutual
     Repeat : (line : ℕ) (body : Stmts) (condition : Expr) → Stmt
     -- the procedure of this number of the unit of this name is called
     Procedure : (line : ℕ) (unit : List ℕ) (number : ℕ) → Stmt
+    -- the selector, the arms, and what is done where no range of theirs has its value
+    Case : (line : ℕ) (selector : Expr) (arms : Arms) (other : Other) → Stmt
     Halt : (line : ℕ) → Stmt
     -- `write`, or with the mark `writeln`
     Write : (line : ℕ) (items : List Item) (ends_line : Bool) → Stmt
@@ -62,6 +65,28 @@ mutual
     none : Stmts
     next : (first : Stmt) (rest : Stmts) → Stmts
 
+  -- the arms of a `case`: the ranges of each, and its statement
+  pub data Arms : Type 0 where
+    no_arm : Arms
+    next_arm : (ranges : List CaseRange) (body : Stmt) (rest : Arms) → Arms
+
+  -- the `otherwise` part of a `case`, where there is one
+  pub data Other : Type 0 where
+    no_other : Other
+    otherwise_do : (statements : Stmts) → Other
+
 abbrev pub stmts : List Stmt → Stmts
 stmts [] = none
 stmts (s ∷ ss) = next s (stmts ss)
+
+-- an arm of a `case`
+abbrev pub Arm : Type 0
+Arm = List CaseRange × Stmt
+
+abbrev pub arms : List Arm → Arms
+arms [] = no_arm
+arms (a ∷ more) = next_arm a.0 a.1 (arms more)
+
+abbrev pub other : Option (List Stmt) → Other
+other None = no_other
+other (Some ss) = otherwise_do (stmts ss)

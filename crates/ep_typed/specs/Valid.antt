@@ -1,12 +1,12 @@
 -- Which typed trees the static rules give: each form has parts of the kinds, types and numbers that it asks for.
-use Rattle.std.specs.Prelude.{◌≡◌, ℕ, Bool, true, false, All, List, [], ◌∷◌, map, slice_get, Option, Some, None, IsTrue, int_le, ⊤, if◌then◌else◌}
+use Rattle.std.specs.Prelude.{◌≡◌, ℕ, Bool, true, false, All, List, [], ◌∷◌, ◌++◌, map, slice_get, Option, Some, None, IsTrue, int_le, ⊤, if◌then◌else◌}
 use Rattle.std.specs.Str.{bytes_eq}
 use Rattle.ep_typed.specs.Denoters.{definition_of, type_of, host_of}
 use Rattle.ep_typed.specs.Hosts.{Host, least, greatest, is_of_host}
 use Rattle.ep_typed.specs.Hosts as host
-use Rattle.ep_typed.specs.Operations.{is_integer}
+use Rattle.ep_typed.specs.Operations.{is_integer, is_apart}
 use Rattle.ep_typed.specs.Steps.{is_within}
-use Rattle.ep_typed.specs.Trees.{Denoter, Place, Variable, Standard, Expr, Constant, Text, Read, One, Two, Short, Step, Item, Plain, Wide, Stmt, Stmts, Empty, Compound, Assign, If, While, Repeat, Procedure, Halt, Write, none, next}
+use Rattle.ep_typed.specs.Trees.{Denoter, Place, Variable, Standard, Expr, Constant, Text, Read, One, Two, Short, Step, Item, Plain, Wide, Stmt, Stmts, Empty, Compound, Assign, If, While, Repeat, Procedure, Halt, Write, none, next, Case, Arms, no_arm, next_arm, Other, no_other, otherwise_do}
 use Rattle.ep_typed.specs.Viewed.{denoter_of, stmt_of}
 use Rattle.ep_typed.specs.declared.operations.Unary.{Unary}
 use Rattle.ep_typed.specs.declared.operations.Unary.TheVariants as unary
@@ -16,6 +16,7 @@ use Rattle.ep_typed.specs.declared.operations.Print.{Print}
 use Rattle.ep_typed.specs.declared.operations.Print.TheVariants as print
 use Rattle.ep_typed.specs.declared.interface.ConstantEntry.{ConstantEntry}
 use Rattle.ep_typed.specs.declared.interface.RoutineEntry.{RoutineEntry}
+use Rattle.ep_typed.specs.declared.tree.CaseRange.{CaseRange}
 use Rattle.ep_typed.specs.declared.value.TypeValue.{TypeValue}
 use Rattle.ep_typed.specs.declared.value.TypeValue.TheVariants as type
 use Rattle.ep_typed.specs.declared.value.Value.{Value}
@@ -87,6 +88,15 @@ printed_kind print.Text = Bytes
 -- the heading of a procedure without parameters
 abbrev pub IsProcedure : RoutineEntry → Type 0
 IsProcedure r = (r.formals ≡ []) × (r.result ≡ None)
+-- the ranges of all arms
+abbrev pub ranges_of : Arms → List CaseRange
+ranges_of no_arm = []
+ranges_of (next_arm ranges s arms) = ranges ++ ranges_of arms
+
+-- no value is in two ranges
+abbrev pub AreApart : List CaseRange → Type 0
+AreApart [] = ⊤
+AreApart (r ∷ rs) = All (λ s. IsTrue (is_apart r s)) rs × AreApart rs
 
 module _ (declared : Declarations) where
   -- the place of a variable that is declared, whose type has this host; a standard file is of no ordinal type
@@ -118,6 +128,15 @@ module _ (declared : Declarations) where
   WritesSomething [] true = ⊤
   WritesSomething (i ∷ is) ends_line = ⊤
 
+  -- the first value of a range is not above the last one, and both are of the host
+  abbrev pub IsRange : Host → CaseRange → Type 0
+  IsRange h r = IsTrue (int_le r.low r.high) × IsTrue (is_of_host h r.low) × IsTrue (is_of_host h r.high)
+
+  -- an arm has at least one range
+  abbrev pub HasRange : List CaseRange → Type 0
+  HasRange [] = ⊥
+  HasRange (r ∷ rs) = ⊤
+
   abbrev mutual
     pub IsStmt : Stmt → Type 0
     IsStmt Empty = ⊤
@@ -127,12 +146,22 @@ module _ (declared : Declarations) where
     IsStmt (While line x s) = IsExpr (Ordinal host.Boolean) x × IsStmt s
     IsStmt (Repeat line ss x) = AreStmts ss × IsExpr (Ordinal host.Boolean) x
     IsStmt (Procedure line unit number) = (r : RoutineEntry) × (slice_get (declared.routines unit) number ≡ Some r) × IsProcedure r
+    IsStmt (Case line x arms o) = ((h : Host) × IsExpr (Ordinal h) x × AreArms h arms) × IsOther o × AreApart (ranges_of arms)
     IsStmt (Halt line) = ⊤
     IsStmt (Write line items ends_line) = AreItems items × WritesSomething items ends_line
 
     pub AreStmts : Stmts → Type 0
     AreStmts none = ⊤
     AreStmts (next s ss) = IsStmt s × AreStmts ss
+
+    -- the selector has this host
+    pub AreArms : Host → Arms → Type 0
+    AreArms h no_arm = ⊤
+    AreArms h (next_arm ranges s arms) = HasRange ranges × All (IsRange h) ranges × IsStmt s × AreArms h arms
+
+    pub IsOther : Other → Type 0
+    IsOther no_other = ⊤
+    IsOther (otherwise_do ss) = AreStmts ss
 
 -- a type is not empty, and its values are integers of the host
 abbrev pub IsTypeOf : Host → TypeValue → Type 0

@@ -1,5 +1,6 @@
 -- The plain data of the code's typed trees.
-use Rattle.std.specs.Prelude.{Option, None, Some, map}
+use Rattle.std.specs.Prelude.{List, Option, None, Some, map}
+use Rattle.std.specs.Option.{option_map}
 use Rattle.ep_typed.specs.Trees as tree
 use Rattle.ep_typed.specs.declared.denoter.Bound.{Bound}
 use Rattle.ep_typed.specs.declared.denoter.Bound.TheVariants.{Constant}
@@ -17,8 +18,9 @@ use Rattle.ep_typed.specs.declared.tree.TypedExpr.TheFolds.{fold-TypedExpr}
 use Rattle.ep_typed.specs.declared.tree.WriteItem.{WriteItem}
 use Rattle.ep_typed.specs.declared.tree.TypedStmt.{TypedStmt}
 use Rattle.ep_typed.specs.declared.tree.TypedStmt.TheOpen as stmt
-use Rattle.ep_typed.specs.declared.tree.TypedStmt.TheOpen.{TypedStmt-F}
-use Rattle.ep_typed.specs.declared.tree.TypedStmt.TheFolds.{fold-TypedStmt}
+use Rattle.ep_typed.specs.declared.tree.TypedStmt.TheOpen.{TypedStmt-F, CaseArm-F}
+use Rattle.ep_typed.specs.declared.tree.TypedStmt.TheFolds.{fold-TypedStmt, fold-CaseArm}
+use Rattle.ep_typed.specs.declared.tree.CaseArm.{CaseArm}
 
 abbrev pub bound_of : Bound → tree.Bound
 bound_of (Constant value) = tree.Fixed value
@@ -55,7 +57,7 @@ wide print value (Some width) = tree.Wide print (expr_of value) (expr_of width)
 abbrev pub item_of : WriteItem → tree.Item
 item_of i = wide i.print i.value i.width
 
-abbrev pub stmt_step : TypedStmt-F tree.Stmt → tree.Stmt
+abbrev pub stmt_step : TypedStmt-F tree.Stmt tree.Arm → tree.Stmt
 stmt_step stmt.Empty = tree.Empty
 stmt_step (stmt.Compound statements) = tree.Compound (tree.stmts statements)
 stmt_step (stmt.Assign line place value) = tree.Assign line (place_of place) (expr_of value)
@@ -63,8 +65,18 @@ stmt_step (stmt.If line condition then_part else_part) = tree.If line (expr_of c
 stmt_step (stmt.While line condition body) = tree.While line (expr_of condition) body
 stmt_step (stmt.Repeat line body condition) = tree.Repeat line (tree.stmts body) (expr_of condition)
 stmt_step (stmt.Procedure line unit number) = tree.Procedure line unit number
+stmt_step (stmt.Case line selector arms other) = tree.Case line (expr_of selector) (tree.arms arms) (tree.other other)
 stmt_step (stmt.Halt line) = tree.Halt line
 stmt_step (stmt.Write line items ends_line) = tree.Write line (map item_of items) ends_line
 
+abbrev pub arm_step : CaseArm-F tree.Stmt tree.Arm → tree.Arm
+arm_step a = (a.ranges, a.body)
+
 abbrev pub stmt_of : TypedStmt → tree.Stmt
-stmt_of = fold-TypedStmt tree.Stmt stmt_step
+stmt_of = fold-TypedStmt tree.Stmt tree.Arm stmt_step arm_step
+
+abbrev pub arm_of : CaseArm → tree.Arm
+arm_of = fold-CaseArm tree.Stmt tree.Arm stmt_step arm_step
+
+abbrev pub other_of : Option (List TypedStmt) → tree.Other
+other_of other = tree.other (option_map (map stmt_of) other)

@@ -2,12 +2,13 @@
 
 ghost use Rattle.std.specs.Prelude.{◌≡◌, min, map, sum};
 ghost use Rattle.ep_typed.specs.Nodes as nodes;
-ghost use Rattle.ep_typed.specs.Viewed.{denoter_of, expr_of, item_of, place_of, stmt_of};
+ghost use Rattle.ep_typed.specs.Viewed.{arm_of, denoter_of, expr_of, item_of, place_of, stmt_of};
+ghost use Rattle.ep_typed.specs.Trees as tree;
 ghost use Rattle.ep_typed.specs.Trees.{stmts};
 
 use crate::denoter::Denoter;
 use crate::interface::{ConstantEntry, Formal, RoutineResult, SchemaFormal};
-use crate::tree::{TypedExpr, TypedPlace, TypedStmt, WriteItem};
+use crate::tree::{CaseArm, TypedExpr, TypedPlace, TypedStmt, WriteItem};
 use crate::unit::{Unit, UnitRoutine, UnitType, UnitVariable};
 
 /// The typed nodes of a unit, at most the greatest `u64`. It takes no memory.
@@ -178,6 +179,16 @@ fn statement(s: &TypedStmt) -> u64
                 .saturating_add(expression(condition.get()))
                 .saturating_add(1)
         }
+        TypedStmt::Case(_, selector, all, other) => {
+            let otherwise = match other {
+                None => 0,
+                Some(all) => statements(all.items()),
+            };
+            expression(selector.get())
+                .saturating_add(arms(all.items()))
+                .saturating_add(otherwise)
+                .saturating_add(1)
+        }
         TypedStmt::Write(_, all, _) => items(all.items()).saturating_add(1),
     }
 }
@@ -191,6 +202,26 @@ fn statements(all: &[TypedStmt]) -> u64
         total = statement(s).saturating_add(total);
     }
     total
+}
+
+#[cycle(statements)]
+fn arms(all: &[CaseArm]) -> u64
+    ensures { result ≡ min (nodes.arms_nodes (tree.arms (map arm_of all.now))) u64.MAX }
+{
+    let mut total = 0;
+    for a in all {
+        total = arm(a).saturating_add(total);
+    }
+    total
+}
+
+#[cycle(statements)]
+fn arm(a: &CaseArm) -> u64
+    ensures { result ≡ min (nodes.arm_nodes (arm_of a.now)) u64.MAX }
+{
+    (a.ranges.items().len() as u64)
+        .saturating_mul(3)
+        .saturating_add(statement(a.body.get()))
 }
 
 fn items(all: &[WriteItem]) -> u64

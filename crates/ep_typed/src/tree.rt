@@ -75,7 +75,20 @@ impl Drop for WriteItem {
 /// The values that a statement writes, in order.
 pub type WriteItems = List<WriteItem>;
 
+/// The values from the first to the second, for which an arm of a `case` is done (ISO 10206, 6.9.3.5).
+#[derive(Clone, Copy, Drop)]
+pub struct CaseRange {
+    /// The first value.
+    pub low: i64,
+    /// The last one.
+    pub high: i64,
+}
+
+/// The ranges of an arm, in order.
+pub type CaseRanges = List<CaseRange>;
+
 /// A statement, with the line of its first token (ISO 10206, 6.9.1).
+#[cycle(statement)]
 #[derive(Drop)]
 pub enum TypedStmt {
     /// The empty statement.
@@ -93,6 +106,8 @@ pub enum TypedStmt {
     /// A procedure statement of the procedure of this number of the unit of this name, which has no parameters
     /// (ISO 10206, 6.9.2.3).
     Procedure(Line, Name, u32),
+    /// `case`: the selector, the arms in order, and the statements where no range of theirs has its value.
+    Case(Line, Boxed<TypedExpr>, CaseArms, Option<TypedStmts>),
     /// `halt`
     Halt(Line),
     /// `write`, or with the flag `writeln`, to `output`.
@@ -101,3 +116,16 @@ pub enum TypedStmt {
 
 /// Statements in order.
 pub type TypedStmts = List<TypedStmt>;
+
+/// An arm of a `case`: a statement, and the ranges of values for which it is done.
+#[cycle(statement)]
+#[derive(Drop)]
+pub struct CaseArm {
+    /// The ranges.
+    pub ranges: CaseRanges,
+    /// The statement.
+    pub body: Boxed<TypedStmt>,
+}
+
+/// The arms of a `case`, in order.
+pub type CaseArms = List<CaseArm>;

@@ -7,7 +7,7 @@ use Rattle.ep_object.specs.Effects.{Continues, Fails, is_zero}
 use Rattle.ep_object.specs.Matching.{Memory, at}
 use Rattle.ep_object.specs.Operands.{Operand, Word}
 use Rattle.ep_object.specs.Runs.{Outcome, outcome, outcome_of, after, enter, unit_in}
-use Rattle.ep_object.specs.State.{Going, Running, Stopped, Halt}
+use Rattle.ep_object.specs.State.{Going, Running, Stopped, Halt, Error}
 use Rattle.ep_object.specs.Table.{on_operands}
 use Rattle.ep_object.specs.WordRows as rows
 use Rattle.ep_object.specs.WordRows.{integer_row, div_of}
@@ -177,6 +177,11 @@ module _ (G : Image) (place line : ℕ) (below : List Operand) where
       let z : ℤ = x +ℤ n in
       outcome_at G i place (Word high ∷ Word low ∷ Word n ∷ Word x ∷ below) memory trace has ∙ ap in_one (checked G i place (Word high ∷ Word low ∷ Word n ∷ Word x ∷ below) below memory trace (int_le low z && int_le z high) z run_error.SUCCESSOR)
 
+  -- `Between`, of three words
+  pub between_pushes : (x low high : ℤ) → slice_get G.instructions place ≡ Some (instr op.BETWEEN (pos 0) 0 line) → RowPushes G place (Word high ∷ Word low ∷ Word x ∷ below) 0 (Word (ordinal_of (int_le low x && int_le x high)) ∷ below)
+  between_pushes x low high has memory trace =
+      outcome_at G (instr op.BETWEEN (pos 0) 0 line) place (Word high ∷ Word low ∷ Word x ∷ below) memory trace has ∙ compared memory trace (int_le low x && int_le x high)
+
   -- ---- jumps
 
   -- `Jump`
@@ -194,6 +199,11 @@ module _ (G : Image) (place line : ℕ) (below : List Operand) where
       either false = refl
 
   -- ---- ends
+
+  -- `Fail`, by an error that there is
+  pub fail_fails : (error : ℕ) → rows.is_error (pos error) ≡ true → slice_get G.instructions place ≡ Some (instr op.FAIL (pos error) 0 line) → (memory : Memory) (trace : Trace) → outcome G (at place below memory trace) ≡ record { weight = 0; to = Stopped (Error error (unit_in G memory.frames) line) trace }
+  fail_fails error is has memory trace =
+      outcome_at G (instr op.FAIL (pos error) 0 line) place below memory trace has ∙ rw is refl
 
   -- `Halt`
   pub halt_halts : slice_get G.instructions place ≡ Some (instr op.HALT (pos 0) 0 line) → (memory : Memory) (trace : Trace) → outcome G (at place below memory trace) ≡ record { weight = 0; to = Stopped Halt trace }

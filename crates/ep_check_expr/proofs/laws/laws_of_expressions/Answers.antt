@@ -1,4 +1,4 @@
-use Rattle.ep_check_expr.proofs.Lawful.{expressions_are_sound, values_are_sound, constants_are_sound, bounds_are_sound, expressions_are_known, constants_are_known, bounds_are_known}
+use Rattle.ep_check_expr.proofs.Lawful.{expressions_are_sound, values_are_sound, constants_are_sound, bounds_are_sound, labels_are_sound, expressions_are_known, constants_are_known, bounds_are_known}
 use Rattle.ep_check_expr.proofs.laws.laws_of_expressions.Goals as goal
 
 pub returns-clause-expressions : goal.returns-clause-expressions
@@ -12,6 +12,9 @@ returns-clause-constants c = constants_are_sound
 
 pub returns-clause-bounds : goal.returns-clause-bounds
 returns-clause-bounds c = bounds_are_sound
+
+pub returns-clause-labels : goal.returns-clause-labels
+returns-clause-labels c = labels_are_sound
 
 pub returns-clause-hosts : goal.returns-clause-hosts
 returns-clause-hosts c = expressions_are_known

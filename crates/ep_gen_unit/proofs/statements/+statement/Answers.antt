@@ -1,10 +1,13 @@
-use Rattle.std.proofs.Common.{◌≡◌, map, w64, arith, OnOk, subst, sym, ap, ◌∙◌}
+use Rattle.std.proofs.Common.{◌≡◌, ◌+◌, [], ◌∷◌, Some, None, map, w64, arith, OnOk, subst, sym, ap, ◌∙◌}
 use Rattle.std.proofs.lemmas.Int.{to_z_pos}
-use Rattle.ep_typed.specs.Trees.{Compound, Repeat, stmts}
-use Rattle.ep_typed.specs.Viewed.{expr_of, stmt_of}
+use Rattle.ep_typed.specs.Trees.{Compound, Repeat, Case, Arm, stmts, arms, no_other, otherwise_do}
+use Rattle.ep_typed.specs.Viewed.{expr_of, stmt_of, arm_of}
 use Rattle.ep_gen_expr.proofs.Forms.{on_ok}
-use Rattle.ep_gen_unit.specs.StmtGrowth.{AppendsStmt}
-use Rattle.ep_gen_unit.proofs.Compounds.{compound_is, repeat_is}
+use Rattle.ep_gen_unit.specs.StmtGrowth.{AppendsArms, AppendsStmt}
+use Rattle.ep_typed.specs.declared.tree.CaseArm.{out-CaseArm}
+use Rattle.ep_typed.specs.declared.tree.TypedStmt.TheVariants as typed
+use Rattle.ep_gen_unit.proofs.CaseForms.{appends_arm, arms_more, appends_otherwise, opens_case, closes_case, appends_case}
+use Rattle.ep_gen_unit.proofs.Compounds.{arm_is, compound_is, repeat_is, case_is}
 use Rattle.ep_gen_unit.proofs.StmtForms.{appends_compound, appends_if, appends_repeat, appends_while, stmts_more}
 use Rattle.ep_gen_unit.proofs.statements.+statement.Goals as goal
 
@@ -40,3 +43,45 @@ statement_code-returns-in-Compound t c =
     let is : stmt_of c.args.s.now ≡ Compound (stmts (map stmt_of statements)) = ap stmt_of c.in-Compound.is ∙ compound_is statements in
     subst (λ s. OnOk c.compound_code.result (AppendsStmt c.args.code.now c.compound_code.new.code s)) (sym is)
     (on_ok c.compound_code.result (appends_compound c.args.code.now (stmts (map stmt_of statements))) (rw c.items.ensures at c.compound_code.ensures))
+
+pub arms_code-loop-arm-preserved : goal.arms_code-loop-arm-preserved
+arms_code-loop-arm-preserved t c =
+    arms_more c.args.line c.args.leave c.args.code.now arm_of c.args.arms.now c.loop-arm.arm-index c.arm-item.result c.loop-arm-test.true c.arm-item.is c.loop-arm.invariant c.in_ok-arm_code.ensures
+
+pub arm_code-returns : goal.arm_code-returns
+arm_code-returns t c =
+    let leave = to_z_pos w64 c.args.leave (omega (arith, c.ranges.leave.fits)) in
+    let is = arm_is c.args.arm.now in
+    let over = c.emit-2.new.code in
+    subst (λ (x : Arm). OnOk c.land.result (AppendsArms c.args.line c.args.leave c.args.code.now c.land.new.code (arms (x ∷ [])))) (sym is)
+    (on_ok c.land.result (appends_arm c.args.code.now c.statement_code.new.code c.args.line c.args.leave c.in_ok-over.over (out-CaseArm c.args.arm.now).ranges (stmt_of (out-CaseArm c.args.arm.now).body)
+    (rw c.items.ensures at c.in_ok-tests_code.ensures) c.in_ok-over.ensures c.in_ok-emit.ensures (rw c.get.ensures at c.in_ok-statement_code.ensures) (rw leave at c.in_ok-emit-2.ensures)) c.land.ensures)
+
+pub open_case-returns : goal.open_case-returns
+open_case-returns t c =
+    let start = to_z_pos w64 (c.in_ok-start.start + 2) (omega (arith, c.in_ok-start.ensures.small)) in
+    opens_case c.args.code.now c.args.line c.in_ok-start.start c.in_ok-leave.leave (expr_of c.args.selector.now) (arms (map arm_of c.args.arms.now)) c.in_ok-expression_code.ensures c.in_ok-start.ensures (rw start at c.in_ok-emit.ensures) c.in_ok-leave.ensures c.in_ok-arms_code.ensures
+
+pub otherwise_code-returns : goal.otherwise_code-returns
+otherwise_code-returns t c =
+    on_ok c.land.result (closes_case c.args.code.now c.args.line c.args.leave (otherwise_do (stmts (map stmt_of c.args.statements.now))) (appends_otherwise c.args.code.now c.args.line (stmts (map stmt_of c.args.statements.now)) c.in_ok-emit.ensures c.in_ok-compound_code.ensures)) c.land.ensures
+
+pub statement_code-returns-in-None : goal.statement_code-returns-in-None
+statement_code-returns-in-None t c =
+    let line = c.in-Case.line in
+    let leave = c.in_ok-leave-in-Case.leave in
+    let is : stmt_of c.args.s.now ≡ Case line (expr_of c.in-Case.selector) (arms (map arm_of c.in-Case.arms)) no_other =
+    ap stmt_of (c.in-Case.is ∙ ap (λ o. typed.Case line c.in-Case.selector c.in-Case.arms o) c.in-None.is) ∙ case_is line c.in-Case.selector c.in-Case.arms None in
+    subst (λ s. OnOk c.fail_code.result (AppendsStmt c.args.code.now c.fail_code.new.code s)) (sym is)
+    (on_ok c.fail_code.result (appends_case c.args.code.now line leave (expr_of c.in-Case.selector) (arms (map arm_of c.in-Case.arms)) no_other (rw (c.items-in-Case.ensures, c.get-in-Case.ensures) at c.in_ok-leave-in-Case.ensures)) c.fail_code.ensures)
+
+pub statement_code-returns-in-Some : goal.statement_code-returns-in-Some
+statement_code-returns-in-Some t c =
+    let line = c.in-Case.line in
+    let leave = c.in_ok-leave-in-Case.leave in
+    let statements = c.in-Some.statements in
+    let is : stmt_of c.args.s.now ≡ Case line (expr_of c.in-Case.selector) (arms (map arm_of c.in-Case.arms)) (otherwise_do (stmts (map stmt_of statements))) =
+    ap stmt_of (c.in-Case.is ∙ ap (λ o. typed.Case line c.in-Case.selector c.in-Case.arms o) c.in-Some.is) ∙ case_is line c.in-Case.selector c.in-Case.arms (Some statements) in
+    subst (λ s. OnOk c.otherwise_code.result (AppendsStmt c.args.code.now c.otherwise_code.new.code s)) (sym is)
+    (on_ok c.otherwise_code.result (appends_case c.args.code.now line leave (expr_of c.in-Case.selector) (arms (map arm_of c.in-Case.arms)) (otherwise_do (stmts (map stmt_of statements))) (rw (c.items-in-Case.ensures, c.get-in-Case.ensures) at c.in_ok-leave-in-Case.ensures))
+    (rw c.items-in-Some.ensures at c.otherwise_code.ensures))
