@@ -6,12 +6,14 @@ ghost use Rattle.std.specs.Prelude.{OnOk, map, IfOk, ◌<◌, length, [], ◌∷
 ghost use Rattle.ep_typed.specs.Trees.{Compound, Assign, If, While, Repeat, Procedure, Halt, Write, stmts};
 ghost use Rattle.ep_typed.specs.Viewed.{expr_of, item_of, place_of, stmt_of, arm_of};
 ghost use Rattle.ep_gen_unit.specs.StmtGrowth.{AppendsStmt, AppendsStmts, AppendsArms, ClosesCase, OpensCase};
+ghost use Rattle.ep_typed.specs.Trees as tree;
 
 use crate::items::items_code;
-use ep_base::{Line, Name, NoMemory};
-use ep_gen_expr::{Code, emit, expression_code, land, leave_hole, next_place, place_code, reference_number};
-ghost use Rattle.ep_typed.specs.Trees as tree;
 use crate::ranges::tests_code;
+use ep_base::{Line, Name, NoMemory};
+use ep_gen_expr::{
+    Code, emit, expression_code, land, leave_hole, next_place, place_code, reference_number,
+};
 use ep_object::op;
 use ep_typed::{CaseArm, TypedExpr, TypedPlace, TypedStmt, WriteItem, run_error};
 use std::alloc::Global;

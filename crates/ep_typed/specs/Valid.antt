@@ -88,6 +88,7 @@ printed_kind print.Text = Bytes
 -- the heading of a procedure without parameters
 abbrev pub IsProcedure : RoutineEntry → Type 0
 IsProcedure r = (r.formals ≡ []) × (r.result ≡ None)
+
 -- the ranges of all arms
 abbrev pub ranges_of : Arms → List CaseRange
 ranges_of no_arm = []

@@ -213,8 +213,7 @@ module _ (declared : Declarations) (G : Image) (routine : ℕ) (r : ImageRoutine
             let at_return : k1 ≡ at ret below lands.memory s1.trace = lands.is ∙ ap (λ st. at ret st lands.memory s1.trace) inside.operands_are in
             let later : Memory = left_memory memory.frames.calls lands.memory in
             let grown : Grown untouched injection memory lands.injection later = grown_left {untouched = untouched} {injection = injection} {longer = lands.injection} {memory = memory} {after = lands.memory} place inside.grown in
-            let runs : SameRoutine memory.frames later.frames = record { turn = same.turn; routine = same.routine; unit = same.unit; calls = same_call-refl memory.frames.calls } in
-            (
+            let runs : SameRoutine memory.frames later.frames = record { turn = same.turn; routine = same.routine; unit = same.unit; calls = same_call-refl memory.frames.calls } in (
               subst (λ (k : State). In k) (sym at_return) (not_left-called memory.frames lands.memory.frames (its_frame place) (not_left-same same)),
               (
                 at (place + 1) below later s1.trace,
