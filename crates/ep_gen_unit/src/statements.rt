@@ -150,8 +150,8 @@ fn repeat_code(
     emit(code, op::JUMP_FALSE, start as i64, 0)
 }
 
-/// Appends the beginning of the code of a `case`: the selector, the jump over the one jump out of the `case`, a filler for
-/// that jump, by which each arm leaves, and the arms. It answers the place of the filler.
+/// Appends the beginning of the code of a `case`: the selector, the jump over the one jump out of the `case`, a filler
+/// for that jump, by which each arm leaves, and the arms. It answers the place of the filler.
 #[cycle(statement)]
 fn open_case(
     alloc: Global,
@@ -182,8 +182,8 @@ fn fail_code(line: Line, leave: u32, code: &mut Code) -> Result<(), NoMemory>
     land(code, leave, op::JUMP, line)
 }
 
-/// Appends the end of the code of a `case` with `otherwise`: these statements without the value of the selector, and the
-/// jump out of the `case`.
+/// Appends the end of the code of a `case` with `otherwise`: these statements without the value of the selector, and
+/// the jump out of the `case`.
 #[cycle(statement)]
 fn otherwise_code(
     alloc: Global,
@@ -219,8 +219,8 @@ fn arms_code(
     Ok(())
 }
 
-/// Appends the code of an arm: its tests, the jump over its statement, the statement without the value of the selector,
-/// and the jump to the place from which the `case` is left.
+/// Appends the code of an arm: its tests, the jump over its statement, the statement without the value of the
+/// selector, and the jump to the place from which the `case` is left.
 #[cycle(statement)]
 fn arm_code(
     alloc: Global,
