@@ -10,7 +10,7 @@
 -- - the type denoter, for an initial state
 -- - the type denoter without its initial state, for `bindable`
 -- - the type itself, for what is no name, no subrange and no enumeration, for a name with a tuple, and for a name that is not built
--- - the statement, for an assignment to something else than a name that is built, for a call of something else than `write`, `writeln` and `halt` or with other selectors than one pair of parentheses, and for what is no assignment, call, compound, empty, `if`, `while` or `repeat` statement
+-- - the statement, for an assignment to something else than a name that is built, for a call of something else than `write`, `writeln` and `halt` or with other selectors than one pair of parentheses, and for what is no assignment, call, compound, empty, `if`, `case`, `while` or `repeat` statement
 -- - the structured value, with the name of its type or without
 -- - the expression, the simple expression or the term, for an operator that is not built
 -- - the factor, for `nil`, for a set, and for a character string of another length than one that is not the whole value of an argument of a `write` or `writeln` statement
@@ -166,13 +166,14 @@ built_call_selectors _ = false
 abbrev pub built_call : Access → Bool
 built_call a = built_procedure (out-Access a).name && built_call_selectors (out-Access a).selectors
 
--- a statement is empty, an assignment, a call, compound, an `if`, a `while` or a `repeat`
+-- a statement is empty, an assignment, a call, compound, an `if`, a `case`, a `while` or a `repeat`
 abbrev pub built_statement : {A B C D : Type 0} → Statement-F A B C D → Bool
 built_statement (Statement-F.Empty line) = true
 built_statement (Statement-F.Assignment line access value) = built_target access
 built_statement (Statement-F.Call line access) = built_call access
 built_statement (Statement-F.Compound compound) = true
 built_statement (Statement-F.If line condition body other) = true
+built_statement (Statement-F.Case line selector arms other) = true
 built_statement (Statement-F.While line condition body) = true
 built_statement (Statement-F.Repeat line statements condition) = true
 built_statement _ = false

@@ -2,10 +2,10 @@
 
 ghost use Rattle.ep_check_expr.specs.Laws.{ExpressionsAreSound, ValuesAreSound, ConstantsAreSound, BoundsAreSound, LabelsAreSound, ExpressionsAreKnown, ConstantsAreKnown, BoundsAreKnown};
 
-/// Does nothing: its contract states that what the rules accept is valid. The typed form of an expression and of a value
-/// that they accept is a valid form of its kind, and a constant, a bound and a label that they accept is a value of its
-/// kind, under all declarations that hold what the scopes declare. The host of each is a required type or that of something
-/// that the scopes declare.
+/// Does nothing: its contract states that what the rules accept is valid. The typed form of an expression and of a
+/// value that they accept is a valid form of its kind, and a constant, a bound and a label that they accept is a value
+/// of its kind, under all declarations that hold what the scopes declare. The host of each is a required type or that
+/// of something that the scopes declare.
 pub fn laws_of_expressions()
     ensures expressions { ExpressionsAreSound }
     ensures values { ValuesAreSound }

@@ -3,8 +3,8 @@
 //! `typed_expression` and `written_expression` answer the typed form of an expression whose forms are all built, or a rule
 //! that fails in it; `constant_value`, `bound_value` and `label_value` the value of a constant expression.
 //! specs/Expressions.antt says which typed form an expression has and which rules fail, by one clause for each
-//! production; specs/Operators.antt, specs/Functions.antt, specs/Names.antt and specs/Constants.antt have the rules, on parts that are accepted. By
-//! `laws_of_expressions` what they accept is valid.
+//! production; specs/Operators.antt, specs/Functions.antt, specs/Names.antt and specs/Constants.antt have the rules, on
+//! parts that are accepted. By `laws_of_expressions` what they accept is valid.
 #![tactic(auto)]
 
 mod answers;

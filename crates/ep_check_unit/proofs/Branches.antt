@@ -9,7 +9,7 @@ use Rattle.ep_tree.specs.declared.statement.Statement.TheOpen.{Statement-F}
 use Rattle.ep_tree.specs.declared.statement.Statement.TheVariants as statement
 use Rattle.ep_typed.specs.Trees as tree
 use Rattle.ep_typed.specs.Trees.{Stmt, Stmts}
-use Rattle.ep_check_unit.specs.Statements.{Context, Judgement, after, at_arm, at_compound, at_otherwise, at_statement, condition_judged, statement_judged}
+use Rattle.ep_check_unit.specs.Statements.{ArmJudged, Context, Judgement, after, at_arm, at_compound, at_otherwise, at_statement, condition_judged, statement_judged}
 use Rattle.ep_check_unit.proofs.Rounds.{first_built, rest_of}
 
 -- a `while` statement is judged by its parts
@@ -17,7 +17,7 @@ pub while_is : (context : Context) (line : ℕ) (e : Expression) (body : Stateme
     → statement_judged context (statement.While line e body) ≡ after (tree.While line) (condition_judged context line e) (statement_judged context body)
 while_is context line e body =
     ap (statement_judged context) (sym (statement.rolls-While line e body))
-    ∙ fold-roll-Statement (Judgement Stmt) (Unit {0}) (Judgement Stmts) (Unit {0}) (at_statement context) (at_arm context) (at_compound context) (at_otherwise context) (Statement-F.While line e body)
+    ∙ fold-roll-Statement (Judgement Stmt) ArmJudged (Judgement Stmts) (Judgement Stmts) (at_statement context) (at_arm context) (at_compound context) (at_otherwise context) (Statement-F.While line e body)
 
 if_unbuilt : (line : ℕ) (e : Expression) (then : Statement) (other : Option Statement)
     → statement_unbuilt (statement.If line e then other) ≡ option_or (expression_unbuilt e) (option_or (statement_unbuilt then) (first_if (option_map statement_unbuilt other)))

@@ -1,5 +1,6 @@
 pub mod Branches
 pub mod Called
+pub mod CaseParts
 pub mod Defined
 pub mod Fits
 pub mod Gathered

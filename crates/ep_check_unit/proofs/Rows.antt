@@ -16,7 +16,7 @@ use Rattle.ep_check_expr.specs.declared.forms.Refusal.{Refusal}
 use Rattle.ep_check_expr.specs.declared.forms.Refusal.TheVariants.{Rule, NoMemory}
 use Rattle.ep_check_unit.specs.Answers.{AnswersForm, AnswersRow, RefusesRow, passed}
 use Rattle.ep_check_unit.specs.Outcomes.{item_at}
-use Rattle.ep_check_unit.specs.Statements.{Context, Judgement, Passes, Waits, Fails, after, at_arm, at_compound, at_item, at_otherwise, at_statement, in_order, statement_judged}
+use Rattle.ep_check_unit.specs.Statements.{ArmJudged, Context, Judgement, Passes, Waits, Fails, after, at_arm, at_compound, at_item, at_otherwise, at_statement, in_order, statement_judged}
 use Rattle.ep_check_unit.specs.declared.outcome.CheckRefusal.{CheckRefusal}
 use Rattle.ep_check_unit.specs.declared.outcome.CheckRefusal.TheVariants as refusal
 use Rattle.ep_check_unit.specs.declared.outcome.Outcome.{Outcome}
@@ -143,4 +143,4 @@ all_together judge all n found waits h none_waits same =
 pub assignment_is : (context : Context) (line : ℕ) (access : Access) (v : ComponentValue) → statement_judged context (statement.Assignment line access v) ≡ at_statement context (Statement-F.Assignment line access v)
 assignment_is context line access v =
     ap (statement_judged context) (sym (statement.rolls-Assignment line access v))
-    ∙ fold-roll-Statement (Judgement Stmt) (Unit {0}) (Judgement Stmts) (Unit {0}) (at_statement context) (at_arm context) (at_compound context) (at_otherwise context) (Statement-F.Assignment line access v)
+    ∙ fold-roll-Statement (Judgement Stmt) ArmJudged (Judgement Stmts) (Judgement Stmts) (at_statement context) (at_arm context) (at_compound context) (at_otherwise context) (Statement-F.Assignment line access v)

@@ -5,5 +5,7 @@ pub mod Meant
 pub mod Constants
 pub mod Types
 pub mod Items
+pub mod Passing
+pub mod Cases
 pub mod Statements
 pub mod Units

@@ -3,7 +3,11 @@ use Rattle.std.specs.Prelude.{◌≡◌, ℕ, nat_eq, Bool, List, [], ◌∷◌,
 use Rattle.std.specs.List.{list_any}
 use Rattle.std.specs.Option.{option_map}
 use Rattle.ep_typed.specs.Trees.{Item, Stmts, stmts}
-use Rattle.ep_typed.specs.Viewed.{expr_of, item_of, place_of, stmt_of}
+use Rattle.ep_typed.specs.Viewed.{expr_of, item_of, place_of, stmt_of, arm_of}
+use Rattle.ep_tree.specs.declared.expression.Label.{Label}
+use Rattle.ep_tree.specs.declared.statement.Arm.{Arm, out-Arm}
+use Rattle.ep_typed.specs.Trees as tree
+use Rattle.ep_typed.specs.declared.tree.CaseArm.{CaseArm}
 use Rattle.ep_typed.specs.declared.denoter.Denoter.{Denoter}
 use Rattle.ep_typed.specs.declared.denoter.Denoter.TheVariants as denoter
 use Rattle.ep_typed.specs.declared.value.Value.{Value}
@@ -19,7 +23,10 @@ use Rattle.ep_check_unit.specs.Declarations as spec
 use Rattle.ep_check_unit.specs.Declarations.{Standing, Stands, falls_at}
 use Rattle.ep_check_unit.specs.Statements.{Judgement, Passes, Shown, Waits, fails_at}
 use Rattle.ep_check_unit.specs.Statements as rows
+use Rattle.ep_check_unit.specs.Cases as cases
 use Rattle.ep_check_unit.specs.declared.block.Block.{Block}
+use Rattle.ep_check_unit.specs.declared.cases.Labels.{Labels}
+use Rattle.ep_check_unit.specs.declared.cases.CaseSelector.{CaseSelector}
 use Rattle.ep_check_unit.specs.declared.outcome.CheckRefusal.{CheckRefusal}
 use Rattle.ep_check_unit.specs.declared.outcome.CheckRefusal.TheVariants as refusal
 use Rattle.ep_check_unit.specs.declared.outcome.Outcome.{Outcome}
@@ -55,6 +62,11 @@ AnswersForm view (Err refusal) judged = Refuses refusal judged
 abbrev pub AnswersBlock : Result (Unit {0}) Refusal → Block → Judged Block → Type 0
 AnswersBlock (Ok done) new judged = judged ≡ Accepts new
 AnswersBlock (Err refusal) new judged = Refuses refusal judged
+
+-- the labels after what is judged, exactly where it is accepted, or a refusal
+abbrev pub AnswersLabels : Result (Unit {0}) Refusal → Labels → Judged Labels → Type 0
+AnswersLabels (Ok done) new judged = judged ≡ Accepts new
+AnswersLabels (Err refusal) new judged = Refuses refusal judged
 
 -- a rule that fails at the first item that breaks one, or want of memory
 abbrev pub RefusesItems : CheckRefusal → Standing → Type 0
@@ -106,6 +118,16 @@ target_of t = record { place = place_of t.place; kind = t.kind }
 -- statements and written items, as plain data
 abbrev pub stmts_of : List TypedStmt → Stmts
 stmts_of ts = stmts (map stmt_of ts)
+
+-- the selector of a `case`, the labels of an arm, and the arms
+abbrev pub selector_of : CaseSelector → cases.CaseSelector
+selector_of s = record { host = s.host; form = option_map expr_of s.form }
+
+abbrev pub labels_of : Arm → List Label
+labels_of a = (out-Arm a).labels
+
+abbrev pub arms_of : List CaseArm → tree.Arms
+arms_of arms = tree.arms (map arm_of arms)
 
 abbrev pub items_of : List WriteItem → List Item
 items_of is = map item_of is

@@ -11,15 +11,20 @@ use Rattle.ep_tree.specs.declared.expression.Selector.{Selector, out-Selector}
 use Rattle.ep_tree.specs.Shapes.{arguments_in, as_identifier}
 use Rattle.ep_tree.specs.declared.statement.Statement.TheOpen.{Statement-F, Arm-F, Compound-F, Otherwise-F}
 use Rattle.ep_tree.specs.declared.statement.Statement.{Statement, fold-Statement}
+use Rattle.ep_tree.specs.declared.statement.Arm.{fold-Arm}
+use Rattle.ep_tree.specs.declared.statement.Arm as syntax
+use Rattle.ep_tree.specs.declared.statement.Otherwise.{Otherwise, fold-Otherwise}
+use Rattle.ep_tree.specs.declared.expression.Label.{Label}
 use Rattle.ep_tree.specs.declared.statement.Compound.{Compound, fold-Compound}
 use Rattle.ep_typed.specs.Trees as tree
-use Rattle.ep_typed.specs.Trees.{Place, Expr, Item, Stmt, Stmts}
+use Rattle.ep_typed.specs.Trees.{Place, Expr, Item, Stmt, Stmts, Arm, Arms, Other}
 use Rattle.ep_typed.specs.declared.operations.Print.{Print}
 use Rattle.ep_typed.specs.declared.operations.Print.TheVariants as print
 use Rattle.ep_typed.specs.declared.tree.StandardFile.{StandardFile}
 use Rattle.ep_typed.specs.declared.tree.StandardFile.TheVariants as file
 use Rattle.ep_scope.specs.Kinds.{same_host}
 use Rattle.ep_scope.specs.Scopes.{Region, Meant, Declares, Standard, Requires, Nothing, meant}
+use Rattle.ep_scope.specs.declared.kind.Host.{Host}
 use Rattle.ep_scope.specs.declared.kind.Host.TheVariants as host
 use Rattle.ep_scope.specs.declared.kind.Kind.{Kind}
 use Rattle.ep_scope.specs.declared.kind.Kind.TheVariants as kind
@@ -35,6 +40,7 @@ use Rattle.ep_check_expr.specs.Judgements.{Judged, Accepts, Breaks, Typed, unbui
 use Rattle.ep_check_expr.specs.Functions.{Given}
 use Rattle.ep_check_expr.specs.Names.{undeclared}
 use Rattle.ep_check_expr.specs.Expressions.{given, judged, judged_value}
+use Rattle.ep_check_unit.specs.Cases.{CaseSelector, own_ranges, selector_judged}
 
 -- ---- rows of items
 
@@ -216,6 +222,34 @@ abbrev pub in_order : List (Judgement Stmt) → Judgement Stmts
 in_order [] = Passes tree.none
 in_order (s ∷ ss) = after tree.next s (in_order ss)
 
+-- the arms of a `case` in order
+abbrev pub arms_in_order : List (Judgement Arm) → Judgement Arms
+arms_in_order [] = Passes tree.no_arm
+arms_in_order (a ∷ arms) = after (λ x more. tree.next_arm x.0 x.1 more) a (arms_in_order arms)
+
+-- an arm of a `case`: its labels, which belong to the statement itself, and its statement
+abbrev pub ArmJudged : Type 0
+ArmJudged = List Label × Judgement Stmt
+
+-- an arm of a `case` on a line, whose selector has a host
+abbrev pub arm_row : List Region → ℕ → Host → ArmJudged → Judgement Arm
+arm_row scopes line h a = after (λ ranges s. (ranges, s)) (at_item line (own_ranges scopes h a.0)) a.1
+
+-- a missing `otherwise`
+abbrev pub other_judged : Option (Judgement Stmts) → Judgement Other
+other_judged None = Passes tree.no_other
+other_judged (Some ss) = formed tree.otherwise_do ss
+
+-- a `case` statement, by the form of its selector, its arms and its `otherwise` part (ISO 10206, 6.9.3.5)
+abbrev pub case_row : ℕ → Option Expr → Judgement Arms → Judgement Other → Judgement Stmt
+case_row line form arms other =
+    after (λ x. λ (parts : Arms × Other). tree.Case line x parts.0 parts.1) (at_item line (Accepts form)) (after (λ a b. (a, b)) arms other)
+
+-- by its selector with the labels, its arms for a host of the selector, and its `otherwise` part
+abbrev pub case_judged : ℕ → Judged CaseSelector → (Host → Judgement Arms) → Judgement Other → Judgement Stmt
+case_judged line (Breaks rules) arms other = Fails line rules
+case_judged line (Accepts s) arms other = case_row line s.form (arms s.host) other
+
 -- `halt` has no arguments
 abbrev pub halt_judged : ℕ → List Argument → Judged (Option Stmt)
 halt_judged line [] = Accepts (Some (tree.Halt line))
@@ -293,7 +327,7 @@ module _ (context : Context) where
   abbrev pub condition_judged : ℕ → Expression → Judgement Expr
   condition_judged line e = at_item line (condition (judged context.scopes e))
 
-  abbrev pub at_statement : Statement-F (Judgement Stmt) (Unit {0}) (Judgement Stmts) (Unit {0}) → Judgement Stmt
+  abbrev pub at_statement : Statement-F (Judgement Stmt) ArmJudged (Judgement Stmts) (Judgement Stmts) → Judgement Stmt
   at_statement (Statement-F.Empty line) = Passes tree.Empty
   at_statement (Statement-F.Assignment line access v) =
       at_item line (both (assigned line) (target_judged (out-Access access).name (out-Access access).selectors) (judged_value context.scopes v))
@@ -301,23 +335,29 @@ module _ (context : Context) where
   at_statement (Statement-F.Compound statements) = formed tree.Compound statements
   at_statement (Statement-F.If line e then_part other) = if_judged line (condition_judged line e) then_part (else_judged other)
   at_statement (Statement-F.While line e body) = after (tree.While line) (condition_judged line e) body
-  at_statement (Statement-F.Case line e arms other) = Fails line []
+  at_statement (Statement-F.Case line e arms other) = case_judged line (selector_judged context.scopes e (map (λ a. a.0) arms)) (λ h. arms_in_order (map (arm_row context.scopes line h) arms)) (other_judged other)
   at_statement (Statement-F.Repeat line statements e) = repeat_judged line (condition_judged line e) (in_order statements)
   at_statement (Statement-F.For line variable start direction end body) = Fails line []
   at_statement (Statement-F.ForIn line variable members body) = Fails line []
   at_statement (Statement-F.With line accesses body) = Fails line []
 
-  abbrev pub at_compound : Compound-F (Judgement Stmt) (Unit {0}) (Judgement Stmts) (Unit {0}) → Judgement Stmts
+  abbrev pub at_compound : Compound-F (Judgement Stmt) ArmJudged (Judgement Stmts) (Judgement Stmts) → Judgement Stmts
   at_compound c = in_order c.statements
 
-  abbrev pub at_arm : Arm-F (Judgement Stmt) (Unit {0}) (Judgement Stmts) (Unit {0}) → Unit {0}
-  at_arm a = tt
+  abbrev pub at_arm : Arm-F (Judgement Stmt) ArmJudged (Judgement Stmts) (Judgement Stmts) → ArmJudged
+  at_arm a = (a.labels, a.body)
 
-  abbrev pub at_otherwise : Otherwise-F (Judgement Stmt) (Unit {0}) (Judgement Stmts) (Unit {0}) → Unit {0}
-  at_otherwise o = tt
+  abbrev pub at_otherwise : Otherwise-F (Judgement Stmt) ArmJudged (Judgement Stmts) (Judgement Stmts) → Judgement Stmts
+  at_otherwise o = in_order o.statements
 
   abbrev pub statement_judged : Statement → Judgement Stmt
-  statement_judged = fold-Statement (Judgement Stmt) (Unit {0}) (Judgement Stmts) (Unit {0}) at_statement at_arm at_compound at_otherwise
+  statement_judged = fold-Statement (Judgement Stmt) ArmJudged (Judgement Stmts) (Judgement Stmts) at_statement at_arm at_compound at_otherwise
+
+  abbrev pub arm_judged : syntax.Arm → ArmJudged
+  arm_judged = fold-Arm (Judgement Stmt) ArmJudged (Judgement Stmts) (Judgement Stmts) at_statement at_arm at_compound at_otherwise
+
+  abbrev pub otherwise_judged : Otherwise → Judgement Stmts
+  otherwise_judged = fold-Otherwise (Judgement Stmt) ArmJudged (Judgement Stmts) (Judgement Stmts) at_statement at_arm at_compound at_otherwise
 
   abbrev pub compound_judged : Compound → Judgement Stmts
-  compound_judged = fold-Compound (Judgement Stmt) (Unit {0}) (Judgement Stmts) (Unit {0}) at_statement at_arm at_compound at_otherwise
+  compound_judged = fold-Compound (Judgement Stmt) ArmJudged (Judgement Stmts) (Judgement Stmts) at_statement at_arm at_compound at_otherwise

@@ -2,28 +2,29 @@
 
 ghost use Rattle.std.specs.Prelude.{◌≡◌, ℕ, List, None, true, IsTrue, map};
 ghost use Rattle.std.specs.Option.{option_map};
-ghost use Rattle.ep_built.specs.Built.{built_call, built_target, call_unbuilt, component_value_unbuilt, compound_unbuilt, expression_unbuilt, first_if, first_in, statement_unbuilt, written_unbuilt};
+ghost use Rattle.ep_built.specs.Built.{arm_unbuilt, built_call, built_target, call_unbuilt, component_value_unbuilt, compound_unbuilt, expression_unbuilt, first_if, first_in, statement_unbuilt, written_unbuilt};
 ghost use Rattle.ep_scope.specs.Scopes.{meant};
 ghost use Rattle.ep_tree.specs.declared.expression.Access.{out-Access};
 ghost use Rattle.ep_typed.specs.Trees as tree;
 ghost use Rattle.ep_typed.specs.Trees.{Expr, Stmt, Stmts};
-ghost use Rattle.ep_typed.specs.Viewed.{expr_of, stmt_of};
+ghost use Rattle.ep_typed.specs.Viewed.{arm_of, expr_of, stmt_of};
 ghost use Rattle.ep_check_expr.specs.Answers.{typed_of};
 ghost use Rattle.ep_check_expr.specs.Expressions.{judged, judged_value};
 ghost use Rattle.ep_check_expr.specs.Judgements.{both};
-ghost use Rattle.ep_check_unit.specs.Answers.{AnswersForm, AnswersRow, context_of, fails_among, stmts_of, target_of};
+ghost use Rattle.ep_check_unit.specs.Answers.{AnswersForm, AnswersRow, arms_of, context_of, fails_among, stmts_of, target_of};
 ghost use Rattle.ep_check_unit.specs.Statements as spec;
-ghost use Rattle.ep_check_unit.specs.Statements.{Judgement, after, assigned, compound_judged, condition_judged, declared_target, formed, if_judged, in_order, name_called, repeat_judged, place_named, required_called, statement_judged, target_judged, target_rules, tested};
+ghost use Rattle.ep_check_unit.specs.Statements.{Judgement, after, arm_judged, arm_row, arms_in_order, assigned, compound_judged, condition_judged, declared_target, formed, if_judged, in_order, name_called, repeat_judged, place_named, required_called, statement_judged, target_judged, target_rules, tested};
 
-use crate::outcome::{CheckRefusal, Outcome, item_at};
+use crate::cases::{arm_form, case_form, no_otherwise, otherwise_form};
+use crate::outcome::{CheckRefusal, Outcome, item_at, refused_at};
 use ep_base::{Boxed, Line, List, Name};
 use ep_check_expr::{Refusal, Typed, typed_expression, typed_value, undeclared};
 use ep_scope::{
     Declaration, Declared, Host, Kind, Meaning, Procedure, Required, Scope, meaning_of, rule,
     same_host,
 };
-use ep_tree::{Access, Argument, ComponentValue, Compound, Expression, Selector, Statement};
-use ep_typed::{TypedExpr, TypedPlace, TypedStmt, TypedStmts};
+use ep_tree::{Access, Argument, Arm, ComponentValue, Compound, Expression, Selector, Statement};
+use ep_typed::{CaseArm, CaseArms, TypedExpr, TypedPlace, TypedStmt, TypedStmts};
 use std::alloc::{AllocError, Global};
 
 /// What the statements of a block know.
@@ -121,7 +122,7 @@ fn tested(value: Typed) -> Result<Option<Boxed<TypedExpr>>, Refusal>
 }
 
 /// What a row of items comes to.
-type Row<T> = Result<Outcome<T>, CheckRefusal>;
+pub(crate) type Row<T> = Result<Outcome<T>, CheckRefusal>;
 
 /// A compound statement of these.
 fn compound_form(alloc: Global, statements: Row<TypedStmts>) -> Row<Boxed<TypedStmt>>
@@ -269,6 +270,18 @@ impl Context<'_> {
                     second,
                 )
             }
+            Statement::Case(line, e, arms, other) => {
+                let selector = match self.selector(e.get(), arms.items()) {
+                    Ok(selector) => selector,
+                    Err(refusal) => return Err(refused_at(*line, refusal)),
+                };
+                let inner = self.arms(*line, selector.host, arms.items());
+                let rest = match other {
+                    None => no_otherwise(),
+                    Some(other) => otherwise_form(self.statements(other.statements.items())),
+                };
+                case_form(self.alloc, *line, selector.into_form(), inner, rest)
+            }
             Statement::While(line, e, body) => {
                 let inner = self.statement(body.get());
                 while_form(self.alloc, *line, self.condition(*line, e.get()), inner)
@@ -279,6 +292,38 @@ impl Context<'_> {
             }
             _ => unreachable!(),
         }
+    }
+
+    /// The arms of a `case` on this line, whose selector has this host, in order.
+    #[cycle(statements)]
+    fn arms(&self, line: Line, host: Host, all: &[Arm]) -> Row<CaseArms>
+        requires { first_in (map arm_unbuilt all.now) ≡ None }
+        ensures { AnswersRow arms_of result (arms_in_order (map
+            (arm_row self.now.scopes.now line host) (map (arm_judged (context_of self.now)) all.now))) }
+    {
+        let mut found = List::new(self.alloc);
+        let mut waits = None;
+        for a in all {
+            match self.arm(line, host, a)? {
+                Outcome::Passes(form) => found.push(form.into_inner())?,
+                Outcome::Waits(line) => waits = waits.or(Some(line)),
+            }
+        }
+        match waits {
+            None => Ok(Outcome::Passes(found)),
+            Some(line) => Ok(Outcome::Waits(line)),
+        }
+    }
+
+    #[cycle(statements)]
+    fn arm(&self, line: Line, host: Host, a: &Arm) -> Row<Boxed<CaseArm>>
+        requires { arm_unbuilt a.now ≡ None }
+        ensures { AnswersRow arm_of result
+            (arm_row self.now.scopes.now line host (arm_judged (context_of self.now) a.now)) }
+    {
+        let body = self.statement(a.body.get());
+        let ranges = item_at(line, self.own_ranges(host, a.labels.items()));
+        arm_form(self.alloc, ranges, body)
     }
 
     /// The empty statement.

@@ -141,6 +141,7 @@ pub(super) fn statement_is_built(s: &Statement) -> bool
         Statement::Call(_, a) => call_is_built(a),
         Statement::Compound(_) => true,
         Statement::If(_, _, _, _) => true,
+        Statement::Case(_, _, _, _) => true,
         Statement::While(_, _, _) => true,
         Statement::Repeat(_, _, _) => true,
         _ => false,

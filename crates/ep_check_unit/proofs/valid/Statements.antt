@@ -9,17 +9,18 @@ use Rattle.ep_tree.specs.declared.expression.ComponentValue.{ComponentValue}
 use Rattle.ep_tree.specs.declared.expression.ComponentValue.TheFolds.{fold-roll-Argument}
 use Rattle.ep_tree.specs.declared.expression.Expression.{Expression}
 use Rattle.ep_tree.specs.declared.expression.Selector.{Selector}
-use Rattle.ep_tree.specs.declared.statement.Arm.{Arm}
+use Rattle.ep_tree.specs.declared.expression.Label.{Label}
+use Rattle.ep_tree.specs.declared.statement.Arm.{Arm, map-Arm, roll-Arm}
 use Rattle.ep_tree.specs.declared.statement.Compound.{Compound, map-Compound, roll-Compound}
-use Rattle.ep_tree.specs.declared.statement.Otherwise.{Otherwise}
+use Rattle.ep_tree.specs.declared.statement.Otherwise.{Otherwise, map-Otherwise, roll-Otherwise}
 use Rattle.ep_tree.specs.declared.statement.Statement.{Statement, map-Statement, roll-Statement}
-use Rattle.ep_tree.specs.declared.statement.Statement.TheFolds.{fold-roll-Statement, fold-roll-Compound, ind-Compound}
-use Rattle.ep_tree.specs.declared.statement.Statement.TheOpen.{Statement-F, Compound-F}
+use Rattle.ep_tree.specs.declared.statement.Statement.TheFolds.{fold-roll-Arm, fold-roll-Compound, fold-roll-Otherwise, fold-roll-Statement, ind-Compound}
+use Rattle.ep_tree.specs.declared.statement.Statement.TheOpen.{Statement-F, Arm-F, Compound-F, Otherwise-F}
 use Rattle.ep_typed.specs.Hosts as typed
 use Rattle.ep_typed.specs.Trees as tree
-use Rattle.ep_typed.specs.Trees.{Place, Expr, Item, Stmt, Stmts}
+use Rattle.ep_typed.specs.Trees.{Place, Expr, Item, Other, Stmt, Stmts}
 use Rattle.ep_typed.specs.Valid as valid
-use Rattle.ep_typed.specs.Valid.{AreItems, AreStmts, IsExpr, IsItem, IsPlace, IsStmt, WritesSomething, own, printed_kind}
+use Rattle.ep_typed.specs.Valid.{AreItems, AreStmts, IsExpr, IsItem, IsOther, IsPlace, IsStmt, WritesSomething, own, printed_kind}
 use Rattle.ep_typed.specs.declared.operations.Print.{Print}
 use Rattle.ep_typed.specs.declared.tree.StandardFile.{StandardFile}
 use Rattle.ep_typed.specs.declared.tree.StandardFile.TheVariants as file
@@ -42,49 +43,20 @@ use Rattle.ep_check_expr.specs.Agreement.{IsFormOf}
 use Rattle.ep_check_expr.specs.Expressions.{given, judged, judged_value}
 use Rattle.ep_check_expr.specs.Functions.{Given}
 use Rattle.ep_check_expr.specs.Hosts.{typed_host}
-use Rattle.ep_check_expr.specs.Judgements.{Judged, Accepts, Breaks, Typed, both}
-use Rattle.ep_check_expr.specs.Laws.{ExpressionsAreSound, ValuesAreSound}
+use Rattle.ep_check_expr.specs.Judgements.{Judged, Accepts, Breaks, Typed, both, when_accepted}
+use Rattle.ep_check_expr.specs.Laws.{ExpressionsAreSound, LabelsAreSound, ValuesAreSound}
+use Rattle.ep_check_unit.specs.Cases.{CaseSelector, labelled, selecting, selector_judged}
 use Rattle.ep_check_unit.specs.Declarations.{scopes_of}
-use Rattle.ep_check_unit.specs.Statements.{Context, Judgement, Passes, Waits, Fails, Shown, after, assigned, at_arm, at_compound, at_item, at_otherwise, at_statement, available, call_arguments, call_judged, compound_judged, condition, condition_judged, declared_target, file_given, formed, given_to, if_judged, in_order, item_form, item_judged, items_judged, measured, name_called, one_more, place_named, procedure_called, required_called, shown, something, statement_judged, target_judged, tested, to_file, usually_written, waiting, width_judged, write_judged, written, written_or}
+use Rattle.ep_check_unit.specs.Statements.{ArmJudged, Context, Judgement, Passes, Shown, after, arm_judged, arm_row, arms_in_order, assigned, at_arm, at_compound, at_item, at_otherwise, at_statement, available, call_arguments, call_judged, case_judged, compound_judged, condition, condition_judged, declared_target, file_given, formed, given_to, if_judged, in_order, item_form, item_judged, items_judged, measured, name_called, one_more, otherwise_judged, place_named, procedure_called, required_called, shown, something, statement_judged, target_judged, tested, to_file, usually_written, width_judged, write_judged, written, written_or}
 use Rattle.ep_check_unit.specs.declared.block.Block.{Block}
-use Rattle.ep_check_unit.proofs.Fits.{Any, Fits, fits_any, fits_both, fits_then}
+use Rattle.ep_check_unit.proofs.Fits.{Any, Fits, fits_any, fits_both, fits_then, fits_weaker}
 use Rattle.ep_check_unit.proofs.valid.Holds.{Holds, HoldsDeclaration, holds_agrees, variable_place}
 use Rattle.ep_check_unit.proofs.valid.Leading.{fits_is}
 use Rattle.ep_check_unit.proofs.valid.Meant.{HoldsMeant, meant_holds}
 use Rattle.ep_check_unit.proofs.valid.Types.{host_same}
-
--- ---- rows of items
-
--- what passes has the property
-abbrev pub FitsRow : {A : Type 0} → (A → Type 0) → Judgement A → Type 0
-FitsRow P (Passes a) = P a
-FitsRow P (Waits line) = ⊤
-FitsRow P (Fails line rules) = ⊤
-
--- a form has it, where it is there
-abbrev pub IfForm : {A : Type 0} → (A → Type 0) → Option A → Type 0
-IfForm P None = ⊤
-IfForm P (Some a) = P a
-
-item_fits : {A : Type 0} (P : A → Type 0) (line : ℕ) (j : Judged (Option A)) → Fits (IfForm P) j → FitsRow P (at_item line j)
-item_fits P line (Accepts None) h = tt
-item_fits P line (Accepts (Some a)) h = h
-item_fits P line (Breaks rules) h = tt
-
-formed_fits : {A B : Type 0} (P : A → Type 0) (Q : B → Type 0) (f : A → B) (x : Judgement A) → FitsRow P x → ((a : A) → P a → Q (f a)) → FitsRow Q (formed f x)
-formed_fits P Q f (Passes a) h g = g a h
-formed_fits P Q f (Waits line) h g = tt
-formed_fits P Q f (Fails line rules) h g = tt
-
-waiting_fits : {A B : Type 0} (Q : B → Type 0) (line : ℕ) (x : Judgement A) → FitsRow Q (waiting line x)
-waiting_fits Q line (Passes a) = tt
-waiting_fits Q line (Waits other) = tt
-waiting_fits Q line (Fails other rules) = tt
-
-after_fits : {A B C : Type 0} (P : A → Type 0) (Q : B → Type 0) (R : C → Type 0) (f : A → B → C) (x : Judgement A) (y : Judgement B) → FitsRow P x → FitsRow Q y → ((a : A) (b : B) → P a → Q b → R (f a b)) → FitsRow R (after f x y)
-after_fits P Q R f (Passes a) y h k g = formed_fits Q R (f a) y k (λ b q. g a b h q)
-after_fits P Q R f (Waits line) y h k g = waiting_fits R line y
-after_fits P Q R f (Fails line rules) y h k g = tt
+pub use Rattle.ep_check_unit.proofs.valid.Passing.{FitsRow}
+use Rattle.ep_check_unit.proofs.valid.Passing.{IfForm, after_fits, formed_fits, item_fits}
+use Rattle.ep_check_unit.proofs.valid.Cases.{BodiesFit, IsSelected, labelled_fits, row_fits as arms_row_fits}
 
 -- the two parts of an argument of a call
 node_is : (scopes : List Region) (line : ℕ) (e : Expression) (w : Option Expression) → given scopes (argument_node line e w) ≡ record { value = judged scopes e; width = option_map (judged scopes) w }
@@ -94,7 +66,7 @@ node_is scopes line e (Some w) = simp fold-roll-Argument
 argument_is : (scopes : List Region) (a : Argument) → given scopes a ≡ record { value = judged scopes (out-Argument a).value; width = option_map (judged scopes) (out-Argument a).width }
 argument_is scopes a = ap (given scopes) (sym (roll-out-Argument a)) ∙ node_is scopes (out-Argument a).line (out-Argument a).value (out-Argument a).width
 
-module _ (u : TypedUnit) (expressions : ExpressionsAreSound) (values : ValuesAreSound) (i : ℕ) (b : Block) (le : i ≤ length u.types) (holds : Holds u i b) where
+module _ (u : TypedUnit) (expressions : ExpressionsAreSound) (values : ValuesAreSound) (labels : LabelsAreSound) (i : ℕ) (b : Block) (le : i ≤ length u.types) (holds : Holds u i b) where
   -- a typed form of the block is valid
   abbrev IsSoundForm : Typed → Type 0
   IsSoundForm t = IsFormOf (own u) t.kind t.form
@@ -305,6 +277,47 @@ module _ (u : TypedUnit) (expressions : ExpressionsAreSound) (values : ValuesAre
   write_fits c is line ends_line [] = usually_fits c is line ends_line []
   write_fits c is line ends_line (first ∷ more) = written_or_fits c is (file_given c first) line ends_line first more
 
+  -- ---- `case`
+
+  -- the statements of arms are valid, where they pass
+  abbrev ArmsFit : List ArmJudged → Type 0
+  ArmsFit [] = ⊤
+  ArmsFit (a ∷ all) = FitsRow (IsStmt (own u)) a.1 × ArmsFit all
+
+  abbrev labels_in : List ArmJudged → List (List Label)
+  labels_in all = map (λ (a : ArmJudged). a.0) all
+
+  -- a selector, with its labels
+  abbrev IsChosen : List (List Label) → CaseSelector → Type 0
+  IsChosen all s = IsSelected u labels i b le holds s.host all s.form
+
+  selecting_fits : (all : List (List Label)) (k : Kind) (form : Option Expr) → IsFormOf (own u) k form → Fits (IsChosen all) (when_accepted (labelled (scopes_of b) all) (selecting k form))
+  selecting_fits all (kind.Ordinal h) form f =
+      fits_weaker (λ (s : CaseSelector). (s.host ≡ h) × IsSelected u labels i b le holds h all s.form) (IsChosen all) (labelled (scopes_of b) all (record { host = h; form = form }))
+      (λ s p. subst (λ g. IsSelected u labels i b le holds g all s.form) (sym p.0) p.1) (labelled_fits u labels i b le holds h all form (ordinal_form h form f))
+  selecting_fits all kind.Text form f = tt
+  selecting_fits all kind.File form f = tt
+
+  selector_fits : (e : Expression) (all : List (List Label)) → Fits (IsChosen all) (selector_judged (scopes_of b) e all)
+  selector_fits e all = go (judged (scopes_of b) e) (expression_fits e)
+    where
+      go : (j : Judged Typed) → Fits IsSoundForm j → Fits (IsChosen all) (when_accepted (labelled (scopes_of b) all) (when_accepted (λ t. selecting t.kind t.form) j))
+      go (Accepts t) p = selecting_fits all t.kind t.form p
+      go (Breaks rules) p = tt
+
+  chosen_fits : (line : ℕ) (j : Judged CaseSelector) (all : List ArmJudged) (other : Judgement Other) → Fits (IsChosen (labels_in all)) j → ArmsFit all → FitsRow (IsOther (own u)) other → FitsRow (IsStmt (own u)) (case_judged line j (λ h. arms_in_order (map (arm_row (scopes_of b) line h) all)) other)
+  chosen_fits line (Accepts s) all other p q r = arms_row_fits u labels i b le holds s.host line s.form all other p (bodies s.host all q) r
+    where
+      bodies : (h : Host) (all : List ArmJudged) → ArmsFit all → BodiesFit u labels i b le holds h all
+      bodies h [] q = tt
+      bodies h (a ∷ all) q = (q.0, bodies h all q.1)
+  chosen_fits line (Breaks rules) all other p q r = tt
+
+  case_fits : (c : Context) → c.scopes ≡ scopes_of b → (line : ℕ) (e : Expression) (all : List ArmJudged) (other : Judgement Other) → ArmsFit all → FitsRow (IsOther (own u)) other → FitsRow (IsStmt (own u)) (case_judged line (selector_judged c.scopes e (labels_in all)) (λ h. arms_in_order (map (arm_row c.scopes line h) all)) other)
+  case_fits c is line e all other q r =
+      subst (λ s. FitsRow (IsStmt (own u)) (case_judged line (selector_judged s e (labels_in all)) (λ h. arms_in_order (map (arm_row s line h) all)) other)) (sym is)
+      (chosen_fits line (selector_judged (scopes_of b) e (labels_in all)) all other (selector_fits e (labels_in all)) q r)
+
   -- ---- calls
 
   procedure_fits : (c : Context) → c.scopes ≡ scopes_of b → (line : ℕ) (p : Procedure) (arguments : List Argument) → Fits (IfForm (IsStmt (own u))) (procedure_called c line p arguments)
@@ -338,23 +351,23 @@ module _ (u : TypedUnit) (expressions : ExpressionsAreSound) (values : ValuesAre
     abbrev IsCompound : Compound → Type 0
     IsCompound s = FitsRow (AreStmts (own u)) (compound_judged c s)
 
-    abbrev AnyArm : Arm → Type 0
-    AnyArm a = ⊤
+    abbrev IsArm : Arm → Type 0
+    IsArm a = FitsRow (IsStmt (own u)) (arm_judged c a).1
 
-    abbrev AnyOtherwise : Otherwise → Type 0
-    AnyOtherwise o = ⊤
+    abbrev IsOtherwise : Otherwise → Type 0
+    IsOtherwise o = FitsRow (AreStmts (own u)) (otherwise_judged c o)
 
     abbrev ValidStatement : Type 0
     ValidStatement = (s : Statement) × IsStatement s
 
     abbrev ValidArm : Type 0
-    ValidArm = (a : Arm) × AnyArm a
+    ValidArm = (a : Arm) × IsArm a
 
     abbrev ValidCompound : Type 0
     ValidCompound = (s : Compound) × IsCompound s
 
     abbrev ValidOtherwise : Type 0
-    ValidOtherwise = (o : Otherwise) × AnyOtherwise o
+    ValidOtherwise = (o : Otherwise) × IsOtherwise o
 
     -- layers of such statements, without what holds of them
     abbrev statement_layer : Statement-F ValidStatement ValidArm ValidCompound ValidOtherwise → Statement-F Statement Arm Compound Otherwise
@@ -363,11 +376,23 @@ module _ (u : TypedUnit) (expressions : ExpressionsAreSound) (values : ValuesAre
     abbrev compound_layer : Compound-F ValidStatement ValidArm ValidCompound ValidOtherwise → Compound-F Statement Arm Compound Otherwise
     compound_layer = map-Compound ValidStatement ValidArm ValidCompound ValidOtherwise Statement Arm Compound Otherwise (λ s. s.0) (λ a. a.0) (λ s. s.0) (λ o. o.0)
 
-    rolled : (x : Statement-F Statement Arm Compound Otherwise) → FitsRow (IsStmt (own u)) (at_statement c (map-Statement Statement Arm Compound Otherwise (Judgement Stmt) (Unit {0}) (Judgement Stmts) (Unit {0}) (statement_judged c) (λ a. tt) (compound_judged c) (λ o. tt) x)) → IsStatement (roll-Statement x)
-    rolled x h = subst (FitsRow (IsStmt (own u))) (sym (fold-roll-Statement (Judgement Stmt) (Unit {0}) (Judgement Stmts) (Unit {0}) (at_statement c) (at_arm c) (at_compound c) (at_otherwise c) x)) h
+    abbrev arm_layer : Arm-F ValidStatement ValidArm ValidCompound ValidOtherwise → Arm-F Statement Arm Compound Otherwise
+    arm_layer = map-Arm ValidStatement ValidArm ValidCompound ValidOtherwise Statement Arm Compound Otherwise (λ s. s.0) (λ a. a.0) (λ s. s.0) (λ o. o.0)
+
+    abbrev otherwise_layer : Otherwise-F ValidStatement ValidArm ValidCompound ValidOtherwise → Otherwise-F Statement Arm Compound Otherwise
+    otherwise_layer = map-Otherwise ValidStatement ValidArm ValidCompound ValidOtherwise Statement Arm Compound Otherwise (λ s. s.0) (λ a. a.0) (λ s. s.0) (λ o. o.0)
+
+    rolled_arm : (x : Arm-F Statement Arm Compound Otherwise) → FitsRow (IsStmt (own u)) (statement_judged c x.body) → IsArm (roll-Arm x)
+    rolled_arm x h = subst (λ (a : ArmJudged). FitsRow (IsStmt (own u)) a.1) (sym (fold-roll-Arm (Judgement Stmt) ArmJudged (Judgement Stmts) (Judgement Stmts) (at_statement c) (at_arm c) (at_compound c) (at_otherwise c) x)) h
+
+    rolled_otherwise : (x : Otherwise-F Statement Arm Compound Otherwise) → FitsRow (AreStmts (own u)) (in_order (map (statement_judged c) x.statements)) → IsOtherwise (roll-Otherwise x)
+    rolled_otherwise x h = subst (FitsRow (AreStmts (own u))) (sym (fold-roll-Otherwise (Judgement Stmt) ArmJudged (Judgement Stmts) (Judgement Stmts) (at_statement c) (at_arm c) (at_compound c) (at_otherwise c) x)) h
+
+    rolled : (x : Statement-F Statement Arm Compound Otherwise) → FitsRow (IsStmt (own u)) (at_statement c (map-Statement Statement Arm Compound Otherwise (Judgement Stmt) ArmJudged (Judgement Stmts) (Judgement Stmts) (statement_judged c) (arm_judged c) (compound_judged c) (otherwise_judged c) x)) → IsStatement (roll-Statement x)
+    rolled x h = subst (FitsRow (IsStmt (own u))) (sym (fold-roll-Statement (Judgement Stmt) ArmJudged (Judgement Stmts) (Judgement Stmts) (at_statement c) (at_arm c) (at_compound c) (at_otherwise c) x)) h
 
     rolled_compound : (x : Compound-F Statement Arm Compound Otherwise) → FitsRow (AreStmts (own u)) (in_order (map (statement_judged c) x.statements)) → IsCompound (roll-Compound x)
-    rolled_compound x h = subst (FitsRow (AreStmts (own u))) (sym (fold-roll-Compound (Judgement Stmt) (Unit {0}) (Judgement Stmts) (Unit {0}) (at_statement c) (at_arm c) (at_compound c) (at_otherwise c) x)) h
+    rolled_compound x h = subst (FitsRow (AreStmts (own u))) (sym (fold-roll-Compound (Judgement Stmt) ArmJudged (Judgement Stmts) (Judgement Stmts) (at_statement c) (at_arm c) (at_compound c) (at_otherwise c) x)) h
 
     row_fits : (ss : List ValidStatement) → FitsRow (AreStmts (own u)) (in_order (map (statement_judged c) (map (λ s. s.0) ss)))
     row_fits [] = tt
@@ -378,6 +403,10 @@ module _ (u : TypedUnit) (expressions : ExpressionsAreSound) (values : ValuesAre
         after_fits (IsExpr (own u) (valid.Ordinal typed.Boolean)) (λ p. IsStmt (own u) p.0 × IsStmt (own u) p.1) (IsStmt (own u)) _ x (after (λ a b. (a, b)) y z) h
         (after_fits (IsStmt (own u)) (IsStmt (own u)) (λ p. IsStmt (own u) p.0 × IsStmt (own u) p.1) (λ a b. (a, b)) y z k l (λ a b p q. (p, q)))
         (λ e p f g. (f, g.0, g.1))
+
+    bodies_fit : (all : List ValidArm) → ArmsFit (map (arm_judged c) (map (λ a. a.0) all))
+    bodies_fit [] = tt
+    bodies_fit (a ∷ all) = (a.1, bodies_fit all)
 
     -- each statement, where those in it are valid
     statement_step : (y : Statement-F ValidStatement ValidArm ValidCompound ValidOtherwise) → IsStatement (roll-Statement (statement_layer y))
@@ -394,7 +423,11 @@ module _ (u : TypedUnit) (expressions : ExpressionsAreSound) (values : ValuesAre
     statement_step (Statement-F.While line e body) =
         rolled (Statement-F.While line e body.0)
         (after_fits (IsExpr (own u) (valid.Ordinal typed.Boolean)) (IsStmt (own u)) (IsStmt (own u)) (tree.While line) (condition_judged c line e) (statement_judged c body.0) (condition_fits c is line e) body.1 (λ x s p q. (p, q)))
-    statement_step (Statement-F.Case line e arms other) = rolled (statement_layer (Statement-F.Case line e arms other)) tt
+    statement_step (Statement-F.Case line e arms None) =
+        rolled (statement_layer (Statement-F.Case line e arms None)) (case_fits c is line e (map (arm_judged c) (map (λ a. a.0) arms)) (Passes tree.no_other) (bodies_fit arms) tt)
+    statement_step (Statement-F.Case line e arms (Some o)) =
+        rolled (statement_layer (Statement-F.Case line e arms (Some o)))
+        (case_fits c is line e (map (arm_judged c) (map (λ a. a.0) arms)) (formed tree.otherwise_do (otherwise_judged c o.0)) (bodies_fit arms) (formed_fits (AreStmts (own u)) (IsOther (own u)) tree.otherwise_do (otherwise_judged c o.0) o.1 (λ ss p. p)))
     statement_step (Statement-F.Repeat line statements e) =
         rolled (statement_layer (Statement-F.Repeat line statements e))
         (after_fits (IsExpr (own u) (valid.Ordinal typed.Boolean)) (AreStmts (own u)) (IsStmt (own u)) (λ form body. tree.Repeat line body form) (condition_judged c line e) (in_order (map (statement_judged c) (map (λ s. s.0) statements))) (condition_fits c is line e) (row_fits statements) (λ x ss p q. (q, p)))
@@ -405,8 +438,8 @@ module _ (u : TypedUnit) (expressions : ExpressionsAreSound) (values : ValuesAre
     -- the statements of a compound statement that pass are valid
     pub compound_fits : (s : Compound) → FitsRow (AreStmts (own u)) (compound_judged c s)
     compound_fits =
-        ind-Compound IsStatement AnyArm IsCompound AnyOtherwise
+        ind-Compound IsStatement IsArm IsCompound IsOtherwise
         (λ x y e. subst (λ z. IsStatement (roll-Statement z)) e (statement_step y))
-        (λ x y e. tt)
+        (λ x y e. subst (λ z. IsArm (roll-Arm z)) e (rolled_arm (arm_layer y) y.body.1))
         (λ x y e. subst (λ z. IsCompound (roll-Compound z)) e (rolled_compound (compound_layer y) (row_fits y.statements)))
-        (λ x y e. tt)
+        (λ x y e. subst (λ z. IsOtherwise (roll-Otherwise z)) e (rolled_otherwise (otherwise_layer y) (row_fits y.statements)))

@@ -9,7 +9,7 @@ use Rattle.ep_typed.specs.Trees.{Stmts}
 use Rattle.ep_typed.specs.Valid.{AreStmts, IsConstant, IsRoutine, IsStmt, IsType, IsValid, IsVariable, own}
 use Rattle.ep_typed.specs.declared.unit.Unit.{Unit as TypedUnit}
 use Rattle.ep_check_expr.specs.Judgements.{Judged, Accepts, Breaks}
-use Rattle.ep_check_expr.specs.Laws.{BoundsAreKnown, BoundsAreSound, ConstantsAreKnown, ConstantsAreSound, ExpressionsAreSound, ValuesAreSound}
+use Rattle.ep_check_expr.specs.Laws.{BoundsAreKnown, BoundsAreSound, ConstantsAreKnown, ConstantsAreSound, ExpressionsAreSound, LabelsAreSound, ValuesAreSound}
 use Rattle.ep_check_unit.specs.Declarations.{Standing, Stands, Falls, and_then, at_line, parts_declared}
 use Rattle.ep_check_unit.specs.Laws.{UnitsAreValid}
 use Rattle.ep_check_unit.specs.Statements.{Judgement, Passes, Waits, Fails, after, compound_judged}
@@ -58,7 +58,7 @@ program_made : (p : Program) (form : ProgramForm) → program_judged p ≡ Passe
 program_made p form e =
     parts_pass p (parameters_entered p.parameters (first_block p.name)) form refl (body_passes p (and_then (parts_declared p.parts) (at_line p.line (parameters_entered p.parameters (first_block p.name)))) form e)
 
-module _ (expressions : ExpressionsAreSound) (values : ValuesAreSound) (constants : ConstantsAreSound) (bounds : BoundsAreSound) (constant_hosts : ConstantsAreKnown) (bound_hosts : BoundsAreKnown) where
+module _ (expressions : ExpressionsAreSound) (values : ValuesAreSound) (labels : LabelsAreSound) (constants : ConstantsAreSound) (bounds : BoundsAreSound) (constant_hosts : ConstantsAreKnown) (bound_hosts : BoundsAreKnown) where
   -- the unit holds its block
   block_held : (p : Program) (u : TypedUnit) (form : ProgramForm) → IsMade p form → length u.constants ≤ maxint → u.name ≡ p.name → u.types ≡ form.block.types → u.constants ≡ form.block.constants → u.variables ≡ form.block.variables
       → Holds u (length form.block.types) form.block
@@ -87,7 +87,7 @@ module _ (expressions : ExpressionsAreSound) (values : ValuesAreSound) (constant
         variables = All-same (IsVariable u.types) u.variables t.form.block.variables t.unit.variables held.variables;
         routines = All-same (IsRoutine (own u)) u.routines [] t.unit.routines (All-nil (IsRoutine (own u)));
         start = subst (IsStmt (own u)) (sym t.unit.start)
-            (subst (FitsRow (AreStmts (own u))) made.statements (compound_fits u expressions values (length t.form.block.types) t.form.block le held (context_of p t.form.block) refl p.body));
+            (subst (FitsRow (AreStmts (own u))) made.statements (compound_fits u expressions values labels (length t.form.block.types) t.form.block le held (context_of p t.form.block) refl p.body));
         stop = t.unit.stop;
       }
 
