@@ -2,7 +2,8 @@
 use Rattle.std.proofs.Common.{◌≡◌, ℕ, ℤ, nat_eq, ◌==◌, eq-eqb, Bool, true, false, ◌&&◌, ◌+◌, ◌<◌, ◌≤◌, List, [], ◌∷◌, ◌++◌, map, drop, length, get_or, Option, Some, None, refl, sym, ap, ◌∙◌, subst}
 use Rattle.std.specs.List.{list_any}
 use Rattle.std.proofs.lemmas.List.{drop_all}
-use Rattle.ep_built.specs.Built.{Found, Placed, arm_unbuilt, expression_unbuilt, first_if, first_in, first_of, label_unbuilt, statement_unbuilt}
+use Rattle.std.specs.Option.{option_or}
+use Rattle.ep_built.specs.Built.{Found, Placed, arm_unbuilt, expression_unbuilt, first_if, first_in, label_unbuilt, statement_unbuilt}
 use Rattle.ep_built.specs.Built as built
 use Rattle.ep_tree.specs.declared.expression.Expression.{Expression}
 use Rattle.ep_tree.specs.declared.statement.Arm.{Arm, out-Arm}
@@ -85,7 +86,7 @@ one_passes found None a (Waits line) = refl
 one_passes found (Some first) a (Waits line) = refl
 one_passes found waits a (Fails line rules) = refl
 
-one_waits : (found : List tree.Arm) (waits : Option ℕ) (line : ℕ) (rest : Judgement Arms) → arms_together found waits (after before (Waits line) rest) ≡ arms_together found (first_of waits (Some line)) rest
+one_waits : (found : List tree.Arm) (waits : Option ℕ) (line : ℕ) (rest : Judgement Arms) → arms_together found waits (after before (Waits line) rest) ≡ arms_together found (option_or waits (Some line)) rest
 one_waits found None line (Passes more) = refl
 one_waits found (Some first) line (Passes more) = refl
 one_waits found None line (Waits other) = refl
@@ -114,7 +115,7 @@ module _ {X Y : Type 0} (view : X → Y) (judge : Y → Judgement tree.Arm) (all
 
   -- with one that is not
   pub less_arms : (found : List tree.Arm) (waits : Option ℕ) (line : ℕ) → judge (view x) ≡ Waits line → arms_together found waits (arms_in_order (map judge (map view (drop n all)))) ≡ arms_in_order (map judge (map view all))
-      → arms_together found (first_of waits (Some line)) rest ≡ arms_in_order (map judge (map view all))
+      → arms_together found (option_or waits (Some line)) rest ≡ arms_in_order (map judge (map view all))
   less_arms found waits line e same = sym (one_waits found waits line rest) ∙ (sym (ap (arms_together found waits) (at_next ∙ ap (λ j. after before j rest) e)) ∙ same)
 
   -- the arm is refused
@@ -184,24 +185,24 @@ abbrev rest_unbuilt : Option Otherwise → Found
 rest_unbuilt None = None
 rest_unbuilt (Some o) = first_in (map statement_unbuilt (out-Otherwise o).statements)
 
-case_unbuilt : (line : ℕ) (e : Expression) (all : List Arm) (other : Option Otherwise) → statement_unbuilt (statement.Case line e all other) ≡ first_of (expression_unbuilt e) (first_of (first_in (map arm_unbuilt all)) (rest_unbuilt other))
+case_unbuilt : (line : ℕ) (e : Expression) (all : List Arm) (other : Option Otherwise) → statement_unbuilt (statement.Case line e all other) ≡ option_or (expression_unbuilt e) (option_or (first_in (map arm_unbuilt all)) (rest_unbuilt other))
 case_unbuilt line e all None =
     ap statement_unbuilt (sym (statement.rolls-Case line e all None))
     ∙ fold-roll-Statement Found Found Placed Found built.at_statement built.at_arm built.at_compound built.at_otherwise (Statement-F.Case line e all None)
 case_unbuilt line e all (Some o) =
     ap statement_unbuilt (sym (statement.rolls-Case line e all (Some o)))
     ∙ fold-roll-Statement Found Found Placed Found built.at_statement built.at_arm built.at_compound built.at_otherwise (Statement-F.Case line e all (Some o))
-    ∙ ap (λ x. first_of (expression_unbuilt e) (first_of (first_in (map arm_unbuilt all)) x)) (fold_out-Otherwise Found Found Placed Found built.at_statement built.at_arm built.at_compound built.at_otherwise o)
+    ∙ ap (λ x. option_or (expression_unbuilt e) (option_or (first_in (map arm_unbuilt all)) x)) (fold_out-Otherwise Found Found Placed Found built.at_statement built.at_arm built.at_compound built.at_otherwise o)
 
 module _ (line : ℕ) (e : Expression) (all : List Arm) (other : Option Otherwise) (h : statement_unbuilt (statement.Case line e all other) ≡ None) where
-  both_built : first_of (expression_unbuilt e) (first_of (first_in (map arm_unbuilt all)) (rest_unbuilt other)) ≡ None
+  both_built : option_or (expression_unbuilt e) (option_or (first_in (map arm_unbuilt all)) (rest_unbuilt other)) ≡ None
   both_built = sym (case_unbuilt line e all other) ∙ h
 
   pub selector_built : expression_unbuilt e ≡ None
-  selector_built = first_built (expression_unbuilt e) (first_of (first_in (map arm_unbuilt all)) (rest_unbuilt other)) both_built
+  selector_built = first_built (expression_unbuilt e) (option_or (first_in (map arm_unbuilt all)) (rest_unbuilt other)) both_built
 
-  more_built : first_of (first_in (map arm_unbuilt all)) (rest_unbuilt other) ≡ None
-  more_built = rest_of (expression_unbuilt e) (first_of (first_in (map arm_unbuilt all)) (rest_unbuilt other)) both_built
+  more_built : option_or (first_in (map arm_unbuilt all)) (rest_unbuilt other) ≡ None
+  more_built = rest_of (expression_unbuilt e) (option_or (first_in (map arm_unbuilt all)) (rest_unbuilt other)) both_built
 
   pub arms_built : first_in (map arm_unbuilt all) ≡ None
   arms_built = first_built (first_in (map arm_unbuilt all)) (rest_unbuilt other) more_built
@@ -210,7 +211,7 @@ module _ (line : ℕ) (e : Expression) (all : List Arm) (other : Option Otherwis
   rest_built = rest_of (first_in (map arm_unbuilt all)) (rest_unbuilt other) more_built
 
 -- an arm by its parts
-arm_unbuilt_is : (a : Arm) → arm_unbuilt a ≡ first_of (first_in (map label_unbuilt (labels_of a))) (statement_unbuilt (out-Arm a).body)
+arm_unbuilt_is : (a : Arm) → arm_unbuilt a ≡ option_or (first_in (map label_unbuilt (labels_of a))) (statement_unbuilt (out-Arm a).body)
 arm_unbuilt_is a = fold_out-Arm Found Found Placed Found built.at_statement built.at_arm built.at_compound built.at_otherwise a
 
 module _ (a : Arm) (h : arm_unbuilt a ≡ None) where
