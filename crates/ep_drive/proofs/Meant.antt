@@ -1,14 +1,15 @@
 -- What a run of an image within its budget says by the meaning of the units that the image implements.
-use Rattle.std.proofs.Common.{◌≡◌, ℕ, ◌+◌, ◌-◌, ◌*◌, ◌≤◌, zero, suc, false, IsTrue, List, [], ◌∷◌, ◌⊎◌, inl, inr, refl, sym, ap, ◌∙◌, subst, arith}
+use Rattle.std.proofs.Common.{◌≡◌, ℕ, ◌+◌, ◌-◌, ◌*◌, ◌≤◌, zero, suc, false, if◌then◌else◌, slice_get, None, IsTrue, List, [], ◌∷◌, ◌⊎◌, inl, inr, refl, sym, ap, ◌∙◌, subst, arith}
+use Rattle.std.specs.Str.{bytes_eq}
 use Rattle.ep_object.specs.Follows.{end_of}
 use Rattle.ep_object.specs.State.{Going, Running, Stopped, Normal, Halt, Error, Broken}
 use Rattle.ep_object.specs.Tells.{Tells}
 use Rattle.ep_typed.proofs.Lasting.{meanings_last}
 use Rattle.ep_typed.specs.Events.{Trace, Does}
 use Rattle.ep_typed.specs.Laws.{IsLonger}
-use Rattle.ep_typed.specs.Meaning.{routine_of, meaning, make_all, exec}
+use Rattle.ep_typed.specs.Meaning.{routine_does, routine_of, meaning, make_all, exec}
 use Rattle.ep_typed.specs.Viewed.{stmt_of}
-use Rattle.ep_typed.specs.Steps.{Outcome, Gives, Ends, Cut, State, state_of, stop, go_on, bind, spend, first_state}
+use Rattle.ep_typed.specs.Steps.{Outcome, Gives, Ends, Cut, State, state_of, cut, stop, go_on, bind, spend, first_state}
 use Rattle.ep_typed.specs.Steps as meant
 use Rattle.ep_typed.specs.declared.unit.Unit.{Unit as TypedUnit}
 use Rattle.ep_drive.specs.GoRuns.{run_within, IsRun, GoFinishes, EndsSo, MeansSo, GoMeans, GoSettles}
@@ -17,7 +18,7 @@ use Rattle.ep_drive.specs.ProgramTexts.{IsProgramText, Joins}
 use Rattle.ep_drive.specs.Seen.{Seen, outside_of}
 use Rattle.ep_drive.specs.declared.status.Status.{Status}
 use Rattle.ep_drive.proofs.Runs.{tells_within, not_broken}
-use Rattle.ep_drive.proofs.Sources.{one_program}
+use Rattle.ep_drive.proofs.Sources.{AreAlike, one_program}
 
 -- ---- the end of a run is that of the meaning
 
@@ -146,13 +147,18 @@ settled_status units ticks m l e s (Stopped end trace) (inr t) h room few = absu
 
 -- ---- texts and units
 
--- the meaning is that of the name, the types, the variables and the statements
-same_meaning : (u v : TypedUnit) (m : ℕ) → u.name ≡ v.name → u.types ≡ v.types → u.variables ≡ v.variables → stmt_of u.start ≡ stmt_of v.start → meaning (u ∷ []) m ≡ meaning (v ∷ []) m
-same_meaning u v m a t b c = λ i. go_on (spend 1 (bind (make_all (routine_of [] m) m (a i) (t i) 0 (b i)) (λ _. exec (routine_of [] m) m (a i) (c i))) m first_state) (λ _. stop meant.Normal)
+-- the calls of a unit are those of its name and its routines
+same_calls : (u v : TypedUnit) (n : ℕ) → u.name ≡ v.name → u.routines ≡ v.routines → routine_of (u ∷ []) n ≡ routine_of (v ∷ []) n
+same_calls u v zero a r = λ i from line unit number arguments. cut
+same_calls u v (suc d) a r = λ i from line unit number arguments. routine_does (same_calls u v d a r i) d from line unit (if bytes_eq (a i) unit then slice_get (r i) number else None)
+
+-- the meaning is that of the name, the types, the variables, the routines and the statements
+same_meaning : (u v : TypedUnit) (m : ℕ) → AreAlike u v → meaning (u ∷ []) m ≡ meaning (v ∷ []) m
+same_meaning u v m s = let call = same_calls u v m s.names s.routines in λ i. go_on (spend 1 (bind (make_all (call i) m (s.names i) (s.types i) 0 (s.variables i)) (λ _. exec (call i) m (s.names i) (s.starts i))) m first_state) (λ _. stop meant.Normal)
 
 -- a text has one meaning
 text_means : (text : List ℕ) (u v : TypedUnit) (m : ℕ) → IsProgramText text u → IsProgramText text v → meaning (u ∷ []) m ≡ meaning (v ∷ []) m
-text_means text u v m p q = let same = one_program text u v p q in same_meaning u v m same.names same.types same.variables same.starts
+text_means text u v m p q = same_meaning u v m (one_program text u v p q)
 
 -- so have texts that join
 joins_mean : (texts : List (List ℕ)) (us vs : List TypedUnit) (m : ℕ) → Joins texts us → Joins texts vs → meaning us m ≡ meaning vs m

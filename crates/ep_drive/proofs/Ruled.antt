@@ -42,6 +42,7 @@ pub record SameParts (u v : TypedUnit) : Type 0 where
   pub types : u.types ≡ v.types
   pub variables : u.variables ≡ v.variables
   pub starts : stmt_of u.start ≡ stmt_of v.start
+  pub routines : u.routines ≡ v.routines
   pub nodes : unit_nodes u ≡ unit_nodes v
 
 -- the typed units of one component
@@ -65,6 +66,7 @@ one_unit (component_is.Program p) u v a b =
           types = types;
           variables = variables;
           starts = starts;
+          routines = routines;
           nodes = λ i.
               length (imports i) + sum (map type_nodes (types i)) + sum (map constant_nodes (constants i)) + sum (map variable_nodes (variables i))
               + sum (map routine_nodes (routines i)) + stmt_nodes (starts i) + stmt_nodes (stops i);

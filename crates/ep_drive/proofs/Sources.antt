@@ -98,13 +98,14 @@ pub record AreAlike (u v : TypedUnit) : Type 0 where
   pub types : u.types ≡ v.types
   pub variables : u.variables ≡ v.variables
   pub starts : stmt_of u.start ≡ stmt_of v.start
+  pub routines : u.routines ≡ v.routines
 
 pub one_program : (text : List ℕ) (u v : TypedUnit) → IsProgramText text u → IsProgramText text v → AreAlike u v
 one_program text u v p q =
     both_built text (λ c. IsProgram c u) (λ c. IsProgram c v) (λ c a b. of (one_unit c u v a.typed b.typed)) p q
   where
     of : SameParts u v → AreAlike u v
-    of s = record { names = s.names; types = s.types; variables = s.variables; starts = s.starts }
+    of s = record { names = s.names; types = s.types; variables = s.variables; starts = s.starts; routines = s.routines }
 
 -- the first of a list of one
 only_item : (all : List Component) (c d : Component) → all ≡ c ∷ [] → d ≡ get_or all 0 d → d ≡ c
