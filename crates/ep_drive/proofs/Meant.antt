@@ -7,7 +7,7 @@ use Rattle.ep_object.specs.Tells.{Tells}
 use Rattle.ep_typed.proofs.Lasting.{meanings_last}
 use Rattle.ep_typed.specs.Events.{Trace, Does}
 use Rattle.ep_typed.specs.Laws.{IsLonger}
-use Rattle.ep_typed.specs.Meaning.{routine_does, routine_of, meaning, make_all, exec}
+use Rattle.ep_typed.specs.Meaning.{found_among, routine_does, routine_of, meaning, make_all, exec}
 use Rattle.ep_typed.specs.Viewed.{stmt_of}
 use Rattle.ep_typed.specs.Steps.{Outcome, Gives, Ends, Cut, State, state_of, cut, stop, go_on, bind, spend, first_state}
 use Rattle.ep_typed.specs.Steps as meant
@@ -147,14 +147,14 @@ settled_status units ticks m l e s (Stopped end trace) (inr t) h room few = absu
 
 -- ---- texts and units
 
--- the calls of a unit are those of its name and its routines
-same_calls : (u v : TypedUnit) (n : ℕ) → u.name ≡ v.name → u.routines ≡ v.routines → routine_of (u ∷ []) n ≡ routine_of (v ∷ []) n
-same_calls u v zero a r = λ i from line unit number arguments. cut
-same_calls u v (suc d) a r = λ i from line unit number arguments. routine_does (same_calls u v d a r i) d from line unit (if bytes_eq (a i) unit then slice_get (r i) number else None)
+-- the calls of a unit are those of its name, its types and its routines
+same_calls : (u v : TypedUnit) (n : ℕ) → u.name ≡ v.name → u.types ≡ v.types → u.routines ≡ v.routines → routine_of (u ∷ []) n ≡ routine_of (v ∷ []) n
+same_calls u v zero a t r = λ i from line unit number arguments. cut
+same_calls u v (suc d) a t r = λ i from line unit number arguments. routine_does (same_calls u v d a t r i) d from line unit (if bytes_eq (a i) unit then found_among (t i) (slice_get (r i) number) else None)
 
 -- the meaning is that of the name, the types, the variables, the routines and the statements
 same_meaning : (u v : TypedUnit) (m : ℕ) → AreAlike u v → meaning (u ∷ []) m ≡ meaning (v ∷ []) m
-same_meaning u v m s = let call = same_calls u v m s.names s.routines in λ i. go_on (spend 1 (bind (make_all (call i) m (s.names i) (s.types i) 0 (s.variables i)) (λ _. exec (call i) m (s.names i) (s.starts i))) m first_state) (λ _. stop meant.Normal)
+same_meaning u v m s = let call = same_calls u v m s.names s.types s.routines in λ i. go_on (spend 1 (bind (make_all (call i) m (s.names i) (s.types i) 0 (s.variables i)) (λ _. exec (call i) m (s.names i) (s.starts i))) m first_state) (λ _. stop meant.Normal)
 
 -- a text has one meaning
 text_means : (text : List ℕ) (u v : TypedUnit) (m : ℕ) → IsProgramText text u → IsProgramText text v → meaning (u ∷ []) m ≡ meaning (v ∷ []) m

@@ -1,11 +1,13 @@
 -- The machine follows the meaning of an expression through the code of the expression.
 use Rattle.std.proofs.Common.{◌≡◌, ℕ, ℤ, pos, suc, ◌+◌, ◌<◌, ◌≤◌, Bool, IsTrue, List, [], ◌∷◌, ◌++◌, length, Some, slice_get, refl, sym, ap, ◌∙◌, subst, arith, append_assoc, length-append, true, false}
+use Rattle.ep_object.specs.Activations.{KnowsOwn}
 use Rattle.ep_object.specs.Follows.{point, Facts, Fragment, OnTop, PlaceOnTop, Inside}
-use Rattle.ep_object.specs.Matching.{Slots, Memory, at, Injection, IsPlaceOf, Describes, HasType, Matches}
+use Rattle.ep_object.specs.Matching.{Slots, Memory, at, Injection, IsPlaceOf, Describes, HasType, HasOwnType, Matches}
+use Rattle.ep_object.specs.Matching.{at as standing}
 use Rattle.ep_object.specs.Operands.{Operand}
 use Rattle.ep_object.specs.Operands as operand
 use Rattle.ep_object.specs.Placing.{Placement, CodeStands}
-use Rattle.ep_object.specs.Scene.{Scene, TextStands, VariableStands, HaveValidTypes}
+use Rattle.ep_object.specs.Scene.{Scene, TextStands, VariableStands, HaveValidTypes, HaveValidOwnTypes}
 use Rattle.ep_object.specs.Runs.{unit_in}
 use Rattle.ep_object.specs.declared.code.Image.{Image}
 use Rattle.ep_object.specs.declared.code.Instr.{Instr}
@@ -14,6 +16,7 @@ use Rattle.ep_object.specs.declared.state.Place.{Place as PlaceOf}
 use Rattle.ep_object.proofs.following.Choices.{Reads, fragment_fetch, follows_fetch, fragment_using}
 use Rattle.ep_object.proofs.following.Fragments.{FailsWith, fragment_less, fragment_to, fragment_one, fragment_paid, fragment_give, fragment_credit, fragment_bind_place, fragment_bind_number}
 use Rattle.ep_object.proofs.matching.Growing.{unit_in-same, inside_here}
+use Rattle.ep_object.proofs.rows.OwnRows.{own_reads}
 use Rattle.ep_object.proofs.rows.PlaceRows.{unit_reads, load_fails, load_reads}
 use Rattle.ep_object.proofs.rows.Rows.{push_pushes}
 use Rattle.ep_object.proofs.rows.TextRows.{text_pushes}
@@ -26,9 +29,9 @@ use Rattle.ep_typed.specs.Meaning.{eval, place, weight_of}
 use Rattle.ep_typed.specs.Operations.{decides}
 use Rattle.ep_typed.specs.Printing.{number_of}
 use Rattle.ep_typed.specs.Printing as result
-use Rattle.ep_typed.specs.Steps.{word_at, has_ended}
+use Rattle.ep_typed.specs.Steps.{word_at, own_variable, has_ended}
 use Rattle.ep_typed.specs.Steps as meaning
-use Rattle.ep_typed.specs.Trees.{Variable, Standard, Expr, Constant, Text, Read, One, Two, Short, Step}
+use Rattle.ep_typed.specs.Trees.{Place, Variable, Own, Standard, Expr, Constant, Text, Read, One, Two, Short, Step}
 use Rattle.ep_typed.specs.Valid.{Declarations, Kind, Ordinal, Bytes, IsUnary, IsBinary, IsTypeOf, IsPlace, IsExpr}
 use Rattle.ep_typed.specs.Viewed.{denoter_of}
 use Rattle.ep_typed.specs.declared.operations.Binary.{Binary}
@@ -39,7 +42,7 @@ use Rattle.ep_typed.specs.Hosts as host
 use Rattle.ep_typed.specs.declared.value.TypeValue.{TypeValue}
 use Rattle.ep_typed.specs.declared.value.TypeValue.TheVariants as type
 use Rattle.ep_typed.specs.declared.unit.UnitVariable.{UnitVariable}
-use Rattle.ep_gen_expr.specs.Following.{least_credit}
+use Rattle.ep_gen_expr.specs.Following.{least_credit, HasPlaceType}
 use Rattle.ep_gen_expr.specs.ExprCode.{IsPlaceCode, IsExprCode, instr, push, bare, one_code, two_code, keep_code, step_code}
 use Rattle.ep_gen_expr.proofs.Answering.{Evaluates, IsFollowed}
 use Rattle.ep_gen_expr.proofs.ShortCircuit.{kept_follows}
@@ -49,25 +52,29 @@ use Rattle.ep_gen_expr.proofs.Stepping.{step_follows}
 use Rattle.ep_gen_expr.proofs.TwoOperands.{BinaryFollows, binary_follows}
 use Rattle.ep_object.specs.declared.op.TheConstants as op
 
--- a variable that is declared, with its type value, which is of the host
-pub record IsTyped (declared : Declarations) (unit : List ℕ) (k : ℕ) (h : Host) : Type 0 where
-  pub variable : UnitVariable
-  pub is_declared : declared.variables unit k ≡ Some variable
+-- the type value of a place, which is of the host
+pub record IsTyped (declared : Declarations) (q : Place) (h : Host) : Type 0 where
   pub type_value : TypeValue
-  pub has_type : HasType declared unit variable type_value
+  pub has_type : HasPlaceType declared q type_value
   pub of_host : IsTypeOf h type_value
 
--- a place of a host is a variable of a type of it
-pub typed_variable : (declared : Declarations) → HaveValidTypes declared → (h : Host) (unit : List ℕ) (k : ℕ) → IsPlace declared h (Variable unit k) → IsTyped declared unit k h
-typed_variable declared types_valid h unit k (v, is_declared, is_host) =
+-- a place of a host is that of a variable of a type of it
+pub typed_place : (declared : Declarations) → HaveValidTypes declared → HaveValidOwnTypes declared → (h : Host) (q : Place) → IsPlace declared h q → IsTyped declared q h
+typed_place declared types_valid own_valid h (Variable unit k) (v, is_declared, is_host) =
     let valid = types_valid unit k v is_declared in
     record {
-      variable = v;
-      is_declared = is_declared;
       type_value = valid.type_value;
-      has_type = types_are_instances (declared.types unit) (denoter_of v.denoter) valid.type_value valid.has_type;
+      has_type = (v, is_declared, types_are_instances (declared.types unit) (denoter_of v.denoter) valid.type_value valid.has_type);
       of_host = subst (λ h. IsTypeOf h valid.type_value) (same_Some valid.host h (sym valid.has_host ∙ is_host)) valid.is_type;
     }
+typed_place declared types_valid own_valid h (Own k) (v, is_declared, is_host) =
+    let valid = own_valid k v is_declared in
+    record {
+      type_value = valid.type_value;
+      has_type = (v, is_declared, types_are_instances declared.routine_types (denoter_of v.denoter) valid.type_value valid.has_type);
+      of_host = subst (λ h. IsTypeOf h valid.type_value) (same_Some valid.host h (sym valid.has_host ∙ is_host)) valid.is_type;
+    }
+typed_place declared types_valid own_valid h (Standard file) is = absurd is
 
 -- `Load` of a variable that has ended, where the routine is one of the unit
 load_ends : (declared : Declarations) (G : Image) (unit : List ℕ) (at_place line : ℕ) (h : Host) (t : TypeValue) → IsTypeOf h t
@@ -81,7 +88,7 @@ load_ends declared G unit at_place line h (type.Ordinal low high) of_host has in
     subst (λ u. FailsWith G (at at_place (operand.Place q ∷ below) memory s.trace) 0 11 u line s) unit_is (load_fails declared G at_place line below low high a q has injection memory place_of described s matches ended)
 load_ends declared G unit at_place line h type.Text of_host has injection memory below a q place_of described unit_is s matches ended = absurd of_host
 
-module _ {declared : Declarations} {G : Image} {untouched : Slots} {Here : Facts} (ps : List Placement) (p : Placement) (texts : List (List ℕ)) (references : List Reference) (scene : Scene declared G ps p texts) (call : Handler) (steady_call : IsSteadyHandler call) (g : ℕ) (unit : List ℕ) where
+module _ {declared : Declarations} {G : Image} {untouched : Slots} {Here : Facts} (ps : List Placement) (p : Placement) (texts : List (List ℕ)) (references : List Reference) (scene : Scene declared G ps p texts) (knows : KnowsOwn declared Here) (call : Handler) (steady_call : IsSteadyHandler call) (g : ℕ) (unit : List ℕ) where
   -- a constant, by `Push`
   constant_follows : (n : ℕ) (host : Host) (z : ℤ) → IsTrue (is_of_host host z) → (line at : ℕ) → CodeStands G ps p references at (push line z ∷ []) → (injection : Injection) (memory : Memory) (below : List Operand) (d : ℕ) → Fragment declared G Here n (point injection memory (p.instructions.before + at) below) (eval call g unit line (Constant z)) (p.instructions.before + (at + 1)) (λ r. Inside untouched injection memory (OnTop (Ordinal host) below r)) d (λ r. d + 8 + weight_of r)
   constant_follows n host z of_host line at stands injection memory below d =
@@ -102,11 +109,26 @@ module _ {declared : Declarations} {G : Image} {untouched : Slots} {Here : Facts
       (subst (λ u. Reads declared G Here (at place below memory s.trace) 1 (unit_in G memory.frames) line (place + 1) (λ n. Inside untouched injection memory (PlaceOnTop t below n)) s (s.variables u number)) variable.named
       (unit_reads declared G place line below variable.number number variable.image_unit v t has variable.there variable.within (ap (λ u. declared.variables u number) variable.named ∙ is_declared) (subst (λ u. HasType declared u v t) (sym variable.named) has_type) injection memory s matches here))
 
-  pub place_follows : (n : ℕ) (of_unit : List ℕ) (k : ℕ) (v : UnitVariable) (t : TypeValue) → declared.variables of_unit k ≡ Some v → HasType declared of_unit v t → (line at : ℕ) (code : List Instr) → IsPlaceCode references line (Variable of_unit k) code → CodeStands G ps p references at code → (injection : Injection) (memory : Memory) (below : List Operand) (d : ℕ) → least_credit ≤ d → unit_in G memory.frames ≡ unit → Fragment declared G Here n (point injection memory (p.instructions.before + at) below) (place call g unit line (Variable of_unit k)) (p.instructions.before + (at + length code)) (λ a. Inside untouched injection memory (PlaceOnTop t below a)) d (λ a. d + 8)
-  place_follows n of_unit k v t is_declared has_type line at code (r, there, is) stands injection memory below d le unit_is =
+  -- the place of a variable that is declared, by `Unit`
+  variable_follows : (n : ℕ) (of_unit : List ℕ) (k : ℕ) (v : UnitVariable) (t : TypeValue) → declared.variables of_unit k ≡ Some v → HasType declared of_unit v t → (line at : ℕ) (code : List Instr) → IsPlaceCode references line (Variable of_unit k) code → CodeStands G ps p references at code → (injection : Injection) (memory : Memory) (below : List Operand) (d : ℕ) → least_credit ≤ d → unit_in G memory.frames ≡ unit → Fragment declared G Here n (point injection memory (p.instructions.before + at) below) (place call g unit line (Variable of_unit k)) (p.instructions.before + (at + length code)) (λ a. Inside untouched injection memory (PlaceOnTop t below a)) d (λ a. d + 8)
+  variable_follows n of_unit k v t is_declared has_type line at code (r, there, is) stands injection memory below d le unit_is =
       let variable : VariableStands G ps of_unit k = scene.variables_stand of_unit k v is_declared in
       let has : CodeStands G ps p references at (instr op.UNIT (pos r) 0 line ∷ []) = subst (λ c. CodeStands G ps p references at c) is stands in
       fragment_less {n = suc n} (omega arith) (fragment_to (omega (arith, ap length is)) (fragment_fetch {n = n} (λ s. s.variables of_unit k) (λ m. m) (λ s matches here. unit_finds (p.instructions.before + at) line k of_unit v t is_declared has_type variable (variable_at G ps p references line r (p.instructions.before + at) k of_unit variable there has.0) injection memory below unit_is s matches here) (omega (arith, le)) (λ m. omega arith)))
+
+  -- the place of a variable of the routine, by `Slot`
+  own_follows : (n k : ℕ) (v : UnitVariable) (t : TypeValue) → slice_get declared.routine_variables k ≡ Some v → HasOwnType declared v t → (line at : ℕ) (code : List Instr) → IsPlaceCode references line (Own k) code → CodeStands G ps p references at code → (injection : Injection) (memory : Memory) (below : List Operand) (d : ℕ) → least_credit ≤ d → unit_in G memory.frames ≡ unit → Fragment declared G Here n (point injection memory (p.instructions.before + at) below) (place call g unit line (Own k)) (p.instructions.before + (at + length code)) (λ a. Inside untouched injection memory (PlaceOnTop t below a)) d (λ a. d + 8)
+  own_follows n k v t is_declared has_type line at code is stands injection memory below d le unit_is =
+      let has : CodeStands G ps p references at (instr op.SLOT (pos k) 0 line ∷ []) = subst (λ c. CodeStands G ps p references at c) is stands in
+      fragment_less {n = suc n} (omega arith) (fragment_to (omega (arith, ap length is)) (fragment_fetch {n = n} (own_variable k) (λ m. m) (λ s matches here.
+      subst (λ u. Reads declared G Here (standing (p.instructions.before + at) below memory s.trace) 1 u line (p.instructions.before + at + 1) (λ n. Inside untouched injection memory (PlaceOnTop t below n)) s (own_variable k s)) unit_is
+      (own_reads declared G (p.instructions.before + at) line below k v t has.0 has_type injection memory s matches (knows injection s memory here k v is_declared) here)) (omega (arith, le)) (λ m. omega arith)))
+
+  -- the place of a variable
+  pub place_follows : (n : ℕ) (q : Place) (t : TypeValue) → HasPlaceType declared q t → (line at : ℕ) (code : List Instr) → IsPlaceCode references line q code → CodeStands G ps p references at code → (injection : Injection) (memory : Memory) (below : List Operand) (d : ℕ) → least_credit ≤ d → unit_in G memory.frames ≡ unit → Fragment declared G Here n (point injection memory (p.instructions.before + at) below) (place call g unit line q) (p.instructions.before + (at + length code)) (λ a. Inside untouched injection memory (PlaceOnTop t below a)) d (λ a. d + 8)
+  place_follows n (Variable of_unit k) t (v, is_declared, has_type) line at code is stands injection memory below d le unit_is = variable_follows n of_unit k v t is_declared has_type line at code is stands injection memory below d le unit_is
+  place_follows n (Own k) t (v, is_declared, has_type) line at code is stands injection memory below d le unit_is = own_follows n k v t is_declared has_type line at code is stands injection memory below d le unit_is
+  place_follows n (Standard file) t has_type line at code is stands injection memory below d le unit_is = absurd has_type
 
   -- what `Load` finds of a variable of a type of the host
   load_finds : (place line : ℕ) (h : Host) (t : TypeValue) → IsTypeOf h t
@@ -120,12 +142,12 @@ module _ {declared : Declarations} {G : Image} {untouched : Slots} {Here : Facts
       subst (λ u. Reads declared G Here (at place (operand.Place q ∷ below) memory s.trace) 1 u line (place + 1) (λ w. Inside untouched injection memory (OnTop (Ordinal h) below (result.Number w))) s (word_at a s)) unit_is (load_reads declared G place line below h low high a q of_host has injection memory place_of described s matches here living)
   load_finds place line h type.Text of_host has injection memory below a q place_of described unit_is s matches here living = absurd of_host
 
-  -- the value of a variable that is declared, by its place and `Load`
-  read_follows : (n : ℕ) (h : Host) (of_unit : List ℕ) (k : ℕ) → IsTyped declared of_unit k h → (line at : ℕ) (xs : List Instr) → IsPlaceCode references line (Variable of_unit k) xs → CodeStands G ps p references at (xs ++ bare line op.LOAD ∷ []) → (injection : Injection) (memory : Memory) (below : List Operand) (d : ℕ) → least_credit ≤ d → unit_in G memory.frames ≡ unit → Evaluates declared G untouched Here n injection memory (p.instructions.before + at) below (eval call g unit line (Read (Variable of_unit k))) (p.instructions.before + (at + length (xs ++ bare line op.LOAD ∷ []))) (Ordinal h) below d (d + 8)
-  read_follows n h of_unit k v line at xs is_code stands injection memory below d le unit_is =
+  -- the value of a variable, by its place and `Load`
+  read_follows : (n : ℕ) (h : Host) (place : Place) → IsTyped declared place h → (line at : ℕ) (xs : List Instr) → IsPlaceCode references line place xs → CodeStands G ps p references at (xs ++ bare line op.LOAD ∷ []) → (injection : Injection) (memory : Memory) (below : List Operand) (d : ℕ) → least_credit ≤ d → unit_in G memory.frames ≡ unit → Evaluates declared G untouched Here n injection memory (p.instructions.before + at) below (eval call g unit line (Read place)) (p.instructions.before + (at + length (xs ++ bare line op.LOAD ∷ []))) (Ordinal h) below d (d + 8)
+  read_follows n h place v line at xs is_code stands injection memory below d le unit_is =
       let middle : ℕ = p.instructions.before + (at + length xs) in
       let has : CodeStands G ps p references (at + length xs) (bare line op.LOAD ∷ []) = code_back G ps p references at xs (bare line op.LOAD ∷ []) stands in
-      fragment_bind_place (steady_read call steady_call g unit line) (place_follows n of_unit k v.variable v.type_value v.is_declared v.has_type line at xs is_code (code_front G ps p references at xs (bare line op.LOAD ∷ []) stands) injection memory below d le unit_is) (λ a q longer after grown routine place_of described.
+      fragment_bind_place (steady_read call steady_call g unit line) (place_follows n place v.type_value v.has_type line at xs is_code (code_front G ps p references at xs (bare line op.LOAD ∷ []) stands) injection memory below d le unit_is) (λ a q longer after grown routine place_of described.
       fragment_less {n = suc n} (omega arith) (fragment_to (omega (arith, length-append xs (bare line op.LOAD ∷ []))) (fragment_using {n = suc n} {e = λ r. d + 8 + weight_of r} a
       (λ s matches ended. load_ends declared G unit middle line h v.type_value v.of_host has.0 longer after below a q place_of described (unit_in-same G routine ∙ unit_is) s matches ended) (omega arith)
       (λ s matches here living. follows_fetch {e = λ r. d + 8 + weight_of r} (point longer after middle (operand.Place q ∷ below)) (word_at a) (λ w. result.Number w) s (load_finds middle line h v.type_value v.of_host has.0 longer after below a q place_of described (unit_in-same G routine ∙ unit_is) s matches here living) (omega arith) (λ w. omega arith)))))
@@ -188,10 +210,9 @@ module _ {declared : Declarations} {G : Image} {untouched : Slots} {Here : Facts
         followed_as n kind (Ordinal h) (Constant z) line at code (push line z ∷ []) is_kind is (λ injection memory below d le unit_is. constant_follows n h z of_host line at (subst (λ c. CodeStands G ps p references at c) is stands) injection memory below d)
     expression_follows n kind (Text bytes) is_kind line at code (k, there, is) stands inside =
         followed_as n kind Bytes (Text bytes) line at code (instr op.TEXT (pos k) 0 line ∷ []) is_kind is (λ injection memory below d le unit_is. text_follows n k bytes there line at (subst (λ c. CodeStands G ps p references at c) is stands) injection memory below d)
-    expression_follows n kind (Read (Variable of_unit k)) (h, is_kind, is_place) line at code (xs, is_code, is) stands inside =
-        let v = typed_variable declared scene.types_valid h of_unit k is_place in
-        followed_as n kind (Ordinal h) (Read (Variable of_unit k)) line at code (xs ++ bare line op.LOAD ∷ []) is_kind is (read_follows n h of_unit k v line at xs is_code (subst (λ c. CodeStands G ps p references at c) is stands))
-    expression_follows n kind (Read (Standard file)) (h, is_kind, is_place) line at code is_code stands inside = absurd is_place
+    expression_follows n kind (Read place) (h, is_kind, is_place) line at code (xs, is_code, is) stands inside =
+        let v = typed_place declared scene.types_valid scene.own_types_valid h place is_place in
+        followed_as n kind (Ordinal h) (Read place) line at code (xs ++ bare line op.LOAD ∷ []) is_kind is (read_follows n h place v line at xs is_code (subst (λ c. CodeStands G ps p references at c) is stands))
     expression_follows n kind (One operation x) (k, kinds, is_x) line at code (xs, x_code, is) stands inside =
         let all : CodeStands G ps p references at (xs ++ one_code line operation) = subst (λ c. CodeStands G ps p references at c) is stands in
         followed_as n kind kind (One operation x) line at code (xs ++ one_code line operation) refl is

@@ -3,7 +3,7 @@ use Rattle.std.proofs.Common.{◌≡◌, ℕ, ℤ, pos, ◌+◌, ◌<◌, ◌-�
 use Rattle.ep_object.specs.declared.code.Instr.{Instr}
 use Rattle.ep_object.specs.declared.code.Reference.{Reference}
 use Rattle.ep_typed.specs.Operations.{last_char}
-use Rattle.ep_typed.specs.Trees.{Place, Variable, Standard, Expr, Constant, Text, Read, One, Two, Short, Step}
+use Rattle.ep_typed.specs.Trees.{Place, Variable, Own, Standard, Expr, Constant, Text, Read, One, Two, Short, Step}
 use Rattle.ep_typed.specs.declared.operations.Unary.{Unary}
 use Rattle.ep_typed.specs.declared.operations.Unary.TheVariants as unary
 use Rattle.ep_typed.specs.declared.operations.Binary.{Binary}
@@ -76,6 +76,9 @@ whole_place {a = a} {b = b} x code h g = record { code = code; is_code = h; grow
 pub appends_variable : {a b c : Code} (unit : List ℕ) (number k : ℕ) → NumbersReference a b (reference unit number) k → Grows b c (instr op.UNIT (pos k) 0 b.line ∷ []) → AppendsPlace a c (Variable unit number)
 appends_variable {a = a} unit number k p q =
     whole_place (Variable unit number) (instr op.UNIT (pos k) 0 a.line ∷ []) (k, get_later k (reference unit number) q.references.begins p.there, refl) (grows_at (λ line. instr op.UNIT (pos k) 0 line ∷ []) p.grows q)
+
+pub appends_own : {a b : Code} (number : ℕ) → Grows a b (instr op.SLOT (pos number) 0 a.line ∷ []) → AppendsPlace a b (Own number)
+appends_own {a = a} number g = whole_place (Own number) (instr op.SLOT (pos number) 0 a.line ∷ []) refl g
 
 pub appends_standard : {a b : Code} (file : StandardFile) → Grows a b (standard_code a.line file ∷ []) → AppendsPlace a b (Standard file)
 appends_standard {a = a} file g = whole_place (Standard file) (standard_code a.line file ∷ []) refl g
@@ -201,4 +204,4 @@ on_ok (Err e) f h = tt
 
 pub ruleset numbers = (numbers_old_text, numbers_old_reference)
 
-pub ruleset forms = (appends_variable, appends_standard, appends_constant, appends_text, appends_read, appends_one, appends_two, appends_step)
+pub ruleset forms = (appends_variable, appends_own, appends_standard, appends_constant, appends_text, appends_read, appends_one, appends_two, appends_step)

@@ -3,7 +3,7 @@ use Rattle.std.proofs.Common.{◌≡◌, ℕ, ℤ, ◌+◌, ◌*◌, ◌≤◌, 
 use Rattle.ep_outside.specs.Known.{IsPrefix}
 use Rattle.ep_object.specs.declared.code.Instr.{Instr}
 use Rattle.ep_object.specs.declared.code.Reference.{Reference}
-use Rattle.ep_typed.specs.Trees.{Place, Variable, Standard, Expr, Constant, Text, Read, One, Two, Short, Step}
+use Rattle.ep_typed.specs.Trees.{Place, Variable, Own, Standard, Expr, Constant, Text, Read, One, Two, Short, Step}
 use Rattle.ep_typed.specs.declared.operations.Unary.{Unary}
 use Rattle.ep_typed.specs.declared.operations.Unary.TheVariants as unary
 use Rattle.ep_typed.specs.declared.operations.ShortOperation.{ShortOperation}
@@ -15,6 +15,7 @@ use Rattle.ep_object.specs.declared.op.TheConstants as op
 
 pub place_code_stays : (rs ss : List Reference) (line : ℕ) (p : Place) (is : List Instr) → IsPrefix rs ss → IsPlaceCode rs line p is → IsPlaceCode ss line p is
 place_code_stays rs ss line (Variable unit number) is b h = (h.0, get_later h.0 (reference unit number) b h.1, h.2)
+place_code_stays rs ss line (Own number) is b h = h
 place_code_stays rs ss line (Standard file) is b h = h
 
 module _ (ts us : List (List ℕ)) (rs ss : List Reference) (line : ℕ) (a : IsPrefix ts us) (b : IsPrefix rs ss) where
@@ -50,6 +51,7 @@ short_short xs ks ys i j is e k m few p q = omega (arith, ap length e, length-ap
 
 pub place_code_short : (rs : List Reference) (line : ℕ) (p : Place) (is : List Instr) → IsPlaceCode rs line p is → length is ≤ 32 * place_nodes p
 place_code_short rs line (Variable unit number) is h = omega (arith, ap length h.2)
+place_code_short rs line (Own number) is h = omega (arith, ap length h)
 place_code_short rs line (Standard file) is h = omega (arith, ap length h)
 
 module _ (ts : List (List ℕ)) (rs : List Reference) (line : ℕ) where

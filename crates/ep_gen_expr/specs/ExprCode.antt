@@ -5,7 +5,7 @@ pub use Rattle.ep_object.specs.Table.{instr}
 use Rattle.ep_object.specs.declared.code.Instr.{Instr}
 use Rattle.ep_object.specs.declared.code.Reference.{Reference}
 use Rattle.ep_typed.specs.Operations.{last_char}
-use Rattle.ep_typed.specs.Trees.{Place, Variable, Standard, Expr, Constant, Text, Read, One, Two, Short, Step}
+use Rattle.ep_typed.specs.Trees.{Place, Variable, Own, Standard, Expr, Constant, Text, Read, One, Two, Short, Step}
 use Rattle.ep_typed.specs.declared.operations.Unary.{Unary}
 use Rattle.ep_typed.specs.declared.operations.Unary.TheVariants as unary
 use Rattle.ep_typed.specs.declared.operations.Binary.{Binary}
@@ -88,6 +88,7 @@ standard_code line file = instr op.UNIT constant.STANDARD_UNIT (standard_number 
 -- the code of a place, whose instructions have this line
 abbrev pub IsPlaceCode : List Reference → ℕ → Place → List Instr → Type 0
 IsPlaceCode references line (Variable unit number) is = (k : ℕ) × (slice_get references k ≡ Some (reference unit number)) × (is ≡ instr op.UNIT (pos k) 0 line ∷ [])
+IsPlaceCode references line (Own number) is = is ≡ instr op.SLOT (pos number) 0 line ∷ []
 IsPlaceCode references line (Standard file) is = is ≡ standard_code line file ∷ []
 
 module _ (texts : List (List ℕ)) (references : List Reference) (line : ℕ) where

@@ -1,8 +1,9 @@
 -- The machine follows expressions and places: wherever their code stands in an image, it does what they mean.
-use Rattle.std.specs.Prelude.{◌≡◌, ℕ, ◌+◌, ◌<◌, ◌≤◌, List, length, Some}
+use Rattle.std.specs.Prelude.{◌≡◌, ℕ, ◌+◌, ◌<◌, ◌≤◌, List, length, Some, slice_get}
 use Rattle.ep_gen_expr.specs.ExprCode.{IsPlaceCode, IsExprCode}
+use Rattle.ep_object.specs.Activations.{MatchesOwn, OwnAreKept}
 use Rattle.ep_object.specs.Follows.{point, Since, Fragment, Inside, Operands, OnTop, PlaceOnTop}
-use Rattle.ep_object.specs.Matching.{Memory, Injection, Slots, HasType}
+use Rattle.ep_object.specs.Matching.{Memory, Injection, Slots, HasType, HasOwnType}
 use Rattle.ep_object.specs.Operands.{Operand}
 use Rattle.ep_object.specs.Placing.{Placement, CodeStands}
 use Rattle.ep_object.specs.Runs.{unit_in}
@@ -14,7 +15,7 @@ use Rattle.ep_typed.specs.Steady.{IsSteadyHandler}
 use Rattle.ep_typed.specs.Calls.{Handler}
 use Rattle.ep_typed.specs.Meaning.{eval, place, weight_of}
 use Rattle.ep_typed.specs.Steps.{State, Computation}
-use Rattle.ep_typed.specs.Trees.{Variable, Expr}
+use Rattle.ep_typed.specs.Trees.{Place, Variable, Own, Standard, Expr}
 use Rattle.ep_typed.specs.Valid.{Declarations, Kind, IsExpr}
 use Rattle.ep_typed.specs.declared.unit.UnitVariable.{UnitVariable}
 use Rattle.ep_typed.specs.declared.value.TypeValue.{TypeValue}
@@ -23,19 +24,26 @@ use Rattle.ep_typed.specs.declared.value.TypeValue.{TypeValue}
 abbrev pub least_credit : ℕ
 least_credit = 32
 
--- From every memory of a routine of the unit, with any operands below and at every number of steps, the machine follows the computation through the code at this place of the object. Behind the code the same routine runs, memory has grown, any slots that are named are untouched, and what held and lasts still does, what the computation gives lies on the operands below, and the credit has risen by this gain.
+-- From every memory of a routine of the unit in which its own variables match, with any operands below and at every number of steps, the machine follows the computation through the code at this place of the object. Behind the code the same routine runs, memory has grown, any slots that are named are untouched, and what held and lasts still does, what the computation gives lies on the operands below, and the credit has risen by this gain.
 abbrev pub IsFollowedThrough : {A : Type 0} → Declarations → Image → Placement → List ℕ → ℕ → List Instr → Computation A → (List Operand → A → Operands) → (A → ℕ) → Type 0
 IsFollowedThrough declared G p unit at code c Then gain =
-    (untouched : Slots) (begun : State) (n : ℕ) (injection : Injection) (memory : Memory) (below : List Operand) (credit : ℕ) → least_credit ≤ credit → unit_in G memory.frames ≡ unit
+    (untouched : Slots) → OwnAreKept declared untouched → (begun : State) (n : ℕ) (injection : Injection) (memory : Memory) → MatchesOwn declared injection begun memory
+    → (below : List Operand) (credit : ℕ) → least_credit ≤ credit → unit_in G memory.frames ≡ unit
     → Fragment declared G (Since untouched injection begun memory) n (point injection memory (p.instructions.before + at) below) c (p.instructions.before + (at + length code)) (λ a. Inside untouched injection memory (Then below a)) credit (λ a. credit + gain a)
 
--- Wherever the code of a variable that is declared stands in an image with a scene, the machine follows its place through the code and leaves the place on top, of a type that describes the variable's.
+-- the type value of a place: that of a variable which is declared, or of one of the routine
+abbrev pub HasPlaceType : Declarations → Place → TypeValue → Type 0
+HasPlaceType declared (Variable unit k) t = (v : UnitVariable) × (declared.variables unit k ≡ Some v) × HasType declared unit v t
+HasPlaceType declared (Own k) t = (v : UnitVariable) × (slice_get declared.routine_variables k ≡ Some v) × HasOwnType declared v t
+HasPlaceType declared (Standard file) t = ⊥
+
+-- Wherever the code of the place of a variable stands in an image with a scene, the machine follows the place through the code and leaves it on top, of a type that describes the variable's.
 abbrev pub PlacesAreFollowed : Type 0
 PlacesAreFollowed =
     (declared : Declarations) (G : Image) (ps : List Placement) (p : Placement) (texts : List (List ℕ)) (references : List Reference) → Scene declared G ps p texts
-    → (call : Handler) → IsSteadyHandler call → (turns : ℕ) (unit of_unit : List ℕ) (k : ℕ) (v : UnitVariable) (t : TypeValue) → declared.variables of_unit k ≡ Some v → HasType declared of_unit v t
-    → (line at : ℕ) (code : List Instr) → IsPlaceCode references line (Variable of_unit k) code → CodeStands G ps p references at code
-    → IsFollowedThrough declared G p unit at code (place call turns unit line (Variable of_unit k)) (PlaceOnTop t) (λ a. 8)
+    → (call : Handler) → IsSteadyHandler call → (turns : ℕ) (unit : List ℕ) (q : Place) (t : TypeValue) → HasPlaceType declared q t
+    → (line at : ℕ) (code : List Instr) → IsPlaceCode references line q code → CodeStands G ps p references at code
+    → IsFollowedThrough declared G p unit at code (place call turns unit line q) (PlaceOnTop t) (λ a. 8)
 
 -- Wherever the code of an expression that is valid under the declarations stands in an image with a scene, with more code
 -- of the object behind it, the machine follows its value through the code and leaves the value on top.

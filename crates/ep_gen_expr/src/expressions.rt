@@ -1,7 +1,7 @@
 //! The code of places and expressions.
 
 ghost use Rattle.std.specs.Prelude.{OnOk};
-ghost use Rattle.ep_typed.specs.Trees.{Constant, One, Read, Short, Step, Text, Two, Variable};
+ghost use Rattle.ep_typed.specs.Trees.{Constant, One, Own, Read, Short, Step, Text, Two, Variable};
 ghost use Rattle.ep_typed.specs.Viewed.{expr_of, place_of};
 ghost use Rattle.ep_gen_expr.specs.Growth.{AppendsPlace, AppendsExpr};
 
@@ -22,6 +22,7 @@ pub fn place_code(alloc: Global, p: &TypedPlace, code: &mut Code) -> Result<(), 
 {
     match p {
         TypedPlace::Variable(unit, number) => variable_code(alloc, unit, *number, code),
+        TypedPlace::Own(number) => own_code(*number, code),
         TypedPlace::Standard(file) => standard_code(*file, code),
     }
 }
@@ -33,6 +34,14 @@ fn variable_code(alloc: Global, unit: &Name, number: u32, code: &mut Code) -> Re
 {
     let place = reference_number(alloc, unit, number, code)?;
     emit(code, op::UNIT, place as i64, 0)
+}
+
+/// Appends the code of a variable of the routine, in whose frame it has a slot.
+#[tactic(auto, using(crate::proofs::Forms::forms))]
+fn own_code(number: u32, code: &mut Code) -> Result<(), NoMemory>
+    ensures { OnOk result (AppendsPlace code.old code.new (Own number)) }
+{
+    emit(code, op::SLOT, number as i64, 0)
 }
 
 /// Appends the code of an expression, which leaves its value.

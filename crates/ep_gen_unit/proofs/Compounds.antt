@@ -1,6 +1,6 @@
--- What statements with lists of statements are seen as.
+-- What statements without parts, and with lists of statements, are seen as.
 use Rattle.std.proofs.Common.{◌≡◌, ℕ, List, Option, Some, None, map, sym, ap, ◌∙◌}
-use Rattle.ep_typed.specs.Trees.{Stmt, Compound, Repeat, Case, Arm, stmts, arms}
+use Rattle.ep_typed.specs.Trees.{Stmt, Empty, Compound, Repeat, Case, Arm, stmts, arms}
 use Rattle.ep_typed.specs.Viewed.{expr_of, stmt_of, stmt_step, arm_of, arm_step, other_of}
 use Rattle.ep_typed.specs.declared.tree.CaseArm.{CaseArm, out-CaseArm}
 use Rattle.ep_typed.specs.declared.tree.TypedExpr.{TypedExpr}
@@ -22,3 +22,6 @@ case_is line x all (Some ss) = ap stmt_of (sym (typed.rolls-Case line x all (Som
 -- an arm of a `case` by its parts
 pub arm_is : (a : CaseArm) → arm_of a ≡ ((out-CaseArm a).ranges, stmt_of (out-CaseArm a).body)
 arm_is a = fold_out-CaseArm Stmt Arm stmt_step arm_step a
+
+pub empty_is : stmt_of typed.Empty ≡ Empty
+empty_is = ap stmt_of (sym typed.rolls-Empty) ∙ fold-roll-TypedStmt Stmt Arm stmt_step arm_step layer.Empty

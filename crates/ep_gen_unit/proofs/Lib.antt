@@ -6,7 +6,8 @@ pub mod Declared
 pub mod Following
 pub mod ItemForms
 pub mod Makes
-pub mod Parts
+pub mod OwnMakes
+mod Parts
 mod ProcedureMoves
 pub mod ProgramForms
 pub mod Programs

@@ -39,14 +39,14 @@ use Rattle.ep_typed.specs.declared.unit.UnitVariable.{UnitVariable}
 use Rattle.ep_object.specs.declared.op.TheConstants as op
 
 -- in the frame of the unit, while the same routine runs
-same_frame : (G : Image) (x : ImageUnit) (before after : Frames) → SameRoutine before after
+same_frame : {untouched : Slots} (G : Image) (x : ImageUnit) (before after : Frames) → SameRoutine untouched before after
     → RunsInUnit G before x → RunsInUnit G after x
 same_frame G x before after r h = record { calls = no_calls before.calls after.calls r.calls h.calls; unit = ap (λ k. slice_get G.units k) r.unit ∙ h.unit }
 
 -- a frame of the unit has the slots of its variables, which are none of those that are untouched
 abbrev pub VariablesAreFree : Declarations → Image → Slots → ImageUnit → Type 0
 VariablesAreFree declared G untouched x = (unit : ℕ) → slice_get G.units unit ≡ Some x
-    → (k : ℕ) (v : UnitVariable) → declared.variables x.name k ≡ Some v → IsTrue (untouched unit k) → ⊥
+    → (k : ℕ) (v : UnitVariable) → declared.variables x.name k ≡ Some v → IsTrue (untouched.of_units unit k) → ⊥
 
 -- from a place of the object to another one, the machine follows the computation in a frame of the unit and leaves the
 -- operands as they were

@@ -1,10 +1,10 @@
 -- What the proofs about statements share: where parts of code stand, and what is known of expressions.
-use Rattle.std.proofs.Common.{◌≡◌, ℕ, ℤ, ◌+◌, ◌<◌, ◌≤◌, List, ◌++◌, length, Some, refl}
-use Rattle.ep_gen_expr.specs.Following.{least_credit}
+use Rattle.std.proofs.Common.{◌≡◌, ℕ, ℤ, ◌+◌, ◌<◌, ◌≤◌, List, ◌++◌, length, refl}
+use Rattle.ep_gen_expr.specs.Following.{least_credit, HasPlaceType}
 use Rattle.ep_gen_expr.specs.ExprCode.{IsPlaceCode, IsExprCode}
 use Rattle.ep_gen_expr.proofs.Placed.{code_front, code_back}
 use Rattle.ep_object.specs.Follows.{point, Facts, Fragment, Inside, Bare, OnTop, PlaceOnTop}
-use Rattle.ep_object.specs.Matching.{Slots, Memory, Injection, HasType}
+use Rattle.ep_object.specs.Matching.{Slots, Memory, Injection}
 use Rattle.ep_object.specs.Operands.{Operand}
 use Rattle.ep_object.specs.Placing.{Placement, CodeStands}
 use Rattle.ep_object.specs.Runs.{unit_in}
@@ -14,12 +14,11 @@ use Rattle.ep_object.specs.declared.code.Reference.{Reference}
 use Rattle.ep_typed.specs.Calls.{Handler}
 use Rattle.ep_typed.specs.Meaning.{place, eval, weight_of}
 use Rattle.ep_typed.specs.Steps.{Computation}
-use Rattle.ep_typed.specs.Trees.{Variable, Expr}
+use Rattle.ep_typed.specs.Trees.{Place, Expr}
 use Rattle.ep_typed.specs.Valid.{Declarations, Kind, IsExpr, IsTypeOf}
 use Rattle.ep_typed.specs.Hosts.{Host}
 use Rattle.ep_typed.specs.declared.value.TypeValue.{TypeValue}
 use Rattle.ep_typed.specs.declared.value.TypeValue.TheVariants as type
-use Rattle.ep_typed.specs.declared.unit.UnitVariable.{UnitVariable}
 
 -- two parts of code stand one after the other
 pub code_stands-parts : (G : Image) (ps : List Placement) (p : Placement) (references : List Reference) (at : ℕ) (xs ys : List Instr) → CodeStands G ps p references at (xs ++ ys) → CodeStands G ps p references at xs × CodeStands G ps p references (at + length xs) ys
@@ -57,6 +56,6 @@ module _ (declared : Declarations) (G : Image) (untouched : Slots) (Here : Facts
   -- the machine follows places
   abbrev pub PlacesFollow : Type 0
   PlacesFollow =
-      (of_unit : List ℕ) (k : ℕ) (v : UnitVariable) (t : TypeValue) → declared.variables of_unit k ≡ Some v → HasType declared of_unit v t → (line at : ℕ) (code : List Instr) → IsPlaceCode references line (Variable of_unit k) code → CodeStands G ps p references at code
+      (q : Place) (t : TypeValue) → HasPlaceType declared q t → (line at : ℕ) (code : List Instr) → IsPlaceCode references line q code → CodeStands G ps p references at code
       → (injection : Injection) (memory : Memory) (below : List Operand) (d : ℕ) → least_credit ≤ d → unit_in G memory.frames ≡ unit
-      → Fragment declared G Here n (point injection memory (p.instructions.before + at) below) (place call n unit line (Variable of_unit k)) (p.instructions.before + (at + length code)) (λ a. Inside untouched injection memory (PlaceOnTop t below a)) d (λ a. d + 8)
+      → Fragment declared G Here n (point injection memory (p.instructions.before + at) below) (place call n unit line q) (p.instructions.before + (at + length code)) (λ a. Inside untouched injection memory (PlaceOnTop t below a)) d (λ a. d + 8)

@@ -1,5 +1,5 @@
 -- The machine follows procedure statements, where the routines keep their promises.
-use Rattle.std.proofs.Common.{◌≡◌, ℕ, pos, suc, ◌+◌, ◌≤◌, ◌<◌, IsTrue, List, [], ◌∷◌, Some, length, slice_get, refl, sym, ap, ◌∙◌, subst, arith}
+use Rattle.std.proofs.Common.{◌≡◌, ℕ, pos, suc, ◌+◌, ◌≤◌, ◌<◌, List, [], ◌∷◌, Some, length, slice_get, refl, sym, ap, ◌∙◌, subst, arith}
 use Rattle.ep_gen_expr.specs.ExprCode.{instr, reference}
 use Rattle.ep_gen_expr.proofs.Placed.{jump_has}
 use Rattle.ep_gen_unit.proofs.Parts.{Moves}
@@ -8,7 +8,7 @@ use Rattle.ep_object.proofs.following.Promising.{call_follows}
 use Rattle.ep_object.proofs.matching.Growing.{inside_here}
 use Rattle.ep_object.proofs.rows.Rows.{jump_jumps}
 use Rattle.ep_object.specs.Follows.{Facts, Lasts, Fragment, Inside, Bare, point}
-use Rattle.ep_object.specs.Matching.{Memory, Injection, Slots, is_hidden_slot}
+use Rattle.ep_object.specs.Matching.{Memory, Injection, Slots, AreAmong, kept_slots}
 use Rattle.ep_object.specs.Operands.{Operand}
 use Rattle.ep_object.specs.Placing.{Placement, CodeStands}
 use Rattle.ep_object.specs.Promises.{CallsAt, CallsAreKept, ResultsOnTop}
@@ -30,7 +30,7 @@ no_results below operands [] injection memory h = h
 no_results below operands (r ∷ rs) injection memory h = absurd h
 
 module _ {declared : Declarations} {G : Image} {untouched : Slots} {Here : Facts} (lasts : Lasts untouched Here)
-    (among : (unit k : ℕ) → IsTrue (untouched unit k) → IsTrue (is_hidden_slot declared G unit k))
+    (among : AreAmong untouched (kept_slots declared G))
     (ps : List Placement) (p : Placement) (texts : List (List ℕ)) (references : List Reference) (call : Handler) (n : ℕ) (unit : List ℕ)
     (room : p.instructions.before + p.instructions.own ≤ length G.instructions) (kept : CallsAreKept declared G ps call n) where
   -- the call, and the jump behind it

@@ -22,7 +22,7 @@ use Rattle.ep_gen_expr.proofs.Forms.{grows_at}
 use Rattle.ep_gen_unit.specs.StmtCode.{IsStmtCode, type_code, elaborating_code, make_code, make_all_code, return_code}
 use Rattle.ep_gen_expr.specs.Jumps.{IsNextPlace}
 use Rattle.ep_gen_unit.specs.StmtGrowth.{Follows, AppendsStmt, AppendsStart, AppendsRoutine, AppendsRoutines, IsCompact, assembled}
-use Rattle.ep_gen_unit.specs.UnitCode.{IsProgramCode, IsRoutineCode, AreRoutinesCode, StandsIn, routine_at}
+use Rattle.ep_gen_unit.specs.UnitCode.{IsProgramCode, IsRoutineCode, AreRoutinesCode, StandsIn, own_code, routine_at}
 use Rattle.ep_gen_unit.proofs.Following.{later_follows, stmt_later, follows_none, follows_grows, follows_line, follows_then, grown_length}
 use Rattle.ep_object.specs.declared.op.TheConstants as op
 
@@ -75,16 +75,18 @@ module _ (u : TypedUnit) {a b c d e : Code} (ts : List UnitType) (types_are : ts
 
 -- ---- routines
 
--- the code of a routine, from that of its block
-pub appends_routine : {b c : Code} (a : Code) (r : UnitRoutine) (entry : ℕ) (x : CodeRoutine) → IsNextPlace a entry → AppendsStmt a b (stmt_of (out-UnitRoutine r).block)
-    → Grows (record b { line = code.NO_LINE }) c (return_code ∷ []) → x ≡ routine_at entry → AppendsRoutine a c r x
-appends_routine {b = b} {c = c} a r entry x next s last is =
-    let ends : Follows b c (return_code ∷ []) = follows_line b code.NO_LINE (follows_grows last) in
+-- the code of a routine, from that of its variables and its block
+pub appends_routine : {b c d : Code} (a : Code) (types : List UnitType) (r : UnitRoutine) (vs : List UnitVariable) (entry slots : ℕ) (x : CodeRoutine) → vs ≡ (out-UnitRoutine r).variables → slots ≡ length vs
+    → IsNextPlace a entry → Follows a b (make_all_code types 0 vs) → AppendsStmt b c (stmt_of (out-UnitRoutine r).block)
+    → Grows (record c { line = code.NO_LINE }) d (return_code ∷ []) → x ≡ routine_at entry slots → AppendsRoutine a d types r x
+appends_routine {b = b} {c = c} {d = d} a types r vs entry slots x variables_are many next makes s last is =
+    let ends : Follows c d (return_code ∷ []) = follows_line c code.NO_LINE (follows_grows last) in
+    let m : Follows a b (own_code types r) = subst (λ l. Follows a b (make_all_code types 0 l)) variables_are makes in
     record {
-      plain = is ∙ ap routine_at next.is_length;
+      plain = is ∙ (ap (λ k. routine_at entry k) (many ∙ ap length variables_are) ∙ ap (λ k. routine_at k (length (out-UnitRoutine r).variables)) next.is_length);
       code = s.code;
-      is_code = stmt_later (length a.instructions) (stmt_of (out-UnitRoutine r).block) s.code (later_follows ends) s.is_code;
-      follows = follows_then s.follows ends;
+      is_code = subst (λ at. IsStmtCode d.texts d.references at (stmt_of (out-UnitRoutine r).block) s.code) (grown_length m) (stmt_later (length b.instructions) (stmt_of (out-UnitRoutine r).block) s.code (later_follows ends) s.is_code);
+      follows = follows_then m (follows_then s.follows ends);
     }
 
 -- what stands in code stands in longer code
@@ -98,27 +100,27 @@ stands_longer {is = is} more e s =
       from = s.from;
     }
 
-routine_longer : {a b : Code} {is : List Instr} (r : UnitRoutine) (x : CodeRoutine) → Follows a b is
-    → IsRoutineCode a.texts a.references a.instructions r x → IsRoutineCode b.texts b.references b.instructions r x
-routine_longer {a = a} {b = b} {is = is} r x p h =
+routine_longer : {a b : Code} {is : List Instr} (types : List UnitType) (r : UnitRoutine) (x : CodeRoutine) → Follows a b is
+    → IsRoutineCode a.texts a.references a.instructions types r x → IsRoutineCode b.texts b.references b.instructions types r x
+routine_longer {a = a} {b = b} {is = is} types r x p h =
     record {
       plain = h.plain;
       code = h.code;
-      is_code = stmt_later x.entry (stmt_of (out-UnitRoutine r).block) h.code (later_follows p) h.is_code;
+      is_code = stmt_later (x.entry + length (own_code types r)) (stmt_of (out-UnitRoutine r).block) h.code (later_follows p) h.is_code;
       stands = stands_longer is p.instructions h.stands;
     }
 
 -- no routine yet
-pub no_routines : (a : Code) → AppendsRoutines a a [] []
-no_routines a = record { code = []; follows = follows_none a; blocks = record { count = refl; each = λ k r x p q. cc } }
+pub no_routines : (a : Code) (types : List UnitType) → AppendsRoutines a a types [] []
+no_routines a types = record { code = []; follows = follows_none a; blocks = record { count = refl; each = λ k r x p q. cc } }
 
 -- one more routine
-routines_then : {a b c : Code} (rs : List UnitRoutine) (entries : List CodeRoutine) (r : UnitRoutine) (x : CodeRoutine)
-    → AppendsRoutines a b rs entries → AppendsRoutine b c r x → AppendsRoutines a c (rs ++ r ∷ []) (entries ++ x ∷ [])
-routines_then {b = b} {c = c} rs entries r x p q =
+routines_then : {a b c : Code} (types : List UnitType) (rs : List UnitRoutine) (entries : List CodeRoutine) (r : UnitRoutine) (x : CodeRoutine)
+    → AppendsRoutines a b types rs entries → AppendsRoutine b c types r x → AppendsRoutines a c types (rs ++ r ∷ []) (entries ++ x ∷ [])
+routines_then {b = b} {c = c} types rs entries r x p q =
     let blocks = p.blocks in
     record {
-      code = p.code ++ (q.code ++ return_code ∷ []);
+      code = p.code ++ (own_code types r ++ (q.code ++ return_code ∷ []));
       follows = follows_then p.follows q.follows;
       blocks = record {
         count = omega (arith, blocks.count, length-append entries (x ∷ []), length-append rs (r ∷ []));
@@ -126,40 +128,40 @@ routines_then {b = b} {c = c} rs entries r x p q =
       };
     }
   where
-    newest : IsRoutineCode c.texts c.references c.instructions r x
+    newest : IsRoutineCode c.texts c.references c.instructions types r x
     newest =
         let entry : x.entry ≡ length b.instructions = ap (λ (y : CodeRoutine). y.entry) q.plain in
         record {
-          plain = q.plain ∙ ap routine_at (sym entry);
+          plain = q.plain ∙ ap (λ k. routine_at k (length (out-UnitRoutine r).variables)) (sym entry);
           code = q.code;
-          is_code = subst (λ k. IsStmtCode c.texts c.references k (stmt_of (out-UnitRoutine r).block) q.code) (sym entry) q.is_code;
+          is_code = subst (λ k. IsStmtCode c.texts c.references (k + length (own_code types r)) (stmt_of (out-UnitRoutine r).block) q.code) (sym entry) q.is_code;
           stands = record {
             before = b.instructions;
             after = [];
-            is = let f = q.follows in f.instructions ∙ ap (λ l. b.instructions ++ l) (sym (append-nil (q.code ++ return_code ∷ [])));
+            is = let f = q.follows in f.instructions ∙ ap (λ l. b.instructions ++ l) (sym (append-nil (own_code types r ++ (q.code ++ return_code ∷ []))));
             from = sym entry;
           };
         }
 
     either : (k : ℕ) (s : UnitRoutine) (y : CodeRoutine) → (slice_get rs k ≡ Some s) ⊎ ((k ≡ length rs) × (s ≡ r))
-        → (slice_get entries k ≡ Some y) ⊎ ((k ≡ length entries) × (y ≡ x)) → IsRoutineCode c.texts c.references c.instructions s y
-    either k s y (inl at_rs) (inl at_entries) = let blocks = p.blocks in routine_longer s y q.follows (blocks.each k s y at_rs at_entries)
+        → (slice_get entries k ≡ Some y) ⊎ ((k ≡ length entries) × (y ≡ x)) → IsRoutineCode c.texts c.references c.instructions types s y
+    either k s y (inl at_rs) (inl at_entries) = let blocks = p.blocks in routine_longer types s y q.follows (blocks.each k s y at_rs at_entries)
     either k s y (inl at_rs) (inr last) = let blocks = p.blocks in absurd (omega (arith, slice_get_within rs k s at_rs, last.0, blocks.count))
     either k s y (inr last) (inl at_entries) = let blocks = p.blocks in absurd (omega (arith, slice_get_within entries k y at_entries, last.0, blocks.count))
     either k s y (inr last) (inr newer) =
-        subst (λ z. IsRoutineCode c.texts c.references c.instructions z y) (sym last.1) (subst (IsRoutineCode c.texts c.references c.instructions r) (sym newer.1) newest)
+        subst (λ z. IsRoutineCode c.texts c.references c.instructions types z y) (sym last.1) (subst (IsRoutineCode c.texts c.references c.instructions types r) (sym newer.1) newest)
 
 -- one more routine of a slice
-pub routines_more : {a b c : Code} (rs : List UnitRoutine) (k : ℕ) (entries : List CodeRoutine) (r : UnitRoutine) (x : CodeRoutine) → k < length rs → r ≡ get_or rs k r
-    → AppendsRoutines a b (take k rs) entries → AppendsRoutine b c r x → AppendsRoutines a c (take (k + 1) rs) (entries ++ x ∷ [])
-routines_more {a = a} {c = c} rs k entries r x less e p q =
+pub routines_more : {a b c : Code} (types : List UnitType) (rs : List UnitRoutine) (k : ℕ) (entries : List CodeRoutine) (r : UnitRoutine) (x : CodeRoutine) → k < length rs → r ≡ get_or rs k r
+    → AppendsRoutines a b types (take k rs) entries → AppendsRoutine b c types r x → AppendsRoutines a c types (take (k + 1) rs) (entries ++ x ∷ [])
+routines_more {a = a} {c = c} types rs k entries r x less e p q =
     let grown : take k rs ++ r ∷ [] ≡ take (k + 1) rs = ap (λ y. take k rs ++ y ∷ []) e ∙ sym (take_more rs k r less) in
-    subst (λ l. AppendsRoutines a c l (entries ++ x ∷ [])) grown (routines_then (take k rs) entries r x p q)
+    subst (λ l. AppendsRoutines a c types l (entries ++ x ∷ [])) grown (routines_then types (take k rs) entries r x p q)
 
 -- the object of a program, from the code of its start and of its routines
 module _ (u : TypedUnit) {a b e : Code} (begins : a ≡ empty_code) (name : List ℕ) (named : name ≡ u.name) (slots stop_entry start : ℕ) (appends : AppendsStart a b u stop_entry)
-    (rs : List UnitRoutine) (routines_are : rs ≡ u.routines) (entries : List CodeRoutine) (more : AppendsRoutines b e rs entries) (routines : List CodeRoutine)
-    (all : routines ≡ entries ++ routine_at 0 ∷ routine_at stop_entry ∷ []) (starts : start ≡ length entries) (o : Object) (is : o ≡ assembled name e routines start slots) where
+    (rs : List UnitRoutine) (routines_are : rs ≡ u.routines) (entries : List CodeRoutine) (types : List UnitType) (types_are : types ≡ u.types) (more : AppendsRoutines b e types rs entries) (routines : List CodeRoutine)
+    (all : routines ≡ entries ++ routine_at 0 0 ∷ routine_at stop_entry 0 ∷ []) (starts : start ≡ length entries) (o : Object) (is : o ≡ assembled name e routines start slots) where
   whole : AppendsStart empty_code b u stop_entry
   whole = subst (λ code. AppendsStart code b u stop_entry) begins appends
 
@@ -169,8 +171,8 @@ module _ (u : TypedUnit) {a b e : Code} (begins : a ≡ empty_code) (name : List
   stops : stop_entry ≡ length (make_all_code u.types 0 u.variables) + length whole.code + 1
   stops = omega (arith, whole.stops)
 
-  its_blocks : AreRoutinesCode e.texts e.references e.instructions u.routines entries
-  its_blocks = subst (λ l. AreRoutinesCode e.texts e.references e.instructions l entries) routines_are more.blocks
+  its_blocks : AreRoutinesCode e.texts e.references e.instructions u.types u.routines entries
+  its_blocks = subst (λ ts. AreRoutinesCode e.texts e.references e.instructions ts u.routines entries) types_are (subst (λ l. AreRoutinesCode e.texts e.references e.instructions types l entries) routines_are more.blocks)
 
   pub is_program : slots ≡ length u.variables → IsProgramCode u o
   is_program n = subst (λ object. IsProgramCode u object) (sym is) (record {
@@ -184,7 +186,7 @@ module _ (u : TypedUnit) {a b e : Code} (begins : a ≡ empty_code) (name : List
         ∙ ap (λ l. make_all_code u.types 0 u.variables ++ l) (append_assoc whole.code (return_code ∷ return_code ∷ []) more.code)));
     entries = entries;
     blocks = its_blocks;
-    routines = all ∙ ap (λ at. entries ++ routine_at 0 ∷ routine_at at ∷ []) stops;
+    routines = all ∙ ap (λ at. entries ++ routine_at 0 0 ∷ routine_at at 0 ∷ []) stops;
     start = starts ∙ its_blocks.count;
     stop = ap (λ k. k + 1) (starts ∙ its_blocks.count);
     unit_slots = n;

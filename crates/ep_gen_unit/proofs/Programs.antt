@@ -13,7 +13,7 @@ use Rattle.ep_object.proofs.following.Simulating.{simulation_follows, leaves_ent
 use Rattle.ep_object.proofs.Tells.{Never, tells, tells_at_end, tells_close}
 use Rattle.ep_object.specs.Follows.{Follows, Bare, SameRoutine, IsNotLeft}
 use Rattle.ep_object.specs.Laws.{EndsAt}
-use Rattle.ep_object.specs.Matching.{at as standing}
+use Rattle.ep_object.specs.Matching.{kept_slots, at as standing}
 use Rattle.ep_object.specs.Placing.{alone, first_placement, moved, placed_routine}
 use Rattle.ep_object.specs.Routines.{routine_of as routine_there}
 use Rattle.ep_object.specs.Runs.{begin, outcome, enter, run_from}
@@ -41,8 +41,8 @@ module _ (u : TypedUnit) (o : Object) (is : IsProgramCode u o) where
   not_empty = omega (arith, ap length is.instructions, length-append (make_all_code u.types 0 u.variables) (is.code ++ return_code ∷ return_code ∷ is.others), length-append is.code (return_code ∷ return_code ∷ is.others))
 
   -- its start routine is there
-  start_there : routine_there (alone o) (moved (first_placement o).routines o.start) ≡ Some (placed_routine (first_placement o) (routine_at 0))
-  start_there = routine_of_object u o is (alone o) (placements_alone o) (first_placement o) (stands-alone o) o.start (routine_at 0) (start_is u o is (alone o) (placements_alone o) (first_placement o) (stands-alone o))
+  start_there : routine_there (alone o) (moved (first_placement o).routines o.start) ≡ Some (placed_routine (first_placement o) (routine_at 0 0))
+  start_there = routine_of_object u o is (alone o) (placements_alone o) (first_placement o) (stands-alone o) o.start (routine_at 0 0) (start_is u o is (alone o) (placements_alone o) (first_placement o) (stands-alone o))
 
   -- a run begins with the start of the program
   pub begins : begin (alone o) ≡ Running 0 start_state
@@ -52,7 +52,7 @@ module _ (u : TypedUnit) (o : Object) (is : IsProgramCode u o) where
   enters : Enters (own u) (alone o) 0 (moved (first_placement o).routines o.start) first_injection (first_memory start_frames) [] meaning.first_state start_state
   enters =
       record {
-        image_routine = placed_routine (first_placement o) (routine_at 0);
+        image_routine = placed_routine (first_placement o) (routine_at 0 0);
         there = start_there;
         is = rw (lt-ltb 0 (length o.instructions) not_empty) refl;
         runs = refl;
@@ -66,7 +66,7 @@ module _ (u : TypedUnit) (o : Object) (is : IsProgramCode u o) where
   ends s k leaves =
       let lands = leaves.lands in
       let inside = lands.post in
-      let routine : SameRoutine start_frames lands.memory.frames = inside.routine in
+      let routine : SameRoutine (kept_slots (own u) (alone o)) start_frames lands.memory.frames = inside.routine in
       let turn : k.frames.turn ≡ 0 = ap (λ (l : State). l.frames.turn) lands.is ∙ routine.turn in
       leaves_enters leaves ∙ (ap (λ n. record { weight = 0; to = enter (alone o) (n + 1) k }) turn ∙ ap (λ (l : State). record { weight = 0; to = Stopped Normal l.trace }) lands.is)
 

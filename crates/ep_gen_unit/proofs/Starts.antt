@@ -1,12 +1,12 @@
 -- The machine follows what the start of a unit does after the step of its call.
 use Rattle.ep_gen_expr.specs.Following.{least_credit}
-use Rattle.std.proofs.Common.{◌≡◌, ℕ, ◌+◌, ◌≤◌, IsTrue, List, [], ◌∷◌, ◌++◌, length, length-append, ap, ◌∙◌, subst, arith}
+use Rattle.std.proofs.Common.{◌≡◌, ℕ, ◌+◌, ◌≤◌, List, [], ◌∷◌, ◌++◌, length, length-append, ap, ◌∙◌, subst, arith}
 use Rattle.ep_gen_unit.specs.StmtCode.{make_all_code, return_code}
 use Rattle.ep_gen_unit.specs.UnitCode.{IsProgramCode}
 use Rattle.ep_gen_unit.proofs.Parts.{statement_credit, ExpressionsFollow, PlacesFollow, code_stands-parts}
 use Rattle.ep_gen_unit.proofs.StmtMoves.{statement_moves}
 use Rattle.ep_object.specs.Follows.{point, Facts, Lasts, Fragment, Inside, Bare}
-use Rattle.ep_object.specs.Matching.{Slots, Memory, Injection, is_hidden_slot}
+use Rattle.ep_object.specs.Matching.{Slots, Memory, Injection, AreAmong, kept_slots}
 use Rattle.ep_object.specs.Operands.{Operand}
 use Rattle.ep_object.specs.Placing.{Placement, CodeStands}
 use Rattle.ep_object.specs.Promises.{CallsAreKept}
@@ -40,7 +40,7 @@ module _ (declared : Declarations) (G : Image) (untouched : Slots) (Here : Facts
       → Fragment declared G Here n (point injection memory (p.instructions.before + 0) below) (make_all call n u.name u.types 0 u.variables) (p.instructions.before + length (make_all_code u.types 0 u.variables)) (λ a. Inside untouched injection memory (Bare below a)) d (λ a. d)
 
 module _ {declared : Declarations} {G : Image} {untouched : Slots} {Here : Facts} (lasts : Lasts untouched Here) (ps : List Placement) (p : Placement) (call : Handler) (steady_call : IsSteadyHandler call) (n : ℕ) (u : TypedUnit) (o : Object) (is : IsProgramCode u o) (stands : CodeStands G ps p o.references 0 o.instructions) (room : p.instructions.before + p.instructions.own ≤ length G.instructions) (own : p.instructions.own ≡ length o.instructions) (scene : Scene declared G ps p o.texts)
-    (expressions : ExpressionsFollow declared G untouched Here ps p o.texts o.references call n u.name) (places : PlacesFollow declared G untouched Here ps p o.texts o.references call n u.name) (among : (unit k : ℕ) → IsTrue (untouched unit k) → IsTrue (is_hidden_slot declared G unit k)) (kept : CallsAreKept declared G ps call n) (valid : IsStmt declared (stmt_of u.start)) (makes : MakesFollow declared G untouched Here p call n u) where
+    (expressions : ExpressionsFollow declared G untouched Here ps p o.texts o.references call n u.name) (places : PlacesFollow declared G untouched Here ps p o.texts o.references call n u.name) (among : AreAmong untouched (kept_slots declared G)) (kept : CallsAreKept declared G ps call n) (valid : IsStmt declared (stmt_of u.start)) (makes : MakesFollow declared G untouched Here p call n u) where
   -- after the step of its call the start makes the variables and runs the block, up to the `Return` behind it
   pub body_follows : (injection : Injection) (memory : Memory) (below : List Operand) (d : ℕ)
       → statement_credit ≤ d → unit_in G memory.frames ≡ u.name → RunsAtHome p memory.frames

@@ -1,7 +1,7 @@
 -- The machine follows statements.
-use Rattle.std.proofs.Common.{◌≡◌, ℕ, pos, ◌+◌, ◌≤◌, ◌<◌, IsTrue, List, [], ◌∷◌, ◌++◌, length, length-append, refl, sym, ap, ◌∙◌, subst, arith, ℤ, ◌*◌}
+use Rattle.std.proofs.Common.{◌≡◌, ℕ, pos, ◌+◌, ◌≤◌, ◌<◌, List, [], ◌∷◌, ◌++◌, length, length-append, refl, sym, ap, ◌∙◌, subst, arith, ℤ, ◌*◌}
 use Rattle.ep_object.specs.Follows.{Facts, Lasts}
-use Rattle.ep_object.specs.Matching.{Slots, is_hidden_slot}
+use Rattle.ep_object.specs.Matching.{Slots, AreAmong, kept_slots}
 use Rattle.ep_gen_expr.specs.ExprCode.{instr, bare}
 use Rattle.ep_gen_unit.specs.StmtCode.{IsStmtCode, AreStmtsCode, AreArmsCode, IsOtherCode, tests_code}
 use Rattle.ep_gen_unit.proofs.Parts.{Moves, ExpressionsFollow, PlacesFollow, code_stands-parts}
@@ -31,7 +31,7 @@ use Rattle.ep_object.specs.declared.op.TheConstants as op
 
 module _ {declared : Declarations} {G : Image} {untouched : Slots} {Here : Facts} (lasts : Lasts untouched Here) (ps : List Placement) (p : Placement) (texts : List (List ℕ)) (references : List Reference) (call : Handler) (steady_call : IsSteadyHandler call) (n : ℕ) (unit : List ℕ) (room : p.instructions.before + p.instructions.own ≤ length G.instructions) (scene : Scene declared G ps p texts)
     (expressions : ExpressionsFollow declared G untouched Here ps p texts references call n unit) (places : PlacesFollow declared G untouched Here ps p texts references call n unit)
-    (among : (unit k : ℕ) → IsTrue (untouched unit k) → IsTrue (is_hidden_slot declared G unit k)) (kept : CallsAreKept declared G ps call n) where
+    (among : AreAmong untouched (kept_slots declared G)) (kept : CallsAreKept declared G ps call n) where
   -- The code of a statement does what it means, where more code stands behind it.
   mutual
     pub statement_moves : (s : Stmt) (at : ℕ) (is : List Instr) → IsStmt declared s → IsStmtCode texts references at s is → CodeStands G ps p references at is → at + length is < p.instructions.own → Moves declared G untouched Here ps p texts references call n unit at (at + length is) (exec call n unit s)

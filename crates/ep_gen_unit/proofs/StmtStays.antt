@@ -3,7 +3,7 @@ use Rattle.std.proofs.Common.{◌≡◌, ℕ, ◌+◌, ◌*◌, ◌≤◌, Bool,
 use Rattle.ep_outside.specs.Known.{IsPrefix}
 use Rattle.ep_object.specs.declared.code.Instr.{Instr}
 use Rattle.ep_object.specs.declared.code.Reference.{Reference}
-use Rattle.ep_typed.specs.Trees.{Place, Variable, Standard, Item, Plain, Wide, Stmt, Stmts, Empty, Compound, Assign, If, While, Repeat, Procedure, Halt, Write, none, next, Case, Arms, no_arm, next_arm, Other, no_other, otherwise_do}
+use Rattle.ep_typed.specs.Trees.{Place, Variable, Own, Standard, Item, Plain, Wide, Stmt, Stmts, Empty, Compound, Assign, If, While, Repeat, Procedure, Halt, Write, none, next, Case, Arms, no_arm, next_arm, Other, no_other, otherwise_do}
 use Rattle.ep_typed.specs.declared.tree.CaseRange.{CaseRange}
 use Rattle.ep_typed.specs.declared.operations.Print.{Print}
 use Rattle.ep_typed.specs.declared.operations.Print.TheVariants as print
@@ -87,6 +87,7 @@ arms_short xs ss rest i j l is e c k m p q r = omega (arith, ap length e, length
 
 place_one : (p : Place) → place_nodes p ≡ 1
 place_one (Variable unit number) = refl
+place_one (Own number) = refl
 place_one (Standard file) = refl
 
 module _ (ts : List (List ℕ)) (rs : List Reference) where

@@ -14,12 +14,13 @@ use Rattle.ep_gen_unit.proofs.Starts.{MakesFollow, body_follows}
 use Rattle.ep_object.proofs.following.Bind.{follows_less, follows_post, follows_from, follows_give}
 use Rattle.ep_object.proofs.following.Fragments.{fragment_to}
 use Rattle.ep_object.proofs.rows.MakeRow.{RunsInUnit}
-use Rattle.ep_object.proofs.matching.Growing.{inside_here, no_calls, since_here, since_lasts}
+use Rattle.ep_object.proofs.matching.Growing.{among_same, inside_here, no_calls, since_here, since_lasts}
 use Rattle.ep_object.specs.Effects.{Returns, light}
 use Rattle.ep_object.specs.Table.{obey}
 use Rattle.ep_typed.specs.Events.{Trace}
+use Rattle.ep_object.specs.Activations.{KnowsOwn}
 use Rattle.ep_object.specs.Follows.{Facts, Lasts, Since, Bare}
-use Rattle.ep_object.specs.Matching.{Memory, Injection, is_undeclared, is_hidden_in, is_hidden_slot, at as standing}
+use Rattle.ep_object.specs.Matching.{Memory, Injection, is_undeclared, is_hidden_in, kept_slots, at as standing}
 use Rattle.ep_object.specs.Operands.{Operand}
 use Rattle.ep_object.specs.Placing.{Placement, Span, CodeStands, IsPlacementOf, Stands, HasDistinctNames, moved, placed, placed_routine, placed_object_unit}
 use Rattle.ep_object.specs.Promises.{CallsAreKept}
@@ -63,6 +64,11 @@ one_behind : {A : Type 0} (xs : List A) (x y : A) (ys : List A) → slice_get (x
 one_behind xs x y ys =
     let size : length xs + 1 ≡ length (xs ++ x ∷ []) = omega (arith, length-append xs (x ∷ [])) in
     rw size (ap (λ l. slice_get l (length (xs ++ x ∷ []))) (sym (append_assoc xs (x ∷ []) (y ∷ ys))) ∙ behind (xs ++ x ∷ []) y ys)
+
+-- an empty list has nothing
+none_declared : {A : Type 0} (xs : List A) → xs ≡ [] → (k : ℕ) (x : A) → slice_get xs k ≡ Some x → ⊥
+none_declared [] e k x is = absurd cc
+none_declared (y ∷ xs) e k x is = absurd cc
 
 module _ (u : TypedUnit) (o : Object) (is : IsProgramCode u o) (G : Image) (ps : List Placement) (p : Placement) (stands : Stands G ps p o) where
   -- the instructions behind the making of the variables
@@ -129,30 +135,30 @@ module _ (u : TypedUnit) (o : Object) (is : IsProgramCode u o) (G : Image) (ps :
       → obey G return_code (standing place below memory trace) ≡ light Returns
   returns_from place below memory trace alone = rw alone refl
 
-  pub start_is : slice_get o.routines o.start ≡ Some (routine_at 0)
+  pub start_is : slice_get o.routines o.start ≡ Some (routine_at 0 0)
   start_is =
       let blocks = is.blocks in
       ap (slice_get o.routines) (is.start ∙ sym blocks.count)
-      ∙ (ap (λ l. slice_get l (length is.entries)) is.routines ∙ behind is.entries (routine_at 0) (routine_at (ends_block + 1) ∷ []))
+      ∙ (ap (λ l. slice_get l (length is.entries)) is.routines ∙ behind is.entries (routine_at 0 0) (routine_at (ends_block + 1) 0 ∷ []))
 
-  stop_is : slice_get o.routines o.stop ≡ Some (routine_at (ends_block + 1))
+  stop_is : slice_get o.routines o.stop ≡ Some (routine_at (ends_block + 1) 0)
   stop_is =
       let blocks = is.blocks in
       ap (slice_get o.routines) (is.stop ∙ ap (λ k. k + 1) (sym blocks.count))
-      ∙ (ap (λ l. slice_get l (length is.entries + 1)) is.routines ∙ one_behind is.entries (routine_at 0) (routine_at (ends_block + 1)) [])
+      ∙ (ap (λ l. slice_get l (length is.entries + 1)) is.routines ∙ one_behind is.entries (routine_at 0 0) (routine_at (ends_block + 1) 0) [])
 
   -- the stop does nothing
   pub stop_simulates : (declared : Declarations) (n : ℕ)
       → Simulates declared G p.unit (moved p.routines o.stop) n idle_stop Bare
   stop_simulates declared n =
       record {
-        image_routine = placed_routine p (routine_at (ends_block + 1));
-        there = routine_there o.stop (routine_at (ends_block + 1)) stop_is;
+        image_routine = placed_routine p (routine_at (ends_block + 1) 0);
+        there = routine_there o.stop (routine_at (ends_block + 1) 0) stop_is;
         of_unit = refl;
         body = give tt;
         called = refl;
         follows = λ m le injection memory below s k enters.
-            follows_from (at_entry o.stop (routine_at (ends_block + 1)) stop_is (omega (arith, instructions_own)) enters) (follows_give tt (omega arith) (record {
+            follows_from (at_entry o.stop (routine_at (ends_block + 1) 0) stop_is (omega (arith, instructions_own)) enters) (follows_give tt (omega arith) (record {
               place = p.instructions.before + (ends_block + 1);
               instruction = return_code;
               stands = returns_stand.1.0;
@@ -161,37 +167,38 @@ module _ (u : TypedUnit) (o : Object) (is : IsProgramCode u o) (G : Image) (ps :
             }));
       }
 
-  module _ (declared : Declarations) (types : declared.types u.name ≡ u.types) (are_declared : AreDeclared declared u.name 0 u.variables) (valid : IsStmt declared (stmt_of u.start)) (distinct : HasDistinctNames G) (scene : Scene declared G ps p o.texts) (call : Handler) (steady_call : IsSteadyHandler call) (n : ℕ) (kept : CallsAreKept declared G ps call n) where
+  module _ (declared : Declarations) (types : declared.types u.name ≡ u.types) (are_declared : AreDeclared declared u.name 0 u.variables) (valid : IsStmt declared (stmt_of u.start)) (distinct : HasDistinctNames G) (scene : Scene declared G ps p o.texts) (call : Handler) (steady_call : IsSteadyHandler call) (n : ℕ) (kept : CallsAreKept declared G ps call n) (no_routine : declared.routine_variables ≡ []) where
     -- the slots of the variables are not hidden
-    free : VariablesAreFree declared G (is_hidden_slot declared G) (placed_object_unit p o)
+    free : VariablesAreFree declared G (kept_slots declared G) (placed_object_unit p o)
     free unit there k v is_declared hidden = not_hidden (subst IsTrue (ap (λ x. is_hidden_in declared x k) there ∙ ap is_undeclared is_declared) hidden)
       where
         not_hidden : IsTrue false → ⊥
         not_hidden h = cc
 
     -- the machine makes the variables of the unit
-    makes : {Here : Facts} → Lasts (is_hidden_slot declared G) Here
-        → MakesFollow declared G (is_hidden_slot declared G) Here p call n u
+    makes : {Here : Facts} → Lasts (kept_slots declared G) Here
+        → MakesFollow declared G (kept_slots declared G) Here p call n u
     makes {Here = Here} lasts injection memory below d enough home framed =
         let there : RunsInUnit G memory.frames (placed_object_unit p o) = record { calls = framed.calls; unit = ap (slice_get G.units) framed.unit ∙ stands.unit } in
-        fragment_to {to = p.instructions.before + (0 + begins_block)} (omega arith) (make_all_moves declared G (is_hidden_slot declared G) Here lasts ps p o.references call steady_call n (placed_object_unit p o) free distinct scene.types_valid u.name is.name u.types types n 0 0 u.variables are_declared (omega (arith, is.unit_slots)) makes_stand injection memory below d enough there)
+        fragment_to {to = p.instructions.before + (0 + begins_block)} (omega arith) (make_all_moves declared G (kept_slots declared G) Here lasts ps p o.references call steady_call n (placed_object_unit p o) free distinct scene.types_valid u.name is.name u.types types n 0 0 u.variables are_declared (omega (arith, is.unit_slots)) makes_stand injection memory below d enough there)
 
     -- the start makes the variables and runs the block
     pub start_simulates : Simulates declared G p.unit (moved p.routines o.start) n (start_of call n u) Bare
     start_simulates =
         record {
-          image_routine = placed_routine p (routine_at 0);
-          there = routine_there o.start (routine_at 0) start_is;
+          image_routine = placed_routine p (routine_at 0 0);
+          there = routine_there o.start (routine_at 0 0) start_is;
           of_unit = refl;
           body = bind (make_all call n u.name u.types 0 u.variables) (λ a. exec call n u.name (stmt_of u.start));
           called = refl;
           follows = λ m le injection memory below s k enters.
               let whole = of_object in
-              let body = body_follows {Here = Since (is_hidden_slot declared G) injection s memory} since_lasts ps p call steady_call n u o is stands.code room whole.instructions scene
-              (λ x_kind x is_x line at code is_code x_stands inside v1 m1 operands d enough x_home. expression_follows ps p o.texts o.references scene call steady_call n u.name room n x_kind x is_x line at code is_code x_stands inside v1 m1 operands d (omega arith) x_home)
-              (λ of_unit slot v t is_declared has_type line at code is_code x_stands v1 m1 operands d enough x_home. place_follows ps p o.texts o.references scene call steady_call n u.name n of_unit slot v t is_declared has_type line at code is_code x_stands v1 m1 operands d (omega arith) x_home)
-              (λ unit k h. h) kept valid (makes since_lasts) injection memory below routine_credit (omega arith) (home o.start (routine_at 0) start_is memory.frames enters.without_calls enters.runs) (record { calls = enters.without_calls; unit = enters.in_unit }) in
-              follows_from (at_entry o.start (routine_at 0) start_is (omega (arith, instructions_own)) enters)
+              let knows : KnowsOwn declared (Since (kept_slots declared G) injection s memory) = λ longer t after since slot v is. absurd (none_declared declared.routine_variables no_routine slot v is) in
+              let body = body_follows {Here = Since (kept_slots declared G) injection s memory} since_lasts ps p call steady_call n u o is stands.code room whole.instructions scene
+              (λ x_kind x is_x line at code is_code x_stands inside v1 m1 operands d enough x_home. expression_follows ps p o.texts o.references scene knows call steady_call n u.name room n x_kind x is_x line at code is_code x_stands inside v1 m1 operands d (omega arith) x_home)
+              (λ q t has_type line at code is_code x_stands v1 m1 operands d enough x_home. place_follows ps p o.texts o.references scene knows call steady_call n u.name n q t has_type line at code is_code x_stands v1 m1 operands d (omega arith) x_home)
+              among_same kept valid (makes since_lasts) injection memory below routine_credit (omega arith) (home o.start (routine_at 0 0) start_is memory.frames enters.without_calls enters.runs) (record { calls = enters.without_calls; unit = enters.in_unit }) in
+              follows_from (at_entry o.start (routine_at 0 0) start_is (omega (arith, instructions_own)) enters)
               (follows_less {n = n} (omega arith) (follows_post (λ a t l lands. record { place = p.instructions.before + ends_block; instruction = return_code; stands = returns_stand.0; returns = (let routine = lands.post.routine in subst (λ (x : State). obey G return_code x ≡ light Returns) (sym lands.is) (returns_from (p.instructions.before + ends_block) lands.operands lands.memory t.trace (no_calls memory.frames.calls lands.memory.frames.calls routine.calls enters.without_calls))); lands = lands }) (body.by s enters.matches (since_here injection s memory))));
         }
 
@@ -220,8 +227,9 @@ module _ (u : TypedUnit) (o : Object) (is : IsProgramCode u o) (G : Image) (ps :
         texts_stand = λ k bytes h. let within = slice_get_within o.texts k bytes h in record { own = lt-ltb k p.texts.own (omega (arith, whole.texts, within)); there = stands.texts k bytes h };
         variables_stand = variable_stands;
         types_valid = own_valid u variables;
+        own_types_valid = λ k v is. absurd (none_declared (own u).routine_variables refl k v is);
       }
 
   pub unit_simulates : IsValid u → HasDistinctNames G → (call : Handler) → IsSteadyHandler call → (n : ℕ) → CallsAreKept (own u) G ps call n
       → Simulates (own u) G p.unit (moved p.routines o.start) n (start_of call n u) Bare
-  unit_simulates valid distinct call steady_call n kept = start_simulates (own u) (own_types u) (own_declared u) valid.start distinct (scene_of valid.variables) call steady_call n kept
+  unit_simulates valid distinct call steady_call n kept = start_simulates (own u) (own_types u) (own_declared u) valid.start distinct (scene_of valid.variables) call steady_call n kept refl

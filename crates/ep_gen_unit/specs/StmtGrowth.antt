@@ -5,7 +5,7 @@ use Rattle.ep_gen_expr.specs.Growth.{TableGrows, Grows, IsTable, AreDistinct}
 use Rattle.ep_gen_expr.specs.Jumps.{landed}
 use Rattle.ep_gen_expr.specs.declared.code.Code.{Code}
 use Rattle.ep_gen_unit.specs.StmtCode.{IsItemCode, AreItemsCode, IsStmtCode, AreStmtsCode, make_all_code, return_code, AreArmsCode, IsOtherCode, tests_code}
-use Rattle.ep_gen_unit.specs.UnitCode.{AreRoutinesCode, routine_at}
+use Rattle.ep_gen_unit.specs.UnitCode.{AreRoutinesCode, own_code, routine_at}
 use Rattle.ep_object.specs.declared.code.CodeRoutine.{CodeRoutine}
 use Rattle.ep_object.specs.declared.code.Instr.{Instr}
 use Rattle.ep_object.specs.declared.code.Object.{Object}
@@ -15,6 +15,7 @@ use Rattle.ep_typed.specs.Viewed.{stmt_of}
 use Rattle.ep_typed.specs.declared.unit.Unit.{Unit as TypedUnit}
 use Rattle.ep_typed.specs.declared.unit.UnitRoutine.{UnitRoutine}
 use Rattle.ep_typed.specs.declared.unit.UnitRoutine.TheViews.{out-UnitRoutine}
+use Rattle.ep_typed.specs.declared.unit.UnitType.{UnitType}
 use Rattle.ep_typed.specs.Trees.{Item, Stmt, Stmts, Expr, Arms, Other}
 use Rattle.ep_typed.specs.declared.tree.CaseRange.{CaseRange}
 
@@ -93,18 +94,18 @@ pub record AppendsStart (old new : Code) (u : TypedUnit) (stop_entry : ℕ) : Ty
   pub stops : stop_entry ≡ length old.instructions + length (make_all_code u.types 0 u.variables) + length code + 1
   pub small : IsTable new.instructions
 
--- the code of a routine is appended: its block, and a `Return`
-pub record AppendsRoutine (old new : Code) (r : UnitRoutine) (x : CodeRoutine) : Type 0 where
-  pub plain : x ≡ routine_at (length old.instructions)
+-- the code of a routine of a unit with these types is appended: what makes its variables, its block, and a `Return`
+pub record AppendsRoutine (old new : Code) (types : List UnitType) (r : UnitRoutine) (x : CodeRoutine) : Type 0 where
+  pub plain : x ≡ routine_at (length old.instructions) (length (out-UnitRoutine r).variables)
   pub code : List Instr
-  pub is_code : IsStmtCode new.texts new.references (length old.instructions) (stmt_of (out-UnitRoutine r).block) code
-  pub follows : Follows old new (code ++ return_code ∷ [])
+  pub is_code : IsStmtCode new.texts new.references (length old.instructions + length (own_code types r)) (stmt_of (out-UnitRoutine r).block) code
+  pub follows : Follows old new (own_code types r ++ (code ++ return_code ∷ []))
 
 -- the code of routines is appended, and these are their entries
-pub record AppendsRoutines (old new : Code) (rs : List UnitRoutine) (entries : List CodeRoutine) : Type 0 where
+pub record AppendsRoutines (old new : Code) (types : List UnitType) (rs : List UnitRoutine) (entries : List CodeRoutine) : Type 0 where
   pub code : List Instr
   pub follows : Follows old new code
-  pub blocks : AreRoutinesCode new.texts new.references new.instructions rs entries
+  pub blocks : AreRoutinesCode new.texts new.references new.instructions types rs entries
 
 -- the tables and the code of an object have places that a field of 32 bits holds, and each text and reference is there once
 pub record IsCompact (o : Object) : Type 0 where

@@ -10,10 +10,11 @@ use Rattle.ep_typed.specs.Viewed.{stmt_of}
 use Rattle.ep_typed.specs.declared.unit.Unit.{Unit as TypedUnit}
 use Rattle.ep_typed.specs.declared.unit.UnitRoutine.{UnitRoutine}
 use Rattle.ep_typed.specs.declared.unit.UnitRoutine.TheViews.{out-UnitRoutine}
+use Rattle.ep_typed.specs.declared.unit.UnitType.{UnitType}
 
--- a routine without arguments and slots of its own
-abbrev pub routine_at : ℕ → CodeRoutine
-routine_at entry = record { entry = entry; arguments = 0; slots = 0 }
+-- a routine with this entry, without arguments and with so many slots of its own
+abbrev pub routine_at : ℕ → ℕ → CodeRoutine
+routine_at entry slots = record { entry = entry; arguments = 0; slots = slots }
 
 -- these instructions stand in the code from this place on
 pub record StandsIn (instructions : List Instr) (place : ℕ) (code : List Instr) : Type 0 where
@@ -22,20 +23,25 @@ pub record StandsIn (instructions : List Instr) (place : ℕ) (code : List Instr
   pub is : instructions ≡ before ++ (code ++ after)
   pub from : length before ≡ place
 
--- at the entry of a routine stands the code of its block, and a `Return` behind it
-pub record IsRoutineCode (texts : List (List ℕ)) (references : List Reference) (instructions : List Instr) (r : UnitRoutine)
-    (x : CodeRoutine) : Type 0 where
-  pub plain : x ≡ routine_at x.entry
+-- the code that makes the variables of a routine of a unit with these types
+abbrev pub own_code : List UnitType → UnitRoutine → List Instr
+own_code types r = make_all_code types 0 (out-UnitRoutine r).variables
+
+-- A routine of a unit with these types has a slot for each of its variables. At its entry stands the code that makes them,
+-- and behind that the one of its block, and a `Return`.
+pub record IsRoutineCode (texts : List (List ℕ)) (references : List Reference) (instructions : List Instr)
+    (types : List UnitType) (r : UnitRoutine) (x : CodeRoutine) : Type 0 where
+  pub plain : x ≡ routine_at x.entry (length (out-UnitRoutine r).variables)
   pub code : List Instr
-  pub is_code : IsStmtCode texts references x.entry (stmt_of (out-UnitRoutine r).block) code
-  pub stands : StandsIn instructions x.entry (code ++ return_code ∷ [])
+  pub is_code : IsStmtCode texts references (x.entry + length (own_code types r)) (stmt_of (out-UnitRoutine r).block) code
+  pub stands : StandsIn instructions x.entry (own_code types r ++ (code ++ return_code ∷ []))
 
 -- the routines of a unit have these entries, one for each and in order
 pub record AreRoutinesCode (texts : List (List ℕ)) (references : List Reference) (instructions : List Instr)
-    (rs : List UnitRoutine) (entries : List CodeRoutine) : Type 0 where
+    (types : List UnitType) (rs : List UnitRoutine) (entries : List CodeRoutine) : Type 0 where
   pub count : length entries ≡ length rs
   pub each : (k : ℕ) (r : UnitRoutine) (x : CodeRoutine) → slice_get rs k ≡ Some r → slice_get entries k ≡ Some x
-      → IsRoutineCode texts references instructions r x
+      → IsRoutineCode texts references instructions types r x
 
 -- the object of a program
 pub record IsProgramCode (u : TypedUnit) (o : Object) : Type 0 where
@@ -46,8 +52,8 @@ pub record IsProgramCode (u : TypedUnit) (o : Object) : Type 0 where
   pub others : List Instr
   pub instructions : o.instructions ≡ make_all_code u.types 0 u.variables ++ (code ++ return_code ∷ return_code ∷ others)
   pub entries : List CodeRoutine
-  pub blocks : AreRoutinesCode o.texts o.references o.instructions u.routines entries
-  pub routines : o.routines ≡ entries ++ routine_at 0 ∷ routine_at (length (make_all_code u.types 0 u.variables) + length code + 1) ∷ []
+  pub blocks : AreRoutinesCode o.texts o.references o.instructions u.types u.routines entries
+  pub routines : o.routines ≡ entries ++ routine_at 0 0 ∷ routine_at (length (make_all_code u.types 0 u.variables) + length code + 1) 0 ∷ []
   pub start : o.start ≡ length u.routines
   pub stop : o.stop ≡ length u.routines + 1
   pub unit_slots : o.unit_slots ≡ length u.variables

@@ -24,12 +24,12 @@ pub fn program_code(alloc: Global, u: &Unit) -> Result<Object, NoMemory>
     let name = u.name.copy(alloc)?;
     let mut code = Code::new(alloc, u);
     let stop_entry = start_code(alloc, u, &mut code)?;
-    let mut routines = routines_code(alloc, u.routines.items(), &mut code)?;
+    let mut routines = routines_code(alloc, u.types.items(), u.routines.items(), &mut code)?;
     // A place of the code has to fit a field of an instruction.
     next_place(&code)?;
     let start = field_number(routines.items().len())?;
-    routines.push(routine_at(0))?;
-    routines.push(routine_at(stop_entry))?;
+    routines.push(routine_at(0, 0))?;
+    routines.push(routine_at(stop_entry, 0))?;
     Ok(assemble(alloc, name, code, routines, start, unit_slots))
 }
 
@@ -46,46 +46,51 @@ fn start_code(alloc: Global, u: &Unit, code: &mut Code) -> Result<u32, NoMemory>
     Ok(stop_entry)
 }
 
-/// A routine with this entry, which has no arguments and no slots.
-fn routine_at(entry: u32) -> CodeRoutine
-    ensures { result ≡ routine_at entry }
+/// A routine with this entry and so many slots, which has no arguments.
+fn routine_at(entry: u32, slots: u32) -> CodeRoutine
+    ensures { result ≡ routine_at entry slots }
 {
     CodeRoutine {
         entry,
         arguments: 0,
-        slots: 0,
+        slots,
     }
 }
 
-/// Appends the code of routines, and answers their entries.
+/// Appends the code of routines of a unit with these types, and answers their entries.
 fn routines_code(
     alloc: Global,
+    types: &[UnitType],
     routines: &[UnitRoutine],
     code: &mut Code,
 ) -> Result<CodeRoutines, NoMemory>
-    ensures { IfOk result (λ entries. AppendsRoutines code.old code.new routines.now entries) }
+    ensures { IfOk result (λ entries. AppendsRoutines code.old code.new types.now routines.now entries) }
 {
     let mut entries = List::new(alloc);
     for routine in routines {
-        let entry = routine_code(alloc, routine, code)?;
+        let entry = routine_code(alloc, types, routine, code)?;
         entries.push(entry)?;
     }
     Ok(entries)
 }
 
-/// Appends the code of a routine.
+/// Appends the code of a routine of a unit with these types.
 fn routine_code(
     alloc: Global,
+    types: &[UnitType],
     routine: &UnitRoutine,
     code: &mut Code,
 ) -> Result<CodeRoutine, NoMemory>
-    ensures { IfOk result (λ entry. AppendsRoutine code.old code.new routine.now entry) }
+    ensures { IfOk result (λ entry. AppendsRoutine code.old code.new types.now routine.now entry) }
 {
+    let variables = routine.variables.items();
+    let slots = field_number(variables.len())?;
     let entry = next_place(code)?;
+    make_all(types, variables, code)?;
     statement_code(alloc, &routine.block, code)?;
     code.line = NO_LINE;
     emit(code, op::RETURN, 0, 0)?;
-    Ok(routine_at(entry))
+    Ok(routine_at(entry, slots))
 }
 
 /// The object of the code.
@@ -116,7 +121,7 @@ fn assemble(
     }
 }
 
-/// Appends the code that makes the variables of a unit with these types, in order.
+/// Appends the code that makes the variables of a unit with these types, or of a routine of it, in order.
 fn make_all(types: &[UnitType], variables: &[UnitVariable], code: &mut Code) -> Result<(), NoMemory>
     ensures { OnOk result (Follows code.old code.new (make_all_code types.now 0 variables.now)) }
 {

@@ -1,6 +1,7 @@
 pub mod Bind
 pub mod Calling
 pub mod Choices
+pub mod Declaring
 pub mod Fragments
 pub mod Losing
 pub mod Procedures

@@ -2,8 +2,10 @@ pub mod Beginning
 pub mod Changes
 pub mod Counts
 pub mod Elements
+pub mod Endings
 pub mod Growing
 pub mod HiddenWords
 pub mod NewVariables
+pub mod OwnVariables
 pub mod Standing
 pub mod TypeTables

@@ -3,6 +3,7 @@ pub mod ChangeRows
 pub mod FrameRows
 pub mod MakeRow
 pub mod NewTypes
+pub mod OwnRows
 pub mod Pieces
 pub mod PlaceRows
 pub mod Rows

@@ -9,7 +9,7 @@ use Rattle.ep_typed.specs.Valid as kind
 use Rattle.ep_typed.specs.Valid.{Declarations, Kind}
 use Rattle.ep_typed.specs.Hosts.{Host, is_of_host}
 use Rattle.ep_typed.specs.declared.value.TypeValue.{TypeValue}
-use Rattle.ep_object.specs.Matching.{Memory, at, Injection, Matches, Slots, Grown, IsPlaceOf, Describes}
+use Rattle.ep_object.specs.Matching.{Memory, at, Injection, Matches, Slots, own_slot, Grown, IsPlaceOf, Describes}
 use Rattle.ep_object.specs.Operands.{Operand, Word, Place, Text}
 use Rattle.ep_object.specs.Runs.{run, tick}
 use Rattle.ep_object.specs.State.{State, Frame, Frames, End, Running, Stopped, Normal, Halt, Error}
@@ -155,13 +155,14 @@ pub record StillRuns (before after : Frames) : Type 0 where
   pub unit : after.unit ≡ before.unit
   pub calls : IsStillCall before.calls after.calls
 
--- The same, and its call has the arguments that it had and has made what it had made. Once a routine has taken its
--- arguments and made its variables, this holds of all its code.
-pub record SameRoutine (before after : Frames) : Type 0 where
+-- The same, and its call has the arguments that it had, has made what it had made, and has these slots of its own as they
+-- were. Once a routine has taken its arguments and made its variables, this holds of all its code.
+pub record SameRoutine (untouched : Slots) (before after : Frames) : Type 0 where
   pub turn : after.turn ≡ before.turn
   pub routine : after.routine ≡ before.routine
   pub unit : after.unit ≡ before.unit
   pub calls : IsSameCall before.calls after.calls
+  pub slots : (k : ℕ) → IsTrue (untouched.own k) → own_slot after k ≡ own_slot before k
 
 -- The routine that ran is not left: it runs, or calls run that it made, which stand over its own.
 pub record IsNotLeft (before now : Frames) : Type 0 where
@@ -174,7 +175,7 @@ pub record IsNotLeft (before now : Frames) : Type 0 where
 pub record HasGrown (untouched : Slots) (injection : Injection) (s : meaning.State) (memory : Memory)
     (longer : Injection) (t : meaning.State) (after : Memory) : Type 0 where
   pub grown : Grown untouched injection memory longer after
-  pub routine : SameRoutine memory.frames after.frames
+  pub routine : SameRoutine untouched memory.frames after.frames
   pub calls : t.calls ≡ s.calls
 
 -- facts that go on holding where memory has grown so
@@ -241,5 +242,5 @@ pub record PlaceOnTop (type : TypeValue) (below : List Operand) (n : ℕ) (injec
 pub record Inside (untouched : Slots) (injection : Injection) (memory : Memory) (Then : Operands)
     (longer : Injection) (after : Memory) (operands : List Operand) : Type 0 where
   pub grown : Grown untouched injection memory longer after
-  pub routine : SameRoutine memory.frames after.frames
+  pub routine : SameRoutine untouched memory.frames after.frames
   pub operands_are : Then longer after operands

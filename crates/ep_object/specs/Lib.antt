@@ -1,3 +1,4 @@
+pub mod Activations
 pub mod Calls
 pub mod Control
 pub mod Effects

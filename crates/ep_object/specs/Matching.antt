@@ -12,6 +12,7 @@ use Rattle.ep_typed.specs.Viewed.{denoter_of}
 use Rattle.ep_typed.specs.declared.value.TypeValue.{TypeValue}
 use Rattle.ep_typed.specs.declared.value.TypeValue.TheVariants as type
 use Rattle.ep_typed.specs.declared.unit.UnitVariable.{UnitVariable}
+use Rattle.ep_object.specs.Frames.{slots_over}
 use Rattle.ep_object.specs.Operands.{Operand}
 use Rattle.ep_object.specs.State.{Frames, Segments, TypeTable, State, text_entry, first_types, undefined}
 use Rattle.ep_object.specs.Types.{ordinal_entry, ordinal_number}
@@ -108,9 +109,17 @@ slot_of_frame (Some slots) k = slice_get slots k
 abbrev pub slot_in : Frames → ℕ → ℕ → Option (Option Place)
 slot_in frames unit k = slot_of_frame (slice_get frames.units unit) k
 
+-- a slot of the frame of the innermost call
+abbrev pub own_slot : Frames → ℕ → Option (Option Place)
+own_slot frames k = slot_of_frame (slots_over frames.calls None) k
+
 -- the type value is that of a variable of the unit
 abbrev pub HasType : Declarations → List ℕ → UnitVariable → TypeValue → Type 0
 HasType declared unit v t = IsInstance (declared.types unit) (denoter_of v.denoter) t
+
+-- the type value is that of a variable of the routine in whose block names are declared so
+abbrev pub HasOwnType : Declarations → UnitVariable → TypeValue → Type 0
+HasOwnType declared v t = IsInstance declared.routine_types (denoter_of v.denoter) t
 
 -- The words of the hidden segments from this number on, those in which no allocation is, with one more for each.
 abbrev pub hidden_from : Injection → ℕ → Segments → ℕ
@@ -199,9 +208,19 @@ pub record Matches (declared : Declarations) (G : Image) (injection : Injection)
 abbrev pub IsHidden : Injection → ℕ → Type 0
 IsHidden injection segment = (n : ℕ) → IsIn injection n segment → ⊥
 
--- which slots of units' frames, by the number of the unit and their own
-abbrev pub Slots : Type 0
-Slots = ℕ → ℕ → Bool
+-- which slots: of units' frames, by the number of the unit and their own, and of the frame of the innermost call
+pub record Slots : Type 0 where
+  pub of_units : ℕ → ℕ → Bool
+  pub own : ℕ → Bool
+
+-- all slots
+abbrev pub every_slot : Slots
+every_slot = record { of_units = λ unit k. true; own = λ k. true }
+
+-- some slots are among others
+pub record AreAmong (some others : Slots) : Type 0 where
+  pub of_units : (unit k : ℕ) → IsTrue (some.of_units unit k) → IsTrue (others.of_units unit k)
+  pub own : (k : ℕ) → IsTrue (some.own k) → IsTrue (others.own k)
 
 abbrev pub is_undeclared : Option UnitVariable → Bool
 is_undeclared None = true
@@ -212,8 +231,12 @@ is_hidden_in declared None k = false
 is_hidden_in declared (Some u) k = is_undeclared (declared.variables u.name k)
 
 -- a slot of a unit's frame that no variable has which is declared
-abbrev pub is_hidden_slot : Declarations → Image → Slots
+abbrev pub is_hidden_slot : Declarations → Image → ℕ → ℕ → Bool
 is_hidden_slot declared G unit k = is_hidden_in declared (slice_get G.units unit) k
+
+-- the slots that a call leaves to its caller as they were: those of units' frames that are hidden, and all of its own
+abbrev pub kept_slots : Declarations → Image → Slots
+kept_slots declared G = record { of_units = is_hidden_slot declared G; own = λ k. true }
 
 -- The injection is a longer one, hidden segments are what they were, those that are new have ended, these slots are
 -- untouched, and no segment changes its type.
@@ -228,7 +251,7 @@ pub record Grown (untouched : Slots) (injection : Injection) (memory : Memory) (
       → slice_get after.segments segment ≡ slice_get memory.segments segment
   pub allocated : (segment : ℕ) (y : Segment) → length memory.segments ≤ segment
       → slice_get after.segments segment ≡ Some (Some y) → (n : ℕ) × IsIn longer n segment
-  pub slots : (unit k : ℕ) → IsTrue (untouched unit k)
+  pub slots : (unit k : ℕ) → IsTrue (untouched.of_units unit k)
       → slot_in after.frames unit k ≡ slot_in memory.frames unit k
   pub typed : (segment : ℕ) (x y : Segment) → slice_get memory.segments segment ≡ Some (Some x)
       → slice_get after.segments segment ≡ Some (Some y) → y.type_number ≡ x.type_number

@@ -2,7 +2,7 @@
 -- before it to after the instruction that leaves the routine, whose tick may have an effect as any other.
 use Rattle.std.specs.Prelude.{◌≡◌, ℕ, ℤ, pos, ◌+◌, ◌≤◌, ◌⊎◌, IsTrue, List, [], ◌∷◌, Some, slice_get}
 use Rattle.ep_object.specs.Follows.{end_of, Operands, point, state_at, operand_of, Fragment, Since, Lands, Inside, GivesUp}
-use Rattle.ep_object.specs.Matching.{Memory, Injection, Matches, IsPlaceOf, is_hidden_slot}
+use Rattle.ep_object.specs.Matching.{Memory, Injection, Matches, IsPlaceOf, kept_slots}
 use Rattle.ep_object.specs.Operands.{Operand, Place}
 use Rattle.ep_object.specs.Runs.{run, unit_in}
 use Rattle.ep_object.specs.Simulates.{KeepPace, StaysIn, EndsAfter, StaysAfter}
@@ -80,9 +80,9 @@ pub record Promises (declared : Declarations) (G : Image) (routine n : ℕ) (for
       → (injection : Injection) (begun : meaning.State) (memory : Memory)
       → (below operands : List Operand) (arguments : List Argument)
       → AreArguments injection memory formals arguments below operands
-      → Fragment declared G (Since (is_hidden_slot declared G) injection begun memory) n
+      → Fragment declared G (Since (kept_slots declared G) injection begun memory) n
       (point injection memory place operands) (called (unit_in G memory.frames) line arguments) (place + 1)
-      (λ rs. Inside (is_hidden_slot declared G) injection memory (ResultsOnTop results below rs)) 0 (λ rs. 0)
+      (λ rs. Inside (kept_slots declared G) injection memory (ResultsOnTop results below rs)) 0 (λ rs. 0)
 
 -- A routine of a unit has a number in the image, by which a call that names it is placed, and keeps its promise for what
 -- these calls do. So far it has no parameters and no result.
@@ -106,8 +106,8 @@ pub record ComesBackAfter (declared : Declarations) (G : Image) (injection : Inj
   pub ticks : ℕ
   pub last : State
   pub runs : run G ticks 0 k ≡ Running 0 last
-  pub lands : Lands declared G (Since (is_hidden_slot declared G) injection begun memory) to
-      (Inside (is_hidden_slot declared G) injection memory Then) s last
+  pub lands : Lands declared G (Since (kept_slots declared G) injection begun memory) to
+      (Inside (kept_slots declared G) injection memory Then) s last
   pub pace : KeepPace steps ticks
   pub until : (t : ℕ) → t ≤ ticks → StaysIn G k t s.trace
 

@@ -9,7 +9,7 @@ use Rattle.ep_typed.specs.Valid.{Declarations, Kind}
 use Rattle.ep_object.specs.Effects.{Returns, light}
 use Rattle.ep_object.specs.Follows.{end_of, Follows, GivesUp, Since, Lands, Operands, Bare, OnTop, IsNotLeft, Inside}
 use Rattle.ep_object.specs.Laws.{EndsAt}
-use Rattle.ep_object.specs.Matching.{Memory, at, Injection, Matches, is_hidden_slot}
+use Rattle.ep_object.specs.Matching.{Memory, at, Injection, Matches, kept_slots}
 use Rattle.ep_object.specs.Operands.{Operand}
 use Rattle.ep_object.specs.Routines.{routine_of}
 use Rattle.ep_object.specs.Runs.{run, trace_of}
@@ -41,7 +41,7 @@ pub record Leaves (declared : Declarations) (G : Image) (injection : Injection) 
   pub instruction : Instr
   pub stands : slice_get G.instructions place ≡ Some instruction
   pub returns : obey G instruction k ≡ light Returns
-  pub lands : Lands declared G (Since (is_hidden_slot declared G) injection begun memory) place (Inside (is_hidden_slot declared G) injection memory Then) s k
+  pub lands : Lands declared G (Since (kept_slots declared G) injection begun memory) place (Inside (kept_slots declared G) injection memory Then) s k
 
 -- The routine of this number, of the unit at this place of the image, simulates the computation with up to n steps: the computation spends the step of a call and then goes on as a body, and wherever the machine enters the routine it follows the body within the routine, and where that gives a value it leaves the routine with these results on the operands below.
 pub record Simulates {A : Type 0} (declared : Declarations) (G : Image) (unit routine n : ℕ) (c : Computation A)

@@ -2,25 +2,24 @@
 use Rattle.std.proofs.Common.{◌≡◌, ℕ, ℤ, pos, negsuc, zero, suc, ◌+◌, List, [], ◌∷◌, Option, Some, None, Bool, true, false, length, refl, ap, arith}
 use Rattle.std.specs.Prelude.{if◌then◌else◌}
 use Rattle.ep_typed.specs.Denoters.{type_of}
-use Rattle.ep_typed.specs.Meaning.{answered, place, eval, write_piece, write_wide, write_item, write_items, assign, turns, turns_until, exec, exec_all, elaborated, make, make_all, start_of, starts_of, routine_in, routine_does, routine_of, read, assign_living, tried, exec_arms, exec_other}
+use Rattle.ep_typed.specs.Meaning.{answered, place, eval, write_piece, write_wide, write_item, write_items, assign, turns, turns_until, exec, exec_all, elaborated, make, make_all, make_own, make_all_own, start_of, starts_of, Found, routine_in, runs_routine, routine_does, routine_of, read, assign_living, tried, exec_arms, exec_other}
 use Rattle.ep_typed.specs.Operations.{Answer, Number, Fault, is_true, decides, is_in}
 use Rattle.ep_typed.specs.Printing.{Result, number_of, plain_text, wide_text, piece_events}
 use Rattle.ep_typed.specs.Printing as result
 use Rattle.ep_typed.specs.Calls.{Argument, Handler, entered, given_back, in_call}
 use Rattle.ep_typed.specs.Steady.{Grows, Steady, IsSteadyHandler}
-use Rattle.ep_typed.specs.Steps.{Call, End, Normal, Halted, Error, Word, State, Outcome, Gives, Ends, Cut, state_of, Computation, give, cut, stop, go_on, bind, spend, change, found, fetch, assigned, type_at, is_within, size_of, with_type, counted, made, allocate, standard_file, first_state, using, has_ended}
-use Rattle.ep_typed.specs.Trees.{Place, Variable, Standard, Expr, Constant, Text, Read, One, Two, Short, Step, Item, Plain, Wide, Stmt, Stmts, Empty, Compound, Assign, If, While, Repeat, Procedure, Halt, Write, none, next, Case, Arms, no_arm, next_arm, Other, no_other, otherwise_do}
+use Rattle.ep_typed.specs.Steps.{Call, End, Normal, Halted, Error, Word, State, Outcome, Gives, Ends, Cut, state_of, Computation, give, cut, stop, go_on, bind, spend, change, found, fetch, assigned, type_at, is_within, size_of, with_type, counted, made, made_own, allocate, allocate_own, standard_file, first_state, using, has_ended}
+use Rattle.ep_typed.specs.Trees.{Place, Variable, Own, Standard, Expr, Constant, Text, Read, One, Two, Short, Step, Item, Plain, Wide, Stmt, Stmts, Empty, Compound, Assign, If, While, Repeat, Procedure, Halt, Write, none, next, Case, Arms, no_arm, next_arm, Other, no_other, otherwise_do}
 use Rattle.ep_typed.specs.Viewed.{denoter_of, stmt_of}
 use Rattle.ep_typed.specs.declared.operations.Print.{Print}
 use Rattle.ep_typed.specs.declared.unit.Unit.{Unit as TypedUnit}
-use Rattle.ep_typed.specs.declared.unit.UnitRoutine.{UnitRoutine}
 use Rattle.ep_typed.specs.declared.unit.UnitRoutine.TheViews.{out-UnitRoutine}
 use Rattle.ep_typed.specs.declared.unit.UnitType.{UnitType}
 use Rattle.ep_typed.specs.declared.unit.UnitVariable.{UnitVariable}
 use Rattle.ep_typed.specs.declared.tree.CaseRange.{CaseRange}
 use Rattle.ep_typed.specs.declared.value.TypeValue.{TypeValue}
 use Rattle.ep_typed.specs.Laws.{IsLonger, MeaningsLast}
-use Rattle.ep_typed.proofs.Steady.{grows_refl, grows_trans, grows_quiet, grows_events, grows_type, grows_counted, grows_made, steady_give, steady_cut, steady_stop, steady_bind, steady_spend, steady_change, steady_fetch, steady_turns, steady_turns_until, steady_in_call, steady_routine_of, steady_using, steady_assign_living}
+use Rattle.ep_typed.proofs.Steady.{grows_refl, grows_trans, grows_quiet, grows_events, grows_type, grows_counted, grows_made, grows_made_own, steady_give, steady_cut, steady_stop, steady_bind, steady_spend, steady_change, steady_fetch, steady_turns, steady_turns_until, steady_in_call, steady_routine_of, steady_using, steady_assign_living}
 use Rattle.ep_typed.specs.declared.run_error.TheConstants as run_error
 
 -- What one computation comes to, another one comes to with more steps.
@@ -141,6 +140,7 @@ module _ (call other : Handler) (lasts : IsLastingHandler call other) (g j : ℕ
   -- a place
   lasting_place : (line : ℕ) (p : Place) → Lasting (place call g unit line p) (place other (g + j) unit line p)
   lasting_place line (Variable u k) = lasting_bind (lasting_fetch _ _) (λ n. lasting_spend 1 (lasting_give n))
+  lasting_place line (Own k) = lasting_bind (lasting_fetch _ _) (λ n. lasting_spend 1 (lasting_give n))
   lasting_place line (Standard file) = lasting_spend 1 (lasting_give (standard_file file))
 
   -- the value of an allocation
@@ -244,6 +244,20 @@ module _ (call other : Handler) (lasts : IsLastingHandler call other) (g j : ℕ
   lasting_make_all types number [] = lasting_give tt
   lasting_make_all types number (v ∷ vs) = lasting_bind (lasting_make types number v) (λ _. lasting_make_all types (suc number) vs)
 
+  -- a variable of a routine that is allocated
+  lasting_allocate_own : (number : ℕ) (t : TypeValue) → Lasting (allocate_own number t) (allocate_own number t)
+  lasting_allocate_own number t =
+      lasting_bind {c = change (counted t)} {f = λ _. spend (size_of t) (change (made_own number t))} (lasting_change (grows_counted t)) (λ _. lasting_spend (size_of t) (lasting_change (grows_made_own number t)))
+
+  -- a variable of a routine
+  lasting_make_own : (types : List UnitType) (number : ℕ) (v : UnitVariable) → Lasting (make_own call g unit types number v) (make_own other (g + j) unit types number v)
+  lasting_make_own types number v = lasting_bind (lasting_elaborated (type_of types (denoter_of v.denoter))) (λ t. lasting_allocate_own number t)
+
+  -- its variables
+  lasting_make_all_own : (types : List UnitType) (number : ℕ) (vs : List UnitVariable) → Lasting (make_all_own call g unit types number vs) (make_all_own other (g + j) unit types number vs)
+  lasting_make_all_own types number [] = lasting_give tt
+  lasting_make_all_own types number (v ∷ vs) = lasting_bind (lasting_make_own types number v) (λ _. lasting_make_all_own types (suc number) vs)
+
 -- the start of a unit
 lasting_start_of : (call other : Handler) → IsLastingHandler call other → (g j : ℕ) (u : TypedUnit) → Lasting (start_of call g u) (start_of other (g + j) u)
 lasting_start_of call other lasts g j u = lasting_spend 1 (lasting_bind (lasting_make_all call other lasts g j u.name u.types 0 u.variables) (λ _. lasting_exec call other lasts g j u.name (stmt_of u.start)))
@@ -268,11 +282,15 @@ lasting_in_call {A = A} x {c = c} {d = d} p = record { steady = steady_in_call x
     go k s (Cut t) r is = after s t r is
 
 -- a routine
-lasting_routine_does : (call other : Handler) → IsLastingHandler call other → (g j : ℕ) (from : List ℕ) (line : ℕ) (unit : List ℕ) (r : Option UnitRoutine)
-    → Lasting (routine_does call g from line unit r) (routine_does other (g + j) from line unit r)
+lasting_runs_routine : (call other : Handler) → IsLastingHandler call other → (g j : ℕ) (unit : List ℕ) (f : Found) → Lasting (runs_routine call g unit f) (runs_routine other (g + j) unit f)
+lasting_runs_routine call other lasts g j unit f =
+    lasting_bind (lasting_make_all_own call other lasts g j unit f.types 0 (out-UnitRoutine f.routine).variables) (λ _. lasting_exec call other lasts g j unit (stmt_of (out-UnitRoutine f.routine).block))
+
+lasting_routine_does : (call other : Handler) → IsLastingHandler call other → (g j : ℕ) (from : List ℕ) (line : ℕ) (unit : List ℕ) (o : Option Found)
+    → Lasting (routine_does call g from line unit o) (routine_does other (g + j) from line unit o)
 lasting_routine_does call other lasts g j from line unit None = lasting_cut
-lasting_routine_does call other lasts g j from line unit (Some r) =
-    lasting_in_call _ (lasting_spend 1 (lasting_bind (lasting_exec call other lasts g j unit (stmt_of (out-UnitRoutine r).block)) (λ a. lasting_give [])))
+lasting_routine_does call other lasts g j from line unit (Some f) =
+    lasting_in_call _ (lasting_spend 1 (lasting_bind (lasting_runs_routine call other lasts g j unit f) (λ a. lasting_give [])))
 
 -- where calls may nest deeper
 lasting_routine_of : (units : List TypedUnit) (depth more : ℕ) → IsLastingHandler (routine_of units depth) (routine_of units (depth + more))

@@ -5,20 +5,19 @@ use Rattle.std.specs.List.{list_any}
 use Rattle.ep_outside.specs.Known.{IsPrefix}
 use Rattle.ep_typed.specs.Denoters.{type_of}
 use Rattle.ep_typed.specs.Events.{Trace}
-use Rattle.ep_typed.specs.Meaning.{answered, place, eval, write_piece, write_wide, write_item, write_items, assign, turns, turns_until, exec, exec_all, elaborated, make, make_all, start_of, starts_of, routine_in, routine_does, routine_of, read, assign_living, tried, exec_arms, exec_other}
+use Rattle.ep_typed.specs.Meaning.{answered, place, eval, write_piece, write_wide, write_item, write_items, assign, turns, turns_until, exec, exec_all, elaborated, make, make_all, make_own, make_all_own, start_of, starts_of, Found, routine_in, runs_routine, routine_does, routine_of, read, assign_living, tried, exec_arms, exec_other}
 use Rattle.ep_typed.specs.Operations.{Answer, Number, Fault, is_true, decides, is_in}
 use Rattle.ep_typed.specs.Printing.{Result, number_of, plain_text, wide_text, piece_events}
 use Rattle.ep_typed.specs.Printing as result
 use Rattle.ep_typed.specs.Calls.{Handler, entered, given_back, in_call}
 use Rattle.ep_typed.specs.Steady.{Grows, Steady, IsSteadyHandler}
-use Rattle.ep_typed.specs.Steps.{Call, End, Normal, Halted, Error, Word, State, Outcome, Gives, Ends, Cut, state_of, Computation, give, cut, stop, go_on, bind, spend, change, found, fetch, with_events, assigned, type_at, is_within, size_of, same_type, Resources, watched, words_of_type, met, with_type, counted, made, allocate, standard_file, using, has_ended}
-use Rattle.ep_typed.specs.Trees.{Place, Variable, Standard, Expr, Constant, Text, Read, One, Two, Short, Step, Item, Plain, Wide, Stmt, Stmts, Empty, Compound, Assign, If, While, Repeat, Procedure, Halt, Write, none, next, Case, Arms, no_arm, next_arm, Other, no_other, otherwise_do}
+use Rattle.ep_typed.specs.Steps.{Call, End, Normal, Halted, Error, Word, State, Outcome, Gives, Ends, Cut, state_of, Computation, give, cut, stop, go_on, bind, spend, change, found, fetch, with_events, assigned, type_at, is_within, size_of, same_type, Resources, watched, words_of_type, met, with_type, counted, made, made_own, allocate, allocate_own, standard_file, using, has_ended}
+use Rattle.ep_typed.specs.Trees.{Place, Variable, Own, Standard, Expr, Constant, Text, Read, One, Two, Short, Step, Item, Plain, Wide, Stmt, Stmts, Empty, Compound, Assign, If, While, Repeat, Procedure, Halt, Write, none, next, Case, Arms, no_arm, next_arm, Other, no_other, otherwise_do}
 use Rattle.ep_typed.specs.Viewed.{denoter_of, stmt_of}
 use Rattle.ep_typed.specs.declared.operations.Print.{Print}
 use Rattle.ep_typed.specs.declared.tree.CaseRange.{CaseRange}
 use Rattle.ep_typed.specs.declared.value.TypeValue.{TypeValue}
 use Rattle.ep_typed.specs.declared.unit.Unit.{Unit as TypedUnit}
-use Rattle.ep_typed.specs.declared.unit.UnitRoutine.{UnitRoutine}
 use Rattle.ep_typed.specs.declared.unit.UnitRoutine.TheViews.{out-UnitRoutine}
 use Rattle.ep_typed.specs.declared.unit.UnitType.{UnitType}
 use Rattle.ep_typed.specs.declared.unit.UnitVariable.{UnitVariable}
@@ -72,6 +71,10 @@ grows_counted t s = record { events = record { rest = []; is = sym (append-nil s
 pub grows_made : (unit : List ℕ) (number : ℕ) (t : TypeValue) (s : State) → Grows s (made unit number t s)
 grows_made unit number t s = grows_quiet s (made unit number t s) refl refl
 
+-- a variable of a routine that is made
+pub grows_made_own : (number : ℕ) (t : TypeValue) (s : State) → Grows s (made_own number t s)
+grows_made_own number t s = grows_quiet s (made_own number t s) refl refl
+
 -- ---- computations from which the state grows
 
 -- a value
@@ -122,6 +125,11 @@ pub steady_allocate : (unit : List ℕ) (number : ℕ) (t : TypeValue) → Stead
 steady_allocate unit number t =
     steady_bind {c = change (counted t)} {f = λ _. spend (size_of t) (change (made unit number t))} (steady_change (grows_counted t)) (λ _. steady_spend (size_of t) (steady_change (grows_made unit number t)))
 
+-- a variable of a routine
+pub steady_allocate_own : (number : ℕ) (t : TypeValue) → Steady (allocate_own number t)
+steady_allocate_own number t =
+    steady_bind {c = change (counted t)} {f = λ _. spend (size_of t) (change (made_own number t))} (steady_change (grows_counted t)) (λ _. steady_spend (size_of t) (steady_change (grows_made_own number t)))
+
 -- one of two
 pub steady_if : {A : Type 0} (b : Bool) {x y : Computation A} → Steady x → Steady y → Steady (if b then x else y)
 steady_if true p q = p
@@ -163,6 +171,7 @@ module _ (call : Handler) (steady : IsSteadyHandler call) (g : ℕ) (unit : List
   -- a place
   pub steady_place : (line : ℕ) (p : Place) → Steady (place call g unit line p)
   steady_place line (Variable u k) = steady_bind (steady_fetch _ _) (λ n. steady_spend 1 (steady_give n))
+  steady_place line (Own k) = steady_bind (steady_fetch _ _) (λ n. steady_spend 1 (steady_give n))
   steady_place line (Standard file) = steady_spend 1 (steady_give (standard_file file))
 
   -- the value of an allocation
@@ -261,6 +270,15 @@ module _ (call : Handler) (steady : IsSteadyHandler call) (g : ℕ) (unit : List
   steady_make_all types number [] = steady_give tt
   steady_make_all types number (v ∷ vs) = steady_bind (steady_make types number v) (λ _. steady_make_all types (suc number) vs)
 
+  -- a variable of a routine, of a type that is elaborated
+  pub steady_make_own : (types : List UnitType) (number : ℕ) (v : UnitVariable) → Steady (make_own call g unit types number v)
+  steady_make_own types number v = steady_bind (steady_elaborated (type_of types (denoter_of v.denoter))) (λ t. steady_allocate_own number t)
+
+  -- its variables
+  pub steady_make_all_own : (types : List UnitType) (number : ℕ) (vs : List UnitVariable) → Steady (make_all_own call g unit types number vs)
+  steady_make_all_own types number [] = steady_give tt
+  steady_make_all_own types number (v ∷ vs) = steady_bind (steady_make_own types number v) (λ _. steady_make_all_own types (suc number) vs)
+
 -- the start of a unit
 pub steady_start_of : (call : Handler) → IsSteadyHandler call → (g : ℕ) (u : TypedUnit) → Steady (start_of call g u)
 steady_start_of call steady g u = steady_spend 1 (steady_bind (steady_make_all call steady g u.name u.types 0 u.variables) (λ _. steady_exec call steady g u.name (stmt_of u.start)))
@@ -285,11 +303,15 @@ steady_in_call {A = A} x {c = c} g = record { by = λ m s. go m s (c m (entered 
     go m s (Cut t) h = h
 
 -- a routine
-steady_routine_does : (call : Handler) → IsSteadyHandler call → (g : ℕ) (from : List ℕ) (line : ℕ) (unit : List ℕ) (r : Option UnitRoutine)
-    → Steady (routine_does call g from line unit r)
+pub steady_runs_routine : (call : Handler) → IsSteadyHandler call → (g : ℕ) (unit : List ℕ) (f : Found) → Steady (runs_routine call g unit f)
+steady_runs_routine call steady g unit f =
+    steady_bind (steady_make_all_own call steady g unit f.types 0 (out-UnitRoutine f.routine).variables) (λ _. steady_exec call steady g unit (stmt_of (out-UnitRoutine f.routine).block))
+
+steady_routine_does : (call : Handler) → IsSteadyHandler call → (g : ℕ) (from : List ℕ) (line : ℕ) (unit : List ℕ) (o : Option Found)
+    → Steady (routine_does call g from line unit o)
 steady_routine_does call steady g from line unit None = steady_cut
-steady_routine_does call steady g from line unit (Some r) =
-    steady_in_call _ (steady_spend 1 (steady_bind (steady_exec call steady g unit (stmt_of (out-UnitRoutine r).block)) (λ a. steady_give [])))
+steady_routine_does call steady g from line unit (Some f) =
+    steady_in_call _ (steady_spend 1 (steady_bind (steady_runs_routine call steady g unit f) (λ a. steady_give [])))
 
 -- however deep calls nest
 pub steady_routine_of : (units : List TypedUnit) (depth : ℕ) → IsSteadyHandler (routine_of units depth)

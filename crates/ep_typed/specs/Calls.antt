@@ -1,7 +1,7 @@
 -- Calls of routines: what is handed over, what a call does, and how long it is under way.
-use Rattle.std.specs.Prelude.{ℕ, suc, ◌+◌, ◌||◌, not, nat_le, List, ◌∷◌, length}
+use Rattle.std.specs.Prelude.{ℕ, suc, ◌+◌, ◌||◌, not, nat_le, List, [], ◌∷◌, length}
 use Rattle.ep_typed.specs.Printing.{Result}
-use Rattle.ep_typed.specs.Steps.{Call, State, Resources, Outcome, Gives, Ends, Cut, Computation, watched}
+use Rattle.ep_typed.specs.Steps.{Call, State, Resources, Outcome, Gives, Ends, Cut, Computation, watched, with_all_ended}
 
 -- what is handed over for a formal: a value, or a variable by the number of its allocation (ISO 10206, 6.7.3)
 pub data Argument : Type 0 where
@@ -33,9 +33,18 @@ entered x s =
       resources = nested (suc (length s.calls)) (watched (record s.resources { reserved = s.resources.reserved + activation_words }));
     }
 
--- after the call those before it are under way, and what was set aside for it is given back
+-- what was made in the innermost call
+abbrev pub made_in : List Call → List ℕ
+made_in [] = []
+made_in (c ∷ calls) = c.made
+
+-- those before it are under way, and what was set aside for it is given back
+abbrev pub back_in : State → State → State
+back_in before s = record s { calls = before.calls; resources = record s.resources { reserved = before.resources.reserved } }
+
+-- when a call is left what was made in it ends (ISO 10206, 6.2.3.2)
 abbrev pub left_from : State → State → State
-left_from before s = record s { calls = before.calls; resources = record s.resources { reserved = before.resources.reserved } }
+left_from before s = back_in before (with_all_ended (made_in s.calls) s)
 
 abbrev pub given_back : {A : Type 0} → State → Outcome A → Outcome A
 given_back before (Gives left a s) = Gives left a (left_from before s)

@@ -3,9 +3,9 @@ use Rattle.std.specs.Str.{bytes_eq}
 use Rattle.std.specs.Prelude.{ℕ, ℤ, pos, negsuc, zero, suc, Bool, true, false, List, [], ◌∷◌, length, slice_get, Option, Some, None, if◌then◌else◌}
 use Rattle.ep_typed.specs.Calls.{Handler, in_call}
 use Rattle.ep_typed.specs.Denoters.{type_of}
-use Rattle.ep_typed.specs.Trees.{Denoter, Place, Variable, Standard, Expr, Constant, Text, Read, One, Two, Short, Step, Item, Plain, Wide, Stmt, Stmts, Empty, Compound, Assign, If, While, Repeat, Procedure, Halt, Write, none, next, Case, Arms, no_arm, next_arm, Other, no_other, otherwise_do}
+use Rattle.ep_typed.specs.Trees.{Denoter, Place, Variable, Own, Standard, Expr, Constant, Text, Read, One, Two, Short, Step, Item, Plain, Wide, Stmt, Stmts, Empty, Compound, Assign, If, While, Repeat, Procedure, Halt, Write, none, next, Case, Arms, no_arm, next_arm, Other, no_other, otherwise_do}
 use Rattle.ep_typed.specs.Viewed.{denoter_of, stmt_of}
-use Rattle.ep_typed.specs.Steps.{Normal, Halted, Error, Word, Outcome, Computation, give, cut, stop, bind, spend, change, fetch, with_events, word_at, assigned, type_at, is_within, with_type, allocate, standard_file, first_state, using}
+use Rattle.ep_typed.specs.Steps.{Call, Normal, Halted, Error, Word, Outcome, Computation, give, cut, stop, bind, spend, change, fetch, with_events, word_at, assigned, type_at, is_within, with_type, allocate, allocate_own, own_variable, standard_file, first_state, using}
 use Rattle.ep_typed.specs.Operations.{Answer, Number, Fault, unary_answer, binary_answer, step_answer, is_true, decides, is_in}
 use Rattle.ep_typed.specs.Printing.{Result, Bytes, number_of, line_end, plain_text, wide_text, piece_events}
 use Rattle.ep_typed.specs.Printing as result
@@ -33,6 +33,7 @@ module _ (call : Handler) (g : ℕ) (unit : List ℕ) where
   -- a place is an allocation; an undefined value where the variable is not made yet
   abbrev pub place : ℕ → Place → Computation ℕ
   place line (Variable u k) = bind (fetch (Error run_error.UNDEFINED_VALUE unit line) (λ s. s.variables u k)) (λ n. spend 1 (give n))
+  place line (Own k) = bind (fetch (Error run_error.UNDEFINED_VALUE unit line) (own_variable k)) (λ n. spend 1 (give n))
   place line (Standard file) = spend 1 (give (standard_file file))
 
   -- the value of an allocation: an error where that has ended, and else where the value is undefined
@@ -139,6 +140,14 @@ module _ (call : Handler) (g : ℕ) (unit : List ℕ) where
   make_all types number [] = give tt
   make_all types number (v ∷ vs) = bind (make types number v) (λ _. make_all types (suc number) vs)
 
+  -- a variable of a routine is made alike
+  abbrev pub make_own : List UnitType → ℕ → UnitVariable → Computation (Unit {0})
+  make_own types number v = bind (elaborate types (denoter_of v.denoter)) (λ t. allocate_own number t)
+
+  abbrev pub make_all_own : List UnitType → ℕ → List UnitVariable → Computation (Unit {0})
+  make_all_own types number [] = give tt
+  make_all_own types number (v ∷ vs) = bind (make_own types number v) (λ _. make_all_own types (suc number) vs)
+
 -- The start of a unit spends the step of a call, makes its variables, and runs its block.
 abbrev pub start_of : Handler → ℕ → TypedUnit → Computation (Unit {0})
 start_of call g u = spend 1 (bind (make_all call g u.name u.types 0 u.variables) (λ _. exec call g u.name (stmt_of u.start)))
@@ -148,18 +157,35 @@ abbrev pub starts_of : Handler → ℕ → List TypedUnit → Computation (Unit 
 starts_of call g [] = stop Normal
 starts_of call g (u ∷ us) = bind (start_of call g u) (λ _. starts_of call g us)
 
--- the routine of this number of the unit of this name
-abbrev pub routine_in : List TypedUnit → List ℕ → ℕ → Option UnitRoutine
-routine_in [] unit number = None
-routine_in (u ∷ us) unit number = if bytes_eq u.name unit then slice_get u.routines number else routine_in us unit number
+-- a routine, and the types of its unit, in which its denoters name
+pub record Found : Type 0 where
+  pub routine : UnitRoutine
+  pub types : List UnitType
 
--- What a routine does: its call spends a step, and then it runs its block. No routine has parameters so far, nor variables.
--- What is none has no meaning, and no valid unit calls one.
-abbrev pub routine_does : Handler → ℕ → List ℕ → ℕ → List ℕ → Option UnitRoutine → Computation (List Result)
+abbrev pub found_among : List UnitType → Option UnitRoutine → Option Found
+found_among types None = None
+found_among types (Some r) = Some (record { routine = r; types = types })
+
+-- the routine of this number of the unit of this name
+abbrev pub routine_in : List TypedUnit → List ℕ → ℕ → Option Found
+routine_in [] unit number = None
+routine_in (u ∷ us) unit number = if bytes_eq u.name unit then found_among u.types (slice_get u.routines number) else routine_in us unit number
+
+-- the activation of a routine of this name, in which nothing is made yet, by a call from a line of a unit
+abbrev pub activation : List ℕ → List ℕ → ℕ → Call
+activation routine from line = record { routine = routine; unit = from; line = line; variables = λ k. None; made = [] }
+
+-- what a routine does in its activation: it makes its variables, and runs its block; so far it has no result
+abbrev pub runs_routine : Handler → ℕ → List ℕ → Found → Computation (Unit {0})
+runs_routine call g unit f =
+    bind (make_all_own call g unit f.types 0 (out-UnitRoutine f.routine).variables) (λ _. exec call g unit (stmt_of (out-UnitRoutine f.routine).block))
+
+-- What a call of a routine does: it spends a step, and then the routine runs. No routine has parameters so far. What is
+-- none has no meaning, and no valid unit calls one.
+abbrev pub routine_does : Handler → ℕ → List ℕ → ℕ → List ℕ → Option Found → Computation (List Result)
 routine_does call g from line unit None = cut
-routine_does call g from line unit (Some r) =
-    in_call (record { routine = (out-UnitRoutine r).name; unit = from; line = line })
-    (spend 1 (bind (exec call g unit (stmt_of (out-UnitRoutine r).block)) (λ _. give [])))
+routine_does call g from line unit (Some f) =
+    in_call (activation (out-UnitRoutine f.routine).name from line) (spend 1 (bind (runs_routine call g unit f) (λ _. give [])))
 
 -- What a call does, where calls nest at most so deep, and loops turn at most so often in each.
 abbrev pub routine_of : List TypedUnit → ℕ → Handler

@@ -1,5 +1,5 @@
 -- Computations, which spend steps and change a state.
-use Rattle.std.specs.Prelude.{ℕ, ℤ, pos, neg_ℤ, zero, suc, ◌+◌, Bool, true, false, ◌&&◌, ◌||◌, not, nat_le, List, [], ◌∷◌, ◌++◌, Option, Some, None, length, slice_get, slice_set, if◌then◌else◌}
+use Rattle.std.specs.Prelude.{ℕ, ℤ, pos, neg_ℤ, zero, suc, ◌+◌, ◌-◌, Bool, true, false, ◌&&◌, ◌||◌, not, nat_le, List, [], ◌∷◌, ◌++◌, Option, Some, None, length, slice_get, slice_set, if◌then◌else◌}
 use Rattle.std.specs.List.{list_any}
 use Rattle.std.specs.Str.{bytes_eq}
 use Rattle.std.specs.Prelude.{int_le}
@@ -42,11 +42,15 @@ pub record Resources : Type 0 where
 abbrev pub held : Resources → ℕ
 held r = r.allocated + r.reserved
 
--- a call under way: the name of its routine, and the unit and the line of the statement or declaration that made it
+-- A call under way: the name of its routine, and the unit and the line of the statement or declaration that made it; and
+-- its activation (ISO 10206, 6.2.3.2): the allocation of each variable of the routine, once it is made, and the
+-- allocations that were made in it, in order.
 pub record Call : Type 0 where
   pub routine : List ℕ
   pub unit : List ℕ
   pub line : ℕ
+  pub variables : ℕ → Option ℕ
+  pub made : List ℕ
 
 -- the state of a run
 pub record State : Type 0 where
@@ -231,9 +235,72 @@ made unit number t s =
       variables = bound unit number (suc (length s.allocations)) s.variables;
     }
 
+-- the allocation of a variable of the routine that runs
+abbrev pub own_in : List Call → ℕ → Option ℕ
+own_in [] k = None
+own_in (c ∷ calls) k = c.variables k
+
+abbrev pub own_variable : ℕ → State → Option ℕ
+own_variable k s = own_in s.calls k
+
+-- the variable of this number of a routine is the allocation
+abbrev pub bound_own : ℕ → ℕ → (ℕ → Option ℕ) → ℕ → Option ℕ
+bound_own number n variables k = if nat_le number k && nat_le k number then Some n else variables k
+
+-- it was made in the innermost call
+abbrev pub with_own : ℕ → ℕ → List Call → List Call
+with_own number n [] = []
+with_own number n (c ∷ calls) = record c { variables = bound_own number n c.variables; made = c.made ++ n ∷ [] } ∷ calls
+
+-- a new variable of the routine that runs, undefined, once its words are counted
+abbrev pub made_own : ℕ → TypeValue → State → State
+made_own number t s =
+    record s {
+      allocations = s.allocations ++ record { type_value = t; value = Undefined; ended = false } ∷ [];
+      calls = with_own number (suc (length s.allocations)) s.calls;
+    }
+
 -- A variable is made: its words are counted, and then it is there, which spends its size. So room is lost before the steps that it is wanted for.
 abbrev pub allocate : List ℕ → ℕ → TypeValue → Computation (Unit {0})
 allocate unit number t = bind (change (counted t)) (λ _. spend (size_of t) (change (made unit number t)))
+
+-- a variable of the routine that runs is made alike
+abbrev pub allocate_own : ℕ → TypeValue → Computation (Unit {0})
+allocate_own number t = bind (change (counted t)) (λ _. spend (size_of t) (change (made_own number t)))
+
+-- ---- what ends
+
+abbrev pub ended_at : ℕ → List Allocation → Option Allocation → List Allocation
+ended_at n allocations None = allocations
+ended_at n allocations (Some a) = slice_set allocations n (record a { ended = true })
+
+-- the allocation of this number has ended
+abbrev pub with_ended : ℕ → List Allocation → List Allocation
+with_ended zero allocations = allocations
+with_ended (suc n) allocations = ended_at n allocations (slice_get allocations n)
+
+-- those of these numbers have
+abbrev pub all_ended : List ℕ → List Allocation → List Allocation
+all_ended [] allocations = allocations
+all_ended (n ∷ ns) allocations = all_ended ns (with_ended n allocations)
+
+-- the words of an allocation that lives, and one more
+abbrev pub living_words : Option Allocation → ℕ
+living_words None = 0
+living_words (Some a) = if a.ended then 0 else size_of a.type_value + 1
+
+-- the words that end with these allocations
+abbrev pub words_ending : List ℕ → List Allocation → ℕ
+words_ending [] allocations = 0
+words_ending (n ∷ ns) allocations = living_words (allocation_at allocations n) + words_ending ns (with_ended n allocations)
+
+-- these allocations end, and their words are given back
+abbrev pub with_all_ended : List ℕ → State → State
+with_all_ended ns s =
+    record s {
+      allocations = all_ended ns s.allocations;
+      resources = record s.resources { allocated = s.resources.allocated - words_ending ns s.allocations };
+    }
 
 -- the allocation of a standard file
 abbrev pub standard_file : StandardFile → ℕ

@@ -24,6 +24,8 @@ pub data Denoter : Type 0 where
 pub data Place : Type 0 where
   -- the variable of this number of the unit of this name
   Variable : (unit : List ℕ) (number : ℕ) → Place
+  -- the variable of this number of the routine that runs
+  Own : (number : ℕ) → Place
   Standard : (file : StandardFile) → Place
 
 -- an expression

@@ -6,7 +6,7 @@ use Rattle.ep_typed.specs.Hosts.{Host, least, greatest, is_of_host}
 use Rattle.ep_typed.specs.Hosts as host
 use Rattle.ep_typed.specs.Operations.{is_integer, is_apart}
 use Rattle.ep_typed.specs.Steps.{is_within}
-use Rattle.ep_typed.specs.Trees.{Denoter, Place, Variable, Standard, Expr, Constant, Text, Read, One, Two, Short, Step, Item, Plain, Wide, Stmt, Stmts, Empty, Compound, Assign, If, While, Repeat, Procedure, Halt, Write, none, next, Case, Arms, no_arm, next_arm, Other, no_other, otherwise_do}
+use Rattle.ep_typed.specs.Trees.{Denoter, Place, Variable, Own, Standard, Expr, Constant, Text, Read, One, Two, Short, Step, Item, Plain, Wide, Stmt, Stmts, Empty, Compound, Assign, If, While, Repeat, Procedure, Halt, Write, none, next, Case, Arms, no_arm, next_arm, Other, no_other, otherwise_do}
 use Rattle.ep_typed.specs.Viewed.{denoter_of, stmt_of}
 use Rattle.ep_typed.specs.declared.operations.Unary.{Unary}
 use Rattle.ep_typed.specs.declared.operations.Unary.TheVariants as unary
@@ -40,6 +40,13 @@ pub record Declarations : Type 0 where
   pub types : List ℕ → List UnitType
   pub constants : List ℕ → List ConstantEntry
   pub routines : List ℕ → List RoutineEntry
+  -- the variables of the routine in whose block they may be named, and the types of its unit
+  pub routine_variables : List UnitVariable
+  pub routine_types : List UnitType
+
+-- the same declarations in the block of a routine with these variables, of a unit with these types
+abbrev pub in_routine : List UnitVariable → List UnitType → Declarations → Declarations
+in_routine variables types declared = record declared { routine_variables = variables; routine_types = types }
 
 -- the kinds of an operation's operand and result; a value of which the number is taken is of a host whose numbers are integers
 abbrev pub IsUnary : Unary → Kind → Kind → Type 0
@@ -100,9 +107,10 @@ AreApart [] = ⊤
 AreApart (r ∷ rs) = All (λ s. IsTrue (is_apart r s)) rs × AreApart rs
 
 module _ (declared : Declarations) where
-  -- the place of a variable that is declared, whose type has this host; a standard file is of no ordinal type
+  -- the place of a variable that is declared or of one of the routine, whose type has this host; a standard file is of no ordinal type
   abbrev pub IsPlace : Host → Place → Type 0
   IsPlace h (Variable unit number) = (v : UnitVariable) × (declared.variables unit number ≡ Some v) × (host_of (declared.types unit) (denoter_of v.denoter) ≡ Some h)
+  IsPlace h (Own number) = (v : UnitVariable) × (slice_get declared.routine_variables number ≡ Some v) × (host_of declared.routine_types (denoter_of v.denoter) ≡ Some h)
   IsPlace h (Standard file) = ⊥
 
   -- an expression of this kind
@@ -213,14 +221,16 @@ own u =
       types = own_list u.name u.types;
       constants = own_list u.name u.constants;
       routines = own_list u.name (map heading_of u.routines);
+      routine_variables = [];
+      routine_types = [];
     }
 
--- A procedure under these declarations, which so far has no parameters, no variables and no routines of its own.
-pub record IsRoutine (declared : Declarations) (r : UnitRoutine) : Type 0 where
+-- A procedure under these declarations, of a unit with these types, which so far has no parameters and no routines of its own.
+pub record IsRoutine (declared : Declarations) (types : List UnitType) (r : UnitRoutine) : Type 0 where
   pub heading : IsProcedure (heading_of r)
-  pub variables : (out-UnitRoutine r).variables ≡ []
+  pub variables : All (IsVariable types) (out-UnitRoutine r).variables
   pub routines : (out-UnitRoutine r).routines ≡ []
-  pub block : IsStmt declared (stmt_of (out-UnitRoutine r).block)
+  pub block : IsStmt (in_routine (out-UnitRoutine r).variables types declared) (stmt_of (out-UnitRoutine r).block)
 
 -- a unit that names no other one, and so far has no interface and nothing to do when it is stopped
 pub record IsValid (u : TypedUnit) : Type 0 where
@@ -228,6 +238,6 @@ pub record IsValid (u : TypedUnit) : Type 0 where
   pub types : All (IsType u.types) u.types
   pub constants : All (IsConstant u.types) u.constants
   pub variables : All (IsVariable u.types) u.variables
-  pub routines : All (IsRoutine (own u)) u.routines
+  pub routines : All (IsRoutine (own u) u.types) u.routines
   pub start : IsStmt (own u) (stmt_of u.start)
   pub stop : stmt_of u.stop ≡ Empty

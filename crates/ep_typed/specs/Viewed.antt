@@ -10,7 +10,7 @@ use Rattle.ep_typed.specs.declared.denoter.Denoter.TheOpen.{Denoter-F}
 use Rattle.ep_typed.specs.declared.denoter.Denoter.TheFolds.{fold-Denoter}
 use Rattle.ep_typed.specs.declared.operations.Print.{Print}
 use Rattle.ep_typed.specs.declared.tree.TypedPlace.{TypedPlace}
-use Rattle.ep_typed.specs.declared.tree.TypedPlace.TheVariants.{Variable, Standard}
+use Rattle.ep_typed.specs.declared.tree.TypedPlace.TheVariants.{Variable, Own, Standard}
 use Rattle.ep_typed.specs.declared.tree.TypedExpr.{TypedExpr}
 use Rattle.ep_typed.specs.declared.tree.TypedExpr.TheOpen as expr
 use Rattle.ep_typed.specs.declared.tree.TypedExpr.TheOpen.{TypedExpr-F}
@@ -36,6 +36,7 @@ denoter_of = fold-Denoter tree.Denoter denoter_step
 
 abbrev pub place_of : TypedPlace → tree.Place
 place_of (Variable unit number) = tree.Variable unit number
+place_of (Own number) = tree.Own number
 place_of (Standard file) = tree.Standard file
 
 abbrev pub expr_step : TypedExpr-F tree.Expr → tree.Expr

@@ -247,7 +247,7 @@ fn place(p: &TypedPlace) -> u64
     ensures { result ≡ nodes.place_nodes (place_of p.now) }
 {
     match p {
-        TypedPlace::Variable(_, _) | TypedPlace::Standard(_) => 1,
+        TypedPlace::Variable(_, _) | TypedPlace::Own(_) | TypedPlace::Standard(_) => 1,
     }
 }
 

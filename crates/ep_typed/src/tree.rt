@@ -16,6 +16,8 @@ pub enum StandardFile {
 pub enum TypedPlace {
     /// The variable of this number of the unit of this name.
     Variable(Name, u32),
+    /// The variable of this number of the routine in whose block it stands.
+    Own(u32),
     /// A standard file.
     Standard(StandardFile),
 }
@@ -24,6 +26,7 @@ impl Drop for TypedPlace {
     fn drop(self) {
         match self {
             TypedPlace::Variable(_, _) => {}
+            TypedPlace::Own(_) => {}
             TypedPlace::Standard(_) => {}
         }
     }

@@ -1,6 +1,6 @@
 -- How the machine follows computations from place to place of the code.
 use Rattle.std.proofs.Common.{◌≡◌, ℕ, ℤ, suc, ◌+◌, ◌*◌, ◌≤◌, IsTrue, List, ◌∷◌, refl, sym, subst, arith}
-use Rattle.ep_object.specs.Follows.{end_of, Point, point, state_at, Facts, After, Lands, Fragment, Operands, Bare, OnTop, PlaceOnTop, SameRoutine, Inside}
+use Rattle.ep_object.specs.Follows.{end_of, Point, point, state_at, Facts, After, Lands, Fragment, Operands, Bare, OnTop, PlaceOnTop, StillRuns, SameRoutine, Inside}
 use Rattle.ep_object.specs.Matching.{Memory, at, Injection, Matches, Slots, Grown, IsPlaceOf, Describes}
 use Rattle.ep_object.specs.Operands.{Operand, Word, Place, Text}
 use Rattle.ep_object.specs.Runs.{outcome}
@@ -8,7 +8,7 @@ use Rattle.ep_object.specs.State.{State, Running, Stopped, Error}
 use Rattle.ep_object.specs.declared.code.Image.{Image}
 use Rattle.ep_object.specs.declared.state.Place.{Place as PlaceOf}
 use Rattle.ep_object.proofs.following.Bind.{follows_bind, follows_less, follows_weaken, follows_wider, follows_credit, follows_from, follows_waits, follows_paid, follows_moves, follows_give, follows_changed, follows_cut, follows_stop}
-use Rattle.ep_object.proofs.matching.Growing.{inside_later, not_left-here, not_left-after}
+use Rattle.ep_object.proofs.matching.Growing.{inside_later, not_left-here, not_left-later, still_routine}
 use Rattle.ep_typed.specs.Printing.{Result}
 use Rattle.ep_typed.specs.Printing as result
 use Rattle.ep_typed.specs.Steady.{Steady}
@@ -24,14 +24,14 @@ use Rattle.ep_typed.specs.declared.value.TypeValue.{TypeValue}
 -- the first part of the code follows the first computation, and the second part, from all that may hold between, the second
 pub fragment_bind : {A B : Type 0} {declared : Declarations} {G : Image} {Here : Facts} {n : ℕ} {from : Point} {middle to : ℕ} {c : Computation A} {f : A → Computation B} {P : A → After} {Q : B → After} {d : ℕ} {e : A → ℕ} {g : B → ℕ}
     → ((a : A) → Steady (f a)) → Fragment declared G Here n from c middle P d e
-    → ((a : A) (longer : Injection) (after : Memory) (pushed : List Operand) → P a longer after pushed → SameRoutine from.memory.frames after.frames × Fragment declared G Here n (point longer after middle pushed) (f a) to Q (e a) g)
+    → ((a : A) (longer : Injection) (after : Memory) (pushed : List Operand) → P a longer after pushed → StillRuns from.memory.frames after.frames × Fragment declared G Here n (point longer after middle pushed) (f a) to Q (e a) g)
     → Fragment declared G Here n from (bind c f) to Q d g
 fragment_bind steady first second =
     record {
       by = λ s matches here. follows_bind steady (first.by s matches here) (λ a s1 k1 lands.
           let next = second a lands.injection lands.memory lands.operands lands.post in
           let fragment = next.1 in
-          follows_from lands.is (follows_wider (λ k same. not_left-after next.0 same) (fragment.by s1 lands.matches lands.here)));
+          follows_from lands.is (follows_wider (λ k same. not_left-later next.0 same) (fragment.by s1 lands.matches lands.here)));
     }
 
 module _ {A : Type 0} {declared : Declarations} {G : Image} {Here : Facts} {c : Computation A} where
@@ -87,16 +87,16 @@ module _ {untouched : Slots} {B : Type 0} {declared : Declarations} {G : Image} 
   pub inside_bind : {A : Type 0} {c : Computation A} {f : A → Computation B} {First : A → Operands} {e : A → ℕ}
       → ((a : A) → Steady (f a))
       → Fragment declared G Here n from c middle (λ a. Inside untouched from.injection from.memory (First a)) d e
-      → ((a : A) (longer : Injection) (after : Memory) (pushed : List Operand) → Grown untouched from.injection from.memory longer after → SameRoutine from.memory.frames after.frames → First a longer after pushed → Fragment declared G Here n (point longer after middle pushed) (f a) to (λ b. Inside untouched longer after (Then b)) (e a) g)
+      → ((a : A) (longer : Injection) (after : Memory) (pushed : List Operand) → Grown untouched from.injection from.memory longer after → SameRoutine untouched from.memory.frames after.frames → First a longer after pushed → Fragment declared G Here n (point longer after middle pushed) (f a) to (λ b. Inside untouched longer after (Then b)) (e a) g)
       → Fragment declared G Here n from (bind c f) to (λ b. Inside untouched from.injection from.memory (Then b)) d g
   inside_bind steady first second =
-      fragment_bind steady first (λ a longer after pushed i. (i.routine, fragment_post (λ b last final at_end j. inside_later i.grown i.routine j) (second a longer after pushed i.grown i.routine i.operands_are)))
+      fragment_bind steady first (λ a longer after pushed i. (still_routine i.routine, fragment_post (λ b last final at_end j. inside_later i.grown i.routine j) (second a longer after pushed i.grown i.routine i.operands_are)))
 
   -- after an expression of an ordinal type
   pub fragment_bind_number : {host : Host} {below : List Operand} {c : Computation Result} {f : Result → Computation B} {e : Result → ℕ}
       → ((a : Result) → Steady (f a))
       → Fragment declared G Here n from c middle (λ a. Inside untouched from.injection from.memory (OnTop (kind.Ordinal host) below a)) d e
-      → ((z : ℤ) (longer : Injection) (after : Memory) → IsTrue (is_of_host host z) → Grown untouched from.injection from.memory longer after → SameRoutine from.memory.frames after.frames → Fragment declared G Here n (point longer after middle (Word z ∷ below)) (f (result.Number z)) to (λ b. Inside untouched longer after (Then b)) (e (result.Number z)) g)
+      → ((z : ℤ) (longer : Injection) (after : Memory) → IsTrue (is_of_host host z) → Grown untouched from.injection from.memory longer after → SameRoutine untouched from.memory.frames after.frames → Fragment declared G Here n (point longer after middle (Word z ∷ below)) (f (result.Number z)) to (λ b. Inside untouched longer after (Then b)) (e (result.Number z)) g)
       → Fragment declared G Here n from (bind c f) to (λ b. Inside untouched from.injection from.memory (Then b)) d g
   fragment_bind_number {f = f} {e = e} steady first second =
       inside_bind steady first (λ a longer after pushed grown routine top.
@@ -107,7 +107,7 @@ module _ {untouched : Slots} {B : Type 0} {declared : Declarations} {G : Image} 
   pub fragment_bind_text : {below : List Operand} {c : Computation Result} {f : Result → Computation B} {e : Result → ℕ}
       → ((a : Result) → Steady (f a))
       → Fragment declared G Here n from c middle (λ a. Inside untouched from.injection from.memory (OnTop kind.Bytes below a)) d e
-      → ((bytes : List ℕ) (longer : Injection) (after : Memory) → Grown untouched from.injection from.memory longer after → SameRoutine from.memory.frames after.frames → Fragment declared G Here n (point longer after middle (Text bytes ∷ below)) (f (result.Bytes bytes)) to (λ b. Inside untouched longer after (Then b)) (e (result.Bytes bytes)) g)
+      → ((bytes : List ℕ) (longer : Injection) (after : Memory) → Grown untouched from.injection from.memory longer after → SameRoutine untouched from.memory.frames after.frames → Fragment declared G Here n (point longer after middle (Text bytes ∷ below)) (f (result.Bytes bytes)) to (λ b. Inside untouched longer after (Then b)) (e (result.Bytes bytes)) g)
       → Fragment declared G Here n from (bind c f) to (λ b. Inside untouched from.injection from.memory (Then b)) d g
   fragment_bind_text {f = f} {e = e} steady first second =
       inside_bind steady first (λ a longer after pushed grown routine top.
@@ -118,7 +118,7 @@ module _ {untouched : Slots} {B : Type 0} {declared : Declarations} {G : Image} 
   pub fragment_bind_bare : {below : List Operand} {c : Computation (Unit {0})} {f : Unit {0} → Computation B} {e : Unit {0} → ℕ}
       → ((a : Unit {0}) → Steady (f a))
       → Fragment declared G Here n from c middle (λ a. Inside untouched from.injection from.memory (Bare below a)) d e
-      → ((a : Unit {0}) (longer : Injection) (after : Memory) → Grown untouched from.injection from.memory longer after → SameRoutine from.memory.frames after.frames → Fragment declared G Here n (point longer after middle below) (f a) to (λ b. Inside untouched longer after (Then b)) (e a) g)
+      → ((a : Unit {0}) (longer : Injection) (after : Memory) → Grown untouched from.injection from.memory longer after → SameRoutine untouched from.memory.frames after.frames → Fragment declared G Here n (point longer after middle below) (f a) to (λ b. Inside untouched longer after (Then b)) (e a) g)
       → Fragment declared G Here n from (bind c f) to (λ b. Inside untouched from.injection from.memory (Then b)) d g
   fragment_bind_bare {f = f} {e = e} steady first second =
       inside_bind steady first (λ a longer after pushed grown routine is. subst (λ x. Fragment declared G Here n (point longer after middle x) (f a) to (λ b. Inside untouched longer after (Then b)) (e a) g) (sym is) (second a longer after grown routine))
@@ -127,7 +127,7 @@ module _ {untouched : Slots} {B : Type 0} {declared : Declarations} {G : Image} 
   pub fragment_bind_place : {type : TypeValue} {below : List Operand} {c : Computation ℕ} {f : ℕ → Computation B} {e : ℕ → ℕ}
       → ((a : ℕ) → Steady (f a))
       → Fragment declared G Here n from c middle (λ a. Inside untouched from.injection from.memory (PlaceOnTop type below a)) d e
-      → ((a : ℕ) (p : PlaceOf) (longer : Injection) (after : Memory) → Grown untouched from.injection from.memory longer after → SameRoutine from.memory.frames after.frames → IsPlaceOf longer after.segments a p → Describes after.types p.type_number type → Fragment declared G Here n (point longer after middle (Place p ∷ below)) (f a) to (λ b. Inside untouched longer after (Then b)) (e a) g)
+      → ((a : ℕ) (p : PlaceOf) (longer : Injection) (after : Memory) → Grown untouched from.injection from.memory longer after → SameRoutine untouched from.memory.frames after.frames → IsPlaceOf longer after.segments a p → Describes after.types p.type_number type → Fragment declared G Here n (point longer after middle (Place p ∷ below)) (f a) to (λ b. Inside untouched longer after (Then b)) (e a) g)
       → Fragment declared G Here n from (bind c f) to (λ b. Inside untouched from.injection from.memory (Then b)) d g
   fragment_bind_place {f = f} {e = e} steady first second =
       inside_bind steady first (λ a longer after pushed grown routine top. subst (λ x. Fragment declared G Here n (point longer after middle x) (f a) to (λ b. Inside untouched longer after (Then b)) (e a) g) (sym top.is) (second a top.place longer after grown routine top.place_of top.described))

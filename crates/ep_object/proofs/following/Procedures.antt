@@ -1,10 +1,12 @@
--- A routine without parameters and variables keeps its promise where the machine follows its block.
-use Rattle.std.proofs.Common.{◌≡◌, ℕ, suc, pos, ◌+◌, ◌-◌, ◌≤◌, ◌<◌, ◌⊎◌, inl, inr, Bool, true, false, not, ◌||◌, cond, ltb, leb, nat_le, IsTrue, List, [], ◌∷◌, ◌++◌, Option, Some, None, length, slice_get, refl, sym, ap, ◌∙◌, subst, arith, append_assoc}
+-- A routine without parameters keeps its promise where the machine follows what it does in its activation.
+use Rattle.std.proofs.Common.{◌≡◌, ℕ, zero, suc, pos, ◌+◌, ◌≤◌, ◌<◌, ◌⊎◌, inl, inr, Bool, true, false, not, ◌||◌, cond, ltb, leb, nat_le, IsTrue, List, [], ◌∷◌, ◌++◌, Option, Some, None, length, replicate, slice_get, refl, sym, ap, ◌∙◌, subst, arith, append_assoc}
 use Rattle.std.proofs.lemmas.Bool.Decides.{nat_tests}
-use Rattle.ep_object.specs.Calls.{call_limit, new_frame, called, call_row}
-use Rattle.ep_object.specs.Effects.{Effect, Jumps, Fails, Work, weighing}
-use Rattle.ep_object.specs.Follows.{Facts, Since, HasGrown, Follows, Fragment, GivesUp, Lands, Inside, IsSameCall, IsStillCall, StillRuns, SameRoutine, IsNotLeft, Bare, point, state_at}
-use Rattle.ep_object.specs.Matching.{Memory, Injection, Matches, Slots, Grown, at}
+use Rattle.std.proofs.lemmas.Option.{slice_get_within}
+use Rattle.ep_object.specs.Activations.{InActivation}
+use Rattle.ep_object.specs.Calls.{call_limit, new_frame, called}
+use Rattle.ep_object.specs.Effects.{Jumps, Fails}
+use Rattle.ep_object.specs.Follows.{Since, HasGrown, Follows, Fragment, GivesUp, Lands, Inside, IsStillCall, StillRuns, SameRoutine, IsNotLeft, point}
+use Rattle.ep_object.specs.Matching.{Memory, Injection, Matches, Slots, every_slot, Grown, at}
 use Rattle.ep_object.specs.Operands.{Operand}
 use Rattle.ep_object.specs.Promises.{CallsAt, ResultsOnTop}
 use Rattle.ep_object.specs.Routines.{routine_of}
@@ -16,17 +18,20 @@ use Rattle.ep_object.specs.declared.code.Image.{Image}
 use Rattle.ep_object.specs.declared.code.ImageRoutine.{ImageRoutine}
 use Rattle.ep_object.specs.declared.code.Instr.{Instr}
 use Rattle.ep_object.specs.declared.state.FrameNumber.TheVariants as number
-use Rattle.ep_object.proofs.following.Bind.{follows_post, follows_wider, follows_bind, follows_give, gives_up}
+use Rattle.ep_object.specs.declared.state.Place.{Place}
+use Rattle.ep_object.proofs.following.Bind.{follows_wider, follows_bind, follows_give, gives_up}
 use Rattle.ep_object.proofs.following.Calling.{follows_called}
 use Rattle.ep_object.proofs.matching.Changes.{matches_entered, matches_left}
-use Rattle.ep_object.proofs.matching.Growing.{grown_refl, grown_trans, not_left-here, not_left-same, same_call-refl, since_here}
+use Rattle.ep_object.proofs.matching.Endings.{without, ends_both}
+use Rattle.ep_object.proofs.matching.Growing.{grown_refl, grown_trans, not_left-here, not_left-still, same_call-refl, same_routine-refl, same_routine-trans, still_routine}
 use Rattle.ep_object.proofs.Grows.{is_prefix}
 use Rattle.ep_typed.proofs.Steady.{steady_bind, steady_give}
-use Rattle.ep_typed.specs.Calls.{activation_words, entered, left_from, in_call, nested}
+use Rattle.ep_typed.specs.Calls.{activation_words, made_in, back_in, entered, left_from, in_call, nested}
+use Rattle.ep_typed.specs.Meaning.{activation}
 use Rattle.ep_typed.specs.Events.{Trace}
 use Rattle.ep_typed.specs.Printing.{Result}
 use Rattle.ep_typed.specs.Steady.{Steady}
-use Rattle.ep_typed.specs.Steps.{Call, Resources, watched, Computation, bind, give, spend}
+use Rattle.ep_typed.specs.Steps.{Call, Resources, watched, Computation, bind, give, spend, with_all_ended}
 use Rattle.ep_typed.specs.Steps as meaning
 use Rattle.ep_typed.specs.Valid.{Declarations}
 use Rattle.ep_typed.specs.declared.run_error.TheConstants as run_error
@@ -52,36 +57,26 @@ not_left-called before f c h = go h.own h.is h.runs
         still_refl [] = tt
         still_refl (x ∷ calls) = (refl, refl, refl, refl)
 
--- the innermost call, where it is the same as one
-pub record Innermost (c : Frame) (below calls : List Frame) : Type 0 where
-  pub frame : Frame
-  pub is : calls ≡ frame ∷ below
-  pub back : frame.back ≡ c.back
-  pub made : frame.made ≡ c.made
-
-innermost : (c : Frame) (below calls : List Frame) → IsSameCall (c ∷ below) calls → Innermost c below calls
-innermost c below [] h = absurd h
-innermost c below (d ∷ later) h = record { frame = d; is = ap (λ l. d ∷ l) h.3; back = h.2; made = h.5 }
-
 -- ---- the instruction that leaves the routine
 
--- memory once the innermost call is left, which has made nothing
-abbrev left_memory : List Frame → Memory → Memory
-left_memory below memory = record memory { frames = record memory.frames { calls = below } }
+-- memory once the innermost call is left, in which these segments were made
+abbrev left_memory : List ℕ → List Frame → Memory → Memory
+left_memory made below memory = record (without made memory) { frames = record memory.frames { calls = below } }
 
-left_live : (memory : Memory) → memory.live - 0 ≡ memory.live
-left_live memory = omega arith
-
-leaves : (G : Image) (ret : ℕ) (i : Instr) (below : List Operand) (memory : Memory) (trace : Trace) (c : Frame) (calls : List Frame)
+leaves : (G : Image) (ret : ℕ) (i : Instr) (st : List Operand) (memory : Memory) (trace : Trace) (frame : Frame) (below : List Frame)
     → slice_get G.instructions ret ≡ Some i → op_of i.op ≡ Some table.Return → i.a ≡ pos 0 → i.b ≡ 0
-    → c.made ≡ [] → Innermost c calls memory.frames.calls
-    → outcome G (at ret below memory trace) ≡ record { weight = 0; to = Running 0 (at c.back below (left_memory calls memory) trace) }
-leaves G ret i below memory trace c calls has is a b made h =
-    let none : h.frame.made ≡ [] = h.made ∙ made in
-    ap (λ o. outcome_of G o (at ret below memory trace)) has
-    ∙ rw (is, a, b, h.is, none, h.back, left_live memory) refl
+    → memory.frames.calls ≡ frame ∷ below
+    → outcome G (at ret st memory trace) ≡ record { weight = 0; to = Running 0 (at frame.back st (left_memory frame.made below memory) trace) }
+leaves G ret i st memory trace frame below has is a b frames =
+    ap (λ o. outcome_of G o (at ret st memory trace)) has ∙ rw (is, a, b, frames) refl
 
 -- ---- a call
+
+-- each slot of a new frame holds no place yet
+none_yet : (n k : ℕ) → k < n → slice_get {X = Option Place} (replicate n None) k ≡ Some None
+none_yet zero k h = absurd (omega (arith, h))
+none_yet (suc n) zero h = refl
+none_yet (suc n) (suc k) h = none_yet n k (omega (arith, h))
 
 -- what is counted once words are set aside for a call
 abbrev set_aside : Resources → Resources
@@ -120,31 +115,12 @@ module _ (declared : Declarations) (G : Image) (routine : ℕ) (r : ImageRoutine
       let g = grown_refl {untouched = untouched} injection memory in
       record { larger = g.larger; types = g.types; segments = g.segments; hidden = g.hidden; others = g.others; allocated = g.allocated; slots = g.slots; typed = g.typed; ended = g.ended }
 
-  -- and neither has it when the call is left
-  grown_left : {untouched : Slots} {injection longer : Injection} {memory after : Memory} (place : ℕ)
-      → Grown untouched injection (begun_memory place memory) longer after
-      → Grown untouched injection memory longer (left_memory memory.frames.calls after)
-  grown_left place g =
-      record { larger = g.larger; types = g.types; segments = g.segments; hidden = g.hidden; others = g.others; allocated = g.allocated; slots = g.slots; typed = g.typed; ended = g.ended }
-
   -- the call is under way on both sides
   matches_begun : {injection : Injection} {s : meaning.State} {memory : Memory} (place : ℕ) (x : Call)
       → Matches declared G injection s memory → Matches declared G injection (entered x s) (begun_memory place memory)
   matches_begun place x h =
       let m = matches_entered x h in
       record { injected = m.injected; store = m.store; types = m.types; units = m.units; outside = m.outside; counts = m.counts; depth = omega (arith, h.depth) }
-
-  -- and on neither when it is left
-  matches_back : {untouched : Slots} {injection longer : Injection} {s t : meaning.State} {memory after : Memory} (place : ℕ)
-      → Grown untouched injection (begun_memory place memory) longer after
-      → IsSameCall (its_frame place ∷ memory.frames.calls) after.frames.calls
-      → Matches declared G injection s memory → Matches declared G longer t after
-      → Matches declared G longer (left_from s t) (left_memory memory.frames.calls after)
-  matches_back {untouched = untouched} {injection = injection} {longer = longer} {t = t} {memory = memory} {after = after} place g same old h =
-      let inner = innermost (its_frame place) memory.frames.calls after.frames.calls same in
-      let under : Matches declared G longer t (left_memory memory.frames.calls after) =
-      record { injected = h.injected; store = h.store; types = h.types; units = h.units; outside = h.outside; counts = h.counts; depth = omega (arith, h.depth, ap length inner.is) } in
-      matches_left (grown_left {untouched = untouched} {injection = injection} {longer = longer} {memory = memory} {after = after} place g) old old.depth under
 
   -- the machine enters the routine, or ends where as many calls are under way as may be
   enters : (place line : ℕ) (below : List Operand) (memory : Memory) (injection : Injection) (s : meaning.State) (x : Call)
@@ -163,25 +139,85 @@ module _ (declared : Declarations) (G : Image) (routine : ℕ) (r : ImageRoutine
           = called_at place line below memory s.trace calls ∙ rw e refl in
           inr (gives_up stops (inr refl) (is_prefix s.trace) (lost_calls (suc (length s.calls)) (set_aside s.resources) (omega (arith, full, h.depth))))
 
+  -- What the routine knows when it begins: nothing is made yet.
+  begins : {untouched : Slots} (within : Declarations) → length within.routine_variables ≤ r.slots → (place : ℕ) (injection : Injection) (s : meaning.State) (memory : Memory) (name from : List ℕ) (line : ℕ)
+      → InActivation within untouched injection (begun_memory place memory) injection (entered (activation name from line) s) (begun_memory place memory)
+  begins within enough place injection s memory name from line =
+      record {
+        grown = grown_refl injection (begun_memory place memory);
+        runs = still_routine (same_routine-refl {untouched = every_slot} (begun_memory place memory).frames);
+        frame = its_frame place;
+        below = memory.frames.calls;
+        frames = refl;
+        call = activation name from line;
+        others = s.calls;
+        calls = refl;
+        own = λ k v is.
+            let inside : k < r.slots = (let w : k < length within.routine_variables = slice_get_within within.routine_variables k v is in omega (arith, w, enough)) in
+            record { slot = None; is = none_yet r.slots k inside; matches = tt; described = λ p t e. cc };
+        made = tt;
+      }
+
   module _ (ret : ℕ) (i : Instr) (stands : slice_get G.instructions ret ≡ Some i) (returns : op_of i.op ≡ Some table.Return) (a_is : i.a ≡ pos 0) (b_is : i.b ≡ 0) where
-    -- Where the machine follows the block of the routine up to the `Return` behind it, in any frame of it and with the
-    -- credit of its call, it follows a call as a whole.
-    pub procedure_keeps : (n : ℕ) (place line : ℕ) → CallsAt G place routine line
+    -- what the instruction that leaves the routine leads to, once the operands are those of the caller
+    record GoesBack (untouched : Slots) (injection : Injection) (s t : meaning.State) (memory : Memory) (place : ℕ)
+        (below : List Operand) (longer : Injection) (after : Memory) : Type 0 where
+      later : Memory
+      does : outcome G (at ret below after t.trace) ≡ record { weight = 0; to = Running 0 (at (place + 1) below later t.trace) }
+      grown : Grown untouched injection memory longer later
+      same : SameRoutine untouched memory.frames later.frames
+      matches : Matches declared G longer (left_from s t) later
+
+    -- what was made in the call ends on both sides, and the caller goes on
+    goes_back : {untouched : Slots} {injection longer : Injection} {s t : meaning.State} {memory after : Memory} (within : Declarations) (place : ℕ) (below : List Operand)
+        → Matches declared G injection s memory → Matches declared G longer t after
+        → InActivation within untouched injection (begun_memory place memory) longer t after
+        → GoesBack untouched injection s t memory place below longer after
+    goes_back {untouched = untouched} {injection = injection} {longer = longer} {s = s} {t = t} {memory = memory} {after = after} within place below old h known =
+        let frame = known.frame in
+        let runs = known.runs in
+        let still : IsStillCall (its_frame place ∷ memory.frames.calls) (frame ∷ known.below) = subst (λ cs. IsStillCall (its_frame place ∷ memory.frames.calls) cs) known.frames runs.calls in
+        let later : Memory = left_memory frame.made memory.frames.calls after in
+        let ends = ends_both (known.call).made frame.made t after known.made h in
+        let m = ends.matches in
+        let gone = grown_trans known.grown (ends.grown untouched) in
+        let grown : Grown untouched injection memory longer later = record { larger = gone.larger; types = gone.types; segments = gone.segments; hidden = gone.hidden; others = gone.others; allocated = gone.allocated; slots = gone.slots; typed = gone.typed; ended = gone.ended } in
+        let under : Matches declared G longer (with_all_ended (known.call).made t) later = record { injected = m.injected; store = m.store; types = m.types; units = m.units; outside = m.outside; counts = m.counts; depth = omega (arith, h.depth, ap length known.frames, ap length still.3) } in
+        let made : made_in t.calls ≡ (known.call).made = ap (λ cs. made_in cs) known.calls in
+        record {
+          later = later;
+          does = leaves G ret i below after t.trace frame known.below stands returns a_is b_is known.frames
+              ∙ (ap (λ q. record { weight = 0; to = Running 0 (at q below (left_memory frame.made known.below after) t.trace) }) still.2
+              ∙ ap (λ cs. record { weight = 0; to = Running 0 (at (place + 1) below (left_memory frame.made cs after) t.trace) }) still.3);
+          grown = grown;
+          same = record { turn = runs.turn; routine = runs.routine; unit = runs.unit; calls = same_call-refl memory.frames.calls; slots = λ k kept. refl };
+          matches = subst (λ ns. Matches declared G longer (back_in s (with_all_ended ns t)) later) (sym made) (matches_left grown old old.depth under);
+        }
+
+    -- Where the machine follows the routine up to the `Return` behind it, in any activation of it and with the credit of its
+    -- call, it follows a call as a whole.
+    pub procedure_keeps : (within : Declarations) → length within.routine_variables ≤ r.slots
+        → (n : ℕ) (place line : ℕ) → CallsAt G place routine line
         → (injection : Injection) (began : meaning.State) (memory : Memory) (below : List Operand)
-        → (x : Call) (block : Computation (Unit {0})) → Steady block → (untouched : Slots)
-        → ((s : meaning.State) → Fragment declared G (Since untouched injection (entered x s) (begun_memory place memory)) n (point injection (begun_memory place memory) r.entry below) block ret (λ a. Inside untouched injection (begun_memory place memory) (Bare below a)) 63 (λ a. 63))
-        → Fragment declared G (Since untouched injection began memory) (suc n) (point injection memory place below) (in_call x (spend 1 (bind block (λ a. give [])))) (place + 1) (λ rs. Inside untouched injection memory (ResultsOnTop [] below rs)) 0 (λ rs. 0)
-    procedure_keeps n place line calls injection began memory below x block steady untouched follows =
+        → (name from : List ℕ) (body : Computation (Unit {0})) → Steady body → (untouched : Slots)
+        → Fragment declared G (InActivation within untouched injection (begun_memory place memory)) n (point injection (begun_memory place memory) r.entry below) body ret (λ a longer after operands. operands ≡ below) 63 (λ a. 63)
+        → Fragment declared G (Since untouched injection began memory) (suc n) (point injection memory place below) (in_call (activation name from line) (spend 1 (bind body (λ a. give [])))) (place + 1) (λ rs. Inside untouched injection memory (ResultsOnTop [] below rs)) 0 (λ rs. 0)
+    procedure_keeps within enough n place line calls injection began memory below name from body steady untouched inner =
         record {
           by = λ s matches since.
-              let inner = follows s in
-              let body = inner.by (entered x s) (matches_begun place x matches) (since_here injection (entered x s) (begun_memory place memory)) in
-              follows_called {P = P s} {Q = Q s} (not_left-here memory.frames) refl (steady_bind steady (λ a. steady_give [])) (go s matches (enters place line below memory injection s x calls matches) (ended s (follows_wider (λ k. not_left-called memory.frames k.frames (its_frame place)) body)))
+              let ran = inner.by (entered x s) (matches_begun place x matches) (begins within enough place injection s memory name from line) in
+              follows_called {P = P s} {Q = Q s} (not_left-here memory.frames) refl (steady_bind steady (λ a. steady_give [])) (go s matches (enters place line below memory injection s x calls matches) (ended s (follows_wider (λ k. not_left-called memory.frames k.frames (its_frame place)) ran)))
               (λ rs s1 k1 post. back s matches since rs s1 k1 post);
         }
       where
+        x : Call
+        x = activation name from line
+
+        After : meaning.State → State → Type 0
+        After = Lands declared G (InActivation within untouched injection (begun_memory place memory)) ret (λ longer after operands. operands ≡ below)
+
         P : meaning.State → List Result → meaning.State → State → Type 0
-        P s rs s1 k1 = (rs ≡ []) × Lands declared G (Since untouched injection (entered x s) (begun_memory place memory)) ret (Inside untouched injection (begun_memory place memory) (Bare below tt)) s1 k1
+        P s rs s1 k1 = (rs ≡ []) × After s1 k1
 
         Q : meaning.State → List Result → meaning.State → State → Type 0
         Q s rs = Lands declared G (Since untouched injection began memory) (place + 1) (Inside untouched injection memory (ResultsOnTop [] below rs))
@@ -192,14 +228,14 @@ module _ (declared : Declarations) (G : Image) (routine : ℕ) (r : ImageRoutine
         entry : meaning.State → State
         entry s = at r.entry below (begun_memory place memory) s.trace
 
-        ended : (s : meaning.State) → Follows In G n (entry s) (entered x s) block (λ a. Lands declared G (Since untouched injection (entered x s) (begun_memory place memory)) ret (Inside untouched injection (begun_memory place memory) (Bare below a))) 63 (λ a. 63)
-            → Follows In G n (entry s) (entered x s) (bind block (λ a. give [])) (P s) 63 (λ a. 1)
+        ended : (s : meaning.State) → Follows In G n (entry s) (entered x s) body (λ a. After) 63 (λ a. 63)
+            → Follows In G n (entry s) (entered x s) (bind body (λ a. give [])) (P s) 63 (λ a. 1)
         ended s h = follows_bind (λ a. steady_give []) h (λ a s1 k1 lands. follows_give [] (omega arith) (refl, lands))
 
         go : (s : meaning.State) → Matches declared G injection s memory
             → (outcome G (at place below memory s.trace) ≡ record { weight = 0; to = Running 0 (entry s) }) ⊎ GivesUp G (at place below memory s.trace) 0 1 (entered x s)
-            → Follows In G n (entry s) (entered x s) (bind block (λ a. give [])) (P s) 63 (λ a. 1)
-            → ((e : State) × (outcome G (at place below memory s.trace) ≡ record { weight = 0; to = Running 0 e }) × Follows In G n e (entered x s) (bind block (λ a. give [])) (P s) 63 (λ a. 1)) ⊎ GivesUp G (at place below memory s.trace) 0 1 (entered x s)
+            → Follows In G n (entry s) (entered x s) (bind body (λ a. give [])) (P s) 63 (λ a. 1)
+            → ((e : State) × (outcome G (at place below memory s.trace) ≡ record { weight = 0; to = Running 0 e }) × Follows In G n e (entered x s) (bind body (λ a. give [])) (P s) 63 (λ a. 1)) ⊎ GivesUp G (at place below memory s.trace) 0 1 (entered x s)
         go s matches (inl o) f = inl (entry s, o, f)
         go s matches (inr y) f = inr y
 
@@ -207,25 +243,21 @@ module _ (declared : Declarations) (G : Image) (routine : ℕ) (r : ImageRoutine
             → (rs : List Result) (s1 : meaning.State) (k1 : State) → P s rs s1 k1
             → In k1 × ((next : State) × (outcome G k1 ≡ record { weight = 0; to = Running 0 next }) × Q s rs (left_from s s1) next)
         back s matches since rs s1 k1 (none, lands) =
-            let inside = lands.post in
-            let same = inside.routine in
-            let inner = innermost (its_frame place) memory.frames.calls lands.memory.frames.calls same.calls in
-            let at_return : k1 ≡ at ret below lands.memory s1.trace = lands.is ∙ ap (λ st. at ret st lands.memory s1.trace) inside.operands_are in
-            let later : Memory = left_memory memory.frames.calls lands.memory in
-            let grown : Grown untouched injection memory lands.injection later = grown_left {untouched = untouched} {injection = injection} {longer = lands.injection} {memory = memory} {after = lands.memory} place inside.grown in
-            let runs : SameRoutine memory.frames later.frames = record { turn = same.turn; routine = same.routine; unit = same.unit; calls = same_call-refl memory.frames.calls } in (
-              subst (λ (k : State). In k) (sym at_return) (not_left-called memory.frames lands.memory.frames (its_frame place) (not_left-same same)),
+            let known = lands.here in
+            let out = goes_back within place below matches lands.matches known in
+            let at_return : k1 ≡ at ret below lands.memory s1.trace = lands.is ∙ ap (λ st. at ret st lands.memory s1.trace) lands.post in (
+              subst (λ (k : State). In k) (sym at_return) (not_left-called memory.frames lands.memory.frames (its_frame place) (not_left-still known.runs)),
               (
-                at (place + 1) below later s1.trace,
-                ap (λ k. outcome G k) at_return ∙ leaves G ret i below lands.memory s1.trace (its_frame place) memory.frames.calls stands returns a_is b_is refl inner,
+                at (place + 1) below out.later s1.trace,
+                ap (λ k. outcome G k) at_return ∙ out.does,
                 record {
                   injection = lands.injection;
-                  memory = later;
+                  memory = out.later;
                   operands = below;
                   is = refl;
-                  matches = matches_back {untouched = untouched} {injection = injection} {longer = lands.injection} {s = s} {t = s1} {memory = memory} {after = lands.memory} place inside.grown same.calls matches lands.matches;
-                  here = record { grown = grown_trans since.grown grown; routine = runs; calls = since.calls };
-                  post = record { grown = grown; routine = runs; operands_are = subst (λ l. ResultsOnTop [] below l lands.injection later below) (sym none) refl };
+                  matches = out.matches;
+                  here = record { grown = grown_trans since.grown out.grown; routine = same_routine-trans since.routine out.same; calls = since.calls };
+                  post = record { grown = out.grown; routine = out.same; operands_are = subst (λ l. ResultsOnTop [] below l lands.injection out.later below) (sym none) refl };
                 },
               ),
             )

@@ -1,13 +1,13 @@
 -- Calls of a routine that keeps its promise: what the caller follows, and what runs from a call do.
-use Rattle.std.proofs.Common.{◌≡◌, ℕ, suc, ◌+◌, ◌≤◌, ◌<◌, ◌⊎◌, inl, inr, IsTrue, List, refl, sym, ap, ◌∙◌, subst, arith}
-use Rattle.ep_object.specs.Follows.{end_of, Facts, Since, Lasts, Fragment, After, Lands, Reaches, EndsToo, RunsOn, GivesUp, IsNotLeft, Inside, Operands, point, state_at}
+use Rattle.std.proofs.Common.{◌≡◌, ℕ, suc, ◌+◌, ◌≤◌, ◌<◌, ◌⊎◌, inl, inr, List, refl, sym, ap, ◌∙◌, subst, arith}
+use Rattle.ep_object.specs.Follows.{end_of, Facts, Since, Lasts, Fragment, After, Lands, Reaches, EndsToo, RunsOn, GivesUp, IsNotLeft, SameRoutine, Inside, Operands, point, state_at}
 use Rattle.ep_object.specs.Laws.{IsRunning}
-use Rattle.ep_object.specs.Matching.{Memory, Injection, Slots, Grown, is_hidden_slot}
+use Rattle.ep_object.specs.Matching.{Memory, Injection, Slots, AreAmong, Grown, kept_slots}
 use Rattle.ep_object.specs.Operands.{Operand}
 use Rattle.ep_object.specs.Promises.{Passing, AreArguments, ResultsOnTop, Called, CallsAt, Promises, ComesBackAfter, CallComesTo, CallsAnswer}
 use Rattle.ep_object.specs.Runs.{run, trace_of, unit_in}
 use Rattle.ep_object.specs.Simulates.{EndsAfter, StaysAfter}
-use Rattle.ep_object.specs.State.{State, Running, Stopped}
+use Rattle.ep_object.specs.State.{State, Frames, Running, Stopped}
 use Rattle.ep_object.specs.declared.code.Image.{Image}
 use Rattle.ep_object.proofs.following.Bind.{Met, follows_post, one_state}
 use Rattle.ep_object.proofs.following.Fragments.{fragment_post}
@@ -37,29 +37,33 @@ fragment_since {declared = declared} {G = G} {Here = Here} {injection = injectio
     }
 
 -- Where fewer slots are named, memory has grown with these untouched.
-pub grown_fewer : {untouched fewer : Slots} {injection longer : Injection} {memory after : Memory}
-    → ((unit k : ℕ) → IsTrue (fewer unit k) → IsTrue (untouched unit k))
+pub grown_fewer : {untouched fewer : Slots} {injection longer : Injection} {memory after : Memory} → AreAmong fewer untouched
     → Grown untouched injection memory longer after → Grown fewer injection memory longer after
 grown_fewer among g =
-    record { larger = g.larger; types = g.types; segments = g.segments; hidden = g.hidden; others = g.others; allocated = g.allocated; slots = λ unit k h. g.slots unit k (among unit k h); typed = g.typed; ended = g.ended }
+    record { larger = g.larger; types = g.types; segments = g.segments; hidden = g.hidden; others = g.others; allocated = g.allocated; slots = λ unit k h. g.slots unit k (among.of_units unit k h); typed = g.typed; ended = g.ended }
+
+-- and the same routine runs with these untouched
+pub same_routine-fewer : {untouched fewer : Slots} {before after : Frames} → AreAmong fewer untouched
+    → SameRoutine untouched before after → SameRoutine fewer before after
+same_routine-fewer among r = record { turn = r.turn; routine = r.routine; unit = r.unit; calls = r.calls; slots = λ k h. r.slots k (among.own k h) }
 
 -- Facts that last with fewer slots untouched last with more.
 pub lasts_more : {untouched fewer : Slots} {Here : Facts}
-    → ((unit k : ℕ) → IsTrue (fewer unit k) → IsTrue (untouched unit k)) → Lasts fewer Here
+    → AreAmong fewer untouched → Lasts fewer Here
     → Lasts untouched Here
-lasts_more among lasts = record { by = λ injection longer s t memory after g held. lasts.by injection longer s t memory after (record { grown = grown_fewer among g.grown; routine = g.routine; calls = g.calls }) held }
+lasts_more among lasts = record { by = λ injection longer s t memory after g held. lasts.by injection longer s t memory after (record { grown = grown_fewer among g.grown; routine = same_routine-fewer among g.routine; calls = g.calls }) held }
 
 -- A caller that knows what lasts and names hidden slots alone follows the call, and knows it again behind it.
 pub call_follows : {declared : Declarations} {G : Image} {untouched : Slots} {Here : Facts} {routine n : ℕ} {formals : List Passing} {results : List Kind} {called : Called}
     → Promises declared G routine n formals results called
     → Lasts untouched Here
-    → ((unit k : ℕ) → IsTrue (untouched unit k) → IsTrue (is_hidden_slot declared G unit k))
+    → AreAmong untouched (kept_slots declared G)
     → (place line : ℕ) → CallsAt G place routine line
     → (injection : Injection) (memory : Memory) (below operands : List Operand) (arguments : List Argument)
     → AreArguments injection memory formals arguments below operands
     → Fragment declared G Here n (point injection memory place operands) (called (unit_in G memory.frames) line arguments) (place + 1) (λ rs. Inside untouched injection memory (ResultsOnTop results below rs)) 0 (λ rs. 0)
 call_follows promise lasts among place line calls injection memory below operands arguments are =
-    fragment_post (λ rs longer after pushed i. record { grown = grown_fewer among i.grown; routine = i.routine; operands_are = i.operands_are })
+    fragment_post (λ rs longer after pushed i. record { grown = grown_fewer among i.grown; routine = same_routine-fewer among i.routine; operands_are = i.operands_are })
     (fragment_since (lasts_more among lasts) (λ s. promise.by place line calls injection s memory below operands arguments are))
 
 -- ---- what runs from a call do
@@ -72,7 +76,7 @@ module _ (declared : Declarations) (G : Image) (injection : Injection) (s : mean
   InCaller l = IsNotLeft memory.frames l.frames
 
   abbrev Back : List Result → meaning.State → State → Type 0
-  Back a = Lands declared G (Since (is_hidden_slot declared G) injection s memory) to (Inside (is_hidden_slot declared G) injection memory (Then a))
+  Back a = Lands declared G (Since (kept_slots declared G) injection s memory) to (Inside (kept_slots declared G) injection memory (Then a))
 
   -- where the call gives its results the caller goes on
   comes_back : (m left : ℕ) (a : List Result) (t : meaning.State)

@@ -1,7 +1,7 @@
 -- The machine goes on matching where a value is assigned or events are added.
-use Rattle.std.proofs.Common.{◌≡◌, ℕ, zero, suc, true, false, ◌<◌, ◌≤◌, ◌⊎◌, inl, inr, List, length, Option, Some, None, slice_get, slice_set, refl, sym, ap, ◌∙◌, subst, arith}
+use Rattle.std.proofs.Common.{◌≡◌, ℕ, zero, suc, false, ◌<◌, ◌≤◌, ◌⊎◌, inl, inr, List, length, Option, Some, None, slice_get, slice_set, refl, sym, ap, ◌∙◌, subst, arith}
 use Rattle.std.proofs.lemmas.Option.{same_Some, slice_get_within}
-use Rattle.ep_object.specs.Matching.{Memory, Injection, IsIn, MatchesSlot, MatchesInjection, MatchesFrame, MatchesUnits, MatchesCounts, hidden_words, IsValueOf, layout, Represents, IsRepresented, HasType, Matches, Slots, Grown}
+use Rattle.ep_object.specs.Matching.{Memory, Injection, IsIn, MatchesSlot, MatchesInjection, MatchesFrame, MatchesUnits, MatchesCounts, hidden_words, IsValueOf, layout, Represents, IsRepresented, HasType, Matches, Slots, every_slot, Grown}
 use Rattle.ep_object.specs.declared.code.Image.{Image}
 use Rattle.ep_object.specs.declared.code.ImageUnit.{ImageUnit}
 use Rattle.ep_object.specs.declared.state.Place.{Place}
@@ -11,14 +11,14 @@ use Rattle.ep_object.proofs.matching.Growing.{is_place_of-grown, describes-grown
 use Rattle.ep_object.proofs.matching.Standing.{represented-same, living_represented}
 use Rattle.ep_object.proofs.Grows.{is_prefix}
 use Rattle.ep_object.proofs.matching.HiddenWords.{hidden_words-set, hidden_words-grown}
-use Rattle.ep_typed.specs.Calls.{entered, left_from}
+use Rattle.ep_typed.specs.Calls.{entered, back_in}
 use Rattle.ep_typed.specs.Events.{Trace}
 use Rattle.ep_typed.specs.Steps.{Call, Value, Undefined, Allocation, allocation_at, assigned_at, assigned, type_in, type_at, ended_in, has_ended, with_events, is_within}
 use Rattle.ep_typed.specs.Steps as meaning
 use Rattle.ep_typed.specs.Valid.{Declarations}
 
 -- two numbers are the same or not
-same_or_not : (m n : ℕ) → (m ≡ n) ⊎ (m ≡ n → ⊥)
+pub same_or_not : (m n : ℕ) → (m ≡ n) ⊎ (m ≡ n → ⊥)
 same_or_not zero zero = inl refl
 same_or_not zero (suc n) = inr (λ e. absurd (omega arith))
 same_or_not (suc m) zero = inr (λ e. absurd (omega arith))
@@ -27,7 +27,7 @@ same_or_not (suc m) (suc n) = elim (same_or_not m n) [ inl e ↦ inl (ap suc e) 
 -- ---- frames in a memory that grows
 
 -- a slot goes on matching
-slot-grown : {untouched : Slots} {injection longer : Injection} {memory after : Memory} (o : Option ℕ) (slot : Option Place)
+pub slot-grown : {untouched : Slots} {injection longer : Injection} {memory after : Memory} (o : Option ℕ) (slot : Option Place)
     → Grown untouched injection memory longer after → MatchesSlot injection memory.segments o slot
     → MatchesSlot longer after.segments o slot
 slot-grown None None g h = tt
@@ -98,7 +98,7 @@ abbrev pub storing : Memory → ℕ → ℕ → Value → Memory
 storing memory segment type_number value = record memory { segments = slice_set memory.segments segment (Some (record { type_number = type_number; words = layout value })) }
 
 -- one allocation is in one segment
-is_in-same : (injection : Injection) (n x y : ℕ) → IsIn injection n x → IsIn injection n y → x ≡ y
+pub is_in-same : (injection : Injection) (n x y : ℕ) → IsIn injection n x → IsIn injection n y → x ≡ y
 is_in-same injection zero x y p q = absurd p
 is_in-same injection (suc n) x y p q = same_Some x y (sym p ∙ q)
 
@@ -165,7 +165,7 @@ module _ {declared : Declarations} {G : Image} {injection : Injection} {s : mean
       old : Segment
       old = record { type_number = r.type_number; words = layout a.value }
 
-      grown_whole : Grown (λ unit k. true) injection memory injection (storing memory segment r.type_number value)
+      grown_whole : Grown every_slot injection memory injection (storing memory segment r.type_number value)
       grown_whole = grown_storing
 
       injected : MatchesInjection injection (assigned_at n value s.allocations) (slice_set memory.segments segment (Some new))
@@ -231,7 +231,7 @@ matches_entered x h =
 pub matches_left : {untouched : Slots} {declared : Declarations} {G : Image} {injection longer : Injection} {before t : meaning.State} {memory after : Memory}
     → Grown untouched injection memory longer after → Matches declared G injection before memory
     → length after.frames.calls ≤ length before.calls
-    → Matches declared G longer t after → Matches declared G longer (left_from before t) after
+    → Matches declared G longer t after → Matches declared G longer (back_in before t) after
 matches_left g old fewer h =
     let counts = h.counts in
     let first = old.counts in

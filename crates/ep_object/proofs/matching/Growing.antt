@@ -1,10 +1,10 @@
 -- Memory grows while a routine runs.
 use Rattle.std.proofs.Common.{◌≡◌, ℕ, zero, suc, ◌≤◌, ◌<◌, ◌⊎◌, inl, inr, List, [], ◌∷◌, ◌++◌, length, Option, Some, slice_get, refl, sym, ap, ◌∙◌, subst, arith}
 use Rattle.std.proofs.lemmas.Option.{slice_get_within}
-use Rattle.ep_object.specs.Follows.{Facts, IsStillCall, IsSameCall, IsNotLeft, HasGrown, Lasts, Since, SameRoutine, Inside, Operands}
+use Rattle.ep_object.specs.Follows.{Facts, IsStillCall, IsSameCall, IsNotLeft, StillRuns, HasGrown, Lasts, Since, SameRoutine, Inside, Operands}
 use Rattle.ep_typed.specs.Steps as meaning
 use Rattle.ep_object.specs.Frames.{routine_over}
-use Rattle.ep_object.specs.Matching.{Memory, Injection, IsIn, IsPlaceOf, Describes, Slots, Grown}
+use Rattle.ep_object.specs.Matching.{Memory, Injection, IsIn, IsPlaceOf, Describes, Slots, every_slot, AreAmong, Grown}
 use Rattle.ep_object.specs.Operands.{Operand}
 use Rattle.ep_object.specs.Routines.{unit_of}
 use Rattle.ep_object.specs.Runs.{name_of, unit_in}
@@ -33,6 +33,10 @@ pub is_in-longer : (injection longer : Injection) (n segment : ℕ) → IsPrefix
     → IsIn injection n segment → IsIn longer n segment
 is_in-longer injection longer zero segment p h = h
 is_in-longer injection longer (suc n) segment p h = slice_get-prefix injection longer n segment p h
+
+-- slots are among themselves
+pub among_same : {some : Slots} → AreAmong some some
+among_same = record { of_units = λ unit k h. h; own = λ k h. h }
 
 -- a number is before another one or not
 pub before_or_not : (a b : ℕ) → (a ≤ b) ⊎ (b < a)
@@ -149,31 +153,42 @@ no_calls [] (y ∷ b) p e = absurd p
 no_calls (x ∷ a) b p e = cc
 
 -- both have the same routine
-same_call-routine : (a b : List Frame) (r : ℕ) → IsSameCall a b → routine_over b r ≡ routine_over a r
+same_call-routine : (a b : List Frame) (r : ℕ) → IsStillCall a b → routine_over b r ≡ routine_over a r
 same_call-routine [] [] r p = refl
 same_call-routine [] (y ∷ b) r p = absurd p
 same_call-routine (x ∷ a) [] r p = absurd p
 same_call-routine (x ∷ a) (y ∷ b) r p = p.0
 
 -- the routine is the same as itself
-pub same_routine-refl : (frames : Frames) → SameRoutine frames frames
-same_routine-refl frames = record { turn = refl; routine = refl; unit = refl; calls = same_call-refl frames.calls }
+pub same_routine-refl : {untouched : Slots} (frames : Frames) → SameRoutine untouched frames frames
+same_routine-refl frames = record { turn = refl; routine = refl; unit = refl; calls = same_call-refl frames.calls; slots = λ k kept. refl }
 
 -- and the same as one that is the same
-pub same_routine-trans : {a b c : Frames} → SameRoutine a b → SameRoutine b c → SameRoutine a c
-same_routine-trans {a = a} {b = b} {c = c} p q = record { turn = q.turn ∙ p.turn; routine = q.routine ∙ p.routine; unit = q.unit ∙ p.unit; calls = same_call-trans a.calls b.calls c.calls p.calls q.calls }
+pub same_routine-trans : {untouched : Slots} {a b c : Frames} → SameRoutine untouched a b → SameRoutine untouched b c → SameRoutine untouched a c
+same_routine-trans {a = a} {b = b} {c = c} p q = record { turn = q.turn ∙ p.turn; routine = q.routine ∙ p.routine; unit = q.unit ∙ p.unit; calls = same_call-trans a.calls b.calls c.calls p.calls q.calls; slots = λ k kept. q.slots k kept ∙ p.slots k kept }
 
--- the routine that runs is not left
-pub not_left-same : {a b : Frames} → SameRoutine a b → IsNotLeft a b
-not_left-same {a = a} {b = b} p = record { over = []; own = b.calls; is = refl; runs = record { turn = p.turn; routine = p.routine; unit = p.unit; calls = still_same a.calls b.calls p.calls } }
+-- a routine that is the same still runs
+pub still_routine : {untouched : Slots} {a b : Frames} → SameRoutine untouched a b → StillRuns a b
+still_routine {a = a} {b = b} p = record { turn = p.turn; routine = p.routine; unit = p.unit; calls = still_same a.calls b.calls p.calls }
+
+-- a routine that still runs is not left
+pub not_left-still : {a b : Frames} → StillRuns a b → IsNotLeft a b
+not_left-still {b = b} p = record { over = []; own = b.calls; is = refl; runs = record { turn = p.turn; routine = p.routine; unit = p.unit; calls = p.calls } }
+
+pub not_left-same : {untouched : Slots} {a b : Frames} → SameRoutine untouched a b → IsNotLeft a b
+not_left-same p = not_left-still (still_routine p)
 
 -- a routine that has just been entered is not left
 pub not_left-here : (frames : Frames) → IsNotLeft frames frames
-not_left-here frames = not_left-same (same_routine-refl frames)
+not_left-here frames = not_left-same (same_routine-refl {untouched = every_slot} frames)
 
--- nor is one while it runs, or after that while it is not left
-pub not_left-after : {a b c : Frames} → SameRoutine a b → IsNotLeft b c → IsNotLeft a c
-not_left-after {a = a} {b = b} p q =
+-- and what still runs then still runs
+pub still_runs-trans : {a b c : Frames} → StillRuns a b → StillRuns b c → StillRuns a c
+still_runs-trans {a = a} {b = b} {c = c} p q = record { turn = q.turn ∙ p.turn; routine = q.routine ∙ p.routine; unit = q.unit ∙ p.unit; calls = still_trans a.calls b.calls c.calls p.calls q.calls }
+
+-- a routine is not left while it still runs, or after that while it is not left
+pub not_left-later : {a b c : Frames} → StillRuns a b → IsNotLeft b c → IsNotLeft a c
+not_left-later {a = a} {b = b} p q =
     let r = q.runs in
     record {
       over = q.over;
@@ -183,14 +198,17 @@ not_left-after {a = a} {b = b} p q =
         turn = r.turn ∙ p.turn;
         routine = r.routine ∙ p.routine;
         unit = r.unit ∙ p.unit;
-        calls = still_trans a.calls b.calls q.own (still_same a.calls b.calls p.calls) r.calls;
+        calls = still_trans a.calls b.calls q.own p.calls r.calls;
       };
     }
 
--- while the same routine runs, errors tell the same unit
-pub unit_in-same : (G : Image) {before after : Frames} → SameRoutine before after
+-- while a routine still runs, errors tell the same unit
+pub unit_in-still : (G : Image) {before after : Frames} → StillRuns before after → unit_in G after ≡ unit_in G before
+unit_in-still G {before = before} {after = after} h = ap (λ r. name_of (unit_of G (slice_get G.routines r))) (same_call-routine before.calls after.calls after.routine h.calls ∙ ap (routine_over before.calls) h.routine)
+
+pub unit_in-same : (G : Image) {untouched : Slots} {before after : Frames} → SameRoutine untouched before after
     → unit_in G after ≡ unit_in G before
-unit_in-same G {before = before} {after = after} h = ap (λ r. name_of (unit_of G (slice_get G.routines r))) (same_call-routine before.calls after.calls after.routine h.calls ∙ ap (routine_over before.calls) h.routine)
+unit_in-same G h = unit_in-still G (still_routine h)
 
 -- where nothing has grown yet
 pub inside_here : {untouched : Slots} {injection : Injection} {memory : Memory} {Then : Operands} {operands : List Operand}
@@ -199,7 +217,7 @@ inside_here {injection = injection} {memory = memory} h = record { grown = grown
 
 -- what is inside of a later memory is inside of an earlier one
 pub inside_later : {untouched : Slots} {injection longer last : Injection} {memory after final : Memory} {Then : Operands} {operands : List Operand}
-    → Grown untouched injection memory longer after → SameRoutine memory.frames after.frames
+    → Grown untouched injection memory longer after → SameRoutine untouched memory.frames after.frames
     → Inside untouched longer after Then last final operands
     → Inside untouched injection memory Then last final operands
 inside_later g r h = record { grown = grown_trans g h.grown; routine = same_routine-trans r h.routine; operands_are = h.operands_are }

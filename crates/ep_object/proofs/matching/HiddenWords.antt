@@ -88,6 +88,23 @@ pub is_item : (injection : Injection) (n k : ℕ) → IsIn injection n k → lis
 is_item injection zero k h = absurd h
 is_item injection (suc n) k h = any_in injection n k h
 
+-- an item of the injection ends, which is no hidden segment
+hidden_ended : (injection : Injection) (k : ℕ) (segments : Segments) (n m : ℕ) → m ≡ k + n
+    → list_any (λ j. j == m) injection ≡ true
+    → hidden_from injection k (slice_set segments n None) ≡ hidden_from injection k segments
+hidden_ended injection k [] n m at item = refl
+hidden_ended injection k (None ∷ segments) zero m at item = refl
+hidden_ended injection k (Some x ∷ segments) zero m at item =
+    let here : list_any (λ j. j == k) injection ≡ true = subst (λ i. list_any (λ j. j == i) injection ≡ true) {x = m} {y = k} (omega (arith, at)) item in
+    omega (arith, ap (λ b. (if b then 0 else length x.words + 1) + hidden_from injection (suc k) segments) here)
+hidden_ended injection k (None ∷ segments) (suc n) m at item = hidden_ended injection (suc k) segments n m (omega (arith, at)) item
+hidden_ended injection k (Some x ∷ segments) (suc n) m at item =
+    ap (λ i. (if list_any (λ j. j == k) injection then 0 else length x.words + 1) + i) (hidden_ended injection (suc k) segments n m (omega (arith, at)) item)
+
+pub hidden_words-ended : (injection : Injection) (segments : Segments) (n k : ℕ) → IsIn injection n k
+    → hidden_words injection (slice_set segments k None) ≡ hidden_words injection segments
+hidden_words-ended injection segments n k h = hidden_ended injection 0 segments k k (omega arith) (is_item injection n k h)
+
 -- and an item is the segment of an allocation
 in_any : (injection : Injection) (k : ℕ) → list_any (λ j. j == k) injection ≡ true
     → (n : ℕ) × IsIn injection n k

@@ -60,17 +60,17 @@ pub make_does : {untouched : Slots} {Here : Facts} (declared : Declarations) (G 
     → ((v : UnitVariable) → declared.variables x.name k ≡ Some v → HasType declared x.name v (type.Ordinal low high))
     → (injection : Injection) (memory : Memory) (s : meaning.State)
     → RunsInUnit G memory.frames x → k < x.slots
-    → (IsTrue (untouched memory.frames.unit k) → ⊥)
+    → (IsTrue (untouched.of_units memory.frames.unit k) → ⊥)
     → Describes memory.types number (type.Ordinal low high) → Lasts untouched Here
     → Matches declared G injection s memory → Here injection s memory
     → Does declared G Here (at place (Word (pos number) ∷ below) memory s.trace) 1 (place + 1) (Inside untouched injection memory (Bare below tt)) (made x.name k (type.Ordinal low high) (counted (type.Ordinal low high) s)) ⊎ GivesUp G (at place (Word (pos number) ∷ below) memory s.trace) 0 1 (counted (type.Ordinal low high) s)
 make_does {untouched = untouched} {Here = Here} declared G place line below low high number k x has distinct low_fits high_fits types_valid declared_so injection memory s home within free described lasts matches known = go (leb (memory.live + 2) live_limit) refl
   where
     frame : MatchesFrame declared (with_segment injection memory) s.variables memory.frames.units (memory.segments ++ Some (new_segment number) ∷ []) memory.types memory.frames.unit x
-    frame = frame_here matches x low high number k home.unit described low_fits high_fits
+    frame = frame_here matches low high number described low_fits high_fits x k home.unit
 
     -- the slots that are kept are what they were
-    kept : (unit j : ℕ) → IsTrue (untouched unit j)
+    kept : (unit j : ℕ) → IsTrue (untouched.of_units unit j)
         → slot_in (with_place number k frame.slots memory) unit j ≡ slot_in memory.frames unit j
     kept unit j is_kept = elim (ℕ_discrete memory.frames.unit unit) [ yes e ↦ own e | no e ↦ other e ]
       where
@@ -80,7 +80,7 @@ make_does {untouched = untouched} {Here = Here} declared G place line below low 
         own : memory.frames.unit ≡ unit
             → slot_in (with_place number k frame.slots memory) unit j ≡ slot_in memory.frames unit j
         own e =
-            let different : (k ≡ j → ⊥) = λ q. free (subst (λ i. IsTrue (untouched i k)) (sym e) (subst (λ i. IsTrue (untouched unit i)) (sym q) is_kept)) in
+            let different : (k ≡ j → ⊥) = λ q. free (subst (λ i. IsTrue (untouched.of_units i k)) (sym e) (subst (λ i. IsTrue (untouched.of_units unit i)) (sym q) is_kept)) in
             subst (λ u. slot_in (with_place number k frame.slots memory) u j ≡ slot_in memory.frames u j) e
             (ap (λ o. slot_of_frame o j) new_slots_here ∙ (slice_get-set-other frame.slots k j (Some (new_place memory number)) different ∙ sym (ap (λ o. slot_of_frame o j) frame.is)))
 
@@ -100,9 +100,9 @@ make_does {untouched = untouched} {Here = Here} declared G place line below low 
           memory = with_variable number (with_place number k frame.slots memory) memory;
           operands = below;
           does = leads true e;
-          matches = matches_making matches x low high number k home.unit described low_fits high_fits within declared_so distinct types_valid;
-          here = lasts.by injection (with_segment injection memory) s (made x.name k (type.Ordinal low high) (counted (type.Ordinal low high) s)) memory (with_variable number (with_place number k frame.slots memory) memory) (record { grown = grown_making injection memory number (with_place number k frame.slots memory) kept; routine = record { turn = refl; routine = refl; unit = refl; calls = same_call-refl memory.frames.calls }; calls = refl }) known;
-          post = record { grown = grown_making injection memory number (with_place number k frame.slots memory) kept; routine = record { turn = refl; routine = refl; unit = refl; calls = same_call-refl memory.frames.calls }; operands_are = refl };
+          matches = matches_making matches low high number described low_fits high_fits x k home.unit within declared_so distinct types_valid;
+          here = lasts.by injection (with_segment injection memory) s (made x.name k (type.Ordinal low high) (counted (type.Ordinal low high) s)) memory (with_variable number (with_place number k frame.slots memory) memory) (record { grown = grown_making injection memory number (with_place number k frame.slots memory) kept; routine = record { turn = refl; routine = refl; unit = refl; calls = same_call-refl memory.frames.calls; slots = λ j kept. refl }; calls = refl }) known;
+          post = record { grown = grown_making injection memory number (with_place number k frame.slots memory) kept; routine = record { turn = refl; routine = refl; unit = refl; calls = same_call-refl memory.frames.calls; slots = λ j kept. refl }; operands_are = refl };
         })
     go false e =
         let many : live_limit < memory.live + 2 = grind (arith, nat_tests) in

@@ -41,7 +41,7 @@ pub record Elaborates (untouched : Slots) (declared : Declarations) (G : Image) 
   pub matches : Matches declared G injection (meaning.with_type t s) final
   pub described : Describes final.types number t
   pub grown : Grown untouched injection memory injection final
-  pub routine : SameRoutine memory.frames final.frames
+  pub routine : SameRoutine untouched memory.frames final.frames
 
 -- `TOrd`
 abbrev pub ordinal_instr : ℕ → Instr

@@ -4,13 +4,13 @@ use Rattle.ep_gen_unit.proofs.ProgramForms.{is_program, is_compact}
 use Rattle.ep_gen_unit.proofs.program.program_code.Goals as goal
 
 abbrev all_routines : goal.After-assemble → Type 0
-all_routines c = c.push-2.new.self ≡ c.in_ok-routines.routines ++ routine_at 0 ∷ routine_at c.in_ok-stop_entry.stop_entry ∷ []
+all_routines c = c.push-2.new.self ≡ c.in_ok-routines.routines ++ routine_at 0 0 ∷ routine_at c.in_ok-stop_entry.stop_entry 0 ∷ []
 
 pushed : (c : goal.After-assemble) → all_routines c
 pushed c =
-    let start : c.push.new.self ≡ c.in_ok-routines.routines ++ routine_at 0 ∷ [] = search rules in
-    let stop : c.push-2.new.self ≡ c.push.new.self ++ routine_at c.in_ok-stop_entry.stop_entry ∷ [] = search rules in
-    stop ∙ (ap (λ l. l ++ routine_at c.in_ok-stop_entry.stop_entry ∷ []) start ∙ append_assoc c.in_ok-routines.routines (routine_at 0 ∷ []) (routine_at c.in_ok-stop_entry.stop_entry ∷ []))
+    let start : c.push.new.self ≡ c.in_ok-routines.routines ++ routine_at 0 0 ∷ [] = search rules in
+    let stop : c.push-2.new.self ≡ c.push.new.self ++ routine_at c.in_ok-stop_entry.stop_entry 0 ∷ [] = search rules in
+    stop ∙ (ap (λ l. l ++ routine_at c.in_ok-stop_entry.stop_entry 0 ∷ []) start ∙ append_assoc c.in_ok-routines.routines (routine_at 0 0 ∷ []) (routine_at c.in_ok-stop_entry.stop_entry 0 ∷ []))
 
 starts : (c : goal.After-assemble) → c.in_ok-start.start ≡ length c.in_ok-routines.routines
 starts c = search rules
@@ -19,9 +19,9 @@ pub returns-clause-program : goal.returns-clause-program
 returns-clause-program c =
     let slots = c.in_ok-unit_slots.ensures.0 ∙ ap length c.items.ensures in
     is_program c.args.u.now c.new-code.ensures c.in_ok-name.name c.in_ok-name.ensures c.in_ok-unit_slots.unit_slots c.in_ok-stop_entry.stop_entry c.in_ok-start.start c.in_ok-stop_entry.ensures
-    c.items-2.result.now c.items-2.ensures c.in_ok-routines.routines c.in_ok-routines.ensures c.push-2.new.self (pushed c) (starts c) c.assemble.result c.assemble.ensures slots
+    c.items-3.result.now c.items-3.ensures c.in_ok-routines.routines c.items-2.result.now c.items-2.ensures c.in_ok-routines.ensures c.push-2.new.self (pushed c) (starts c) c.assemble.result c.assemble.ensures slots
 
 pub returns-clause-compact : goal.returns-clause-compact
 returns-clause-compact c =
     is_compact c.args.u.now c.new-code.ensures c.in_ok-name.name c.in_ok-name.ensures c.in_ok-unit_slots.unit_slots c.in_ok-stop_entry.stop_entry c.in_ok-start.start c.in_ok-stop_entry.ensures
-    c.items-2.result.now c.items-2.ensures c.in_ok-routines.routines c.in_ok-routines.ensures c.push-2.new.self (pushed c) (starts c) c.assemble.result c.assemble.ensures (omega (arith, c.in_ok-next_place.ensures.is_length, c.in_ok-next_place.ensures.small))
+    c.items-3.result.now c.items-3.ensures c.in_ok-routines.routines c.items-2.result.now c.items-2.ensures c.in_ok-routines.ensures c.push-2.new.self (pushed c) (starts c) c.assemble.result c.assemble.ensures (omega (arith, c.in_ok-next_place.ensures.is_length, c.in_ok-next_place.ensures.small))

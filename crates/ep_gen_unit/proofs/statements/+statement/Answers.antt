@@ -1,14 +1,14 @@
 use Rattle.std.proofs.Common.{◌≡◌, ◌+◌, [], ◌∷◌, Some, None, map, w64, arith, OnOk, subst, sym, ap, ◌∙◌}
 use Rattle.std.proofs.lemmas.Int.{to_z_pos}
-use Rattle.ep_typed.specs.Trees.{Compound, Repeat, Case, Arm, stmts, arms, no_other, otherwise_do}
+use Rattle.ep_typed.specs.Trees.{Empty, Compound, Repeat, Case, Arm, stmts, arms, no_other, otherwise_do}
 use Rattle.ep_typed.specs.Viewed.{expr_of, stmt_of, arm_of}
 use Rattle.ep_gen_expr.proofs.Forms.{on_ok}
 use Rattle.ep_gen_unit.specs.StmtGrowth.{AppendsArms, AppendsStmt}
 use Rattle.ep_typed.specs.declared.tree.CaseArm.{out-CaseArm}
 use Rattle.ep_typed.specs.declared.tree.TypedStmt.TheVariants as typed
 use Rattle.ep_gen_unit.proofs.CaseForms.{appends_arm, arms_more, appends_otherwise, opens_case, closes_case, appends_case}
-use Rattle.ep_gen_unit.proofs.Compounds.{arm_is, compound_is, repeat_is, case_is}
-use Rattle.ep_gen_unit.proofs.StmtForms.{appends_compound, appends_if, appends_repeat, appends_while, stmts_more}
+use Rattle.ep_gen_unit.proofs.Compounds.{empty_is, arm_is, compound_is, repeat_is, case_is}
+use Rattle.ep_gen_unit.proofs.StmtForms.{appends_empty, appends_compound, appends_if, appends_repeat, appends_while, stmts_more}
 use Rattle.ep_gen_unit.proofs.statements.+statement.Goals as goal
 
 pub compound_code-loop-s-preserved : goal.compound_code-loop-s-preserved
@@ -30,6 +30,11 @@ pub repeat_code-returns : goal.repeat_code-returns
 repeat_code-returns t c =
     let start = to_z_pos w64 c.in_ok-start.start (omega (arith, c.in_ok-start.ensures.small)) in
     on_ok c.emit.result (appends_repeat c.args.code.now c.compound_code.new.code c.args.line (stmts (map stmt_of c.args.body.now)) (expr_of c.args.condition.now) c.in_ok-start.start c.in_ok-start.ensures c.in_ok-compound_code.ensures c.in_ok-expression_code.ensures) (rw start at c.emit.ensures)
+
+pub statement_code-returns-in-Empty : goal.statement_code-returns-in-Empty
+statement_code-returns-in-Empty t c =
+    let is : stmt_of c.args.s.now ≡ Empty = ap stmt_of c.in-Empty.is ∙ empty_is in
+    subst (λ s. AppendsStmt c.args.code.now c.args.code.now s) (sym is) (appends_empty c.args.code.now)
 
 pub statement_code-returns-in-Repeat : goal.statement_code-returns-in-Repeat
 statement_code-returns-in-Repeat t c =

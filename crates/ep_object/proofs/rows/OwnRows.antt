@@ -1,0 +1,157 @@
+-- What the rows on a routine's own variables lead to, where the machine matches: `Slot`, and `Make` in its activation.
+use Rattle.std.proofs.Common.{leb, cond, ◌≡◌, ℕ, ℤ, pos, ◌+◌, ◌<◌, ◌⊎◌, inl, inr, Bool, true, false, IsTrue, List, [], ◌∷◌, length, Option, Some, None, slice_get, refl, sym, ap, ◌∙◌, subst, arith}
+use Rattle.std.proofs.lemmas.Bool.Decides.{nat_tests}
+use Rattle.std.proofs.lemmas.Bool.{lt-ltb}
+use Rattle.std.proofs.lemmas.Option.{slice_get_within}
+use Rattle.ep_object.specs.Activations.{OwnSlot, InActivation}
+use Rattle.ep_object.specs.Follows.{GivesUp, Facts, IsStillCall, StillRuns, Inside, PlaceOnTop}
+use Rattle.ep_object.specs.Matching.{Memory, at, Injection, Describes, Slots, own_slot, slot_of_frame, MatchesSlot, HasOwnType, Matches}
+use Rattle.ep_object.specs.Operands.{Operand, Word}
+use Rattle.ep_object.specs.Operands as operand
+use Rattle.ep_object.specs.Frames.{slots_over}
+use Rattle.ep_object.specs.Runs.{outcome, unit_in}
+use Rattle.ep_object.specs.Scene.{HaveValidTypes}
+use Rattle.ep_object.specs.State.{Frame, Running, Stopped, Error, live_limit}
+use Rattle.ep_object.specs.Types.{ordinal_entry}
+use Rattle.ep_object.specs.declared.code.Image.{Image}
+use Rattle.ep_object.specs.declared.state.Place.{Place}
+use Rattle.ep_object.proofs.following.Bind.{gives_up}
+use Rattle.ep_object.proofs.following.Choices.{Reads, Misses, Finds}
+use Rattle.ep_object.proofs.following.Fragments.{Does}
+use Rattle.ep_object.proofs.Grows.{is_prefix}
+use Rattle.ep_object.proofs.matching.Counts.{lost_words, past_limit, live_bounded}
+use Rattle.ep_object.proofs.matching.Growing.{inside_here}
+use Rattle.ep_object.proofs.matching.NewVariables.{with_variable, with_segment}
+use Rattle.ep_object.proofs.matching.OwnVariables.{with_own_place, matches_making_own, own_making, in_activation_making}
+use Rattle.ep_object.proofs.rows.FrameRows.{own_slots, slot_pushes, slot_misses}
+use Rattle.ep_object.proofs.rows.Rows.{instr, in_one, outcome_at}
+use Rattle.ep_typed.specs.Events.{Trace}
+use Rattle.ep_typed.specs.Operations.{is_integer}
+use Rattle.ep_typed.specs.Steps.{Resources, own_variable, counted, made_own}
+use Rattle.ep_typed.specs.Steps as meaning
+use Rattle.ep_typed.specs.Valid.{Declarations}
+use Rattle.ep_typed.specs.declared.unit.UnitVariable.{UnitVariable}
+use Rattle.ep_typed.specs.declared.value.TypeValue.{TypeValue}
+use Rattle.ep_typed.specs.declared.value.TypeValue.TheVariants as type
+use Rattle.ep_object.specs.declared.op.TheConstants as op
+use Rattle.ep_typed.specs.declared.run_error.TheConstants as run_error
+
+-- a slot of the innermost call is one of its frame
+record InFrame (memory : Memory) (k : ℕ) (slot : Option Place) : Type 0 where
+  frame : Frame
+  below : List Frame
+  frames : memory.frames.calls ≡ frame ∷ below
+  holds : slice_get frame.slots k ≡ Some slot
+
+in_frame : (memory : Memory) (k : ℕ) (slot : Option Place) → own_slot memory.frames k ≡ Some slot → InFrame memory k slot
+in_frame memory k slot h = go memory.frames.calls refl h
+  where
+    go : (calls : List Frame) → memory.frames.calls ≡ calls → slot_of_frame (slots_over calls None) k ≡ Some slot → InFrame memory k slot
+    go [] e q = cc
+    go (c ∷ calls) e q = record { frame = c; below = calls; frames = e; holds = q }
+
+-- ---- `Slot`
+
+-- `Slot` of a variable of the routine
+pub own_reads : {untouched : Slots} {Here : Facts} (declared : Declarations) (G : Image) (place line : ℕ) (below : List Operand) (k : ℕ) (v : UnitVariable) (t : TypeValue)
+    → slice_get G.instructions place ≡ Some (instr op.SLOT (pos k) 0 line) → HasOwnType declared v t
+    → (injection : Injection) (memory : Memory) (s : meaning.State) → Matches declared G injection s memory
+    → OwnSlot declared injection s memory k v → Here injection s memory
+    → Reads declared G Here (at place below memory s.trace) 1 (unit_in G memory.frames) line (place + 1) (λ n. Inside untouched injection memory (PlaceOnTop t below n)) s (own_variable k s)
+own_reads {untouched = untouched} {Here = Here} declared G place line below k v t has has_type injection memory s matches own known =
+    let f = in_frame memory k own.slot own.is in
+    go f.frame f.below f.frames own.slot f.holds (λ p e. own.described p t e has_type) (own_variable k s) refl own.matches
+  where
+    go : (frame : Frame) (others : List Frame) → memory.frames.calls ≡ frame ∷ others → (slot : Option Place) → slice_get frame.slots k ≡ Some slot
+        → ((p : Place) → slot ≡ Some p → Describes memory.types p.type_number t)
+        → (o : Option ℕ) → own_variable k s ≡ o → MatchesSlot injection memory.segments o slot
+        → Reads declared G Here (at place below memory s.trace) 1 (unit_in G memory.frames) line (place + 1) (λ n. Inside untouched injection memory (PlaceOnTop t below n)) s (own_variable k s)
+    go frame others frames None holds described None is h =
+        Misses is (record { fails = slot_misses G place line k 0 below frame.slots memory s.trace has (own_slots memory frame others frames) holds })
+    go frame others frames (Some p) holds described None is h = absurd h
+    go frame others frames None holds described (Some n) is h = absurd h
+    go frame others frames (Some p) holds described (Some n) is h =
+        Finds n is (record {
+          injection = injection;
+          memory = memory;
+          operands = operand.Place p ∷ below;
+          does = slot_pushes G place line k 0 below frame.slots memory s.trace has (own_slots memory frame others frames) p holds;
+          matches = matches;
+          here = known;
+          post = inside_here (record { place = p; is = refl; place_of = h; described = described p refl });
+        })
+
+-- ---- `Make`
+
+-- the routine still runs since then, and the operands are these
+pub record StillBare (before : Memory) (below : List Operand) (injection : Injection) (memory : Memory) (operands : List Operand) : Type 0 where
+  pub runs : StillRuns before.frames memory.frames
+  pub operands_are : operands ≡ below
+
+-- what `Make` leads to: one more variable, or an error where too many words would live
+make_own_outcome : (G : Image) (place line : ℕ) (below : List Operand) (low high : ℤ) (number k : ℕ) (frame : Frame) (others : List Frame) (memory : Memory) (trace : Trace) (b : Bool)
+    → slice_get G.instructions place ≡ Some (instr op.MAKE (pos k) 0 line)
+    → memory.frames.calls ≡ frame ∷ others
+    → Describes memory.types number (type.Ordinal low high) → k < length frame.slots
+    → leb (memory.live + 2) live_limit ≡ b
+    → outcome G (at place (Word (pos number) ∷ below) memory trace) ≡ cond b (record { weight = 1; to = Running 0 (at (place + 1) below (with_variable number (with_own_place number k frame others memory) memory) trace) }) (in_one (Stopped (Error run_error.STORAGE_LIMIT (unit_in G memory.frames) line) trace))
+make_own_outcome G place line below low high number k frame others memory trace true has frames described within fits =
+    outcome_at G (instr op.MAKE (pos k) 0 line) place (Word (pos number) ∷ below) memory trace has ∙ rw (frames, lt-ltb number (length memory.types) (slice_get_within memory.types number (ordinal_entry low high) described), described, lt-ltb k (length frame.slots) within, fits) refl
+make_own_outcome G place line below low high number k frame others memory trace false has frames described within fits =
+    outcome_at G (instr op.MAKE (pos k) 0 line) place (Word (pos number) ∷ below) memory trace has ∙ rw (frames, lt-ltb number (length memory.types) (slice_get_within memory.types number (ordinal_entry low high) described), described, lt-ltb k (length frame.slots) within, fits) refl
+
+-- `Make` of an ordinal type in a slot of the routine's activation, over the number of the type
+pub make_own_does : {untouched : Slots} {first : Injection} {start : Memory} (declared : Declarations) (G : Image) (place line : ℕ) (below : List Operand) (low high : ℤ) (number k : ℕ) (v : UnitVariable)
+    → slice_get G.instructions place ≡ Some (instr op.MAKE (pos k) 0 line)
+    → IsTrue (is_integer low) → IsTrue (is_integer high) → HaveValidTypes declared
+    → slice_get declared.routine_variables k ≡ Some v
+    → ((w : UnitVariable) → slice_get declared.routine_variables k ≡ Some w → HasOwnType declared w (type.Ordinal low high))
+    → (injection : Injection) (memory : Memory) (s : meaning.State)
+    → Describes memory.types number (type.Ordinal low high)
+    → Matches declared G injection s memory → InActivation declared untouched first start injection s memory
+    → Does declared G (InActivation declared untouched first start) (at place (Word (pos number) ∷ below) memory s.trace) 1 (place + 1) (StillBare memory below) (made_own k (type.Ordinal low high) (counted (type.Ordinal low high) s)) ⊎ GivesUp G (at place (Word (pos number) ∷ below) memory s.trace) 0 1 (counted (type.Ordinal low high) s)
+make_own_does {untouched = untouched} {first = first} {start = start} declared G place line below low high number k v has low_fits high_fits types_valid is_declared declared_so injection memory s described matches known = go (leb (memory.live + 2) live_limit) refl
+  where
+    frame : Frame
+    frame = known.frame
+
+    others : List Frame
+    others = known.below
+
+    -- the variable has a slot in the frame
+    within : k < length frame.slots
+    within =
+        let own = known.own k v is_declared in
+        slice_get_within frame.slots k own.slot (sym (ap (λ cs. slot_of_frame (slots_over cs None) k) known.frames) ∙ own.is)
+
+    later : Memory
+    later = with_variable number (with_own_place number k frame others memory) memory
+
+    again : InActivation declared untouched first start (with_segment injection memory) (made_own k (type.Ordinal low high) (counted (type.Ordinal low high) s)) later
+    again =
+        in_activation_making matches low high number described low_fits high_fits k frame others known.frames known.call known.others known.calls
+        (own_making matches low high number described low_fits high_fits k frame others known.frames known.call known.others known.calls known.own within declared_so) known.grown known.runs known.made
+
+    still : StillRuns memory.frames later.frames
+    still = record { turn = refl; routine = refl; unit = refl; calls = subst (λ cs. IsStillCall cs later.frames.calls) (sym known.frames) (refl, refl, refl, refl) }
+
+    leads : (b : Bool) → leb (memory.live + 2) live_limit ≡ b
+        → outcome G (at place (Word (pos number) ∷ below) memory s.trace) ≡ cond b (record { weight = 1; to = Running 0 (at (place + 1) below later s.trace) }) (in_one (Stopped (Error run_error.STORAGE_LIMIT (unit_in G memory.frames) line) s.trace))
+    leads b e = make_own_outcome G place line below low high number k frame others memory s.trace b has known.frames described within e
+
+    go : (b : Bool) → leb (memory.live + 2) live_limit ≡ b
+        → Does declared G (InActivation declared untouched first start) (at place (Word (pos number) ∷ below) memory s.trace) 1 (place + 1) (StillBare memory below) (made_own k (type.Ordinal low high) (counted (type.Ordinal low high) s)) ⊎ GivesUp G (at place (Word (pos number) ∷ below) memory s.trace) 0 1 (counted (type.Ordinal low high) s)
+    go true e =
+        inl (record {
+          injection = with_segment injection memory;
+          memory = later;
+          operands = below;
+          does = leads true e;
+          matches = matches_making_own matches low high number described low_fits high_fits k frame others known.frames known.call known.others known.calls types_valid;
+          here = again;
+          post = record { runs = still; operands_are = refl };
+        })
+    go false e =
+        let many : live_limit < memory.live + 2 = grind (arith, nat_tests) in
+        let counted_here : Resources = record s.resources { allocated = s.resources.allocated + 2 } in
+        inr (gives_up (leads false e) (inl refl) (is_prefix s.trace) (lost_words counted_here (past_limit (memory.live + 2) counted_here many (omega (arith, live_bounded matches.counts)))))
