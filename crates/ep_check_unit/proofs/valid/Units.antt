@@ -85,7 +85,7 @@ module _ (statements : StatementsAreSound) (constants : ConstantsAreSound) (boun
         types = All-same (IsType u.types) u.types t.form.block.types t.unit.types held.types;
         constants = All-same (IsConstant u.types) u.constants t.form.block.constants t.unit.constants held.constants;
         variables = All-same (IsVariable u.types) u.variables t.form.block.variables t.unit.variables held.variables;
-        routines = All-same (IsRoutine (own u)) u.routines [] t.unit.routines (All-nil (IsRoutine (own u)));
+        routines = All-same (IsRoutine (own u) u.types) u.routines [] t.unit.routines (All-nil (IsRoutine (own u) u.types));
         start = subst (IsStmt (own u)) (sym t.unit.start)
             (statements (context_of p t.form.block) p.body t.form.statements made.statements (own u) (holds_agrees u (length t.form.block.types) t.form.block le held));
         stop = t.unit.stop;
