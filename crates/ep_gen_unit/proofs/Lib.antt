@@ -1,3 +1,5 @@
+pub mod ActualForms
+mod ArgumentMoves
 pub mod Branching
 pub mod CaseForms
 pub mod CaseMoves

@@ -1,32 +1,50 @@
--- The machine follows the making of the variables of a routine, in its activation.
-use Rattle.std.proofs.Common.{◌≡◌, ℕ, ℤ, pos, suc, ◌+◌, ◌-◌, ◌≤◌, List, [], ◌∷◌, ◌++◌, length, length-append, Some, slice_get, refl, sym, ap, ◌∙◌, subst, arith}
+-- The machine follows how a routine takes its arguments and makes its variables, in its activation.
+use Rattle.std.proofs.Common.{IsTrue, ◌≡◌, ℕ, ℤ, pos, suc, ◌+◌, ◌-◌, ◌≤◌, List, [], ◌∷◌, ◌++◌, length, length-append, Option, Some, slice_get, refl, sym, ap, ◌∙◌, subst, arith}
+use Rattle.std.specs.Prelude.{int_le}
 use Rattle.std.proofs.lemmas.Option.{same_Some}
 use Rattle.ep_gen_expr.specs.Following.{least_credit}
-use Rattle.ep_gen_expr.specs.ExprCode.{instr}
-use Rattle.ep_gen_unit.specs.StmtCode.{type_code, elaborating_code, make_code, make_all_code}
+use Rattle.ep_gen_expr.specs.ExprCode.{instr, bare}
+use Rattle.ep_gen_expr.proofs.Placed.{instr_at}
+use Rattle.ep_gen_unit.specs.StmtCode.{type_code, elaborating_code, make_code, make_all_code, value_code, place_taken, take_code, take_all_code}
 use Rattle.ep_gen_unit.proofs.Declared.{integer_bounds}
 use Rattle.ep_gen_unit.proofs.Parts.{code_stands-parts}
 use Rattle.ep_object.specs.Activations.{InActivation}
-use Rattle.ep_object.specs.Follows.{point, Fragment, Lasts, StillRuns, Inside}
-use Rattle.ep_object.specs.Matching.{Slots, Memory, Injection, IsValueOf, Describes, HasOwnType}
+use Rattle.ep_object.specs.Follows.{point, operand_of, Fragment, Lasts, StillRuns, Inside}
+use Rattle.ep_object.specs.Matching.{Slots, Memory, Injection, IsPlaceOf, IsValueOf, Describes, HasOwnType}
+use Rattle.ep_object.specs.Calls.{argument_at}
 use Rattle.ep_object.specs.Operands.{Operand, Word}
+use Rattle.ep_object.specs.Operands as operand
+use Rattle.ep_object.specs.Promises.{Passing, ByValue, ByReference, IsPassed, ArePassed, IsOfKind, IsArgument}
+use Rattle.ep_object.specs.Runs.{unit_in}
+use Rattle.ep_object.specs.State.{Frame}
+use Rattle.ep_object.specs.declared.code.Instr.{Instr}
+use Rattle.ep_object.specs.declared.state.Place.{Place as PlaceOf}
 use Rattle.ep_object.specs.Placing.{Placement, CodeStands}
 use Rattle.ep_object.specs.Scene.{HaveValidTypes, HaveValidOwnTypes}
 use Rattle.ep_object.specs.declared.code.Image.{Image}
 use Rattle.ep_object.specs.declared.code.Reference.{Reference}
-use Rattle.ep_object.proofs.following.Fragments.{fragment_bind, fragment_post, fragment_give, fragment_from, fragment_to, fragment_less, fragment_waits}
+use Rattle.ep_object.proofs.following.Fragments.{fragment_bind, fragment_credit, fragment_weaken, fragment_post, fragment_give, fragment_from, fragment_to, fragment_less, fragment_waits}
 use Rattle.ep_object.proofs.following.Losing.{fragment_counted}
-use Rattle.ep_object.proofs.matching.Growing.{same_routine-refl, still_routine, still_runs-trans}
+use Rattle.ep_object.proofs.matching.Growing.{same_routine-refl, still_routine, still_runs-trans, unit_in-still}
+use Rattle.ep_object.proofs.matching.Awaiting.{arguments_in, AreAwaited, awaited-grown, awaited-taken, without_argument}
 use Rattle.ep_object.proofs.rows.NewTypes.{TypeOnTop, ord_does}
-use Rattle.ep_object.proofs.rows.OwnRows.{StillBare, make_own_does}
+use Rattle.ep_object.proofs.rows.ArgumentRows.{Taken, taken-later, same_arguments, value_taken, variable_taken}
+use Rattle.ep_object.proofs.rows.OwnRows.{StillBare, MadeOwn, in_frame, make_own_does}
 use Rattle.ep_object.proofs.rows.Rows.{push_pushes}
 use Rattle.ep_typed.specs.Steady.{IsSteadyHandler}
-use Rattle.ep_typed.specs.Calls.{Handler}
+use Rattle.ep_typed.specs.Calls.{Argument, Value, Handler}
+use Rattle.ep_typed.specs.Calls as argument_is
+use Rattle.ep_typed.specs.Denoters.{type_of}
+use Rattle.ep_typed.specs.Printing.{Result, number_of}
+use Rattle.ep_typed.specs.declared.interface.Formal.{Formal}
+use Rattle.ep_typed.specs.declared.interface.FormalMode.{FormalMode}
+use Rattle.ep_typed.specs.declared.interface.FormalMode.TheVariants as mode
 use Rattle.ep_typed.proofs.Denoters.{types_are_instances}
-use Rattle.ep_typed.proofs.Steady.{grows_refl, grows_made_own, steady_allocate_own, steady_make_all_own}
-use Rattle.ep_typed.specs.Meaning.{elaborated, make_own, make_all_own}
-use Rattle.ep_typed.specs.Steps.{Undefined, Computation, bind, with_type, counted, made_own, allocate_own}
-use Rattle.ep_typed.specs.Valid.{Declarations, IsTypeOf, IsDenoter}
+use Rattle.ep_typed.proofs.Steady.{grows_refl, grows_made_own, steady_bind, steady_allocate_own, steady_make_all_own, steady_initialized, steady_takes_all}
+use Rattle.ep_typed.specs.Meaning.{elaborate, elaborated, make_own, make_all_own, initialized, takes_by, takes_all}
+use Rattle.ep_typed.specs.Steps.{Undefined, Computation, bind, spend, change, with_own_bound, with_type, counted, made_own, allocate_own}
+use Rattle.ep_typed.specs.Valid.{Declarations, Kind, IsTypeOf, IsDenoter, formal_variable}
+use Rattle.ep_typed.specs.Valid as kind
 use Rattle.ep_typed.specs.Viewed.{denoter_of}
 use Rattle.ep_typed.specs.Hosts.{Host}
 use Rattle.ep_typed.specs.declared.value.TypeValue.{TypeValue}
@@ -54,9 +72,21 @@ module _ (declared : Declarations) (G : Image) (untouched : Slots) (first : Inje
         → (place : ℕ) → slice_get G.instructions place ≡ Some (instr op.MAKE (pos number) 0 line)
         → (injection : Injection) (memory : Memory) (below : List Operand) (d : ℕ) → 1 ≤ d
         → Describes memory.types type_number (type.Ordinal low high)
-        → Fragment declared G (InActivation declared untouched first start) n (point injection memory place (Word (pos type_number) ∷ below)) (allocate_own number (type.Ordinal low high)) (place + 1) (λ a. StillBare memory below) d (λ a. d)
+        → Fragment declared G (InActivation declared untouched first start) n (point injection memory place (Word (pos type_number) ∷ below)) (allocate_own number (type.Ordinal low high)) (place + 1) (λ a. MadeOwn untouched number (type.Ordinal low high) injection memory below) d (λ a. d)
     make_row_moves low high type_number fits declared_so place has injection memory below d enough described =
         fragment_less {n = suc n} (omega arith) (fragment_counted {weight = 1} 0 (counted (type.Ordinal low high)) (made_own number (type.Ordinal low high)) tt (λ s. refl) (grows_made_own number (type.Ordinal low high)) (λ s matches here. make_own_does declared G place line below low high type_number number v has fits.0 fits.1 types_valid is_declared declared_so injection memory s described matches here) enough (omega arith) (omega arith) (omega arith))
+
+    -- the bounds of the type, and `TOrd` over them
+    type_moves : (g : ℕ) (low high : ℤ) → IsTrue (int_le low high) → CodeStands G ps p references at (type_code line (type.Ordinal low high))
+        → (injection : Injection) (memory : Memory) (below : List Operand) (d : ℕ) → least_credit ≤ d
+        → Fragment declared G (InActivation declared untouched first start) n (point injection memory (p.instructions.before + at) below) (elaborated call g unit (Some (type.Ordinal low high))) (p.instructions.before + (at + 3)) (λ a. Inside untouched injection memory (TypeOnTop (type.Ordinal low high) below a)) d (λ a. d + 3)
+    type_moves g low high ordered stands injection memory below d enough =
+        let second : p.instructions.before + at + 1 ≡ p.instructions.before + (at + 1) = omega arith in
+        let third : p.instructions.before + (at + 1) + 1 ≡ p.instructions.before + (at + 1 + 1) = omega arith in
+        fragment_to {to = p.instructions.before + (at + 1 + 1) + 1} (omega arith)
+        (fragment_waits {d1 = d - 1} (λ s matches. push_pushes G (p.instructions.before + at) line below low stands.0 memory s.trace) (omega (arith, enough))
+        (fragment_from second (fragment_waits {d1 = d - 2} (λ s matches. push_pushes G (p.instructions.before + (at + 1)) line (Word low ∷ below) high stands.1.0 memory s.trace) (omega (arith, enough))
+        (fragment_from third (fragment_less {n = suc n} (omega arith) (fragment_counted {weight = 0} 0 (with_type (type.Ordinal low high)) (λ s. s) (type.Ordinal low high) (λ s. refl) grows_refl (λ s matches here. ord_does declared G (p.instructions.before + (at + 1 + 1)) line below low high ordered stands.1.1.0 lasts injection memory s matches here) (omega (arith, enough)) (omega (arith, enough)) (omega (arith, enough)) (omega (arith, enough))))))))
 
     -- the code that makes a variable of a type
     make_typed : (g : ℕ) (t : TypeValue) (host : Host) → IsTypeOf host t → IsValueOf t Undefined
@@ -65,22 +95,55 @@ module _ (declared : Declarations) (G : Image) (untouched : Slots) (first : Inje
         → MovesOwn declared G untouched first start p n at (at + length (type_code line t ++ instr op.MAKE (pos number) 0 line ∷ [])) (bind (elaborated call g unit (Some t)) (λ a. allocate_own number a))
     make_typed g type.Text host valid fits declared_so stands injection memory below d enough = absurd valid
     make_typed g (type.Ordinal low high) host valid fits declared_so stands injection memory below d enough =
-        let second : p.instructions.before + at + 1 ≡ p.instructions.before + (at + 1) = omega arith in
-        let third : p.instructions.before + (at + 1) + 1 ≡ p.instructions.before + (at + 1 + 1) = omega arith in
-        let fourth : p.instructions.before + (at + 1 + 1) + 1 ≡ p.instructions.before + (at + 1 + 1 + 1) = omega arith in
-        let last : p.instructions.before + (at + 1 + 1 + 1) + 1 ≡ p.instructions.before + (at + 4) = omega arith in
-        fragment_waits {d1 = d - 1} (λ s matches. push_pushes G (p.instructions.before + at) line below low stands.0 memory s.trace) (omega arith)
-        (fragment_from second (fragment_waits {d1 = d - 2} (λ s matches. push_pushes G (p.instructions.before + (at + 1)) line (Word low ∷ below) high stands.1.0 memory s.trace) (omega arith)
-        (fragment_from third (fragment_bind {middle = p.instructions.before + (at + 1 + 1) + 1} {P = λ a. Inside untouched injection memory (TypeOnTop (type.Ordinal low high) below a)} {e = λ a. d} (λ a. steady_allocate_own number a)
-        (fragment_less {n = suc n} (omega arith) (fragment_counted {weight = 0} 0 (with_type (type.Ordinal low high)) (λ s. s) (type.Ordinal low high) (λ s. refl) grows_refl (λ s matches here. ord_does declared G (p.instructions.before + (at + 1 + 1)) line below low high valid.0 stands.1.1.0 lasts injection memory s matches here) (omega (arith, enough)) (omega (arith, enough)) (omega (arith, enough)) (omega (arith, enough))))
+        let parts = code_stands-parts G ps p references at (type_code line (type.Ordinal low high)) (instr op.MAKE (pos number) 0 line ∷ []) stands in
+        fragment_bind {middle = p.instructions.before + (at + 3)} {P = λ a. Inside untouched injection memory (TypeOnTop (type.Ordinal low high) below a)} {e = λ a. d + 3} (λ a. steady_allocate_own number a)
+        (type_moves g low high valid.0 parts.0 injection memory below d enough)
         (λ a longer after pushed inside.
         let top = inside.operands_are in
         let runs : StillRuns memory.frames after.frames = still_routine inside.routine in (
           runs,
-          subst (λ t. Fragment declared G (InActivation declared untouched first start) n (point longer after (p.instructions.before + (at + 1 + 1) + 1) pushed) (allocate_own number t) (p.instructions.before + (at + 4)) (λ b. StillBare memory below) d (λ b. d)) (sym top.type_is)
-              (subst (λ o. Fragment declared G (InActivation declared untouched first start) n (point longer after (p.instructions.before + (at + 1 + 1) + 1) o) (allocate_own number (type.Ordinal low high)) (p.instructions.before + (at + 4)) (λ b. StillBare memory below) d (λ b. d)) (sym top.is)
-              (fragment_post (λ b. still_later runs) (fragment_from fourth (fragment_to last (make_row_moves low high top.number fits declared_so (p.instructions.before + (at + 1 + 1 + 1)) stands.1.1.1.0 longer after below d (omega (arith, enough)) top.described))))),
-        ))))))
+          subst (λ t. Fragment declared G (InActivation declared untouched first start) n (point longer after (p.instructions.before + (at + 3)) pushed) (allocate_own number t) (p.instructions.before + (at + 4)) (λ b. StillBare memory below) (d + 3) (λ b. d)) (sym top.type_is)
+              (subst (λ o. Fragment declared G (InActivation declared untouched first start) n (point longer after (p.instructions.before + (at + 3)) o) (allocate_own number (type.Ordinal low high)) (p.instructions.before + (at + 4)) (λ b. StillBare memory below) (d + 3) (λ b. d)) (sym top.is)
+              (fragment_to {to = p.instructions.before + (at + 3) + 1} (omega arith) (fragment_weaken {d = d + 3} {e = λ b. d + 3} (omega arith) (λ b. omega arith) (λ b last final operands made. record { runs = still_runs-trans runs made.runs; operands_are = made.operands_are })
+              (make_row_moves low high top.number fits declared_so (p.instructions.before + (at + 3)) parts.1.0 longer after below (d + 3) (omega arith) top.described)))),
+        ))
+
+    -- the code by which a value formal of a type takes its argument
+    value_typed : (g : ℕ) (t : TypeValue) (host : Host) → IsTypeOf host t → IsValueOf t Undefined
+        → ((w : UnitVariable) → slice_get declared.routine_variables number ≡ Some w → HasOwnType declared w t)
+        → CodeStands G ps p references at (type_code line t ++ instr op.MAKE (pos number) 0 line ∷ instr op.SLOT (pos number) 0 line ∷ instr op.ARG (pos number) 0 line ∷ bare line op.STORE ∷ [])
+        → (z : ℤ) (injection : Injection) (memory : Memory) (below : List Operand) (d : ℕ) → least_credit ≤ d → unit_in G memory.frames ≡ unit
+        → argument_at (arguments_in memory.frames.calls) number ≡ Some (Word z) → suc number ≤ length (arguments_in memory.frames.calls)
+        → Fragment declared G (InActivation declared untouched first start) n (point injection memory (p.instructions.before + at) below) (bind (elaborated call g unit (Some t)) (λ a. bind (allocate_own number a) (λ _. initialized unit line a z))) (p.instructions.before + (at + length (type_code line t ++ instr op.MAKE (pos number) 0 line ∷ instr op.SLOT (pos number) 0 line ∷ instr op.ARG (pos number) 0 line ∷ bare line op.STORE ∷ []))) (λ a. Taken untouched injection memory (without_argument number (arguments_in memory.frames.calls)) below) d (λ a. d)
+    value_typed g type.Text host valid fits declared_so stands z injection memory below d enough home there within = absurd valid
+    value_typed g (type.Ordinal low high) host valid fits declared_so stands z injection memory below d enough home there within =
+        let t : TypeValue = type.Ordinal low high in
+        let inside_args : List (Option Operand) = arguments_in memory.frames.calls in
+        let parts = code_stands-parts G ps p references at (type_code line t) (instr op.MAKE (pos number) 0 line ∷ instr op.SLOT (pos number) 0 line ∷ instr op.ARG (pos number) 0 line ∷ bare line op.STORE ∷ []) stands in
+        fragment_bind {middle = p.instructions.before + (at + 3)} {P = λ a. Inside untouched injection memory (TypeOnTop t below a)} {e = λ a. d + 3} (λ a. steady_bind (steady_allocate_own number a) (λ u. steady_initialized unit line a z))
+        (type_moves g low high valid.0 parts.0 injection memory below d enough)
+        (λ a longer after pushed inside.
+        let top = inside.operands_are in
+        let runs : StillRuns memory.frames after.frames = still_routine inside.routine in
+        let routine = inside.routine in
+        let same : arguments_in after.frames.calls ≡ inside_args = same_arguments memory.frames.calls after.frames.calls routine.calls in (
+          runs,
+          subst (λ t. Fragment declared G (InActivation declared untouched first start) n (point longer after (p.instructions.before + (at + 3)) pushed) (bind (allocate_own number t) (λ _. initialized unit line t z)) (p.instructions.before + (at + 7)) (λ b. Taken untouched injection memory (without_argument number inside_args) below) (d + 3) (λ b. d)) (sym top.type_is)
+              (subst (λ o. Fragment declared G (InActivation declared untouched first start) n (point longer after (p.instructions.before + (at + 3)) o) (bind (allocate_own number t) (λ _. initialized unit line t z)) (p.instructions.before + (at + 7)) (λ b. Taken untouched injection memory (without_argument number inside_args) below) (d + 3) (λ b. d)) (sym top.is)
+              (fragment_post (λ b. taken-later inside.grown runs) (fragment_bind {P = λ u. MadeOwn untouched number t longer after below} {e = λ u. d + 3} (λ u. steady_initialized unit line t z)
+              (make_row_moves low high top.number fits declared_so (p.instructions.before + (at + 3)) parts.1.0 longer after below (d + 3) (omega arith) top.described)
+              (λ u last final above made.
+              let f = in_frame final number (Some made.place) made.slot in
+              let args : (f.frame).arguments ≡ inside_args = sym (ap arguments_in f.frames) ∙ (made.left_are ∙ same) in (
+                made.runs,
+                subst (λ o. Fragment declared G (InActivation declared untouched first start) n (point last final (p.instructions.before + (at + 3) + 1) o) (initialized unit line t z) (p.instructions.before + (at + 7)) (λ b. Taken untouched longer after (without_argument number inside_args) below) (d + 3) (λ b. d)) (sym made.operands_are)
+                    (fragment_post (λ b. taken-later made.grown made.runs) (subst (λ l. Fragment declared G (InActivation declared untouched first start) n (point last final (p.instructions.before + (at + 3) + 1) below) (initialized unit line t z) (p.instructions.before + (at + 7)) (λ b. Taken untouched last final (without_argument number l) below) (d + 3) (λ b. d)) args
+                    (fragment_credit {d = d + 3} {e = λ b. d + 3 - 3} (omega arith) (λ b. omega arith) (fragment_from {place = p.instructions.before + (at + 4) + 1 - 1} (omega arith) (fragment_to {to = p.instructions.before + (at + 4) + 1 + 1 + 1} (omega arith)
+                    (value_taken declared G untouched first start lasts (p.instructions.before + (at + 4) + 1) line number unit below last final f.frame f.below f.frames (unit_in-still G made.runs ∙ (unit_in-still G runs ∙ home)) (omega (arith, within, ap length args)) n (d + 3) low high z made.number made.place
+                    (instr_at G {other = p.instructions.before + (at + 3 + 1)} (omega arith) parts.1.1.0) (omega arith) (instr_at G {other = p.instructions.before + (at + 3 + 1 + 1)} (omega arith) parts.1.1.1.0) (instr_at G {other = p.instructions.before + (at + 3 + 1 + 1 + 1)} (omega arith) parts.1.1.1.1.0)
+                    (ap (λ l. argument_at l number) args ∙ there) made.slot made.place_of made.stands made.described (omega arith))))))),
+              ))))),
+        ))
 
   -- a variable is made in its slot
   one_moves : (g number at : ℕ) (v : UnitVariable) → slice_get declared.routine_variables number ≡ Some v
@@ -117,4 +180,110 @@ module _ (declared : Declarations) (G : Image) (untouched : Slots) (first : Inje
         still.runs,
         subst (λ o. Fragment declared G (InActivation declared untouched first start) n (point longer after (p.instructions.before + (at + length (make_code types number v))) o) (make_all_own call g unit types (suc number) vs) (p.instructions.before + (at + length (make_code types number v) + length (make_all_code types (suc number) vs))) (λ b. StillBare memory below) d (λ b. d)) (sym still.operands_are)
             (fragment_post (λ b. still_later still.runs) (make_all_own_moves g (suc number) (at + length (make_code types number v)) vs (λ i w e. subst (λ k. slice_get declared.routine_variables k ≡ Some w) (omega arith) (are_declared (suc i) w e)) parts.1 longer after below d enough)),
+      )))
+
+  -- ---- formal parameters
+
+  module _ (g line number at : ℕ) (f : Formal) (is_declared : slice_get declared.routine_variables number ≡ Some (formal_variable line f)) where
+    its : IsDenoter declared.routine_types (denoter_of f.denoter)
+    its = own_valid number (formal_variable line f) is_declared
+
+    has_its_type : (w : UnitVariable) → slice_get declared.routine_variables number ≡ Some w → HasOwnType declared w its.type_value
+    has_its_type w e = subst (λ (u : UnitVariable). HasOwnType declared u its.type_value) (same_Some (formal_variable line f) w (sym is_declared ∙ e)) (types_are_instances declared.routine_types (denoter_of f.denoter) its.type_value its.has_type)
+
+    -- a value formal takes a number
+    value_moves : CodeStands G ps p references at (value_code declared.routine_types line number f)
+        → (z : ℤ) (injection : Injection) (memory : Memory) (below : List Operand) (d : ℕ) → least_credit ≤ d → unit_in G memory.frames ≡ unit
+        → argument_at (arguments_in memory.frames.calls) number ≡ Some (Word z) → suc number ≤ length (arguments_in memory.frames.calls)
+        → Fragment declared G (InActivation declared untouched first start) n (point injection memory (p.instructions.before + at) below) (bind (elaborate call g unit declared.routine_types (denoter_of f.denoter)) (λ a. bind (allocate_own number a) (λ _. initialized unit line a z))) (p.instructions.before + (at + length (value_code declared.routine_types line number f))) (λ a. Taken untouched injection memory (without_argument number (arguments_in memory.frames.calls)) below) d (λ a. d)
+    value_moves =
+        subst (λ o. CodeStands G ps p references at (elaborating_code line o ++ instr op.MAKE (pos number) 0 line ∷ instr op.SLOT (pos number) 0 line ∷ instr op.ARG (pos number) 0 line ∷ bare line op.STORE ∷ [])
+        → (z : ℤ) (injection : Injection) (memory : Memory) (below : List Operand) (d : ℕ) → least_credit ≤ d → unit_in G memory.frames ≡ unit
+        → argument_at (arguments_in memory.frames.calls) number ≡ Some (Word z) → suc number ≤ length (arguments_in memory.frames.calls)
+        → Fragment declared G (InActivation declared untouched first start) n (point injection memory (p.instructions.before + at) below) (bind (elaborated call g unit o) (λ a. bind (allocate_own number a) (λ _. initialized unit line a z))) (p.instructions.before + (at + length (elaborating_code line o ++ instr op.MAKE (pos number) 0 line ∷ instr op.SLOT (pos number) 0 line ∷ instr op.ARG (pos number) 0 line ∷ bare line op.STORE ∷ []))) (λ a. Taken untouched injection memory (without_argument number (arguments_in memory.frames.calls)) below) d (λ a. d)) (sym its.has_type)
+        (value_typed number line at (formal_variable line f) is_declared g its.type_value its.host its.is_type (integer_bounds its.host its.type_value its.is_type) has_its_type)
+
+    -- a variable formal takes a variable
+    reference_moves : CodeStands G ps p references at (place_taken line number)
+        → (m : ℕ) (t : TypeValue) (q : PlaceOf) → type_of declared.routine_types (denoter_of f.denoter) ≡ Some t
+        → (injection : Injection) (memory : Memory) (below : List Operand) (d : ℕ) → least_credit ≤ d → unit_in G memory.frames ≡ unit
+        → argument_at (arguments_in memory.frames.calls) number ≡ Some (operand.Place q) → suc number ≤ length (arguments_in memory.frames.calls)
+        → IsPlaceOf injection memory.segments m q → Describes memory.types q.type_number t
+        → Fragment declared G (InActivation declared untouched first start) n (point injection memory (p.instructions.before + at) below) (spend 1 (change (with_own_bound number m))) (p.instructions.before + (at + 2)) (λ a. Taken untouched injection memory (without_argument number (arguments_in memory.frames.calls)) below) d (λ a. d)
+    reference_moves stands m t q has_type injection memory below d enough home there within place_of described =
+        by_calls memory.frames.calls refl there within
+      where
+        typed : (w : UnitVariable) → slice_get declared.routine_variables number ≡ Some w → HasOwnType declared w t
+        typed w e = subst (λ (u : UnitVariable). HasOwnType declared u t) (same_Some (formal_variable line f) w (sym is_declared ∙ e)) (types_are_instances declared.routine_types (denoter_of f.denoter) t has_type)
+
+        by_calls : (calls : List Frame) → memory.frames.calls ≡ calls → argument_at (arguments_in calls) number ≡ Some (operand.Place q) → suc number ≤ length (arguments_in calls)
+            → Fragment declared G (InActivation declared untouched first start) n (point injection memory (p.instructions.before + at) below) (spend 1 (change (with_own_bound number m))) (p.instructions.before + (at + 2)) (λ a. Taken untouched injection memory (without_argument number (arguments_in memory.frames.calls)) below) d (λ a. d)
+        by_calls [] e there within = absurd (omega (arith, within))
+        by_calls (c ∷ calls) e there within =
+            subst (λ l. Fragment declared G (InActivation declared untouched first start) n (point injection memory (p.instructions.before + at) below) (spend 1 (change (with_own_bound number m))) (p.instructions.before + (at + 2)) (λ a. Taken untouched injection memory (without_argument number l) below) d (λ a. d)) (sym (ap arguments_in e))
+            (fragment_less {n = suc n} (omega arith) (fragment_to {to = p.instructions.before + at + 1 + 1} (omega arith)
+            (variable_taken declared G untouched first start lasts (p.instructions.before + at) line number unit below injection memory c calls e home within n m d q t (formal_variable line f) stands.0 (instr_at G {other = p.instructions.before + (at + 1)} (omega arith) stands.1.0) there place_of described is_declared typed (omega (arith, enough)))))
+
+    -- a value formal takes a result that is a number
+    number_moves : (k : Kind) (h : Host) (r : Result) → k ≡ kind.Ordinal h → CodeStands G ps p references at (value_code declared.routine_types line number f)
+        → (o : Operand) (injection : Injection) (memory : Memory) (below : List Operand) (d : ℕ) → least_credit ≤ d → unit_in G memory.frames ≡ unit
+        → argument_at (arguments_in memory.frames.calls) number ≡ Some o → suc number ≤ length (arguments_in memory.frames.calls) → IsOfKind k r × (o ≡ operand_of r)
+        → Fragment declared G (InActivation declared untouched first start) n (point injection memory (p.instructions.before + at) below) (bind (elaborate call g unit declared.routine_types (denoter_of f.denoter)) (λ a. bind (allocate_own number a) (λ _. initialized unit line a (number_of r)))) (p.instructions.before + (at + length (value_code declared.routine_types line number f))) (λ a. Taken untouched injection memory (without_argument number (arguments_in memory.frames.calls)) below) d (λ a. d)
+    number_moves k h r is_kind stands o injection memory below d enough home there within (of_kind, o_is) =
+        let z = subst (λ k. IsOfKind k r) is_kind of_kind in
+        subst (λ y. Fragment declared G (InActivation declared untouched first start) n (point injection memory (p.instructions.before + at) below) (bind (elaborate call g unit declared.routine_types (denoter_of f.denoter)) (λ a. bind (allocate_own number a) (λ _. initialized unit line a (number_of y)))) (p.instructions.before + (at + length (value_code declared.routine_types line number f))) (λ a. Taken untouched injection memory (without_argument number (arguments_in memory.frames.calls)) below) d (λ a. d)) (sym z.1)
+        (value_moves stands z.0 injection memory below d enough home (there ∙ ap Some (o_is ∙ ap operand_of z.1)) within)
+
+    -- a formal parameter takes its argument
+    take_moves : (w : FormalMode) (q : Passing) (x : Argument) → IsPassed declared.routine_types w f q
+        → CodeStands G ps p references at (take_code declared.routine_types line number w f)
+        → (o : Operand) (injection : Injection) (memory : Memory) (below : List Operand) (d : ℕ) → least_credit ≤ d → unit_in G memory.frames ≡ unit
+        → argument_at (arguments_in memory.frames.calls) number ≡ Some o → suc number ≤ length (arguments_in memory.frames.calls) → IsArgument injection memory q x o
+        → Fragment declared G (InActivation declared untouched first start) n (point injection memory (p.instructions.before + at) below) (takes_by call g unit declared.routine_types w line number f x) (p.instructions.before + (at + length (take_code declared.routine_types line number w f))) (λ a. Taken untouched injection memory (without_argument number (arguments_in memory.frames.calls)) below) d (λ a. d)
+    take_moves mode.Value (ByValue k) (Value r) (h, is_host, is_kind) stands o injection memory below d enough home there within is =
+        number_moves k h r is_kind stands o injection memory below d enough home there within is
+    take_moves mode.Value (ByValue k) (argument_is.Variable m) passed stands o injection memory below d enough home there within is = absurd is
+    take_moves mode.Value (ByReference t) x passed stands o injection memory below d enough home there within is = absurd passed
+    take_moves mode.ProtectedValue (ByValue k) (Value r) (h, is_host, is_kind) stands o injection memory below d enough home there within is =
+        number_moves k h r is_kind stands o injection memory below d enough home there within is
+    take_moves mode.ProtectedValue (ByValue k) (argument_is.Variable m) passed stands o injection memory below d enough home there within is = absurd is
+    take_moves mode.ProtectedValue (ByReference t) x passed stands o injection memory below d enough home there within is = absurd passed
+    take_moves mode.Variable (ByValue k) x passed stands o injection memory below d enough home there within is = absurd passed
+    take_moves mode.Variable (ByReference t) (Value r) passed stands o injection memory below d enough home there within is = absurd is
+    take_moves mode.Variable (ByReference t) (argument_is.Variable m) passed stands o injection memory below d enough home there within (q, q_is, place_of, described) =
+        reference_moves stands m t q passed injection memory below d enough home (there ∙ ap Some q_is) within place_of described
+    take_moves mode.ProtectedVariable (ByValue k) x passed stands o injection memory below d enough home there within is = absurd passed
+    take_moves mode.ProtectedVariable (ByReference t) (Value r) passed stands o injection memory below d enough home there within is = absurd is
+    take_moves mode.ProtectedVariable (ByReference t) (argument_is.Variable m) passed stands o injection memory below d enough home there within (q, q_is, place_of, described) =
+        reference_moves stands m t q passed injection memory below d enough home (there ∙ ap Some q_is) within place_of described
+
+  -- the formal parameters take their arguments, from this number on
+  pub takes_all_moves : (g line number at : ℕ) (fs : List Formal) (qs : List Passing) (xs : List Argument) → ArePassed declared.routine_types fs qs
+      → ((i : ℕ) (f : Formal) → slice_get fs i ≡ Some f → slice_get declared.routine_variables (number + i) ≡ Some (formal_variable line f))
+      → CodeStands G ps p references at (take_all_code declared.routine_types line number fs)
+      → (injection : Injection) (memory : Memory) (below : List Operand) (d : ℕ) → least_credit ≤ d → unit_in G memory.frames ≡ unit
+      → AreAwaited injection memory qs xs number (arguments_in memory.frames.calls)
+      → Fragment declared G (InActivation declared untouched first start) n (point injection memory (p.instructions.before + at) below) (takes_all call g unit declared.routine_types line number fs xs) (p.instructions.before + (at + length (take_all_code declared.routine_types line number fs))) (λ a. StillBare memory below) d (λ a. d)
+  takes_all_moves g line number at [] [] [] passed are_declared stands injection memory below d enough home awaited =
+      fragment_to (omega arith) (fragment_give (omega arith) (record { runs = still_routine (same_routine-refl {untouched = untouched} memory.frames); operands_are = refl }))
+  takes_all_moves g line number at [] [] (x ∷ xs) passed are_declared stands injection memory below d enough home awaited = absurd awaited
+  takes_all_moves g line number at [] (q ∷ qs) xs passed are_declared stands injection memory below d enough home awaited = absurd passed
+  takes_all_moves g line number at (f ∷ fs) [] xs passed are_declared stands injection memory below d enough home awaited = absurd passed
+  takes_all_moves g line number at (f ∷ fs) (q ∷ qs) [] passed are_declared stands injection memory below d enough home awaited = absurd awaited
+  takes_all_moves g line number at (f ∷ fs) (q ∷ qs) (x ∷ xs) passed are_declared stands injection memory below d enough home (o, there, within, is, rest) =
+      let types = declared.routine_types in
+      let code : List Instr = take_code types line number f.mode f in
+      let more : List Instr = take_all_code types line (suc number) fs in
+      let inside : List (Option Operand) = arguments_in memory.frames.calls in
+      let parts = code_stands-parts G ps p references at code more stands in
+      let ends : at + length code + length more ≡ at + length (code ++ more) = omega (arith, length-append code more) in
+      let this : slice_get declared.routine_variables number ≡ Some (formal_variable line f) = subst (λ k. slice_get declared.routine_variables k ≡ Some (formal_variable line f)) (omega arith) (are_declared 0 f refl) in
+      fragment_to (ap (λ k. p.instructions.before + k) ends)
+      (fragment_bind {P = λ a. Taken untouched injection memory (without_argument number inside) below} {e = λ a. d} (λ a. steady_takes_all call steady_call g unit types line (suc number) fs xs)
+      (take_moves g line number at f this f.mode q x passed.0 parts.0 o injection memory below d enough home there within is)
+      (λ a longer after pushed taken. (
+        taken.runs,
+        subst (λ st. Fragment declared G (InActivation declared untouched first start) n (point longer after (p.instructions.before + (at + length code)) st) (takes_all call g unit types line (suc number) fs xs) (p.instructions.before + (at + length code + length more)) (λ b. StillBare memory below) d (λ b. d)) (sym taken.operands_are)
+            (fragment_post (λ b. still_later taken.runs) (takes_all_moves g line (suc number) (at + length code) fs qs xs passed.1 (λ i w e. subst (λ k. slice_get declared.routine_variables k ≡ Some (formal_variable line w)) (omega arith) (are_declared (suc i) w e)) parts.1 longer after below d enough (unit_in-still G taken.runs ∙ home)
+            (subst (λ l. AreAwaited longer after qs xs (suc number) l) (sym taken.left_are) (awaited-grown taken.grown qs xs (suc number) (without_argument number inside) (awaited-taken injection memory number inside within qs xs (suc number) (omega arith) rest))))),
       )))

@@ -11,6 +11,7 @@ use Rattle.ep_typed.specs.declared.value.TypeValue.TheVariants.{Ordinal}
 use Rattle.ep_typed.specs.declared.unit.Unit.{Unit as TypedUnit}
 use Rattle.ep_typed.specs.declared.unit.UnitRoutine.{UnitRoutine}
 use Rattle.ep_typed.specs.declared.unit.UnitRoutine.TheViews.{out-UnitRoutine}
+use Rattle.ep_typed.specs.declared.interface.Formal.{Formal}
 use Rattle.ep_typed.specs.declared.unit.UnitVariable.{UnitVariable}
 use Rattle.ep_gen_expr.specs.ExprCode.{instr, bare, push}
 use Rattle.ep_gen_expr.specs.Growth.{Grows, IsTable, AreDistinct, empty_code}
@@ -19,10 +20,10 @@ use Rattle.ep_typed.specs.declared.unit.UnitType.{UnitType}
 use Rattle.ep_gen_expr.specs.declared.code.Code.{Code}
 use Rattle.ep_gen_expr.specs.declared.code.TheConstants as code
 use Rattle.ep_gen_expr.proofs.Forms.{grows_at}
-use Rattle.ep_gen_unit.specs.StmtCode.{IsStmtCode, type_code, elaborating_code, make_code, make_all_code, return_code}
+use Rattle.ep_gen_unit.specs.StmtCode.{IsStmtCode, type_code, elaborating_code, make_code, make_all_code, value_code, place_taken, take_code, take_all_code, return_code}
 use Rattle.ep_gen_expr.specs.Jumps.{IsNextPlace}
 use Rattle.ep_gen_unit.specs.StmtGrowth.{Follows, AppendsStmt, AppendsStart, AppendsRoutine, AppendsRoutines, IsCompact, assembled}
-use Rattle.ep_gen_unit.specs.UnitCode.{IsProgramCode, IsRoutineCode, AreRoutinesCode, StandsIn, own_code, routine_at}
+use Rattle.ep_gen_unit.specs.UnitCode.{IsProgramCode, IsRoutineCode, AreRoutinesCode, StandsIn, own_code, entry_of, plain_at, routine_at}
 use Rattle.ep_gen_unit.proofs.Following.{later_follows, stmt_later, follows_none, follows_grows, follows_line, follows_then, grown_length}
 use Rattle.ep_object.specs.declared.op.TheConstants as op
 
@@ -42,13 +43,47 @@ make_push types number (w ∷ vs) v =
     ∙ sym (append_assoc (make_code types number w) (make_all_code types (suc number) vs) (make_code types (number + length (w ∷ vs)) v))
 
 -- one more variable of a slice
-pub makes_more : {a b c : Code} (types : List UnitType) (vs : List UnitVariable) (k slot : ℕ) (v : UnitVariable) → k < length vs → v ≡ get_or vs k v → slot ≡ k → Follows a b (make_all_code types 0 (take k vs)) → Follows b c (make_code types slot v) → Follows a c (make_all_code types 0 (take (k + 1) vs))
-makes_more {a = a} {c = c} types vs k slot v h e at p q =
+pub makes_more : {a b c : Code} (types : List UnitType) (first : ℕ) (vs : List UnitVariable) (k slot : ℕ) (v : UnitVariable) → k < length vs → v ≡ get_or vs k v → slot ≡ first + k → Follows a b (make_all_code types first (take k vs)) → Follows b c (make_code types slot v) → Follows a c (make_all_code types first (take (k + 1) vs))
+makes_more {a = a} {c = c} types first vs k slot v h e at p q =
     let few : length (take k vs) ≡ k = length-take-le k vs (omega (arith, h)) in
-    let place : 0 + length (take k vs) ≡ slot = omega (arith, few, at) in
-    let step : make_all_code types 0 (take k vs) ++ make_code types slot v ≡ make_all_code types 0 (take (k + 1) vs) =
-    ap (λ n. make_all_code types 0 (take k vs) ++ make_code types n v) (sym place) ∙ sym (make_push types 0 (take k vs) v) ∙ ap (λ w. make_all_code types 0 (take k vs ++ w ∷ [])) e ∙ ap (make_all_code types 0) (sym (take_more vs k v h)) in
+    let place : first + length (take k vs) ≡ slot = omega (arith, few, at) in
+    let step : make_all_code types first (take k vs) ++ make_code types slot v ≡ make_all_code types first (take (k + 1) vs) =
+    ap (λ n. make_all_code types first (take k vs) ++ make_code types n v) (sym place) ∙ sym (make_push types first (take k vs) v) ∙ ap (λ w. make_all_code types first (take k vs ++ w ∷ [])) e ∙ ap (make_all_code types first) (sym (take_more vs k v h)) in
     subst (λ l. Follows a c l) step (follows_then p q)
+
+-- ---- formal parameters
+
+-- a value is stored in a variable that is made
+pub grows_value : {a b c d e f : Code} (types : List UnitType) (number : ℕ) (w : Formal) → Grows a b (elaborating_code a.line (type_of types (denoter_of w.denoter))) → Grows b c (instr op.MAKE (pos number) 0 b.line ∷ []) → Grows c d (instr op.SLOT (pos number) 0 c.line ∷ []) → Grows d e (instr op.ARG (pos number) 0 d.line ∷ []) → Grows e f (bare e.line op.STORE ∷ []) → Grows a f (value_code types a.line number w)
+grows_value {a = a} {f = f} types number w elaborates make slot arg store =
+    let rest = grows_at (λ l. bare l op.STORE ∷ []) (grows_at (λ l. instr op.ARG (pos number) 0 l ∷ []) (grows_at (λ l. instr op.SLOT (pos number) 0 l ∷ []) make slot) arg) store in
+    grows_at (λ l. instr op.MAKE (pos number) 0 l ∷ instr op.SLOT (pos number) 0 l ∷ instr op.ARG (pos number) 0 l ∷ bare l op.STORE ∷ []) elaborates rest
+
+-- a place goes into its slot
+pub grows_place : {a b c : Code} (number : ℕ) → Grows a b (instr op.ARG (pos number) 0 a.line ∷ []) → Grows b c (instr op.BIND (pos number) 0 b.line ∷ []) → Grows a c (place_taken a.line number)
+grows_place number p q = grows_at (λ l. instr op.BIND (pos number) 0 l ∷ []) p q
+
+take_push : (types : List UnitType) (line number : ℕ) (fs : List Formal) (f : Formal) → take_all_code types line number (fs ++ f ∷ []) ≡ take_all_code types line number fs ++ take_code types line (number + length fs) f.mode f
+take_push types line number [] f =
+    let here : number ≡ number + 0 = omega arith in
+    append-nil (take_code types line number f.mode f) ∙ ap (λ n. take_code types line n f.mode f) here
+take_push types line number (w ∷ fs) f =
+    let there : suc number + length fs ≡ number + length (w ∷ fs) = omega arith in
+    ap (λ l. take_code types line number w.mode w ++ l) (take_push types line (suc number) fs f ∙ ap (λ n. take_all_code types line (suc number) fs ++ take_code types line n f.mode f) there)
+    ∙ sym (append_assoc (take_code types line number w.mode w) (take_all_code types line (suc number) fs) (take_code types line (number + length (w ∷ fs)) f.mode f))
+
+-- one more formal parameter of a slice
+pub takes_more : {a b c : Code} (types : List UnitType) (fs : List Formal) (k slot : ℕ) (f : Formal) → k < length fs → f ≡ get_or fs k f → slot ≡ k → Grows a b (take_all_code types a.line 0 (take k fs)) → Grows b c (take_code types b.line slot f.mode f) → Grows a c (take_all_code types a.line 0 (take (k + 1) fs))
+takes_more {a = a} {c = c} types fs k slot f h e at p q =
+    let few : length (take k fs) ≡ k = length-take-le k fs (omega (arith, h)) in
+    let place : 0 + length (take k fs) ≡ slot = omega (arith, few, at) in
+    let step : take_all_code types a.line 0 (take k fs) ++ take_code types a.line slot f.mode f ≡ take_all_code types a.line 0 (take (k + 1) fs) =
+    ap (λ n. take_all_code types a.line 0 (take k fs) ++ take_code types a.line n f.mode f) (sym place) ∙ sym (take_push types a.line 0 (take k fs) f) ∙ ap (λ w. take_all_code types a.line 0 (take k fs ++ w ∷ [])) e ∙ ap (take_all_code types a.line 0) (sym (take_more fs k f h)) in
+    subst (λ l. Grows a c l) step (grows_at (λ line. take_code types line slot f.mode f) p q)
+
+-- all of them, on a line
+pub takes_whole : {b : Code} (a : Code) (types : List UnitType) (line : ℕ) (fs : List Formal) → Grows (record a { line = line }) b (take_all_code types line 0 fs) → Follows a b (take_all_code types line 0 fs)
+takes_whole a types line fs g = follows_line a line (follows_grows g)
 
 nothing_distinct : {A : Type 0} → AreDistinct {A = A} []
 nothing_distinct = λ j k x p q. cc
@@ -75,17 +110,18 @@ module _ (u : TypedUnit) {a b c d e : Code} (ts : List UnitType) (types_are : ts
 
 -- ---- routines
 
--- the code of a routine, from that of its variables and its block
-pub appends_routine : {b c d : Code} (a : Code) (types : List UnitType) (r : UnitRoutine) (vs : List UnitVariable) (entry slots : ℕ) (x : CodeRoutine) → vs ≡ (out-UnitRoutine r).variables → slots ≡ length vs
-    → IsNextPlace a entry → Follows a b (make_all_code types 0 vs) → AppendsStmt b c (stmt_of (out-UnitRoutine r).block)
-    → Grows (record c { line = code.NO_LINE }) d (return_code ∷ []) → x ≡ routine_at entry slots → AppendsRoutine a d types r x
-appends_routine {b = b} {c = c} {d = d} a types r vs entry slots x variables_are many next makes s last is =
-    let ends : Follows c d (return_code ∷ []) = follows_line c code.NO_LINE (follows_grows last) in
-    let m : Follows a b (own_code types r) = subst (λ l. Follows a b (make_all_code types 0 l)) variables_are makes in
+-- the code of a routine, from that of its formal parameters, its variables and its block
+pub appends_routine : {b c d e : Code} (a : Code) (types : List UnitType) (r : UnitRoutine) (fs : List Formal) (vs : List UnitVariable) (entry arguments slots : ℕ) (x : CodeRoutine) → fs ≡ (out-UnitRoutine r).formals → vs ≡ (out-UnitRoutine r).variables → arguments ≡ length fs → slots ≡ length fs + length vs
+    → IsNextPlace a entry → Follows a b (take_all_code types (out-UnitRoutine r).line 0 fs) → Follows b c (make_all_code types (length fs) vs) → AppendsStmt c d (stmt_of (out-UnitRoutine r).block)
+    → Grows (record d { line = code.NO_LINE }) e (return_code ∷ []) → x ≡ routine_at entry arguments slots → AppendsRoutine a e types r x
+appends_routine {b = b} {c = c} {d = d} {e = e} a types r fs vs entry arguments slots x formals_are variables_are many all next takes makes s last is =
+    let ends : Follows d e (return_code ∷ []) = follows_line d code.NO_LINE (follows_grows last) in
+    let begins : List UnitVariable → List Formal → List Instr = λ vs fs. take_all_code types (out-UnitRoutine r).line 0 fs ++ make_all_code types (length fs) vs in
+    let m : Follows a c (own_code types r) = subst (λ l. Follows a c (begins (out-UnitRoutine r).variables l)) formals_are (subst (λ l. Follows a c (begins l fs)) variables_are (follows_then takes makes)) in
     record {
-      plain = is ∙ (ap (λ k. routine_at entry k) (many ∙ ap length variables_are) ∙ ap (λ k. routine_at k (length (out-UnitRoutine r).variables)) next.is_length);
+      plain = is ∙ (ap (λ k. routine_at k arguments slots) next.is_length ∙ (ap (λ k. routine_at (length a.instructions) k slots) (many ∙ ap length formals_are) ∙ ap (λ k. routine_at (length a.instructions) (length (out-UnitRoutine r).formals) k) (all ∙ (ap (λ l. length l + length vs) formals_are ∙ ap (λ l. length (out-UnitRoutine r).formals + length l) variables_are))));
       code = s.code;
-      is_code = subst (λ at. IsStmtCode d.texts d.references at (stmt_of (out-UnitRoutine r).block) s.code) (grown_length m) (stmt_later (length b.instructions) (stmt_of (out-UnitRoutine r).block) s.code (later_follows ends) s.is_code);
+      is_code = subst (λ at. IsStmtCode e.texts e.references at (stmt_of (out-UnitRoutine r).block) s.code) (grown_length m) (stmt_later (length c.instructions) (stmt_of (out-UnitRoutine r).block) s.code (later_follows ends) s.is_code);
       follows = follows_then m (follows_then s.follows ends);
     }
 
@@ -132,7 +168,7 @@ routines_then {b = b} {c = c} types rs entries r x p q =
     newest =
         let entry : x.entry ≡ length b.instructions = ap (λ (y : CodeRoutine). y.entry) q.plain in
         record {
-          plain = q.plain ∙ ap (λ k. routine_at k (length (out-UnitRoutine r).variables)) (sym entry);
+          plain = q.plain ∙ ap (λ k. entry_of k r) (sym entry);
           code = q.code;
           is_code = subst (λ k. IsStmtCode c.texts c.references (k + length (own_code types r)) (stmt_of (out-UnitRoutine r).block) q.code) (sym entry) q.is_code;
           stands = record {
@@ -161,7 +197,7 @@ routines_more {a = a} {c = c} types rs k entries r x less e p q =
 -- the object of a program, from the code of its start and of its routines
 module _ (u : TypedUnit) {a b e : Code} (begins : a ≡ empty_code) (name : List ℕ) (named : name ≡ u.name) (slots stop_entry start : ℕ) (appends : AppendsStart a b u stop_entry)
     (rs : List UnitRoutine) (routines_are : rs ≡ u.routines) (entries : List CodeRoutine) (types : List UnitType) (types_are : types ≡ u.types) (more : AppendsRoutines b e types rs entries) (routines : List CodeRoutine)
-    (all : routines ≡ entries ++ routine_at 0 0 ∷ routine_at stop_entry 0 ∷ []) (starts : start ≡ length entries) (o : Object) (is : o ≡ assembled name e routines start slots) where
+    (all : routines ≡ entries ++ plain_at 0 ∷ plain_at stop_entry ∷ []) (starts : start ≡ length entries) (o : Object) (is : o ≡ assembled name e routines start slots) where
   whole : AppendsStart empty_code b u stop_entry
   whole = subst (λ code. AppendsStart code b u stop_entry) begins appends
 
@@ -186,7 +222,7 @@ module _ (u : TypedUnit) {a b e : Code} (begins : a ≡ empty_code) (name : List
         ∙ ap (λ l. make_all_code u.types 0 u.variables ++ l) (append_assoc whole.code (return_code ∷ return_code ∷ []) more.code)));
     entries = entries;
     blocks = its_blocks;
-    routines = all ∙ ap (λ at. entries ++ routine_at 0 0 ∷ routine_at at 0 ∷ []) stops;
+    routines = all ∙ ap (λ at. entries ++ plain_at 0 ∷ plain_at at ∷ []) stops;
     start = starts ∙ its_blocks.count;
     stop = ap (λ k. k + 1) (starts ∙ its_blocks.count);
     unit_slots = n;

@@ -2,7 +2,7 @@
 use Rattle.std.proofs.Common.{◌≡◌, ℕ, ◌+◌, ◌<◌, false, [], ◌∷◌, ◌++◌, length, length-append, Some, refl, sym, ap, ◌∙◌, subst, arith}
 use Rattle.std.proofs.lemmas.Bool.{lt-ltb}
 use Rattle.ep_gen_unit.specs.StmtCode.{make_all_code, return_code}
-use Rattle.ep_gen_unit.specs.UnitCode.{IsProgramCode, routine_at}
+use Rattle.ep_gen_unit.specs.UnitCode.{IsProgramCode, plain_at}
 use Rattle.ep_gen_unit.proofs.Routines.{routines_kept}
 use Rattle.ep_gen_unit.proofs.Units.{start_is, unit_simulates, routine_there as routine_of_object}
 use Rattle.ep_object.proofs.Alone.{placements_alone, stands-alone, distinct-alone}
@@ -41,8 +41,8 @@ module _ (u : TypedUnit) (o : Object) (is : IsProgramCode u o) where
   not_empty = omega (arith, ap length is.instructions, length-append (make_all_code u.types 0 u.variables) (is.code ++ return_code ∷ return_code ∷ is.others), length-append is.code (return_code ∷ return_code ∷ is.others))
 
   -- its start routine is there
-  start_there : routine_there (alone o) (moved (first_placement o).routines o.start) ≡ Some (placed_routine (first_placement o) (routine_at 0 0))
-  start_there = routine_of_object u o is (alone o) (placements_alone o) (first_placement o) (stands-alone o) o.start (routine_at 0 0) (start_is u o is (alone o) (placements_alone o) (first_placement o) (stands-alone o))
+  start_there : routine_there (alone o) (moved (first_placement o).routines o.start) ≡ Some (placed_routine (first_placement o) (plain_at 0))
+  start_there = routine_of_object u o is (alone o) (placements_alone o) (first_placement o) (stands-alone o) o.start (plain_at 0) (start_is u o is (alone o) (placements_alone o) (first_placement o) (stands-alone o))
 
   -- a run begins with the start of the program
   pub begins : begin (alone o) ≡ Running 0 start_state
@@ -52,7 +52,7 @@ module _ (u : TypedUnit) (o : Object) (is : IsProgramCode u o) where
   enters : Enters (own u) (alone o) 0 (moved (first_placement o).routines o.start) first_injection (first_memory start_frames) [] meaning.first_state start_state
   enters =
       record {
-        image_routine = placed_routine (first_placement o) (routine_at 0 0);
+        image_routine = placed_routine (first_placement o) (plain_at 0);
         there = start_there;
         is = rw (lt-ltb 0 (length o.instructions) not_empty) refl;
         runs = refl;

@@ -1,17 +1,19 @@
 -- The routines of a unit keep their promises, by induction on the steps: a call spends one.
-use Rattle.std.proofs.Common.{◌≡◌, ℕ, zero, suc, pos, ◌+◌, ◌≤◌, ◌<◌, Bool, true, false, if◌then◌else◌, List, [], ◌∷◌, ◌++◌, map, option_map, length, length-append, Option, Some, None, slice_get, bytes_eq, refl, sym, ap, ◌∙◌, subst, arith}
-use Rattle.std.proofs.lemmas.Option.{slice_get_within, slice_get-map, get_or_from_slice_get}
+use Rattle.std.proofs.Common.{◌⊎◌, inl, inr, append-nil, ◌≡◌, ℕ, zero, suc, pos, ◌+◌, ◌≤◌, ◌<◌, Bool, true, false, if◌then◌else◌, List, [], ◌∷◌, ◌++◌, map, option_map, length, length-append, Option, Some, None, slice_get, bytes_eq, refl, sym, ap, ◌∙◌, subst, arith}
+use Rattle.std.proofs.lemmas.Option.{same_Some, slice_get_within, slice_get-map, get_or_from_slice_get}
+use Rattle.std.proofs.lemmas.List.{length-map}
 use Rattle.ep_gen_expr.proofs.Following.{place_follows, expression_follows}
-use Rattle.ep_gen_unit.specs.StmtCode.{IsStmtCode, return_code}
-use Rattle.ep_gen_unit.specs.UnitCode.{IsProgramCode, own_code, routine_at}
-use Rattle.ep_gen_unit.proofs.Declared.{name_same, same_name}
-use Rattle.ep_gen_unit.proofs.OwnMakes.{make_all_own_moves}
+use Rattle.ep_gen_unit.specs.StmtCode.{IsStmtCode, make_all_code, take_all_code, return_code}
+use Rattle.ep_gen_unit.specs.UnitCode.{IsProgramCode, own_code, entry_of, plain_at}
+use Rattle.ep_gen_unit.proofs.Declared.{name_same, same_name, own_types}
+use Rattle.ep_gen_unit.proofs.OwnMakes.{make_all_own_moves, takes_all_moves}
 use Rattle.ep_gen_unit.proofs.Parts.{code_stands-parts}
 use Rattle.ep_gen_unit.proofs.StmtMoves.{statement_moves}
 use Rattle.ep_gen_unit.proofs.Units.{of_object, room, routine_there, scene_of, moved_own}
 use Rattle.ep_object.proofs.following.Declaring.{fragment_outside, calls_kept-inside}
-use Rattle.ep_object.proofs.following.Fragments.{fragment_bind, fragment_cut, fragment_from, fragment_post}
-use Rattle.ep_object.proofs.following.Procedures.{begun_memory, procedure_keeps}
+use Rattle.ep_object.proofs.following.Fragments.{fragment_bind, fragment_cut, fragment_from, fragment_post, fragment_to}
+use Rattle.ep_object.proofs.following.Procedures.{begun_memory, grown_begun, procedure_keeps}
+use Rattle.ep_object.proofs.matching.Awaiting.{AreAwaited, AreLight, IsLight, Handed, arguments_in, awaited-grown, handed}
 use Rattle.ep_object.proofs.matching.Growing.{among_same, slice_get-prefix, unit_in-still}
 use Rattle.ep_object.proofs.matching.OwnVariables.{in_activation-lasts}
 use Rattle.ep_object.specs.Activations.{KnowsOwn, InActivation}
@@ -19,7 +21,7 @@ use Rattle.ep_object.specs.Follows.{Facts, Lasts, Since, Fragment, Inside, point
 use Rattle.ep_object.specs.Matching.{Memory, Injection, Slots, kept_slots}
 use Rattle.ep_object.specs.Operands.{Operand}
 use Rattle.ep_object.specs.Placing.{Placement, CodeStands, Stands, HasDistinctNames, moved, placement_of, placed_call, placed_routine}
-use Rattle.ep_object.specs.Promises.{CallsAt, AreArguments, ResultsOnTop, RoutineKeeps, CallsAreKept}
+use Rattle.ep_object.specs.Promises.{Passing, ByValue, ByReference, IsPassed, ArePassed, CallsAt, AreArguments, ResultsOnTop, RoutineKeeps, CallsAreKept}
 use Rattle.ep_object.specs.Routines.{routine_of as routine_there_in}
 use Rattle.ep_object.specs.Runs.{unit_in}
 use Rattle.ep_object.specs.Scene.{Scene, HaveValidOwnTypes}
@@ -28,14 +30,18 @@ use Rattle.ep_object.specs.declared.code.Image.{Image}
 use Rattle.ep_object.specs.declared.code.ImageRoutine.{ImageRoutine}
 use Rattle.ep_object.specs.declared.code.Instr.{Instr}
 use Rattle.ep_object.specs.declared.code.Object.{Object}
-use Rattle.ep_typed.proofs.Steady.{steady_routine_of, steady_runs_routine, steady_exec}
+use Rattle.ep_typed.proofs.Steady.{steady_bind, steady_routine_of, steady_runs_routine, steady_make_all_own, steady_exec}
 use Rattle.ep_typed.specs.Calls.{Argument, Handler}
-use Rattle.ep_typed.specs.Meaning.{exec, Found, found_among, routine_in, runs_routine, routine_does, routine_of}
-use Rattle.ep_typed.specs.Steps.{Computation}
+use Rattle.ep_typed.specs.Meaning.{exec, make_all_own, Found, found_among, routine_in, runs_routine, routine_does, routine_of}
+use Rattle.ep_typed.specs.Steps.{Computation, bind}
 use Rattle.ep_typed.specs.Steps as meaning
-use Rattle.ep_typed.specs.Valid.{Declarations, in_routine, IsValid, IsRoutine, IsVariable, heading_of, own}
+use Rattle.ep_typed.specs.Valid as kind
+use Rattle.ep_typed.specs.Valid.{Declarations, in_routine, IsDenoter, IsFormal, IsValid, IsRoutine, IsVariable, formal_variable, variables_of, heading_of, own}
 use Rattle.ep_typed.specs.Steady.{IsSteadyHandler}
-use Rattle.ep_typed.specs.Viewed.{stmt_of}
+use Rattle.ep_typed.specs.Viewed.{denoter_of, stmt_of}
+use Rattle.ep_typed.specs.declared.interface.Formal.{Formal}
+use Rattle.ep_typed.specs.declared.interface.FormalMode.{FormalMode}
+use Rattle.ep_typed.specs.declared.interface.FormalMode.TheVariants as mode
 use Rattle.ep_typed.specs.declared.interface.RoutineEntry.{RoutineEntry}
 use Rattle.ep_typed.specs.declared.unit.Unit.{Unit as TypedUnit}
 use Rattle.ep_typed.specs.declared.unit.UnitRoutine.{UnitRoutine}
@@ -43,19 +49,20 @@ use Rattle.ep_typed.specs.declared.unit.UnitVariable.{UnitVariable}
 use Rattle.ep_typed.specs.declared.unit.UnitRoutine.TheViews.{out-UnitRoutine}
 
 -- a routine that a unit alone declares is one of its own
-record OwnRoutine (u : TypedUnit) (unit : List ℕ) (number : ℕ) : Type 0 where
+record OwnRoutine (u : TypedUnit) (unit : List ℕ) (number : ℕ) (r : RoutineEntry) : Type 0 where
   named : u.name ≡ unit
   routine : UnitRoutine
   there : slice_get u.routines number ≡ Some routine
+  heading : heading_of routine ≡ r
 
-own_routine : (u : TypedUnit) (unit : List ℕ) (number : ℕ) (r : RoutineEntry) → slice_get ((own u).routines unit) number ≡ Some r → OwnRoutine u unit number
+own_routine : (u : TypedUnit) (unit : List ℕ) (number : ℕ) (r : RoutineEntry) → slice_get ((own u).routines unit) number ≡ Some r → OwnRoutine u unit number r
 own_routine u unit number r h = go (bytes_eq u.name unit) refl h
   where
-    found_in : u.name ≡ unit → (x : Option UnitRoutine) → slice_get u.routines number ≡ x → option_map heading_of x ≡ Some r → OwnRoutine u unit number
+    found_in : u.name ≡ unit → (x : Option UnitRoutine) → slice_get u.routines number ≡ x → option_map heading_of x ≡ Some r → OwnRoutine u unit number r
     found_in named None e q = cc
-    found_in named (Some x) e q = record { named = named; routine = x; there = e }
+    found_in named (Some x) e q = record { named = named; routine = x; there = e; heading = same_Some (heading_of x) r q }
 
-    go : (b : Bool) → bytes_eq u.name unit ≡ b → slice_get (if b then map heading_of u.routines else []) number ≡ Some r → OwnRoutine u unit number
+    go : (b : Bool) → bytes_eq u.name unit ≡ b → slice_get (if b then map heading_of u.routines else []) number ≡ Some r → OwnRoutine u unit number r
     go true e q = found_in (same_name u.name unit e) (slice_get u.routines number) refl (sym (slice_get-map heading_of u.routines number) ∙ q)
     go false e q = cc
 
@@ -65,12 +72,23 @@ at_place [] k less = absurd (omega (arith, less))
 at_place (x ∷ xs) zero less = (x, refl)
 at_place (x ∷ xs) (suc k) less = at_place xs k (omega (arith, less))
 
+-- what stands behind a list
+slice_get-behind : {A : Type 0} (xs ys : List A) (k : ℕ) → slice_get (xs ++ ys) (length xs + k) ≡ slice_get ys k
+slice_get-behind [] ys k = ap (slice_get ys) {x = 0 + k} {y = k} (omega arith)
+slice_get-behind (x ∷ xs) ys k = ap (slice_get (x ∷ (xs ++ ys))) {x = suc (length xs) + k} {y = suc (length xs + k)} (omega arith) ∙ slice_get-behind xs ys k
+
+-- what two lists have, one of them has
+slice_get-either : {A : Type 0} (xs ys : List A) (k : ℕ) (x : A) → slice_get (xs ++ ys) k ≡ Some x → (slice_get xs k ≡ Some x) ⊎ ((j : ℕ) × (slice_get ys j ≡ Some x))
+slice_get-either [] ys k x h = inr (k, h)
+slice_get-either (y ∷ xs) ys zero x h = inl h
+slice_get-either (y ∷ xs) ys (suc k) x h = slice_get-either xs ys k x h
+
 module _ (u : TypedUnit) (o : Object) (is : IsProgramCode u o) (valid : IsValid u) (G : Image) (ps : List Placement) (p : Placement) (stands : Stands G ps p o) (distinct : HasDistinctNames G) where
   -- where a routine of the unit stands in the image
   record Placed (number : ℕ) (r : UnitRoutine) : Type 0 where
     entry : CodeRoutine
     in_object : slice_get o.routines number ≡ Some entry
-    plain : entry ≡ routine_at entry.entry (length (out-UnitRoutine r).variables)
+    plain : entry ≡ entry_of entry.entry r
     code : List Instr
     is_code : IsStmtCode o.texts o.references (entry.entry + length (own_code u.types r)) (stmt_of (out-UnitRoutine r).block) code
     makes_stand : CodeStands G ps p o.references entry.entry (own_code u.types r)
@@ -94,7 +112,7 @@ module _ (u : TypedUnit) (o : Object) (is : IsProgramCode u o) (valid : IsValid 
       let at : 0 + length s.before ≡ x.0.entry = omega (arith, s.from) in
       record {
         entry = x.0;
-        in_object = ap (λ l. slice_get l number) is.routines ∙ slice_get-prefix is.entries (is.entries ++ routine_at 0 0 ∷ routine_at _ 0 ∷ []) number x.0 (record { rest = routine_at 0 0 ∷ routine_at _ 0 ∷ []; is = refl }) x.1;
+        in_object = ap (λ l. slice_get l number) is.routines ∙ slice_get-prefix is.entries (is.entries ++ plain_at 0 ∷ plain_at _ ∷ []) number x.0 (record { rest = plain_at 0 ∷ plain_at _ ∷ []; is = refl }) x.1;
         plain = h.plain;
         code = h.code;
         is_code = h.is_code;
@@ -110,145 +128,238 @@ module _ (u : TypedUnit) (o : Object) (is : IsProgramCode u o) (valid : IsValid 
       let listed : placement_of ps u.name ≡ Some p = subst (λ n. placement_of ps n ≡ Some p) is.name stands.listed in
       rw listed refl
 
-  -- with one step more than the routines keep theirs
-  keeps_own : (m : ℕ) → CallsAreKept (own u) G ps (routine_of (u ∷ []) m) m
-      → (number : ℕ) (r : UnitRoutine) → slice_get u.routines number ≡ Some r
-      → RoutineKeeps (own u) G ps (routine_of (u ∷ []) (suc m)) (suc m) u.name number
-  keeps_own m kept number r there =
-      record {
-        routine = moved p.routines number;
-        placed = call_placed number;
-        promise = record { by = λ place line calls injection began memory below operands arguments are. go place line calls injection began memory below operands arguments are };
-      }
+  -- how a formal parameter of a valid denoter takes its argument
+  passing_of : (f : Formal) → IsFormal u.types f → (q : Passing) × IsPassed u.types f.mode f q × IsLight q
+  passing_of f valid = by_mode f.mode
     where
-      x : Placed number r
-      x = placed_at number r there
+      by_mode : (w : FormalMode) → (q : Passing) × IsPassed u.types w f q × IsLight q
+      by_mode mode.Value = let d = valid.denoter in (ByValue (kind.Ordinal d.host), (d.host, d.has_host, refl), tt)
+      by_mode mode.ProtectedValue = let d = valid.denoter in (ByValue (kind.Ordinal d.host), (d.host, d.has_host, refl), tt)
+      by_mode mode.Variable = let d = valid.denoter in (ByReference d.type_value, d.has_type, tt)
+      by_mode mode.ProtectedVariable = let d = valid.denoter in (ByReference d.type_value, d.has_type, tt)
 
-      us : List TypedUnit
-      us = u ∷ []
+  -- and how all of them do
+  passings_of : (fs : List Formal) → ((k : ℕ) (f : Formal) → slice_get fs k ≡ Some f → IsFormal u.types f) → (qs : List Passing) × ArePassed u.types fs qs × AreLight qs × (length qs ≡ length fs)
+  passings_of [] valid = ([], tt, tt, refl)
+  passings_of (f ∷ fs) valid =
+      let first = passing_of f (valid 0 f refl) in
+      let rest = passings_of fs (λ k w e. valid (suc k) w e) in
+      (first.0 ∷ rest.0, (first.1, rest.1), (first.2, rest.2), ap suc rest.3)
 
-      call : Handler
-      call = routine_of us m
+  module _ (m : ℕ) (kept : CallsAreKept (own u) G ps (routine_of (u ∷ []) m) m) (number : ℕ) (r : UnitRoutine) (there : slice_get u.routines number ≡ Some r) where
+    x : Placed number r
+    x = placed_at number r there
 
-      steady_call : IsSteadyHandler call
-      steady_call = steady_routine_of us m
+    abbrev formals : List Formal
+    formals = (out-UnitRoutine r).formals
 
-      image_routine : ImageRoutine
-      image_routine = placed_routine p x.entry
+    its : IsRoutine (own u) u.types r
+    its = subst (λ y. IsRoutine (own u) u.types y) (get_or_from_slice_get u.routines number r r there) (valid.routines number r (slice_get_within u.routines number r there))
 
-      among : moved p.routines number ≡ p.routines.before + number
-      among =
-          let object = of_object u o is G ps p stands in
-          moved_own p.routines number (omega (arith, object.routines, slice_get_within o.routines number x.entry x.in_object))
+    passings : (qs : List Passing) × ArePassed u.types formals qs × AreLight qs × (length qs ≡ length formals)
+    passings = passings_of formals (λ k f e. subst (λ w. IsFormal u.types w) (get_or_from_slice_get formals k f f e) (its.formals k f (slice_get_within formals k f e)))
 
-      exists : routine_there_in G (moved p.routines number) ≡ Some image_routine
-      exists = routine_there u o is G ps p stands number x.entry x.in_object
+    abbrev us : List TypedUnit
+    us = u ∷ []
 
-      numbered : moved p.routines number < length G.routines
-      numbered = omega (arith, among, slice_get_within G.routines (p.routines.before + number) image_routine (stands.routines number x.entry x.in_object))
+    abbrev call : Handler
+    call = routine_of us m
 
-      alone : image_routine.arguments ≡ 0
-      alone = ap (λ (c : CodeRoutine). c.arguments) x.plain
+    steady_call : IsSteadyHandler call
+    steady_call = steady_routine_of us m
 
-      begun : ℕ → Memory → Memory
-      begun place memory = begun_memory (own u) G (moved p.routines number) image_routine exists numbered alone place memory
+    abbrev image_routine : ImageRoutine
+    image_routine = placed_routine p x.entry
 
-      home : (place : ℕ) (memory : Memory) → unit_in G (begun place memory).frames ≡ u.name
-      home place memory = rw (among, stands.routines number x.entry x.in_object, stands.unit) is.name
+    among : moved p.routines number ≡ p.routines.before + number
+    among =
+        let object = of_object u o is G ps p stands in
+        moved_own p.routines number (omega (arith, object.routines, slice_get_within o.routines number x.entry x.in_object))
 
-      entry : image_routine.entry ≡ p.instructions.before + x.entry.entry
-      entry = moved_own p.instructions x.entry.entry (omega (arith, x.inside))
+    exists : routine_there_in G (moved p.routines number) ≡ Some image_routine
+    exists = routine_there u o is G ps p stands number x.entry x.in_object
 
-      its : IsRoutine (own u) u.types r
-      its = subst (λ y. IsRoutine (own u) u.types y) (get_or_from_slice_get u.routines number r r there) (valid.routines number r (slice_get_within u.routines number r there))
+    numbered : moved p.routines number < length G.routines
+    numbered = omega (arith, among, slice_get_within G.routines (p.routines.before + number) image_routine (stands.routines number x.entry x.in_object))
 
-      variables : List UnitVariable
-      variables = (out-UnitRoutine r).variables
+    takes : image_routine.arguments ≡ length formals
+    takes = ap (λ (c : CodeRoutine). c.arguments) x.plain
 
-      -- the declarations in its block
-      within : Declarations
-      within = in_routine variables u.types (own u)
+    entry : image_routine.entry ≡ p.instructions.before + x.entry.entry
+    entry = moved_own p.instructions x.entry.entry (omega (arith, x.inside))
 
-      enough_slots : length within.routine_variables ≤ image_routine.slots
-      enough_slots = omega (arith, ap (λ (c : CodeRoutine). c.slots) x.plain)
+    abbrev variables : List UnitVariable
+    variables = variables_of r
 
-      body : Computation (Unit {0})
-      body = runs_routine call m u.name (record { routine = r; types = u.types })
+    many : length variables ≡ length formals + length (out-UnitRoutine r).variables
+    many = omega (arith, length-append (map (formal_variable (out-UnitRoutine r).line) formals) (out-UnitRoutine r).variables, length-map formals (formal_variable (out-UnitRoutine r).line))
 
-      own_types : HaveValidOwnTypes within
-      own_types k v e = (subst (λ w. IsVariable u.types w) (get_or_from_slice_get variables k v v e) (its.variables k v (slice_get_within variables k v e))).denoter
+    -- the declarations in its block
+    abbrev within : Declarations
+    within = in_routine variables u.types (own u)
 
-      scene : Scene within G ps p o.texts
-      scene =
-          let outer = scene_of u o is G ps p stands valid.variables in
-          record { texts_stand = outer.texts_stand; variables_stand = outer.variables_stand; types_valid = outer.types_valid; own_types_valid = own_types }
+    enough_slots : length within.routine_variables ≤ image_routine.slots
+    enough_slots = omega (arith, many, ap (λ (c : CodeRoutine). c.slots) x.plain)
 
-      in_code : p.instructions.before + p.instructions.own ≤ length G.instructions
-      in_code = room u o is G ps p stands
+    abbrev found_routine : Found
+    found_routine = record { routine = r; types = u.types }
 
-      untouched : Slots
-      untouched = kept_slots within G
+    abbrev body : List Argument → Computation (Unit {0})
+    body xs = runs_routine call m u.name found_routine xs
 
-      end : ℕ
-      end = x.entry.entry + length (own_code u.types r) + length x.code
+    -- a formal parameter is the variable of its number, and the others stand behind them
+    formal_is : (k : ℕ) (f : Formal) → slice_get formals k ≡ Some f → slice_get variables (0 + k) ≡ Some (formal_variable (out-UnitRoutine r).line f)
+    formal_is k f e =
+        let mapped : slice_get (map (formal_variable (out-UnitRoutine r).line) formals) k ≡ Some (formal_variable (out-UnitRoutine r).line f) = slice_get-map (formal_variable (out-UnitRoutine r).line) formals k ∙ ap (option_map (formal_variable (out-UnitRoutine r).line)) e in
+        subst (λ i. slice_get variables i ≡ Some (formal_variable (out-UnitRoutine r).line f)) {x = k} {y = 0 + k} (omega arith)
+        (slice_get-prefix (map (formal_variable (out-UnitRoutine r).line) formals) variables k (formal_variable (out-UnitRoutine r).line f) (record { rest = (out-UnitRoutine r).variables; is = refl }) mapped)
+
+    variable_is : (k : ℕ) (v : UnitVariable) → slice_get (out-UnitRoutine r).variables k ≡ Some v → slice_get variables (length formals + k) ≡ Some v
+    variable_is k v e =
+        ap (λ i. slice_get variables (i + k)) (sym (length-map formals (formal_variable (out-UnitRoutine r).line)))
+        ∙ (slice_get-behind (map (formal_variable (out-UnitRoutine r).line) formals) (out-UnitRoutine r).variables k ∙ e)
+
+    own_types_valid : HaveValidOwnTypes within
+    own_types_valid k v e = either (slice_get-either (map (formal_variable (out-UnitRoutine r).line) formals) (out-UnitRoutine r).variables k v e)
+      where
+        either : (slice_get (map (formal_variable (out-UnitRoutine r).line) formals) k ≡ Some v) ⊎ ((j : ℕ) × (slice_get (out-UnitRoutine r).variables j ≡ Some v)) → IsDenoter u.types (denoter_of v.denoter)
+        either (inl at) = of_formal (slice_get formals k) refl (sym (slice_get-map (formal_variable (out-UnitRoutine r).line) formals k) ∙ at)
+          where
+            of_formal : (y : Option Formal) → slice_get formals k ≡ y → option_map (formal_variable (out-UnitRoutine r).line) y ≡ Some v → IsDenoter u.types (denoter_of v.denoter)
+            of_formal None q is = cc
+            of_formal (Some f) q is =
+                let valid_formal : IsFormal u.types f = subst (λ w. IsFormal u.types w) (get_or_from_slice_get formals k f f q) (its.formals k f (slice_get_within formals k f q)) in
+                subst (λ (w : UnitVariable). IsDenoter u.types (denoter_of w.denoter)) (same_Some (formal_variable (out-UnitRoutine r).line f) v is) valid_formal.denoter
+        either (inr at) =
+            (subst (λ w. IsVariable u.types w) (get_or_from_slice_get (out-UnitRoutine r).variables at.0 v v at.1) (its.variables at.0 v (slice_get_within (out-UnitRoutine r).variables at.0 v at.1))).denoter
+
+    scene : Scene within G ps p o.texts
+    scene =
+        let outer = scene_of u o is G ps p stands valid.variables in
+        record { texts_stand = outer.texts_stand; variables_stand = outer.variables_stand; types_valid = outer.types_valid; own_types_valid = own_types_valid }
+
+    in_code : p.instructions.before + p.instructions.own ≤ length G.instructions
+    in_code = room u o is G ps p stands
+
+    abbrev untouched : Slots
+    untouched = kept_slots within G
+
+    abbrev end : ℕ
+    end = x.entry.entry + length (own_code u.types r) + length x.code
+
+    abbrev line_of : ℕ
+    line_of = (out-UnitRoutine r).line
+
+    abbrev takes_code : List Instr
+    takes_code = take_all_code u.types line_of 0 formals
+
+    abbrev makes_code : List Instr
+    makes_code = make_all_code u.types (length formals) (out-UnitRoutine r).variables
+
+    -- a call that hands over such operands
+    module _ (place line : ℕ) (injection : Injection) (memory : Memory) (below operands : List Operand) (xs : List Argument) (hands : Handed injection memory passings.0 xs below operands) where
+      counted : length hands.top ≡ image_routine.arguments
+      counted = hands.many ∙ (passings.3 ∙ sym takes)
+
+      abbrev begun : Memory
+      begun = begun_memory (own u) G (moved p.routines number) image_routine exists numbered hands.top counted hands.light place memory
+
+      home : unit_in G begun.frames ≡ u.name
+      home = rw (among, stands.routines number x.entry x.in_object, stands.unit) is.name
+
+      abbrev Here : Facts
+      Here = InActivation within untouched injection begun
+
+      lasts : Lasts untouched Here
+      lasts = in_activation-lasts (λ k v e. refl)
+
+      knows : KnowsOwn within Here
+      knows longer s after h = h.own
+
+      -- the arguments lie in the frame
+      awaited : AreAwaited injection begun passings.0 xs 0 (arguments_in begun.frames.calls)
+      awaited =
+          let none : hands.top ++ [] ≡ hands.top = append-nil hands.top in
+          awaited-grown (grown_begun (own u) G (moved p.routines number) image_routine exists numbered hands.top counted hands.light {untouched = untouched} place injection memory) passings.0 xs 0 (map Some hands.top) (subst (λ l. AreAwaited injection memory passings.0 xs 0 (map Some l)) none (hands.awaited 0 [] refl))
+
+      -- the block, once the arguments are taken and the variables are made
+      blocks : (longer : Injection) (after : Memory) (pushed : List Operand) → unit_in G after.frames ≡ u.name → pushed ≡ below
+          → Fragment within G Here m (point longer after (p.instructions.before + (x.entry.entry + length (own_code u.types r))) pushed) (exec call m u.name (stmt_of (out-UnitRoutine r).block)) (p.instructions.before + end) (λ b last final operands. operands ≡ below) 63 (λ b. 63)
+      blocks longer after pushed at_home is_below =
+          subst (λ o. Fragment within G Here m (point longer after (p.instructions.before + (x.entry.entry + length (own_code u.types r))) o) (exec call m u.name (stmt_of (out-UnitRoutine r).block)) (p.instructions.before + end) (λ b last final operands. operands ≡ below) 63 (λ b. 63)) (sym is_below)
+          (fragment_post (λ b last final operands i. i.operands_are)
+          (statement_moves lasts ps p o.texts o.references call steady_call m u.name in_code scene
+          (λ x_kind e is_x line at code is_code x_stands inside v1 m1 operands d enough x_home. expression_follows {untouched = untouched} ps p o.texts o.references scene knows call steady_call m u.name in_code m x_kind e is_x line at code is_code x_stands inside v1 m1 operands d (omega arith) x_home)
+          (λ q t has_type line at code is_code x_stands v1 m1 operands d enough x_home. place_follows ps p o.texts o.references scene knows call steady_call m u.name m q t has_type line at code is_code x_stands v1 m1 operands d (omega arith) x_home)
+          among_same (calls_kept-inside variables u.types (own u) kept) (stmt_of (out-UnitRoutine r).block) (x.entry.entry + length (own_code u.types r)) x.code its.block x.is_code x.code_stands x.inside longer after below 63 (omega arith) at_home))
+
+      -- the making of the variables, and then the block
+      makes : (longer : Injection) (after : Memory) (pushed : List Operand) → unit_in G after.frames ≡ u.name → pushed ≡ below
+          → Fragment within G Here m (point longer after (p.instructions.before + (x.entry.entry + length takes_code)) pushed) (bind (make_all_own call m u.name u.types (length formals) (out-UnitRoutine r).variables) (λ a. exec call m u.name (stmt_of (out-UnitRoutine r).block))) (p.instructions.before + end) (λ b last final operands. operands ≡ below) 63 (λ b. 63)
+      makes longer after pushed at_home is_below =
+          let parts = code_stands-parts G ps p o.references x.entry.entry takes_code makes_code x.makes_stand in
+          let size : x.entry.entry + length takes_code + length makes_code ≡ x.entry.entry + length (own_code u.types r) = omega (arith, length-append takes_code makes_code) in
+          subst (λ st. Fragment within G Here m (point longer after (p.instructions.before + (x.entry.entry + length takes_code)) st) (bind (make_all_own call m u.name u.types (length formals) (out-UnitRoutine r).variables) (λ a. exec call m u.name (stmt_of (out-UnitRoutine r).block))) (p.instructions.before + end) (λ b last final operands. operands ≡ below) 63 (λ b. 63)) (sym is_below)
+          (fragment_bind {middle = p.instructions.before + (x.entry.entry + length (own_code u.types r))} {e = λ a. 63} (λ a. steady_exec call steady_call m u.name (stmt_of (out-UnitRoutine r).block))
+          (fragment_to (ap (λ k. p.instructions.before + k) size) (make_all_own_moves within G untouched injection begun lasts ps p o.references call steady_call m u.name scene.types_valid scene.own_types_valid m (length formals) (x.entry.entry + length takes_code) (out-UnitRoutine r).variables variable_is parts.1 longer after below 63 (omega arith)))
+          (λ a last final above still. (still.runs, blocks last final above (unit_in-still G still.runs ∙ at_home) still.operands_are)))
 
       -- the machine follows the routine, in any activation of it
-      follows : (place : ℕ) (injection : Injection) (memory : Memory) (below : List Operand)
-          → Fragment (own u) G (InActivation within untouched injection (begun place memory)) m (point injection (begun place memory) image_routine.entry below) body (p.instructions.before + end) (λ a longer after operands. operands ≡ below) 63 (λ a. 63)
-      follows place injection memory below =
+      follows : Fragment (own u) G Here m (point injection begun image_routine.entry below) (body xs) (p.instructions.before + end) (λ a longer after operands. operands ≡ below) 63 (λ a. 63)
+      follows =
+          let parts = code_stands-parts G ps p o.references x.entry.entry takes_code makes_code x.makes_stand in
           fragment_outside variables u.types (own u) (fragment_from entry
-          (fragment_bind {middle = p.instructions.before + (x.entry.entry + length (own_code u.types r))} {e = λ a. 63} (λ a. steady_exec call steady_call m u.name (stmt_of (out-UnitRoutine r).block))
-          (make_all_own_moves within G untouched injection (begun place memory) lasts ps p o.references call steady_call m u.name scene.types_valid scene.own_types_valid m 0 x.entry.entry variables (λ i v e. subst (λ k. slice_get variables k ≡ Some v) {x = i} {y = 0 + i} (omega arith) e) x.makes_stand injection (begun place memory) below 63 (omega arith))
-          (λ a longer after pushed still. (still.runs, blocks longer after pushed (unit_in-still G still.runs ∙ home place memory) still.operands_are))))
-        where
-          Here : Facts
-          Here = InActivation within untouched injection (begun place memory)
+          (fragment_bind {middle = p.instructions.before + (x.entry.entry + length takes_code)} {e = λ a. 63} (λ a. steady_bind (steady_make_all_own call steady_call m u.name u.types (length formals) (out-UnitRoutine r).variables) (λ b. steady_exec call steady_call m u.name (stmt_of (out-UnitRoutine r).block)))
+          (takes_all_moves within G untouched injection begun lasts ps p o.references call steady_call m u.name scene.types_valid scene.own_types_valid m line_of 0 x.entry.entry formals passings.0 xs passings.1 formal_is parts.0 injection begun below 63 (omega arith) home awaited)
+          (λ a longer after pushed still. (still.runs, makes longer after pushed (unit_in-still G still.runs ∙ home) still.operands_are))))
 
-          lasts : Lasts untouched Here
-          lasts = in_activation-lasts (λ k v e. refl)
+    -- what a call of it does
+    found : routine_in us u.name number ≡ Some found_routine
+    found = ap (λ b. if b then found_among u.types (slice_get u.routines number) else None) (name_same u.name u.name refl) ∙ ap (found_among u.types) there
 
-          knows : KnowsOwn within Here
-          knows longer s after h = h.own
+    go : (place line : ℕ) → CallsAt G place (moved p.routines number) line
+        → (injection : Injection) (began : meaning.State) (memory : Memory) (below operands : List Operand) (arguments : List Argument)
+        → AreArguments injection memory passings.0 arguments below operands
+        → Fragment (own u) G (Since (kept_slots (own u) G) injection began memory) (suc m) (point injection memory place operands) (routine_of us (suc m) (unit_in G memory.frames) line u.name number arguments) (place + 1) (λ rs. Inside (kept_slots (own u) G) injection memory (ResultsOnTop [] below rs)) 0 (λ rs. 0)
+    go place line calls injection began memory below operands xs are =
+        let hands : Handed injection memory passings.0 xs below operands = handed injection memory passings.0 passings.2 xs below operands are in
+        let does : Option Found → Type 0 = λ y. Fragment (own u) G (Since (kept_slots (own u) G) injection began memory) (suc m) (point injection memory place (hands.top ++ below)) (routine_does call m (unit_in G memory.frames) line u.name y xs) (place + 1) (λ rs. Inside (kept_slots (own u) G) injection memory (ResultsOnTop [] below rs)) 0 (λ rs. 0) in
+        let keeps : does (Some found_routine) =
+        procedure_keeps (own u) G (moved p.routines number) image_routine exists numbered hands.top (counted place line injection memory below operands xs hands) hands.light (p.instructions.before + end) return_code x.return_stands.0 refl refl refl within enough_slots m place line calls injection began memory below (out-UnitRoutine r).name (unit_in G memory.frames) (body xs) (steady_runs_routine call steady_call m u.name found_routine xs) (kept_slots (own u) G)
+        (follows place line injection memory below operands xs hands) in
+        let meant : does (routine_in us u.name number) = subst does (sym found) keeps in
+        subst (λ st. Fragment (own u) G (Since (kept_slots (own u) G) injection began memory) (suc m) (point injection memory place st) (routine_of us (suc m) (unit_in G memory.frames) line u.name number xs) (place + 1) (λ rs. Inside (kept_slots (own u) G) injection memory (ResultsOnTop [] below rs)) 0 (λ rs. 0)) (sym hands.is) meant
 
-          blocks : (longer : Injection) (after : Memory) (pushed : List Operand) → unit_in G after.frames ≡ u.name → pushed ≡ below
-              → Fragment within G Here m (point longer after (p.instructions.before + (x.entry.entry + length (own_code u.types r))) pushed) (exec call m u.name (stmt_of (out-UnitRoutine r).block)) (p.instructions.before + end) (λ b last final operands. operands ≡ below) 63 (λ b. 63)
-          blocks longer after pushed at_home is_below =
-              subst (λ o. Fragment within G Here m (point longer after (p.instructions.before + (x.entry.entry + length (own_code u.types r))) o) (exec call m u.name (stmt_of (out-UnitRoutine r).block)) (p.instructions.before + end) (λ b last final operands. operands ≡ below) 63 (λ b. 63)) (sym is_below)
-              (fragment_post (λ b last final operands i. i.operands_are)
-              (statement_moves lasts ps p o.texts o.references call steady_call m u.name in_code scene
-              (λ x_kind e is_x line at code is_code x_stands inside v1 m1 operands d enough x_home. expression_follows {untouched = untouched} ps p o.texts o.references scene knows call steady_call m u.name in_code m x_kind e is_x line at code is_code x_stands inside v1 m1 operands d (omega arith) x_home)
-              (λ q t has_type line at code is_code x_stands v1 m1 operands d enough x_home. place_follows ps p o.texts o.references scene knows call steady_call m u.name m q t has_type line at code is_code x_stands v1 m1 operands d (omega arith) x_home)
-              among_same (calls_kept-inside variables u.types (own u) kept) (stmt_of (out-UnitRoutine r).block) (x.entry.entry + length (own_code u.types r)) x.code its.block x.is_code x.code_stands x.inside longer after below 63 (omega arith) at_home))
-
-      -- what a call of it does
-      found : routine_in us u.name number ≡ Some (record { routine = r; types = u.types })
-      found = ap (λ b. if b then found_among u.types (slice_get u.routines number) else None) (name_same u.name u.name refl) ∙ ap (found_among u.types) there
-
-      go : (place line : ℕ) → CallsAt G place (moved p.routines number) line
-          → (injection : Injection) (began : meaning.State) (memory : Memory) (below operands : List Operand) (arguments : List Argument)
-          → AreArguments injection memory [] arguments below operands
-          → Fragment (own u) G (Since (kept_slots (own u) G) injection began memory) (suc m) (point injection memory place operands) (routine_of us (suc m) (unit_in G memory.frames) line u.name number arguments) (place + 1) (λ rs. Inside (kept_slots (own u) G) injection memory (ResultsOnTop [] below rs)) 0 (λ rs. 0)
-      go place line calls injection began memory below operands [] are =
-          let does : Option Found → Type 0 = λ y. Fragment (own u) G (Since (kept_slots (own u) G) injection began memory) (suc m) (point injection memory place below) (routine_does call m (unit_in G memory.frames) line u.name y) (place + 1) (λ rs. Inside (kept_slots (own u) G) injection memory (ResultsOnTop [] below rs)) 0 (λ rs. 0) in
-          let keeps : does (Some (record { routine = r; types = u.types })) =
-          procedure_keeps (own u) G (moved p.routines number) image_routine exists numbered alone (p.instructions.before + end) return_code x.return_stands.0 refl refl refl within enough_slots m place line calls injection began memory below (out-UnitRoutine r).name (unit_in G memory.frames) body (steady_runs_routine call steady_call m u.name (record { routine = r; types = u.types })) (kept_slots (own u) G)
-          (follows place injection memory below) in
-          let meant : does (routine_in us u.name number) = subst does (sym found) keeps in
-          subst (λ st. Fragment (own u) G (Since (kept_slots (own u) G) injection began memory) (suc m) (point injection memory place st) (routine_of us (suc m) (unit_in G memory.frames) line u.name number []) (place + 1) (λ rs. Inside (kept_slots (own u) G) injection memory (ResultsOnTop [] below rs)) 0 (λ rs. 0)) (sym are) meant
-      go place line calls injection began memory below operands (y ∷ ys) are = absurd are
+    -- with one step more than the routines keep theirs
+    keeps_own : RoutineKeeps (own u) G ps (routine_of (u ∷ []) (suc m)) (suc m) u.name number (heading_of r)
+    keeps_own =
+        record {
+          routine = moved p.routines number;
+          formals = passings.0;
+          passed = subst (λ ts. ArePassed ts formals passings.0) (sym (own_types u)) passings.1;
+          placed = call_placed number;
+          promise = record { by = λ place line calls injection began memory below operands arguments are. go place line calls injection began memory below operands arguments are };
+        }
 
   -- with no step there is nothing to keep
-  keeps_none : (unit : List ℕ) (number : ℕ) → u.name ≡ unit → RoutineKeeps (own u) G ps (routine_of (u ∷ []) 0) 0 unit number
-  keeps_none unit number named =
+  keeps_none : (unit : List ℕ) (number : ℕ) (r : UnitRoutine) → slice_get u.routines number ≡ Some r → u.name ≡ unit → RoutineKeeps (own u) G ps (routine_of (u ∷ []) 0) 0 unit number (heading_of r)
+  keeps_none unit number r there named =
+      let formals : List Formal = (out-UnitRoutine r).formals in
+      let its : IsRoutine (own u) u.types r = subst (λ y. IsRoutine (own u) u.types y) (get_or_from_slice_get u.routines number r r there) (valid.routines number r (slice_get_within u.routines number r there)) in
+      let passings = passings_of formals (λ k f e. subst (λ w. IsFormal u.types w) (get_or_from_slice_get formals k f f e) (its.formals k f (slice_get_within formals k f e))) in
       record {
         routine = moved p.routines number;
+        formals = passings.0;
+        passed = subst (λ n. ArePassed ((own u).types n) formals passings.0) named (subst (λ ts. ArePassed ts formals passings.0) (sym (own_types u)) passings.1);
         placed = λ i. subst (λ n. placed_call ps (Some (record { unit = n; number = number })) i ≡ record i { a = pos (moved p.routines number) }) named (call_placed number i);
         promise = record { by = λ place line calls injection began memory below operands arguments are. fragment_cut };
       }
 
   -- the routines keep their promises with any number of steps
   pub routines_kept : (n : ℕ) → CallsAreKept (own u) G ps (routine_of (u ∷ []) n) n
-  routines_kept zero unit number r h plain = let own_one = own_routine u unit number r h in keeps_none unit number own_one.named
+  routines_kept zero unit number r h plain =
+      let own_one = own_routine u unit number r h in
+      subst (λ x. RoutineKeeps (own u) G ps (routine_of (u ∷ []) 0) 0 unit number x) own_one.heading (keeps_none unit number own_one.routine own_one.there own_one.named)
   routines_kept (suc m) unit number r h plain =
       let own_one = own_routine u unit number r h in
-      subst (λ n. RoutineKeeps (own u) G ps (routine_of (u ∷ []) (suc m)) (suc m) n number) own_one.named (keeps_own m (routines_kept m) number own_one.routine own_one.there)
+      subst (λ x. RoutineKeeps (own u) G ps (routine_of (u ∷ []) (suc m)) (suc m) unit number x) own_one.heading (subst (λ n. RoutineKeeps (own u) G ps (routine_of (u ∷ []) (suc m)) (suc m) n number (heading_of own_one.routine)) own_one.named (keeps_own m (routines_kept m) number own_one.routine own_one.there))

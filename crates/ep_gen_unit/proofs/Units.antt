@@ -5,7 +5,7 @@ use Rattle.std.proofs.lemmas.Bool.{lt-ltb}
 use Rattle.std.proofs.lemmas.Option.{slice_get_within, same_Some}
 use Rattle.ep_gen_expr.proofs.Following.{place_follows, expression_follows}
 use Rattle.ep_gen_unit.specs.StmtCode.{make_all_code, return_code}
-use Rattle.ep_gen_unit.specs.UnitCode.{IsProgramCode, routine_at}
+use Rattle.ep_gen_unit.specs.UnitCode.{IsProgramCode, plain_at}
 use Rattle.ep_gen_unit.specs.UnitLaws.{AreDeclared, idle_stop}
 use Rattle.ep_gen_unit.proofs.Declared.{own_is, own_declared, own_types, own_valid}
 use Rattle.ep_gen_unit.proofs.Makes.{VariablesAreFree, make_all_moves}
@@ -135,30 +135,30 @@ module _ (u : TypedUnit) (o : Object) (is : IsProgramCode u o) (G : Image) (ps :
       → obey G return_code (standing place below memory trace) ≡ light Returns
   returns_from place below memory trace alone = rw alone refl
 
-  pub start_is : slice_get o.routines o.start ≡ Some (routine_at 0 0)
+  pub start_is : slice_get o.routines o.start ≡ Some (plain_at 0)
   start_is =
       let blocks = is.blocks in
       ap (slice_get o.routines) (is.start ∙ sym blocks.count)
-      ∙ (ap (λ l. slice_get l (length is.entries)) is.routines ∙ behind is.entries (routine_at 0 0) (routine_at (ends_block + 1) 0 ∷ []))
+      ∙ (ap (λ l. slice_get l (length is.entries)) is.routines ∙ behind is.entries (plain_at 0) (plain_at (ends_block + 1) ∷ []))
 
-  stop_is : slice_get o.routines o.stop ≡ Some (routine_at (ends_block + 1) 0)
+  stop_is : slice_get o.routines o.stop ≡ Some (plain_at (ends_block + 1))
   stop_is =
       let blocks = is.blocks in
       ap (slice_get o.routines) (is.stop ∙ ap (λ k. k + 1) (sym blocks.count))
-      ∙ (ap (λ l. slice_get l (length is.entries + 1)) is.routines ∙ one_behind is.entries (routine_at 0 0) (routine_at (ends_block + 1) 0) [])
+      ∙ (ap (λ l. slice_get l (length is.entries + 1)) is.routines ∙ one_behind is.entries (plain_at 0) (plain_at (ends_block + 1)) [])
 
   -- the stop does nothing
   pub stop_simulates : (declared : Declarations) (n : ℕ)
       → Simulates declared G p.unit (moved p.routines o.stop) n idle_stop Bare
   stop_simulates declared n =
       record {
-        image_routine = placed_routine p (routine_at (ends_block + 1) 0);
-        there = routine_there o.stop (routine_at (ends_block + 1) 0) stop_is;
+        image_routine = placed_routine p (plain_at (ends_block + 1));
+        there = routine_there o.stop (plain_at (ends_block + 1)) stop_is;
         of_unit = refl;
         body = give tt;
         called = refl;
         follows = λ m le injection memory below s k enters.
-            follows_from (at_entry o.stop (routine_at (ends_block + 1) 0) stop_is (omega (arith, instructions_own)) enters) (follows_give tt (omega arith) (record {
+            follows_from (at_entry o.stop (plain_at (ends_block + 1)) stop_is (omega (arith, instructions_own)) enters) (follows_give tt (omega arith) (record {
               place = p.instructions.before + (ends_block + 1);
               instruction = return_code;
               stands = returns_stand.1.0;
@@ -186,8 +186,8 @@ module _ (u : TypedUnit) (o : Object) (is : IsProgramCode u o) (G : Image) (ps :
     pub start_simulates : Simulates declared G p.unit (moved p.routines o.start) n (start_of call n u) Bare
     start_simulates =
         record {
-          image_routine = placed_routine p (routine_at 0 0);
-          there = routine_there o.start (routine_at 0 0) start_is;
+          image_routine = placed_routine p (plain_at 0);
+          there = routine_there o.start (plain_at 0) start_is;
           of_unit = refl;
           body = bind (make_all call n u.name u.types 0 u.variables) (λ a. exec call n u.name (stmt_of u.start));
           called = refl;
@@ -197,8 +197,8 @@ module _ (u : TypedUnit) (o : Object) (is : IsProgramCode u o) (G : Image) (ps :
               let body = body_follows {Here = Since (kept_slots declared G) injection s memory} since_lasts ps p call steady_call n u o is stands.code room whole.instructions scene
               (λ x_kind x is_x line at code is_code x_stands inside v1 m1 operands d enough x_home. expression_follows ps p o.texts o.references scene knows call steady_call n u.name room n x_kind x is_x line at code is_code x_stands inside v1 m1 operands d (omega arith) x_home)
               (λ q t has_type line at code is_code x_stands v1 m1 operands d enough x_home. place_follows ps p o.texts o.references scene knows call steady_call n u.name n q t has_type line at code is_code x_stands v1 m1 operands d (omega arith) x_home)
-              among_same kept valid (makes since_lasts) injection memory below routine_credit (omega arith) (home o.start (routine_at 0 0) start_is memory.frames enters.without_calls enters.runs) (record { calls = enters.without_calls; unit = enters.in_unit }) in
-              follows_from (at_entry o.start (routine_at 0 0) start_is (omega (arith, instructions_own)) enters)
+              among_same kept valid (makes since_lasts) injection memory below routine_credit (omega arith) (home o.start (plain_at 0) start_is memory.frames enters.without_calls enters.runs) (record { calls = enters.without_calls; unit = enters.in_unit }) in
+              follows_from (at_entry o.start (plain_at 0) start_is (omega (arith, instructions_own)) enters)
               (follows_less {n = n} (omega arith) (follows_post (λ a t l lands. record { place = p.instructions.before + ends_block; instruction = return_code; stands = returns_stand.0; returns = (let routine = lands.post.routine in subst (λ (x : State). obey G return_code x ≡ light Returns) (sym lands.is) (returns_from (p.instructions.before + ends_block) lands.operands lands.memory t.trace (no_calls memory.frames.calls lands.memory.frames.calls routine.calls enters.without_calls))); lands = lands }) (body.by s enters.matches (since_here injection s memory))));
         }
 

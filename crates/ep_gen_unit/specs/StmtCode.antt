@@ -6,7 +6,7 @@ use Rattle.ep_gen_expr.specs.ExprCode.{instr, bare, reference, push, standard_co
 use Rattle.ep_gen_expr.specs.declared.code.TheConstants as code
 use Rattle.ep_object.specs.declared.code.Instr.{Instr}
 use Rattle.ep_object.specs.declared.code.Reference.{Reference}
-use Rattle.ep_typed.specs.Trees.{Item, Plain, Wide, Stmt, Stmts, Empty, Compound, Assign, If, While, Repeat, Procedure, Halt, Write, none, next, Case, Arms, no_arm, next_arm, Other, no_other, otherwise_do}
+use Rattle.ep_typed.specs.Trees.{Actual, Evaluated, Accessed, Item, Plain, Wide, Stmt, Stmts, Empty, Compound, Assign, If, While, Repeat, Procedure, Halt, Write, none, next, Case, Arms, no_arm, next_arm, Other, no_other, otherwise_do}
 use Rattle.ep_typed.specs.Viewed.{denoter_of}
 use Rattle.ep_typed.specs.declared.operations.Print.{Print}
 use Rattle.ep_typed.specs.declared.operations.Print.TheVariants as print
@@ -16,6 +16,9 @@ use Rattle.ep_typed.specs.declared.run_error.TheConstants as run_error
 use Rattle.ep_typed.specs.declared.tree.CaseRange.{CaseRange}
 use Rattle.ep_typed.specs.declared.tree.StandardFile.TheVariants as file
 use Rattle.ep_typed.specs.declared.unit.UnitType.{UnitType}
+use Rattle.ep_typed.specs.declared.interface.Formal.{Formal}
+use Rattle.ep_typed.specs.declared.interface.FormalMode.{FormalMode}
+use Rattle.ep_typed.specs.declared.interface.FormalMode.TheVariants as mode
 use Rattle.ep_typed.specs.declared.unit.UnitVariable.{UnitVariable}
 use Rattle.ep_object.specs.declared.op.TheConstants as op
 use Rattle.ep_gen_unit.specs.declared.items.TheConstants as constant
@@ -74,6 +77,16 @@ module _ (texts : List (List ℕ)) (references : List Reference) where
   AreItemsCode line at [] true is = is ≡ line_end_code line
   AreItemsCode line at (i ∷ items) ends_line is = (xs ys : List Instr) × IsItemCode line at i xs × AreItemsCode line (at + length xs) items ends_line ys × (is ≡ xs ++ ys)
 
+  -- the code of an actual parameter, which has this line and begins at this place
+  abbrev pub IsActualCode : ℕ → ℕ → Actual → List Instr → Type 0
+  IsActualCode line at (Evaluated x) is = IsExprCode texts references line at x is
+  IsActualCode line at (Accessed p) is = IsPlaceCode references line p is
+
+  -- that of actual parameters, one after another
+  abbrev pub AreActualsCode : ℕ → ℕ → List Actual → List Instr → Type 0
+  AreActualsCode line at [] is = is ≡ []
+  AreActualsCode line at (a ∷ more) is = (xs ys : List Instr) × IsActualCode line at a xs × AreActualsCode line (at + length xs) more ys × (is ≡ xs ++ ys)
+
   abbrev mutual
     -- the code of a statement that begins at this place
     pub IsStmtCode : ℕ → Stmt → List Instr → Type 0
@@ -89,8 +102,9 @@ module _ (texts : List (List ℕ)) (references : List Reference) where
     IsStmtCode at (Repeat line ss x) is =
         (ys xs : List Instr) × AreStmtsCode at ss ys × IsExprCode texts references line (at + length ys) x xs × (is ≡ ys ++ (xs ++ instr op.JUMP_FALSE (pos at) 0 line ∷ []))
     -- The jump to what comes next has the tick for the step that the statement spends when the call is done.
-    IsStmtCode at (Procedure line unit number) is =
-        (k : ℕ) × (slice_get references k ≡ Some (reference unit number)) × (is ≡ instr op.CALL (pos k) 0 line ∷ instr op.JUMP (pos (at + 2)) 0 line ∷ [])
+    IsStmtCode at (Procedure line unit number given) is =
+        (xs : List Instr) × (k : ℕ) × AreActualsCode line at given xs × (slice_get references k ≡ Some (reference unit number))
+        × (is ≡ xs ++ instr op.CALL (pos k) 0 line ∷ instr op.JUMP (pos (at + length xs + 2)) 0 line ∷ [])
     IsStmtCode at (Case line x arms o) is =
         (xs ys zs : List Instr) × IsExprCode texts references line at x xs × AreArmsCode line (at + length xs + 1) (at + length xs + 2) arms ys × IsOtherCode line (at + length xs + 2 + length ys) o zs
         × (is ≡ xs ++ instr op.JUMP (pos (at + length xs + 2)) 0 line ∷ instr op.JUMP (pos (at + length xs + 2 + length ys + length zs)) 0 line ∷ (ys ++ zs))
@@ -131,6 +145,26 @@ make_code types number v = elaborating_code v.line (type_of types (denoter_of v.
 abbrev pub make_all_code : List UnitType → ℕ → List UnitVariable → List Instr
 make_all_code types number [] = []
 make_all_code types number (v ∷ vs) = make_code types number v ++ make_all_code types (suc number) vs
+
+abbrev pub value_code : List UnitType → ℕ → ℕ → Formal → List Instr
+value_code types line number f =
+    elaborating_code line (type_of types (denoter_of f.denoter)) ++ instr op.MAKE (pos number) 0 line ∷ instr op.SLOT (pos number) 0 line ∷ instr op.ARG (pos number) 0 line ∷ bare line op.STORE ∷ []
+
+abbrev pub place_taken : ℕ → ℕ → List Instr
+place_taken line number = instr op.ARG (pos number) 0 line ∷ instr op.BIND (pos number) 0 line ∷ []
+
+-- The code by which a formal parameter of a unit with these types takes its argument, as the variable of this number of a
+-- routine that is declared on this line: a value is stored in a variable that is made, and a place goes into the slot.
+abbrev pub take_code : List UnitType → ℕ → ℕ → FormalMode → Formal → List Instr
+take_code types line number mode.Value f = value_code types line number f
+take_code types line number mode.ProtectedValue f = value_code types line number f
+take_code types line number mode.Variable f = place_taken line number
+take_code types line number mode.ProtectedVariable f = place_taken line number
+
+-- formal parameters, from this number on
+abbrev pub take_all_code : List UnitType → ℕ → ℕ → List Formal → List Instr
+take_all_code types line number [] = []
+take_all_code types line number (f ∷ fs) = take_code types line number f.mode f ++ take_all_code types line (suc number) fs
 
 -- the end of a routine, which no statement asks for
 abbrev pub return_code : Instr

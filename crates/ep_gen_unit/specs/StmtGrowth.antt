@@ -4,8 +4,8 @@ use Rattle.ep_gen_expr.specs.ExprCode.{IsExprCode, instr}
 use Rattle.ep_gen_expr.specs.Growth.{TableGrows, Grows, IsTable, AreDistinct}
 use Rattle.ep_gen_expr.specs.Jumps.{landed}
 use Rattle.ep_gen_expr.specs.declared.code.Code.{Code}
-use Rattle.ep_gen_unit.specs.StmtCode.{IsItemCode, AreItemsCode, IsStmtCode, AreStmtsCode, make_all_code, return_code, AreArmsCode, IsOtherCode, tests_code}
-use Rattle.ep_gen_unit.specs.UnitCode.{AreRoutinesCode, own_code, routine_at}
+use Rattle.ep_gen_unit.specs.StmtCode.{IsActualCode, AreActualsCode, IsItemCode, AreItemsCode, IsStmtCode, AreStmtsCode, make_all_code, return_code, AreArmsCode, IsOtherCode, tests_code}
+use Rattle.ep_gen_unit.specs.UnitCode.{AreRoutinesCode, own_code, entry_of}
 use Rattle.ep_object.specs.declared.code.CodeRoutine.{CodeRoutine}
 use Rattle.ep_object.specs.declared.code.Instr.{Instr}
 use Rattle.ep_object.specs.declared.code.Object.{Object}
@@ -16,7 +16,7 @@ use Rattle.ep_typed.specs.declared.unit.Unit.{Unit as TypedUnit}
 use Rattle.ep_typed.specs.declared.unit.UnitRoutine.{UnitRoutine}
 use Rattle.ep_typed.specs.declared.unit.UnitRoutine.TheViews.{out-UnitRoutine}
 use Rattle.ep_typed.specs.declared.unit.UnitType.{UnitType}
-use Rattle.ep_typed.specs.Trees.{Item, Stmt, Stmts, Expr, Arms, Other}
+use Rattle.ep_typed.specs.Trees.{Actual, Item, Stmt, Stmts, Expr, Arms, Other}
 use Rattle.ep_typed.specs.declared.tree.CaseRange.{CaseRange}
 
 -- these instructions are appended, the line is any, and all else is as before but for new items of the two tables
@@ -36,6 +36,18 @@ pub record AppendsItem (old new : Code) (i : Item) : Type 0 where
 pub record AppendsItems (old new : Code) (items : List Item) (ends_line : Bool) : Type 0 where
   pub code : List Instr
   pub is_code : AreItemsCode new.texts new.references old.line (length old.instructions) items ends_line code
+  pub grows : Grows old new code
+
+-- the code of the actual parameter is appended
+pub record AppendsActual (old new : Code) (a : Actual) : Type 0 where
+  pub code : List Instr
+  pub is_code : IsActualCode new.texts new.references old.line (length old.instructions) a code
+  pub grows : Grows old new code
+
+-- the code of the actual parameters is appended
+pub record AppendsActuals (old new : Code) (given : List Actual) : Type 0 where
+  pub code : List Instr
+  pub is_code : AreActualsCode new.texts new.references old.line (length old.instructions) given code
   pub grows : Grows old new code
 
 -- the code of the statement is appended, at most 32 instructions for each typed node
@@ -96,7 +108,7 @@ pub record AppendsStart (old new : Code) (u : TypedUnit) (stop_entry : ℕ) : Ty
 
 -- the code of a routine of a unit with these types is appended: what makes its variables, its block, and a `Return`
 pub record AppendsRoutine (old new : Code) (types : List UnitType) (r : UnitRoutine) (x : CodeRoutine) : Type 0 where
-  pub plain : x ≡ routine_at (length old.instructions) (length (out-UnitRoutine r).variables)
+  pub plain : x ≡ entry_of (length old.instructions) r
   pub code : List Instr
   pub is_code : IsStmtCode new.texts new.references (length old.instructions + length (own_code types r)) (stmt_of (out-UnitRoutine r).block) code
   pub follows : Follows old new (own_code types r ++ (code ++ return_code ∷ []))

@@ -1,7 +1,7 @@
 -- Which object is the code of a program: its start makes the variables and runs the block, its stop does nothing, and behind
 -- them stands the code of its routines.
 use Rattle.std.specs.Prelude.{◌≡◌, ℕ, ◌+◌, false, List, [], ◌∷◌, ◌++◌, Some, length, slice_get}
-use Rattle.ep_gen_unit.specs.StmtCode.{IsStmtCode, make_all_code, return_code}
+use Rattle.ep_gen_unit.specs.StmtCode.{IsStmtCode, take_all_code, make_all_code, return_code}
 use Rattle.ep_object.specs.declared.code.CodeRoutine.{CodeRoutine}
 use Rattle.ep_object.specs.declared.code.Instr.{Instr}
 use Rattle.ep_object.specs.declared.code.Object.{Object}
@@ -12,9 +12,13 @@ use Rattle.ep_typed.specs.declared.unit.UnitRoutine.{UnitRoutine}
 use Rattle.ep_typed.specs.declared.unit.UnitRoutine.TheViews.{out-UnitRoutine}
 use Rattle.ep_typed.specs.declared.unit.UnitType.{UnitType}
 
--- a routine with this entry, without arguments and with so many slots of its own
-abbrev pub routine_at : ℕ → ℕ → CodeRoutine
-routine_at entry slots = record { entry = entry; arguments = 0; slots = slots }
+-- a routine with this entry, and with so many arguments and slots of its own
+abbrev pub routine_at : ℕ → ℕ → ℕ → CodeRoutine
+routine_at entry arguments slots = record { entry = entry; arguments = arguments; slots = slots }
+
+-- the entry of one that takes none and has none
+abbrev pub plain_at : ℕ → CodeRoutine
+plain_at entry = routine_at entry 0 0
 
 -- these instructions stand in the code from this place on
 pub record StandsIn (instructions : List Instr) (place : ℕ) (code : List Instr) : Type 0 where
@@ -23,15 +27,22 @@ pub record StandsIn (instructions : List Instr) (place : ℕ) (code : List Instr
   pub is : instructions ≡ before ++ (code ++ after)
   pub from : length before ≡ place
 
--- the code that makes the variables of a routine of a unit with these types
+-- the code with which a routine of a unit with these types begins: its formal parameters take the arguments, and its
+-- variables are made
 abbrev pub own_code : List UnitType → UnitRoutine → List Instr
-own_code types r = make_all_code types 0 (out-UnitRoutine r).variables
+own_code types r =
+    let parts = out-UnitRoutine r in
+    take_all_code types parts.line 0 parts.formals ++ make_all_code types (length parts.formals) parts.variables
 
--- A routine of a unit with these types has a slot for each of its variables. At its entry stands the code that makes them,
--- and behind that the one of its block, and a `Return`.
+-- the entry of a routine, with an argument for each formal parameter and a slot for each variable
+abbrev pub entry_of : ℕ → UnitRoutine → CodeRoutine
+entry_of entry r = let parts = out-UnitRoutine r in routine_at entry (length parts.formals) (length parts.formals + length parts.variables)
+
+-- At the entry of a routine of a unit with these types stands the code with which it begins, and behind that the one of its
+-- block, and a `Return`.
 pub record IsRoutineCode (texts : List (List ℕ)) (references : List Reference) (instructions : List Instr)
     (types : List UnitType) (r : UnitRoutine) (x : CodeRoutine) : Type 0 where
-  pub plain : x ≡ routine_at x.entry (length (out-UnitRoutine r).variables)
+  pub plain : x ≡ entry_of x.entry r
   pub code : List Instr
   pub is_code : IsStmtCode texts references (x.entry + length (own_code types r)) (stmt_of (out-UnitRoutine r).block) code
   pub stands : StandsIn instructions x.entry (own_code types r ++ (code ++ return_code ∷ []))
@@ -53,7 +64,7 @@ pub record IsProgramCode (u : TypedUnit) (o : Object) : Type 0 where
   pub instructions : o.instructions ≡ make_all_code u.types 0 u.variables ++ (code ++ return_code ∷ return_code ∷ others)
   pub entries : List CodeRoutine
   pub blocks : AreRoutinesCode o.texts o.references o.instructions u.types u.routines entries
-  pub routines : o.routines ≡ entries ++ routine_at 0 0 ∷ routine_at (length (make_all_code u.types 0 u.variables) + length code + 1) 0 ∷ []
+  pub routines : o.routines ≡ entries ++ plain_at 0 ∷ plain_at (length (make_all_code u.types 0 u.variables) + length code + 1) ∷ []
   pub start : o.start ≡ length u.routines
   pub stop : o.stop ≡ length u.routines + 1
   pub unit_slots : o.unit_slots ≡ length u.variables

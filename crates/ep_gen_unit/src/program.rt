@@ -3,16 +3,16 @@
 ghost use Rattle.std.specs.Prelude.{◌≡◌, ◌+◌, ◌<◌, ◌^◌, OnOk, IfOk};
 ghost use Rattle.ep_typed.specs.declared.value.TypeValue.TheVariants.{Ordinal};
 ghost use Rattle.ep_gen_expr.specs.Growth.{Grows};
-ghost use Rattle.ep_gen_unit.specs.StmtCode.{type_code, elaborating_code, make_code, make_all_code};
+ghost use Rattle.ep_gen_unit.specs.StmtCode.{type_code, elaborating_code, make_code, make_all_code, value_code, place_taken, take_code, take_all_code};
 ghost use Rattle.ep_gen_unit.specs.StmtGrowth.{AppendsStart, AppendsRoutine, AppendsRoutines, Follows, IsCompact, assembled};
 ghost use Rattle.ep_gen_unit.specs.UnitCode.{IsProgramCode, routine_at};
 
 use crate::statements::statement_code;
-use ep_base::{List, Name, NoMemory};
+use ep_base::{Line, List, Name, NoMemory};
 use ep_gen_expr::{Code, NO_LINE, emit, field_number, next_place};
 use ep_object::{CodeRoutine, CodeRoutines, Object, op};
-use ep_typed::{TypeValue, Unit, UnitRoutine, UnitType, UnitVariable, type_of};
-use std::alloc::Global;
+use ep_typed::{Formal, FormalMode, TypeValue, Unit, UnitRoutine, UnitType, UnitVariable, type_of};
+use std::alloc::{AllocError, Global};
 
 /// The object of a program. Its first routines are those of the program, by their numbers; the one after them makes
 /// the variables and runs the block, and the last one does nothing. Where memory is wanting, or the code or a table would reach 2 ^ 32 - 1 entries, the program is refused.
@@ -28,8 +28,8 @@ pub fn program_code(alloc: Global, u: &Unit) -> Result<Object, NoMemory>
     // A place of the code has to fit a field of an instruction.
     next_place(&code)?;
     let start = field_number(routines.items().len())?;
-    routines.push(routine_at(0, 0))?;
-    routines.push(routine_at(stop_entry, 0))?;
+    routines.push(routine_at(0, 0, 0))?;
+    routines.push(routine_at(stop_entry, 0, 0))?;
     Ok(assemble(alloc, name, code, routines, start, unit_slots))
 }
 
@@ -37,7 +37,7 @@ pub fn program_code(alloc: Global, u: &Unit) -> Result<Object, NoMemory>
 fn start_code(alloc: Global, u: &Unit, code: &mut Code) -> Result<u32, NoMemory>
     ensures { IfOk result (λ k. AppendsStart code.old code.new u.now k) }
 {
-    make_all(u.types.items(), u.variables.items(), code)?;
+    make_all(u.types.items(), 0, u.variables.items(), code)?;
     statement_code(alloc, &u.start, code)?;
     code.line = NO_LINE;
     emit(code, op::RETURN, 0, 0)?;
@@ -46,13 +46,13 @@ fn start_code(alloc: Global, u: &Unit, code: &mut Code) -> Result<u32, NoMemory>
     Ok(stop_entry)
 }
 
-/// A routine with this entry and so many slots, which has no arguments.
-fn routine_at(entry: u32, slots: u32) -> CodeRoutine
-    ensures { result ≡ routine_at entry slots }
+/// A routine with this entry, and with so many arguments and slots.
+fn routine_at(entry: u32, arguments: u32, slots: u32) -> CodeRoutine
+    ensures { result ≡ routine_at entry arguments slots }
 {
     CodeRoutine {
         entry,
-        arguments: 0,
+        arguments,
         slots,
     }
 }
@@ -83,14 +83,17 @@ fn routine_code(
 ) -> Result<CodeRoutine, NoMemory>
     ensures { IfOk result (λ entry. AppendsRoutine code.old code.new types.now routine.now entry) }
 {
+    let formals = routine.formals.items();
     let variables = routine.variables.items();
-    let slots = field_number(variables.len())?;
+    let arguments = field_number(formals.len())?;
+    let slots = field_sum(formals.len(), variables.len())?;
     let entry = next_place(code)?;
-    make_all(types, variables, code)?;
+    take_all(types, routine.line, formals, code)?;
+    make_all(types, formals.len(), variables, code)?;
     statement_code(alloc, &routine.block, code)?;
     code.line = NO_LINE;
     emit(code, op::RETURN, 0, 0)?;
-    Ok(routine_at(entry, slots))
+    Ok(routine_at(entry, arguments, slots))
 }
 
 /// The object of the code.
@@ -121,15 +124,88 @@ fn assemble(
     }
 }
 
-/// Appends the code that makes the variables of a unit with these types, or of a routine of it, in order.
-fn make_all(types: &[UnitType], variables: &[UnitVariable], code: &mut Code) -> Result<(), NoMemory>
-    ensures { OnOk result (Follows code.old code.new (make_all_code types.now 0 variables.now)) }
+/// The sum of two numbers, as a number of a field.
+fn field_sum(first: usize, second: usize) -> Result<u32, NoMemory>
+    ensures { IfOk result (λ sum. sum ≡ first + second) }
+{
+    match first.checked_add(second) {
+        None => Err(AllocError),
+        Some(sum) => field_number(sum),
+    }
+}
+
+/// Appends the code that makes the variables of a unit with these types, or of a routine of it, in order and from this
+/// number on.
+fn make_all(
+    types: &[UnitType],
+    first: usize,
+    variables: &[UnitVariable],
+    code: &mut Code,
+) -> Result<(), NoMemory>
+    ensures { OnOk result (Follows code.old code.new (make_all_code types.now first variables.now)) }
 {
     for (number, variable) in variables.iter().enumerate() {
-        let slot = field_number(number)?;
+        let slot = field_sum(first, number)?;
         make_variable(types, variable, slot, code)?;
     }
     Ok(())
+}
+
+/// Appends the code by which the formal parameters of a routine take their arguments, in order. The routine is of a unit
+/// with these types, and is declared on this line.
+fn take_all(
+    types: &[UnitType],
+    line: Line,
+    formals: &[Formal],
+    code: &mut Code,
+) -> Result<(), NoMemory>
+    ensures { OnOk result (Follows code.old code.new (take_all_code types.now line 0 formals.now)) }
+{
+    code.line = line;
+    for (number, formal) in formals.iter().enumerate() {
+        let slot = field_number(number)?;
+        take_argument(types, formal, slot, code)?;
+    }
+    Ok(())
+}
+
+/// Appends the code by which a formal parameter takes its argument, on the line that is set.
+fn take_argument(
+    types: &[UnitType],
+    formal: &Formal,
+    slot: u32,
+    code: &mut Code,
+) -> Result<(), NoMemory>
+    ensures { OnOk result (Grows code.old code.new (take_code types.now code.old.line slot formal.now.mode formal.now)) }
+{
+    match formal.mode {
+        FormalMode::Value | FormalMode::ProtectedValue => take_value(types, formal, slot, code),
+        FormalMode::Variable | FormalMode::ProtectedVariable => take_place(slot, code),
+    }
+}
+
+/// Appends the code by which a value parameter takes its argument.
+fn take_value(
+    types: &[UnitType],
+    formal: &Formal,
+    slot: u32,
+    code: &mut Code,
+) -> Result<(), NoMemory>
+    ensures { OnOk result (Grows code.old code.new (value_code types.now code.old.line slot formal.now)) }
+{
+    elaborate(type_of(types, &formal.denoter), code)?;
+    emit(code, op::MAKE, slot as i64, 0)?;
+    emit(code, op::SLOT, slot as i64, 0)?;
+    emit(code, op::ARG, slot as i64, 0)?;
+    emit(code, op::STORE, 0, 0)
+}
+
+/// Appends the code by which a variable parameter takes its argument.
+fn take_place(slot: u32, code: &mut Code) -> Result<(), NoMemory>
+    ensures { OnOk result (Grows code.old code.new (place_taken code.old.line slot)) }
+{
+    emit(code, op::ARG, slot as i64, 0)?;
+    emit(code, op::BIND, slot as i64, 0)
 }
 
 /// Appends the code that makes a variable in a slot.

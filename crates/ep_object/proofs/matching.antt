@@ -1,3 +1,4 @@
+pub mod Awaiting
 pub mod Beginning
 pub mod Changes
 pub mod Counts

@@ -1,3 +1,4 @@
+pub mod ArgumentRows
 pub mod Answers
 pub mod ChangeRows
 pub mod FrameRows

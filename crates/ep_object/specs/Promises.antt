@@ -1,8 +1,16 @@
 -- What a routine promises to the code that calls it, whoever made either. It is said over the `Call` instruction, from
 -- before it to after the instruction that leaves the routine, whose tick may have an effect as any other.
-use Rattle.std.specs.Prelude.{◌≡◌, ℕ, ℤ, pos, ◌+◌, ◌≤◌, ◌⊎◌, IsTrue, List, [], ◌∷◌, Some, slice_get}
+use Rattle.std.specs.Prelude.{◌≡◌, ℕ, ℤ, pos, ◌+◌, ◌≤◌, ◌⊎◌, IsTrue, List, [], ◌∷◌, Some, slice_get, ⊤}
+use Rattle.ep_typed.specs.Denoters.{type_of, host_of}
+use Rattle.ep_typed.specs.Hosts.{Host}
+use Rattle.ep_typed.specs.Viewed.{denoter_of}
+use Rattle.ep_typed.specs.declared.interface.Formal.{Formal}
+use Rattle.ep_typed.specs.declared.interface.FormalMode.{FormalMode}
+use Rattle.ep_typed.specs.declared.interface.FormalMode.TheVariants as mode
+use Rattle.ep_typed.specs.declared.unit.UnitType.{UnitType}
+use Rattle.ep_typed.specs.declared.value.TypeValue.{TypeValue}
 use Rattle.ep_object.specs.Follows.{end_of, Operands, point, state_at, operand_of, Fragment, Since, Lands, Inside, GivesUp}
-use Rattle.ep_object.specs.Matching.{Memory, Injection, Matches, IsPlaceOf, kept_slots}
+use Rattle.ep_object.specs.Matching.{Memory, Injection, Matches, IsPlaceOf, Describes, kept_slots}
 use Rattle.ep_object.specs.Operands.{Operand, Place}
 use Rattle.ep_object.specs.Runs.{run, unit_in}
 use Rattle.ep_object.specs.Simulates.{KeepPace, StaysIn, EndsAfter, StaysAfter}
@@ -22,10 +30,25 @@ use Rattle.ep_typed.specs.Valid as kind
 use Rattle.ep_typed.specs.Valid.{Declarations, Kind, IsProcedure}
 use Rattle.ep_typed.specs.declared.interface.RoutineEntry.{RoutineEntry}
 
--- how a formal takes its argument: a value of a kind, or a variable
+-- how a formal parameter takes its argument: a value of a kind, or a variable of a type
 pub data Passing : Type 0 where
   ByValue : (kind : Kind) → Passing
-  ByReference : Passing
+  ByReference : (type : TypeValue) → Passing
+
+-- this formal parameter of a unit with these types does so
+abbrev pub IsPassed : List UnitType → FormalMode → Formal → Passing → Type 0
+IsPassed types mode.Value f (ByValue k) = (h : Host) × (host_of types (denoter_of f.denoter) ≡ Some h) × (k ≡ kind.Ordinal h)
+IsPassed types mode.ProtectedValue f (ByValue k) = (h : Host) × (host_of types (denoter_of f.denoter) ≡ Some h) × (k ≡ kind.Ordinal h)
+IsPassed types mode.Variable f (ByReference t) = type_of types (denoter_of f.denoter) ≡ Some t
+IsPassed types mode.ProtectedVariable f (ByReference t) = type_of types (denoter_of f.denoter) ≡ Some t
+IsPassed types mode f p = ⊥
+
+-- one for each, in order
+abbrev pub ArePassed : List UnitType → List Formal → List Passing → Type 0
+ArePassed types [] [] = ⊤
+ArePassed types [] (p ∷ ps) = ⊥
+ArePassed types (f ∷ fs) [] = ⊥
+ArePassed types (f ∷ fs) (p ∷ ps) = IsPassed types f.mode f p × ArePassed types fs ps
 
 -- a result is one of the kind
 abbrev pub IsOfKind : Kind → Result → Type 0
@@ -36,9 +59,9 @@ IsOfKind kind.Bytes r = (bytes : List ℕ) × (r ≡ Bytes bytes)
 abbrev pub IsArgument : Injection → Memory → Passing → Argument → Operand → Type 0
 IsArgument injection memory (ByValue k) (Value r) o = IsOfKind k r × (o ≡ operand_of r)
 IsArgument injection memory (ByValue k) (Variable n) o = ⊥
-IsArgument injection memory ByReference (Value r) o = ⊥
-IsArgument injection memory ByReference (Variable n) o =
-    (p : PlaceOf) × (o ≡ Place p) × IsPlaceOf injection memory.segments n p
+IsArgument injection memory (ByReference t) (Value r) o = ⊥
+IsArgument injection memory (ByReference t) (Variable n) o =
+    (p : PlaceOf) × (o ≡ Place p) × IsPlaceOf injection memory.segments n p × Describes memory.types p.type_number t
 
 -- the operands are those of the arguments, one for each formal and the first lowest, on the ones below
 abbrev pub AreArguments : Injection → Memory → List Passing → List Argument → List Operand → List Operand
@@ -85,17 +108,19 @@ pub record Promises (declared : Declarations) (G : Image) (routine n : ℕ) (for
       (λ rs. Inside (kept_slots declared G) injection memory (ResultsOnTop results below rs)) 0 (λ rs. 0)
 
 -- A routine of a unit has a number in the image, by which a call that names it is placed, and keeps its promise for what
--- these calls do. So far it has no parameters and no result.
+-- these calls do. So far it has no result.
 pub record RoutineKeeps (declared : Declarations) (G : Image) (ps : List Placement) (call : Handler) (n : ℕ)
-    (unit : List ℕ) (number : ℕ) : Type 0 where
+    (unit : List ℕ) (number : ℕ) (r : RoutineEntry) : Type 0 where
   pub routine : ℕ
+  pub formals : List Passing
+  pub passed : ArePassed (declared.types unit) r.formals formals
   pub placed : (i : Instr) → placed_call ps (Some (record { unit = unit; number = number })) i ≡ record i { a = pos routine }
-  pub promise : Promises declared G routine n [] [] (λ from line arguments. call from line unit number arguments)
+  pub promise : Promises declared G routine n formals [] (λ from line arguments. call from line unit number arguments)
 
 -- every procedure that is declared does so
 abbrev pub CallsAreKept : Declarations → Image → List Placement → Handler → ℕ → Type 0
 CallsAreKept declared G ps call n = (unit : List ℕ) (number : ℕ) (r : RoutineEntry)
-    → slice_get (declared.routines unit) number ≡ Some r → IsProcedure r → RoutineKeeps declared G ps call n unit number
+    → slice_get (declared.routines unit) number ≡ Some r → IsProcedure r → RoutineKeeps declared G ps call n unit number r
 
 -- ---- what this says of runs from a call
 

@@ -2,15 +2,19 @@
 use Rattle.std.proofs.Common.{◌≡◌, ℕ, ℤ, pos, negsuc, zero, suc, ◌+◌, List, [], ◌∷◌, Option, Some, None, Bool, true, false, length, refl, ap, arith}
 use Rattle.std.specs.Prelude.{if◌then◌else◌}
 use Rattle.ep_typed.specs.Denoters.{type_of}
-use Rattle.ep_typed.specs.Meaning.{answered, place, eval, write_piece, write_wide, write_item, write_items, assign, turns, turns_until, exec, exec_all, elaborated, make, make_all, make_own, make_all_own, start_of, starts_of, Found, routine_in, runs_routine, routine_does, routine_of, read, assign_living, tried, exec_arms, exec_other}
+use Rattle.ep_typed.specs.Meaning.{argument, arguments, initialized, takes_by, takes_all, elaborate, answered, place, eval, write_piece, write_wide, write_item, write_items, assign, turns, turns_until, exec, exec_all, elaborated, make, make_all, make_own, make_all_own, start_of, starts_of, Found, routine_in, runs_routine, routine_does, routine_of, read, assign_living, tried, exec_arms, exec_other}
 use Rattle.ep_typed.specs.Operations.{Answer, Number, Fault, is_true, decides, is_in}
 use Rattle.ep_typed.specs.Printing.{Result, number_of, plain_text, wide_text, piece_events}
 use Rattle.ep_typed.specs.Printing as result
-use Rattle.ep_typed.specs.Calls.{Argument, Handler, entered, given_back, in_call}
+use Rattle.ep_typed.specs.Calls.{Argument, Value, Handler, entered, given_back, in_call}
+use Rattle.ep_typed.specs.Calls as argument_is
 use Rattle.ep_typed.specs.Steady.{Grows, Steady, IsSteadyHandler}
-use Rattle.ep_typed.specs.Steps.{Call, End, Normal, Halted, Error, Word, State, Outcome, Gives, Ends, Cut, state_of, Computation, give, cut, stop, go_on, bind, spend, change, found, fetch, assigned, type_at, is_within, size_of, with_type, counted, made, made_own, allocate, allocate_own, standard_file, first_state, using, has_ended}
-use Rattle.ep_typed.specs.Trees.{Place, Variable, Own, Standard, Expr, Constant, Text, Read, One, Two, Short, Step, Item, Plain, Wide, Stmt, Stmts, Empty, Compound, Assign, If, While, Repeat, Procedure, Halt, Write, none, next, Case, Arms, no_arm, next_arm, Other, no_other, otherwise_do}
+use Rattle.ep_typed.specs.Steps.{Call, End, Normal, Halted, Error, Word, State, Outcome, Gives, Ends, Cut, state_of, Computation, give, cut, stop, go_on, bind, spend, change, found, fetch, assigned, type_at, is_within, size_of, with_type, counted, made, made_own, allocate, allocate_own, newest_assigned, with_own_bound, standard_file, first_state, using, has_ended}
+use Rattle.ep_typed.specs.Trees.{Place, Variable, Own, Standard, Expr, Constant, Text, Read, One, Two, Short, Step, Actual, Evaluated, Accessed, Item, Plain, Wide, Stmt, Stmts, Empty, Compound, Assign, If, While, Repeat, Procedure, Halt, Write, none, next, Case, Arms, no_arm, next_arm, Other, no_other, otherwise_do}
 use Rattle.ep_typed.specs.Viewed.{denoter_of, stmt_of}
+use Rattle.ep_typed.specs.declared.interface.Formal.{Formal}
+use Rattle.ep_typed.specs.declared.interface.FormalMode.{FormalMode}
+use Rattle.ep_typed.specs.declared.interface.FormalMode.TheVariants as mode
 use Rattle.ep_typed.specs.declared.operations.Print.{Print}
 use Rattle.ep_typed.specs.declared.unit.Unit.{Unit as TypedUnit}
 use Rattle.ep_typed.specs.declared.unit.UnitRoutine.TheViews.{out-UnitRoutine}
@@ -161,6 +165,15 @@ module _ (call other : Handler) (lasts : IsLastingHandler call other) (g j : ℕ
   lasting_eval line (Step down low high x y) =
       lasting_bind (lasting_eval line x) (λ a. lasting_bind (lasting_eval line y) (λ b. lasting_bind (lasting_answered line _) (λ z. lasting_spend 1 (lasting_give (result.Number z)))))
 
+  -- arguments
+  lasting_argument : (line : ℕ) (a : Actual) → Lasting (argument call g unit line a) (argument other (g + j) unit line a)
+  lasting_argument line (Evaluated x) = lasting_bind (lasting_eval line x) (λ r. lasting_give (Value r))
+  lasting_argument line (Accessed p) = lasting_bind (lasting_place line p) (λ n. lasting_give (argument_is.Variable n))
+
+  lasting_arguments : (line : ℕ) (given : List Actual) → Lasting (arguments call g unit line given) (arguments other (g + j) unit line given)
+  lasting_arguments line [] = lasting_give []
+  lasting_arguments line (a ∷ more) = lasting_bind (lasting_argument line a) (λ x. lasting_bind (lasting_arguments line more) (λ xs. lasting_give (x ∷ xs)))
+
   -- one piece that is written
   lasting_write_piece : (bytes : List ℕ) → Lasting (write_piece call g unit bytes) (write_piece other (g + j) unit bytes)
   lasting_write_piece bytes = lasting_spend (suc (length bytes)) (lasting_change (grows_events (piece_events bytes)))
@@ -208,7 +221,8 @@ module _ (call other : Handler) (lasts : IsLastingHandler call other) (g j : ℕ
         lasting_bind (lasting_eval line x) (λ r. lasting_if (is_true (number_of r)) (lasting_bind (lasting_exec a) (λ _. lasting_spend 1 (lasting_give tt))) (lasting_bind (lasting_exec b) (λ _. lasting_spend 1 (lasting_give tt))))
     lasting_exec (While line x s) = lasting_turns call other g (g + j) g j unit (lasting_eval line x) (lasting_exec s)
     lasting_exec (Repeat line ss x) = lasting_turns_until call other g (g + j) g j unit (lasting_exec_all ss) (lasting_eval line x)
-    lasting_exec (Procedure line of_unit number) = lasting_bind (lasts.by unit line of_unit number []) (λ results. lasting_spend 1 (lasting_give tt))
+    lasting_exec (Procedure line of_unit number given) =
+        lasting_bind (lasting_arguments line given) (λ xs. lasting_bind (lasts.by unit line of_unit number xs) (λ results. lasting_spend 1 (lasting_give tt)))
     lasting_exec (Case line x arms o) = lasting_bind (lasting_eval line x) (λ r. lasting_exec_arms (number_of r) arms (lasting_exec_other line o))
     lasting_exec (Halt line) = lasting_stop Halted
     lasting_exec (Write line items ends_line) = lasting_write_items line items ends_line
@@ -281,16 +295,48 @@ lasting_in_call {A = A} x {c = c} {d = d} p = record { steady = steady_in_call x
     go k s (Ends left e t) r is = ap (given_back s) is
     go k s (Cut t) r is = after s t r is
 
--- a routine
-lasting_runs_routine : (call other : Handler) → IsLastingHandler call other → (g j : ℕ) (unit : List ℕ) (f : Found) → Lasting (runs_routine call g unit f) (runs_routine other (g + j) unit f)
-lasting_runs_routine call other lasts g j unit f =
-    lasting_bind (lasting_make_all_own call other lasts g j unit f.types 0 (out-UnitRoutine f.routine).variables) (λ _. lasting_exec call other lasts g j unit (stmt_of (out-UnitRoutine f.routine).block))
+-- the first value of a variable
+lasting_initialized : (unit : List ℕ) (line : ℕ) (t : TypeValue) (z : ℤ) → Lasting (initialized unit line t z) (initialized unit line t z)
+lasting_initialized unit line t z = lasting_if (is_within t z) (lasting_change (λ s. grows_quiet s (newest_assigned (Word z) s) refl refl)) (lasting_stop (Error run_error.OUTSIDE_TYPE unit line))
 
-lasting_routine_does : (call other : Handler) → IsLastingHandler call other → (g j : ℕ) (from : List ℕ) (line : ℕ) (unit : List ℕ) (o : Option Found)
-    → Lasting (routine_does call g from line unit o) (routine_does other (g + j) from line unit o)
-lasting_routine_does call other lasts g j from line unit None = lasting_cut
-lasting_routine_does call other lasts g j from line unit (Some f) =
-    lasting_in_call _ (lasting_spend 1 (lasting_bind (lasting_runs_routine call other lasts g j unit f) (λ a. lasting_give [])))
+module _ (call other : Handler) (lasts : IsLastingHandler call other) (g j : ℕ) (unit : List ℕ) (types : List UnitType) where
+  -- a formal parameter that takes its argument
+  lasting_takes_value : (line number : ℕ) (f : Formal) (z : ℤ)
+      → Lasting (bind (elaborate call g unit types (denoter_of f.denoter)) (λ t. bind (allocate_own number t) (λ _. initialized unit line t z))) (bind (elaborate other (g + j) unit types (denoter_of f.denoter)) (λ t. bind (allocate_own number t) (λ _. initialized unit line t z)))
+  lasting_takes_value line number f z =
+      lasting_bind (lasting_elaborated call other lasts g j unit (type_of types (denoter_of f.denoter))) (λ t. lasting_bind (lasting_allocate_own call other lasts g j unit number t) (λ _. lasting_initialized unit line t z))
+
+  lasting_takes_variable : (number n : ℕ) → Lasting (spend 1 (change (with_own_bound number n))) (spend 1 (change (with_own_bound number n)))
+  lasting_takes_variable number n = lasting_spend 1 (lasting_change (λ s. grows_quiet s (with_own_bound number n s) refl refl))
+
+  lasting_takes_by : (m : FormalMode) (line number : ℕ) (f : Formal) (x : Argument) → Lasting (takes_by call g unit types m line number f x) (takes_by other (g + j) unit types m line number f x)
+  lasting_takes_by mode.Value line number f (Value r) = lasting_takes_value line number f (number_of r)
+  lasting_takes_by mode.Value line number f (argument_is.Variable n) = lasting_cut
+  lasting_takes_by mode.ProtectedValue line number f (Value r) = lasting_takes_value line number f (number_of r)
+  lasting_takes_by mode.ProtectedValue line number f (argument_is.Variable n) = lasting_cut
+  lasting_takes_by mode.Variable line number f (Value r) = lasting_cut
+  lasting_takes_by mode.Variable line number f (argument_is.Variable n) = lasting_takes_variable number n
+  lasting_takes_by mode.ProtectedVariable line number f (Value r) = lasting_cut
+  lasting_takes_by mode.ProtectedVariable line number f (argument_is.Variable n) = lasting_takes_variable number n
+
+  lasting_takes_all : (line number : ℕ) (fs : List Formal) (xs : List Argument) → Lasting (takes_all call g unit types line number fs xs) (takes_all other (g + j) unit types line number fs xs)
+  lasting_takes_all line number [] [] = lasting_give tt
+  lasting_takes_all line number [] (x ∷ xs) = lasting_cut
+  lasting_takes_all line number (f ∷ fs) [] = lasting_cut
+  lasting_takes_all line number (f ∷ fs) (x ∷ xs) = lasting_bind (lasting_takes_by f.mode line number f x) (λ _. lasting_takes_all line (suc number) fs xs)
+
+-- a routine
+lasting_runs_routine : (call other : Handler) → IsLastingHandler call other → (g j : ℕ) (unit : List ℕ) (f : Found) (xs : List Argument) → Lasting (runs_routine call g unit f xs) (runs_routine other (g + j) unit f xs)
+lasting_runs_routine call other lasts g j unit f xs =
+    let r = out-UnitRoutine f.routine in
+    lasting_bind (lasting_takes_all call other lasts g j unit f.types r.line 0 r.formals xs)
+    (λ _. lasting_bind (lasting_make_all_own call other lasts g j unit f.types (length r.formals) r.variables) (λ _. lasting_exec call other lasts g j unit (stmt_of r.block)))
+
+lasting_routine_does : (call other : Handler) → IsLastingHandler call other → (g j : ℕ) (from : List ℕ) (line : ℕ) (unit : List ℕ) (o : Option Found) (xs : List Argument)
+    → Lasting (routine_does call g from line unit o xs) (routine_does other (g + j) from line unit o xs)
+lasting_routine_does call other lasts g j from line unit None xs = lasting_cut
+lasting_routine_does call other lasts g j from line unit (Some f) xs =
+    lasting_in_call _ (lasting_spend 1 (lasting_bind (lasting_runs_routine call other lasts g j unit f xs) (λ a. lasting_give [])))
 
 -- where calls may nest deeper
 lasting_routine_of : (units : List TypedUnit) (depth more : ℕ) → IsLastingHandler (routine_of units depth) (routine_of units (depth + more))
@@ -306,7 +352,7 @@ lasting_routine_of units (suc depth) more =
     let one : suc depth + more ≡ suc (depth + more) = omega arith in
     rw one (record {
       steady = steady_routine_of units (suc (depth + more));
-      by = λ from line unit number arguments. lasting_routine_does (routine_of units depth) (routine_of units (depth + more)) (lasting_routine_of units depth more) depth more from line unit (routine_in units unit number);
+      by = λ from line unit number arguments. lasting_routine_does (routine_of units depth) (routine_of units (depth + more)) (lasting_routine_of units depth more) depth more from line unit (routine_in units unit number) arguments;
     })
 
 -- The meaning of units with more steps.

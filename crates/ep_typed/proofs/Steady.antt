@@ -5,15 +5,19 @@ use Rattle.std.specs.List.{list_any}
 use Rattle.ep_outside.specs.Known.{IsPrefix}
 use Rattle.ep_typed.specs.Denoters.{type_of}
 use Rattle.ep_typed.specs.Events.{Trace}
-use Rattle.ep_typed.specs.Meaning.{answered, place, eval, write_piece, write_wide, write_item, write_items, assign, turns, turns_until, exec, exec_all, elaborated, make, make_all, make_own, make_all_own, start_of, starts_of, Found, routine_in, runs_routine, routine_does, routine_of, read, assign_living, tried, exec_arms, exec_other}
+use Rattle.ep_typed.specs.Meaning.{argument, arguments, initialized, takes_by, takes_all, elaborate, answered, place, eval, write_piece, write_wide, write_item, write_items, assign, turns, turns_until, exec, exec_all, elaborated, make, make_all, make_own, make_all_own, start_of, starts_of, Found, routine_in, runs_routine, routine_does, routine_of, read, assign_living, tried, exec_arms, exec_other}
 use Rattle.ep_typed.specs.Operations.{Answer, Number, Fault, is_true, decides, is_in}
 use Rattle.ep_typed.specs.Printing.{Result, number_of, plain_text, wide_text, piece_events}
 use Rattle.ep_typed.specs.Printing as result
-use Rattle.ep_typed.specs.Calls.{Handler, entered, given_back, in_call}
+use Rattle.ep_typed.specs.Calls.{Argument, Value, Handler, entered, given_back, in_call}
+use Rattle.ep_typed.specs.Calls as argument_is
 use Rattle.ep_typed.specs.Steady.{Grows, Steady, IsSteadyHandler}
-use Rattle.ep_typed.specs.Steps.{Call, End, Normal, Halted, Error, Word, State, Outcome, Gives, Ends, Cut, state_of, Computation, give, cut, stop, go_on, bind, spend, change, found, fetch, with_events, assigned, type_at, is_within, size_of, same_type, Resources, watched, words_of_type, met, with_type, counted, made, made_own, allocate, allocate_own, standard_file, using, has_ended}
-use Rattle.ep_typed.specs.Trees.{Place, Variable, Own, Standard, Expr, Constant, Text, Read, One, Two, Short, Step, Item, Plain, Wide, Stmt, Stmts, Empty, Compound, Assign, If, While, Repeat, Procedure, Halt, Write, none, next, Case, Arms, no_arm, next_arm, Other, no_other, otherwise_do}
+use Rattle.ep_typed.specs.Steps.{Call, End, Normal, Halted, Error, Word, State, Outcome, Gives, Ends, Cut, state_of, Computation, give, cut, stop, go_on, bind, spend, change, found, fetch, with_events, assigned, type_at, is_within, size_of, same_type, Resources, watched, words_of_type, met, with_type, counted, made, made_own, allocate, allocate_own, newest_assigned, with_own_bound, standard_file, using, has_ended}
+use Rattle.ep_typed.specs.Trees.{Place, Variable, Own, Standard, Expr, Constant, Text, Read, One, Two, Short, Step, Actual, Evaluated, Accessed, Item, Plain, Wide, Stmt, Stmts, Empty, Compound, Assign, If, While, Repeat, Procedure, Halt, Write, none, next, Case, Arms, no_arm, next_arm, Other, no_other, otherwise_do}
 use Rattle.ep_typed.specs.Viewed.{denoter_of, stmt_of}
+use Rattle.ep_typed.specs.declared.interface.Formal.{Formal}
+use Rattle.ep_typed.specs.declared.interface.FormalMode.{FormalMode}
+use Rattle.ep_typed.specs.declared.interface.FormalMode.TheVariants as mode
 use Rattle.ep_typed.specs.declared.operations.Print.{Print}
 use Rattle.ep_typed.specs.declared.tree.CaseRange.{CaseRange}
 use Rattle.ep_typed.specs.declared.value.TypeValue.{TypeValue}
@@ -192,6 +196,15 @@ module _ (call : Handler) (steady : IsSteadyHandler call) (g : ℕ) (unit : List
   steady_eval line (Step down low high x y) =
       steady_bind (steady_eval line x) (λ a. steady_bind (steady_eval line y) (λ b. steady_bind (steady_answered line _) (λ z. steady_spend 1 (steady_give (result.Number z)))))
 
+  -- arguments
+  steady_argument : (line : ℕ) (a : Actual) → Steady (argument call g unit line a)
+  steady_argument line (Evaluated x) = steady_bind (steady_eval line x) (λ r. steady_give (Value r))
+  steady_argument line (Accessed p) = steady_bind (steady_place line p) (λ n. steady_give (argument_is.Variable n))
+
+  pub steady_arguments : (line : ℕ) (given : List Actual) → Steady (arguments call g unit line given)
+  steady_arguments line [] = steady_give []
+  steady_arguments line (a ∷ more) = steady_bind (steady_argument line a) (λ x. steady_bind (steady_arguments line more) (λ xs. steady_give (x ∷ xs)))
+
   -- one piece that is written
   pub steady_write_piece : (bytes : List ℕ) → Steady (write_piece call g unit bytes)
   steady_write_piece bytes = steady_spend (suc (length bytes)) (steady_change (grows_events (piece_events bytes)))
@@ -239,7 +252,8 @@ module _ (call : Handler) (steady : IsSteadyHandler call) (g : ℕ) (unit : List
         steady_bind (steady_eval line x) (λ r. steady_if (is_true (number_of r)) (steady_bind (steady_exec a) (λ _. steady_spend 1 (steady_give tt))) (steady_bind (steady_exec b) (λ _. steady_spend 1 (steady_give tt))))
     steady_exec (While line x s) = steady_turns call g g unit (steady_eval line x) (steady_exec s)
     steady_exec (Repeat line ss x) = steady_turns_until call g g unit (steady_exec_all ss) (steady_eval line x)
-    steady_exec (Procedure line of_unit number) = steady_bind (steady unit line of_unit number []) (λ results. steady_spend 1 (steady_give tt))
+    steady_exec (Procedure line of_unit number given) =
+        steady_bind (steady_arguments line given) (λ xs. steady_bind (steady unit line of_unit number xs) (λ results. steady_spend 1 (steady_give tt)))
     steady_exec (Case line x arms o) = steady_bind (steady_eval line x) (λ r. steady_exec_arms (number_of r) arms (steady_exec_other line o))
     steady_exec (Halt line) = steady_stop Halted
     steady_exec (Write line items ends_line) = steady_write_items line items ends_line
@@ -302,19 +316,50 @@ steady_in_call {A = A} x {c = c} g = record { by = λ m s. go m s (c m (entered 
     go m s (Ends left e t) h = h
     go m s (Cut t) h = h
 
--- a routine
-pub steady_runs_routine : (call : Handler) → IsSteadyHandler call → (g : ℕ) (unit : List ℕ) (f : Found) → Steady (runs_routine call g unit f)
-steady_runs_routine call steady g unit f =
-    steady_bind (steady_make_all_own call steady g unit f.types 0 (out-UnitRoutine f.routine).variables) (λ _. steady_exec call steady g unit (stmt_of (out-UnitRoutine f.routine).block))
+-- the first value of a variable
+pub steady_initialized : (unit : List ℕ) (line : ℕ) (t : TypeValue) (z : ℤ) → Steady (initialized unit line t z)
+steady_initialized unit line t z = steady_if (is_within t z) (steady_change (λ s. grows_quiet s (newest_assigned (Word z) s) refl refl)) (steady_stop (Error run_error.OUTSIDE_TYPE unit line))
 
-steady_routine_does : (call : Handler) → IsSteadyHandler call → (g : ℕ) (from : List ℕ) (line : ℕ) (unit : List ℕ) (o : Option Found)
-    → Steady (routine_does call g from line unit o)
-steady_routine_does call steady g from line unit None = steady_cut
-steady_routine_does call steady g from line unit (Some f) =
-    steady_in_call _ (steady_spend 1 (steady_bind (steady_runs_routine call steady g unit f) (λ a. steady_give [])))
+module _ (call : Handler) (steady : IsSteadyHandler call) (g : ℕ) (unit : List ℕ) (types : List UnitType) where
+  -- a formal parameter that takes its argument
+  steady_takes_value : (line number : ℕ) (f : Formal) (z : ℤ) → Steady (bind (elaborate call g unit types (denoter_of f.denoter)) (λ t. bind (allocate_own number t) (λ _. initialized unit line t z)))
+  steady_takes_value line number f z =
+      steady_bind (steady_elaborated call steady g unit (type_of types (denoter_of f.denoter))) (λ t. steady_bind (steady_allocate_own number t) (λ _. steady_initialized unit line t z))
+
+  steady_takes_variable : (number n : ℕ) → Steady (spend 1 (change (with_own_bound number n)))
+  steady_takes_variable number n = steady_spend 1 (steady_change (λ s. grows_quiet s (with_own_bound number n s) refl refl))
+
+  pub steady_takes_by : (m : FormalMode) (line number : ℕ) (f : Formal) (x : Argument) → Steady (takes_by call g unit types m line number f x)
+  steady_takes_by mode.Value line number f (Value r) = steady_takes_value line number f (number_of r)
+  steady_takes_by mode.Value line number f (argument_is.Variable n) = steady_cut
+  steady_takes_by mode.ProtectedValue line number f (Value r) = steady_takes_value line number f (number_of r)
+  steady_takes_by mode.ProtectedValue line number f (argument_is.Variable n) = steady_cut
+  steady_takes_by mode.Variable line number f (Value r) = steady_cut
+  steady_takes_by mode.Variable line number f (argument_is.Variable n) = steady_takes_variable number n
+  steady_takes_by mode.ProtectedVariable line number f (Value r) = steady_cut
+  steady_takes_by mode.ProtectedVariable line number f (argument_is.Variable n) = steady_takes_variable number n
+
+  pub steady_takes_all : (line number : ℕ) (fs : List Formal) (xs : List Argument) → Steady (takes_all call g unit types line number fs xs)
+  steady_takes_all line number [] [] = steady_give tt
+  steady_takes_all line number [] (x ∷ xs) = steady_cut
+  steady_takes_all line number (f ∷ fs) [] = steady_cut
+  steady_takes_all line number (f ∷ fs) (x ∷ xs) = steady_bind (steady_takes_by f.mode line number f x) (λ _. steady_takes_all line (suc number) fs xs)
+
+-- a routine
+pub steady_runs_routine : (call : Handler) → IsSteadyHandler call → (g : ℕ) (unit : List ℕ) (f : Found) (xs : List Argument) → Steady (runs_routine call g unit f xs)
+steady_runs_routine call steady g unit f xs =
+    let r = out-UnitRoutine f.routine in
+    steady_bind (steady_takes_all call steady g unit f.types r.line 0 r.formals xs)
+    (λ _. steady_bind (steady_make_all_own call steady g unit f.types (length r.formals) r.variables) (λ _. steady_exec call steady g unit (stmt_of r.block)))
+
+steady_routine_does : (call : Handler) → IsSteadyHandler call → (g : ℕ) (from : List ℕ) (line : ℕ) (unit : List ℕ) (o : Option Found) (xs : List Argument)
+    → Steady (routine_does call g from line unit o xs)
+steady_routine_does call steady g from line unit None xs = steady_cut
+steady_routine_does call steady g from line unit (Some f) xs =
+    steady_in_call _ (steady_spend 1 (steady_bind (steady_runs_routine call steady g unit f xs) (λ a. steady_give [])))
 
 -- however deep calls nest
 pub steady_routine_of : (units : List TypedUnit) (depth : ℕ) → IsSteadyHandler (routine_of units depth)
 steady_routine_of units zero from line unit number arguments = steady_cut
 steady_routine_of units (suc depth) from line unit number arguments =
-    steady_routine_does (routine_of units depth) (steady_routine_of units depth) depth from line unit (routine_in units unit number)
+    steady_routine_does (routine_of units depth) (steady_routine_of units depth) depth from line unit (routine_in units unit number) arguments

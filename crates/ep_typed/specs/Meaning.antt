@@ -1,14 +1,18 @@
 -- The meaning of typed trees, by recursion on them, in counted steps.
 use Rattle.std.specs.Str.{bytes_eq}
 use Rattle.std.specs.Prelude.{ℕ, ℤ, pos, negsuc, zero, suc, Bool, true, false, List, [], ◌∷◌, length, slice_get, Option, Some, None, if◌then◌else◌}
-use Rattle.ep_typed.specs.Calls.{Handler, in_call}
+use Rattle.ep_typed.specs.Calls.{Argument, Value, Handler, in_call}
+use Rattle.ep_typed.specs.Calls as argument_is
 use Rattle.ep_typed.specs.Denoters.{type_of}
-use Rattle.ep_typed.specs.Trees.{Denoter, Place, Variable, Own, Standard, Expr, Constant, Text, Read, One, Two, Short, Step, Item, Plain, Wide, Stmt, Stmts, Empty, Compound, Assign, If, While, Repeat, Procedure, Halt, Write, none, next, Case, Arms, no_arm, next_arm, Other, no_other, otherwise_do}
+use Rattle.ep_typed.specs.Trees.{Denoter, Place, Variable, Own, Standard, Expr, Constant, Text, Read, One, Two, Short, Step, Actual, Evaluated, Accessed, Item, Plain, Wide, Stmt, Stmts, Empty, Compound, Assign, If, While, Repeat, Procedure, Halt, Write, none, next, Case, Arms, no_arm, next_arm, Other, no_other, otherwise_do}
 use Rattle.ep_typed.specs.Viewed.{denoter_of, stmt_of}
-use Rattle.ep_typed.specs.Steps.{Call, Normal, Halted, Error, Word, Outcome, Computation, give, cut, stop, bind, spend, change, fetch, with_events, word_at, assigned, type_at, is_within, with_type, allocate, allocate_own, own_variable, standard_file, first_state, using}
+use Rattle.ep_typed.specs.Steps.{Call, Normal, Halted, Error, Word, Outcome, Computation, give, cut, stop, bind, spend, change, fetch, with_events, word_at, assigned, type_at, is_within, with_type, allocate, allocate_own, own_variable, newest_assigned, with_own_bound, standard_file, first_state, using}
 use Rattle.ep_typed.specs.Operations.{Answer, Number, Fault, unary_answer, binary_answer, step_answer, is_true, decides, is_in}
 use Rattle.ep_typed.specs.Printing.{Result, Bytes, number_of, line_end, plain_text, wide_text, piece_events}
 use Rattle.ep_typed.specs.Printing as result
+use Rattle.ep_typed.specs.declared.interface.Formal.{Formal}
+use Rattle.ep_typed.specs.declared.interface.FormalMode.{FormalMode}
+use Rattle.ep_typed.specs.declared.interface.FormalMode.TheVariants as mode
 use Rattle.ep_typed.specs.declared.operations.Print.{Print}
 use Rattle.ep_typed.specs.declared.run_error.TheConstants as run_error
 use Rattle.ep_typed.specs.declared.unit.UnitRoutine.{UnitRoutine}
@@ -52,6 +56,16 @@ module _ (call : Handler) (g : ℕ) (unit : List ℕ) where
       bind (eval line x) (λ a. if decides operation (number_of a) then spend 1 (give a) else bind (eval line y) (λ b. spend 1 (give b)))
   eval line (Step down low high x y) =
       bind (eval line x) (λ a. bind (eval line y) (λ b. bind (answered line (step_answer down low high (number_of a) (number_of b))) (λ z. spend 1 (give (result.Number z)))))
+
+  -- an argument: a value, or the allocation of a variable (ISO 10206, 6.7.3)
+  abbrev pub argument : ℕ → Actual → Computation Argument
+  argument line (Evaluated x) = bind (eval line x) (λ r. give (Value r))
+  argument line (Accessed p) = bind (place line p) (λ n. give (argument_is.Variable n))
+
+  -- arguments, from left to right
+  abbrev pub arguments : ℕ → List Actual → Computation (List Argument)
+  arguments line [] = give []
+  arguments line (a ∷ more) = bind (argument line a) (λ x. bind (arguments line more) (λ xs. give (x ∷ xs)))
 
   -- one piece spends a step and its length, and is then written
   abbrev pub write_piece : List ℕ → Computation (Unit {0})
@@ -104,7 +118,8 @@ module _ (call : Handler) (g : ℕ) (unit : List ℕ) where
     exec (If line x a b) = bind (eval line x) (λ r. if is_true (number_of r) then bind (exec a) (λ _. spend 1 (give tt)) else bind (exec b) (λ _. spend 1 (give tt)))
     exec (While line x s) = turns g (eval line x) (exec s)
     exec (Repeat line ss x) = turns_until g (exec_all ss) (eval line x)
-    exec (Procedure line of_unit number) = bind (call unit line of_unit number []) (λ results. spend 1 (give tt))
+    exec (Procedure line of_unit number given) =
+        bind (arguments line given) (λ xs. bind (call unit line of_unit number xs) (λ results. spend 1 (give tt)))
     exec (Case line x arms o) = bind (eval line x) (λ r. exec_arms (number_of r) arms (exec_other line o))
     exec (Halt line) = stop Halted
     exec (Write line items ends_line) = write_items line items ends_line
@@ -175,23 +190,50 @@ routine_in (u ∷ us) unit number = if bytes_eq u.name unit then found_among u.t
 abbrev pub activation : List ℕ → List ℕ → ℕ → Call
 activation routine from line = record { routine = routine; unit = from; line = line; variables = λ k. None; made = [] }
 
--- what a routine does in its activation: it makes its variables, and runs its block; so far it has no result
-abbrev pub runs_routine : Handler → ℕ → List ℕ → Found → Computation (Unit {0})
-runs_routine call g unit f =
-    bind (make_all_own call g unit f.types 0 (out-UnitRoutine f.routine).variables) (λ _. exec call g unit (stmt_of (out-UnitRoutine f.routine).block))
+-- The newest variable of the routine, which is of a type, gets its value: an error where that is outside the type.
+abbrev pub initialized : List ℕ → ℕ → TypeValue → ℤ → Computation (Unit {0})
+initialized unit line t z = if is_within t z then change (newest_assigned (Word z)) else stop (Error run_error.OUTSIDE_TYPE unit line)
 
--- What a call of a routine does: it spends a step, and then the routine runs. No routine has parameters so far. What is
--- none has no meaning, and no valid unit calls one.
-abbrev pub routine_does : Handler → ℕ → List ℕ → ℕ → List ℕ → Option Found → Computation (List Result)
-routine_does call g from line unit None = cut
-routine_does call g from line unit (Some f) =
-    in_call (activation (out-UnitRoutine f.routine).name from line) (spend 1 (bind (runs_routine call g unit f) (λ _. give [])))
+module _ (call : Handler) (g : ℕ) (unit : List ℕ) (types : List UnitType) where
+  -- A formal parameter takes its argument (ISO 10206, 6.7.3.2 and 6.7.3.3): a value is the first one of a variable of the
+  -- routine, which is made, and a variable is one of the routine's as it is, for which its type counts a step. What is no
+  -- argument of it has no meaning.
+  abbrev pub takes_by : FormalMode → ℕ → ℕ → Formal → Argument → Computation (Unit {0})
+  takes_by mode.Value line number f (Value r) =
+      bind (elaborate call g unit types (denoter_of f.denoter)) (λ t. bind (allocate_own number t) (λ _. initialized unit line t (number_of r)))
+  takes_by mode.ProtectedValue line number f (Value r) =
+      bind (elaborate call g unit types (denoter_of f.denoter)) (λ t. bind (allocate_own number t) (λ _. initialized unit line t (number_of r)))
+  takes_by mode.Variable line number f (argument_is.Variable n) = spend 1 (change (with_own_bound number n))
+  takes_by mode.ProtectedVariable line number f (argument_is.Variable n) = spend 1 (change (with_own_bound number n))
+  takes_by mode line number f x = cut
+
+  -- the formal parameters take their arguments in order, as the variables of the routine from this number on
+  abbrev pub takes_all : ℕ → ℕ → List Formal → List Argument → Computation (Unit {0})
+  takes_all line number [] [] = give tt
+  takes_all line number [] (x ∷ xs) = cut
+  takes_all line number (f ∷ fs) [] = cut
+  takes_all line number (f ∷ fs) (x ∷ xs) = bind (takes_by f.mode line number f x) (λ _. takes_all line (suc number) fs xs)
+
+-- What a routine does in its activation: its formal parameters take the arguments, it makes its variables, and runs its
+-- block; so far it has no result. An error in taking arguments is on the line of the declaration (own).
+abbrev pub runs_routine : Handler → ℕ → List ℕ → Found → List Argument → Computation (Unit {0})
+runs_routine call g unit f xs =
+    let r = out-UnitRoutine f.routine in
+    bind (takes_all call g unit f.types r.line 0 r.formals xs)
+    (λ _. bind (make_all_own call g unit f.types (length r.formals) r.variables) (λ _. exec call g unit (stmt_of r.block)))
+
+-- What a call of a routine does: it spends a step, and then the routine runs. What is none has no meaning, and no valid
+-- unit calls one.
+abbrev pub routine_does : Handler → ℕ → List ℕ → ℕ → List ℕ → Option Found → List Argument → Computation (List Result)
+routine_does call g from line unit None xs = cut
+routine_does call g from line unit (Some f) xs =
+    in_call (activation (out-UnitRoutine f.routine).name from line) (spend 1 (bind (runs_routine call g unit f xs) (λ _. give [])))
 
 -- What a call does, where calls nest at most so deep, and loops turn at most so often in each.
 abbrev pub routine_of : List TypedUnit → ℕ → Handler
 routine_of units zero from line unit number arguments = cut
 routine_of units (suc depth) from line unit number arguments =
-    routine_does (routine_of units depth) depth from line unit (routine_in units unit number)
+    routine_does (routine_of units depth) depth from line unit (routine_in units unit number) arguments
 
 -- The meaning of joined units within so many steps. Loops turn and calls nest at most that often, which is enough,
 -- since each turn and each call spends a step.

@@ -1,6 +1,6 @@
 -- How many typed nodes a unit has: its expressions, places, statements, ranges of `case` statements, imports, routines, formals, variables, denoters, bounds and values. An expression that is a constant or a text counts one, and its value one more.
 use Rattle.std.specs.Prelude.{ℕ, ◌+◌, ◌*◌, List, [], ◌∷◌, length, map, sum, Option, Some, None}
-use Rattle.ep_typed.specs.Trees.{Denoter, Required, Named, Subrange, Enumeration, Place, Variable, Own, Standard, Expr, Constant, Text, Read, One, Two, Short, Step, Item, Plain, Wide, Stmt, Stmts, Empty, Compound, Assign, If, While, Repeat, Procedure, Case, Halt, Write, none, next, Arm, Arms, no_arm, next_arm, Other, no_other, otherwise_do}
+use Rattle.ep_typed.specs.Trees.{Denoter, Required, Named, Subrange, Enumeration, Place, Variable, Own, Standard, Expr, Constant, Text, Read, One, Two, Short, Step, Actual, Evaluated, Accessed, Item, Plain, Wide, Stmt, Stmts, Empty, Compound, Assign, If, While, Repeat, Procedure, Case, Halt, Write, none, next, Arm, Arms, no_arm, next_arm, Other, no_other, otherwise_do}
 use Rattle.ep_typed.specs.Viewed.{denoter_of, expr_of, stmt_of}
 use Rattle.ep_typed.specs.declared.interface.ConstantEntry.{ConstantEntry}
 use Rattle.ep_typed.specs.declared.interface.Formal.{Formal}
@@ -49,6 +49,14 @@ abbrev pub items_nodes : List Item → ℕ
 items_nodes [] = 0
 items_nodes (i ∷ is) = item_nodes i + items_nodes is
 
+abbrev pub actual_nodes : Actual → ℕ
+actual_nodes (Evaluated x) = expr_nodes x
+actual_nodes (Accessed p) = place_nodes p
+
+abbrev pub actuals_nodes : List Actual → ℕ
+actuals_nodes [] = 0
+actuals_nodes (a ∷ more) = actual_nodes a + actuals_nodes more
+
 abbrev mutual
   pub stmt_nodes : Stmt → ℕ
   stmt_nodes Empty = 1
@@ -57,7 +65,7 @@ abbrev mutual
   stmt_nodes (If line x a b) = 1 + expr_nodes x + stmt_nodes a + stmt_nodes b
   stmt_nodes (While line x s) = 1 + expr_nodes x + stmt_nodes s
   stmt_nodes (Repeat line ss x) = 1 + stmts_nodes ss + expr_nodes x
-  stmt_nodes (Procedure line unit number) = 1
+  stmt_nodes (Procedure line unit number given) = 1 + actuals_nodes given
   stmt_nodes (Case line x arms o) = 1 + expr_nodes x + arms_nodes arms + other_nodes o
   stmt_nodes (Halt line) = 1
   stmt_nodes (Write line items ends_line) = 1 + items_nodes items

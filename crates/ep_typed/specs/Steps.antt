@@ -260,6 +260,18 @@ made_own number t s =
       calls = with_own number (suc (length s.allocations)) s.calls;
     }
 
+-- the newest allocation has the value
+abbrev pub newest_assigned : Value → State → State
+newest_assigned value s = assigned (length s.allocations) value s
+
+-- a variable of the routine that runs is an allocation that there is
+abbrev pub own_bound_in : ℕ → ℕ → List Call → List Call
+own_bound_in number n [] = []
+own_bound_in number n (c ∷ calls) = record c { variables = bound_own number n c.variables } ∷ calls
+
+abbrev pub with_own_bound : ℕ → ℕ → State → State
+with_own_bound number n s = record s { calls = own_bound_in number n s.calls }
+
 -- A variable is made: its words are counted, and then it is there, which spends its size. So room is lost before the steps that it is wanted for.
 abbrev pub allocate : List ℕ → ℕ → TypeValue → Computation (Unit {0})
 allocate unit number t = bind (change (counted t)) (λ _. spend (size_of t) (change (made unit number t)))

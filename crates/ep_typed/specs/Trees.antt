@@ -40,6 +40,11 @@ pub data Expr : Type 0 where
   -- `succ`, or `pred` where the mark says that the count is taken away, within the least and the greatest value
   Step : (down : Bool) (low high : ℤ) (value count : Expr) → Expr
 
+-- an actual parameter: the value of an expression, or a variable that is accessed
+pub data Actual : Type 0 where
+  Evaluated : (value : Expr) → Actual
+  Accessed : (place : Place) → Actual
+
 -- an expression that is written, with its width where there is one
 pub data Item : Type 0 where
   Plain : (print : Print) (value : Expr) → Item
@@ -55,8 +60,8 @@ mutual
     While : (line : ℕ) (condition : Expr) (body : Stmt) → Stmt
     -- the statements, and then the condition
     Repeat : (line : ℕ) (body : Stmts) (condition : Expr) → Stmt
-    -- the procedure of this number of the unit of this name is called
-    Procedure : (line : ℕ) (unit : List ℕ) (number : ℕ) → Stmt
+    -- the procedure of this number of the unit of this name is called with these parameters
+    Procedure : (line : ℕ) (unit : List ℕ) (number : ℕ) (given : List Actual) → Stmt
     -- the selector, the arms, and what is done where no range of theirs has its value
     Case : (line : ℕ) (selector : Expr) (arms : Arms) (other : Other) → Stmt
     Halt : (line : ℕ) → Stmt

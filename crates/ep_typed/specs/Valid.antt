@@ -6,7 +6,7 @@ use Rattle.ep_typed.specs.Hosts.{Host, least, greatest, is_of_host}
 use Rattle.ep_typed.specs.Hosts as host
 use Rattle.ep_typed.specs.Operations.{is_integer, is_apart}
 use Rattle.ep_typed.specs.Steps.{is_within}
-use Rattle.ep_typed.specs.Trees.{Denoter, Place, Variable, Own, Standard, Expr, Constant, Text, Read, One, Two, Short, Step, Item, Plain, Wide, Stmt, Stmts, Empty, Compound, Assign, If, While, Repeat, Procedure, Halt, Write, none, next, Case, Arms, no_arm, next_arm, Other, no_other, otherwise_do}
+use Rattle.ep_typed.specs.Trees.{Denoter, Place, Variable, Own, Standard, Expr, Constant, Text, Read, One, Two, Short, Step, Actual, Evaluated, Accessed, Item, Plain, Wide, Stmt, Stmts, Empty, Compound, Assign, If, While, Repeat, Procedure, Halt, Write, none, next, Case, Arms, no_arm, next_arm, Other, no_other, otherwise_do}
 use Rattle.ep_typed.specs.Viewed.{denoter_of, stmt_of}
 use Rattle.ep_typed.specs.declared.operations.Unary.{Unary}
 use Rattle.ep_typed.specs.declared.operations.Unary.TheVariants as unary
@@ -15,6 +15,9 @@ use Rattle.ep_typed.specs.declared.operations.Binary.TheVariants as binary
 use Rattle.ep_typed.specs.declared.operations.Print.{Print}
 use Rattle.ep_typed.specs.declared.operations.Print.TheVariants as print
 use Rattle.ep_typed.specs.declared.interface.ConstantEntry.{ConstantEntry}
+use Rattle.ep_typed.specs.declared.interface.Formal.{Formal}
+use Rattle.ep_typed.specs.declared.interface.FormalMode.{FormalMode}
+use Rattle.ep_typed.specs.declared.interface.FormalMode.TheVariants as mode
 use Rattle.ep_typed.specs.declared.interface.RoutineEntry.{RoutineEntry}
 use Rattle.ep_typed.specs.declared.tree.CaseRange.{CaseRange}
 use Rattle.ep_typed.specs.declared.value.TypeValue.{TypeValue}
@@ -92,9 +95,9 @@ printed_kind print.Char = Ordinal host.Char
 printed_kind print.Boolean = Ordinal host.Boolean
 printed_kind print.Text = Bytes
 
--- the heading of a procedure without parameters
+-- the heading of a procedure
 abbrev pub IsProcedure : RoutineEntry → Type 0
-IsProcedure r = (r.formals ≡ []) × (r.result ≡ None)
+IsProcedure r = r.result ≡ None
 
 -- the ranges of all arms
 abbrev pub ranges_of : Arms → List CaseRange
@@ -122,6 +125,28 @@ module _ (declared : Declarations) where
   IsExpr kind (Two operation x y) = (k l : Kind) × IsBinary operation k l kind × IsExpr k x × IsExpr l y
   IsExpr kind (Short operation x y) = (kind ≡ Ordinal host.Boolean) × IsExpr (Ordinal host.Boolean) x × IsExpr (Ordinal host.Boolean) y
   IsExpr kind (Step down low high x y) = (h : Host) × (kind ≡ Ordinal h) × (low ≡ least h) × (high ≡ greatest h) × IsExpr (Ordinal h) x × IsExpr (Ordinal host.Integer) y
+
+  -- the place of a variable of this type value (ISO 10206, 6.7.3.3)
+  abbrev pub IsVariableOf : TypeValue → Place → Type 0
+  IsVariableOf t (Variable unit number) = (v : UnitVariable) × (declared.variables unit number ≡ Some v) × (type_of (declared.types unit) (denoter_of v.denoter) ≡ Some t)
+  IsVariableOf t (Own number) = (v : UnitVariable) × (slice_get declared.routine_variables number ≡ Some v) × (type_of declared.routine_types (denoter_of v.denoter) ≡ Some t)
+  IsVariableOf t (Standard file) = ⊥
+
+  -- What may be given for a formal parameter of a unit with these types: for a value parameter an expression of its host,
+  -- and for a variable parameter a variable of its type.
+  abbrev pub IsGiven : List UnitType → FormalMode → Formal → Actual → Type 0
+  IsGiven types mode.Value f (Evaluated x) = (h : Host) × (host_of types (denoter_of f.denoter) ≡ Some h) × IsExpr (Ordinal h) x
+  IsGiven types mode.ProtectedValue f (Evaluated x) = (h : Host) × (host_of types (denoter_of f.denoter) ≡ Some h) × IsExpr (Ordinal h) x
+  IsGiven types mode.Variable f (Accessed p) = (t : TypeValue) × (type_of types (denoter_of f.denoter) ≡ Some t) × IsVariableOf t p
+  IsGiven types mode.ProtectedVariable f (Accessed p) = (t : TypeValue) × (type_of types (denoter_of f.denoter) ≡ Some t) × IsVariableOf t p
+  IsGiven types mode f a = ⊥
+
+  -- one for each, in order
+  abbrev pub AreGiven : List UnitType → List Formal → List Actual → Type 0
+  AreGiven types [] [] = ⊤
+  AreGiven types [] (a ∷ more) = ⊥
+  AreGiven types (f ∷ fs) [] = ⊥
+  AreGiven types (f ∷ fs) (a ∷ more) = IsGiven types f.mode f a × AreGiven types fs more
 
   abbrev pub IsItem : Item → Type 0
   IsItem (Plain print x) = IsExpr (printed_kind print) x
@@ -154,7 +179,8 @@ module _ (declared : Declarations) where
     IsStmt (If line x a b) = IsExpr (Ordinal host.Boolean) x × IsStmt a × IsStmt b
     IsStmt (While line x s) = IsExpr (Ordinal host.Boolean) x × IsStmt s
     IsStmt (Repeat line ss x) = AreStmts ss × IsExpr (Ordinal host.Boolean) x
-    IsStmt (Procedure line unit number) = (r : RoutineEntry) × (slice_get (declared.routines unit) number ≡ Some r) × IsProcedure r
+    IsStmt (Procedure line unit number given) =
+        (r : RoutineEntry) × (slice_get (declared.routines unit) number ≡ Some r) × IsProcedure r × AreGiven (declared.types unit) r.formals given
     IsStmt (Case line x arms o) = ((h : Host) × IsExpr (Ordinal h) x × AreArms h arms) × IsOther o × AreApart (ranges_of arms)
     IsStmt (Halt line) = ⊤
     IsStmt (Write line items ends_line) = AreItems items × WritesSomething items ends_line
@@ -225,12 +251,25 @@ own u =
       routine_types = [];
     }
 
--- A procedure under these declarations, of a unit with these types, which so far has no parameters and no routines of its own.
+-- a formal parameter of a valid denoter
+pub record IsFormal (types : List UnitType) (f : Formal) : Type 0 where
+  pub denoter : IsDenoter types (denoter_of f.denoter)
+
+-- a formal parameter as a variable of its routine, which is declared on this line
+abbrev pub formal_variable : ℕ → Formal → UnitVariable
+formal_variable line f = record { name = f.name; line = line; declaration = 0; denoter = f.denoter; tuple = []; parameter = false }
+
+-- the variables of a routine: its formal parameters, and those that it declares
+abbrev pub variables_of : UnitRoutine → List UnitVariable
+variables_of r = let parts = out-UnitRoutine r in map (formal_variable parts.line) parts.formals ++ parts.variables
+
+-- A procedure under these declarations, of a unit with these types, which so far has no routines of its own.
 pub record IsRoutine (declared : Declarations) (types : List UnitType) (r : UnitRoutine) : Type 0 where
   pub heading : IsProcedure (heading_of r)
+  pub formals : All (IsFormal types) (out-UnitRoutine r).formals
   pub variables : All (IsVariable types) (out-UnitRoutine r).variables
   pub routines : (out-UnitRoutine r).routines ≡ []
-  pub block : IsStmt (in_routine (out-UnitRoutine r).variables types declared) (stmt_of (out-UnitRoutine r).block)
+  pub block : IsStmt (in_routine (variables_of r) types declared) (stmt_of (out-UnitRoutine r).block)
 
 -- a unit that names no other one, and so far has no interface and nothing to do when it is stopped
 pub record IsValid (u : TypedUnit) : Type 0 where

@@ -9,6 +9,8 @@ use Rattle.ep_typed.specs.declared.denoter.Denoter.TheOpen as denoter
 use Rattle.ep_typed.specs.declared.denoter.Denoter.TheOpen.{Denoter-F}
 use Rattle.ep_typed.specs.declared.denoter.Denoter.TheFolds.{fold-Denoter}
 use Rattle.ep_typed.specs.declared.operations.Print.{Print}
+use Rattle.ep_typed.specs.declared.tree.Actual.{Actual}
+use Rattle.ep_typed.specs.declared.tree.Actual.TheVariants as actual
 use Rattle.ep_typed.specs.declared.tree.TypedPlace.{TypedPlace}
 use Rattle.ep_typed.specs.declared.tree.TypedPlace.TheVariants.{Variable, Own, Standard}
 use Rattle.ep_typed.specs.declared.tree.TypedExpr.{TypedExpr}
@@ -51,6 +53,10 @@ expr_step (expr.Step down low high value count) = tree.Step down low high value 
 abbrev pub expr_of : TypedExpr → tree.Expr
 expr_of = fold-TypedExpr tree.Expr expr_step
 
+abbrev pub actual_of : Actual → tree.Actual
+actual_of (actual.Value value) = tree.Evaluated (expr_of value)
+actual_of (actual.Variable place) = tree.Accessed (place_of place)
+
 abbrev pub wide : Print → TypedExpr → Option TypedExpr → tree.Item
 wide print value None = tree.Plain print (expr_of value)
 wide print value (Some width) = tree.Wide print (expr_of value) (expr_of width)
@@ -65,7 +71,7 @@ stmt_step (stmt.Assign line place value) = tree.Assign line (place_of place) (ex
 stmt_step (stmt.If line condition then_part else_part) = tree.If line (expr_of condition) then_part else_part
 stmt_step (stmt.While line condition body) = tree.While line (expr_of condition) body
 stmt_step (stmt.Repeat line body condition) = tree.Repeat line (tree.stmts body) (expr_of condition)
-stmt_step (stmt.Procedure line unit number) = tree.Procedure line unit number
+stmt_step (stmt.Procedure line unit number given) = tree.Procedure line unit number (map actual_of given)
 stmt_step (stmt.Case line selector arms other) = tree.Case line (expr_of selector) (tree.arms arms) (tree.other other)
 stmt_step (stmt.Halt line) = tree.Halt line
 stmt_step (stmt.Write line items ends_line) = tree.Write line (map item_of items) ends_line

@@ -2,13 +2,13 @@
 
 ghost use Rattle.std.specs.Prelude.{◌≡◌, min, map, sum};
 ghost use Rattle.ep_typed.specs.Nodes as nodes;
-ghost use Rattle.ep_typed.specs.Viewed.{arm_of, denoter_of, expr_of, item_of, place_of, stmt_of};
+ghost use Rattle.ep_typed.specs.Viewed.{actual_of, arm_of, denoter_of, expr_of, item_of, place_of, stmt_of};
 ghost use Rattle.ep_typed.specs.Trees as tree;
 ghost use Rattle.ep_typed.specs.Trees.{stmts};
 
 use crate::denoter::Denoter;
 use crate::interface::{ConstantEntry, Formal, RoutineResult, SchemaFormal};
-use crate::tree::{CaseArm, TypedExpr, TypedPlace, TypedStmt, WriteItem};
+use crate::tree::{Actual, CaseArm, TypedExpr, TypedPlace, TypedStmt, WriteItem};
 use crate::unit::{Unit, UnitRoutine, UnitType, UnitVariable};
 
 /// The typed nodes of a unit, at most the greatest `u64`. It takes no memory.
@@ -156,7 +156,8 @@ fn statement(s: &TypedStmt) -> u64
     ensures { result ≡ min (nodes.stmt_nodes (stmt_of s.now)) u64.MAX }
 {
     match s {
-        TypedStmt::Empty | TypedStmt::Procedure(_, _, _) | TypedStmt::Halt(_) => 1,
+        TypedStmt::Empty | TypedStmt::Halt(_) => 1,
+        TypedStmt::Procedure(_, _, _, given) => actuals(given.items()).saturating_add(1),
         TypedStmt::Compound(all) => statements(all.items()).saturating_add(1),
         TypedStmt::Assign(_, p, value) => {
             place(p)
@@ -222,6 +223,25 @@ fn arm(a: &CaseArm) -> u64
     (a.ranges.items().len() as u64)
         .saturating_mul(3)
         .saturating_add(statement(a.body.get()))
+}
+
+fn actuals(all: &[Actual]) -> u64
+    ensures { result ≡ min (nodes.actuals_nodes (map actual_of all.now)) u64.MAX }
+{
+    let mut total = 0;
+    for a in all {
+        total = actual(a).saturating_add(total);
+    }
+    total
+}
+
+fn actual(a: &Actual) -> u64
+    ensures { result ≡ min (nodes.actual_nodes (actual_of a.now)) u64.MAX }
+{
+    match a {
+        Actual::Value(value) => expression(value.get()),
+        Actual::Variable(p) => place(p),
+    }
 }
 
 fn items(all: &[WriteItem]) -> u64

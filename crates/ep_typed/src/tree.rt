@@ -55,6 +55,26 @@ pub enum TypedExpr {
 /// An owned list of expressions.
 pub type TypedExprs = List<TypedExpr>;
 
+/// An actual parameter (ISO 10206, 6.7.3).
+pub enum Actual {
+    /// A value, for a value parameter.
+    Value(Boxed<TypedExpr>),
+    /// A variable, for a variable parameter.
+    Variable(TypedPlace),
+}
+
+impl Drop for Actual {
+    fn drop(self) {
+        match self {
+            Actual::Value(_) => {}
+            Actual::Variable(_) => {}
+        }
+    }
+}
+
+/// The actual parameters of a call, in order.
+pub type Actuals = List<Actual>;
+
 /// An expression that is written, and its width where there is one.
 pub struct WriteItem {
     /// How it is printed.
@@ -106,9 +126,9 @@ pub enum TypedStmt {
     While(Line, Boxed<TypedExpr>, Boxed<TypedStmt>),
     /// `repeat`: the statements, and then the condition.
     Repeat(Line, TypedStmts, Boxed<TypedExpr>),
-    /// A procedure statement of the procedure of this number of the unit of this name, which has no parameters
+    /// A procedure statement: the unit and the number of the procedure, and what it is given for its parameters
     /// (ISO 10206, 6.9.2.3).
-    Procedure(Line, Name, u32),
+    Procedure(Line, Name, u32, Actuals),
     /// `case`: the selector, the arms in order, and the statements where no range of theirs has its value.
     Case(Line, Boxed<TypedExpr>, CaseArms, Option<TypedStmts>),
     /// `halt`

@@ -65,4 +65,4 @@ module _ (variables : List UnitVariable) (types : List UnitType) (declared : Dec
   pub calls_kept-inside : {G : Image} {ps : List Placement} {call : Handler} {n : ℕ} → CallsAreKept declared G ps call n → CallsAreKept inner G ps call n
   calls_kept-inside kept unit number r is plain =
       let k = kept unit number r is plain in
-      record { routine = k.routine; placed = k.placed; promise = promise_inside k.promise }
+      record { routine = k.routine; formals = k.formals; passed = k.passed; placed = k.placed; promise = promise_inside k.promise }

@@ -166,6 +166,19 @@ module _ {A : Type 0} {declared : Declarations} {G : Image} {Here : Facts} {c : 
   fragment_waits {from = from} {d1 = d1} {weight = weight} does le h =
       record { by = λ s matches here. follows_credit {d = suc weight + d1} {e = e} le (λ a. omega arith) (follows_waits (not_left-here from.memory.frames) (does s matches) (h.by s matches here)) }
 
+  -- an instruction without a step, after which the machine matches the same state of the meaning in another memory
+  pub fragment_goes : {n : ℕ} {from : Point} {place1 d d1 weight : ℕ} {operands1 : List Operand} {memory1 : Memory}
+      → ((s : meaning.State) → Matches declared G from.injection s from.memory → Here from.injection s from.memory → (outcome G (state_at from s.trace) ≡ record { weight = weight; to = Running 0 (at place1 operands1 memory1 s.trace) }) × Matches declared G from.injection s memory1 × Here from.injection s memory1)
+      → StillRuns from.memory.frames memory1.frames → suc weight + d1 ≤ d
+      → Fragment declared G Here n (point from.injection memory1 place1 operands1) c to P d1 e
+      → Fragment declared G Here n from c to P d e
+  fragment_goes {from = from} {d1 = d1} {weight = weight} does runs le h =
+      record {
+        by = λ s matches here.
+            let next = does s matches here in
+            follows_credit {d = suc weight + d1} {e = e} le (λ a. omega arith) (follows_waits (not_left-here from.memory.frames) next.0 (follows_wider (λ k same. not_left-later runs same) (h.by s next.1 next.2)));
+      }
+
   -- an instruction with steps, which leaves memory as it is
   pub fragment_paid : {n : ℕ} {from : Point} {place1 d d1 weight w : ℕ} {operands1 : List Operand}
       → ((s : meaning.State) → Matches declared G from.injection s from.memory → outcome G (state_at from s.trace) ≡ record { weight = weight; to = Running 0 (at place1 operands1 from.memory s.trace) })

@@ -1,9 +1,11 @@
--- A routine without parameters keeps its promise where the machine follows what it does in its activation.
-use Rattle.std.proofs.Common.{◌≡◌, ℕ, zero, suc, pos, ◌+◌, ◌≤◌, ◌<◌, ◌⊎◌, inl, inr, Bool, true, false, not, ◌||◌, cond, ltb, leb, nat_le, IsTrue, List, [], ◌∷◌, ◌++◌, Option, Some, None, length, replicate, slice_get, refl, sym, ap, ◌∙◌, subst, arith, append_assoc}
+-- A routine keeps its promise where the machine follows what it does in its activation.
+use Rattle.std.proofs.Common.{◌≡◌, ℕ, zero, suc, pos, ◌+◌, ◌≤◌, ◌<◌, ◌⊎◌, inl, inr, Bool, true, false, not, ◌||◌, cond, ltb, leb, nat_le, IsTrue, List, [], ◌∷◌, ◌++◌, Option, Some, None, length, length-append, drop, replicate, slice_get, refl, sym, ap, ◌∙◌, subst, arith, append_assoc}
 use Rattle.std.proofs.lemmas.Bool.Decides.{nat_tests}
 use Rattle.std.proofs.lemmas.Option.{slice_get_within}
+use Rattle.std.proofs.Math.Seq.{take-append_seam, drop-append_seam}
 use Rattle.ep_object.specs.Activations.{InActivation}
-use Rattle.ep_object.specs.Calls.{call_limit, new_frame, called}
+use Rattle.ep_object.specs.Operands.{weights}
+use Rattle.ep_object.specs.Calls.{top_of, call_limit, new_frame, called}
 use Rattle.ep_object.specs.Effects.{Jumps, Fails}
 use Rattle.ep_object.specs.Follows.{Since, HasGrown, Follows, Fragment, GivesUp, Lands, Inside, IsStillCall, StillRuns, SameRoutine, IsNotLeft, point}
 use Rattle.ep_object.specs.Matching.{Memory, Injection, Matches, Slots, every_slot, Grown, at}
@@ -90,26 +92,31 @@ lost_calls depth r deep = let full : nat_le depth 9000 ≡ false = grind (arith,
     go true e = refl
     go false e = rw e refl
 
-module _ (declared : Declarations) (G : Image) (routine : ℕ) (r : ImageRoutine) (there : routine_of G routine ≡ Some r) (numbered : routine < length G.routines) (alone : r.arguments ≡ 0) where
-  -- the frame of a call that was made at a place
+module _ (declared : Declarations) (G : Image) (routine : ℕ) (r : ImageRoutine) (there : routine_of G routine ≡ Some r) (numbered : routine < length G.routines) (top : List Operand) (taken : length top ≡ r.arguments) (light : weights top ≡ 0) where
+  -- the frame of a call that was made at a place, with these arguments
   abbrev pub its_frame : ℕ → Frame
-  its_frame place = new_frame routine r (number.Unit r.unit) (place + 1) []
+  its_frame place = new_frame routine r (number.Unit r.unit) (place + 1) top
 
   -- memory when the routine begins
   abbrev pub begun_memory : ℕ → Memory → Memory
   begun_memory place memory = record memory { frames = record memory.frames { calls = its_frame place ∷ memory.frames.calls } }
 
+  -- the operands of the arguments are taken from those below
+  top_taken : (below : List Operand) → top_of r.arguments (top ++ below) ≡ Some (top, below)
+  top_taken below =
+      let enough : leb (length top) (length (top ++ below)) ≡ true = grind (arith, nat_tests, length-append top below) in
+      ap (λ n. top_of n (top ++ below)) (sym taken) ∙ (rw enough refl ∙ (ap (λ l. Some (l, drop (length top) (top ++ below))) (take-append_seam top below) ∙ ap (λ l. Some (top, l)) (drop-append_seam top below)))
+
   called_at : (place line : ℕ) (below : List Operand) (memory : Memory) (trace : Trace) → (calls : CallsAt G place routine line)
-      → outcome G (at place below memory trace)
-      ≡ record { weight = 0; to = after G calls.instruction (at place below memory trace) (cond (ltb (length memory.frames.calls) call_limit) (Jumps r.entry (called routine r (number.Unit r.unit) [] below (at place below memory trace))) (Fails run_error.CALL_DEPTH)) }
+      → outcome G (at place (top ++ below) memory trace)
+      ≡ record { weight = 0; to = after G calls.instruction (at place (top ++ below) memory trace) (cond (ltb (length memory.frames.calls) call_limit) (Jumps r.entry (called routine r (number.Unit r.unit) top below (at place (top ++ below) memory trace))) (Fails run_error.CALL_DEPTH)) }
   called_at place line below memory trace calls =
       let fits : ltb routine (length G.routines) ≡ true = grind (arith, nat_tests, numbered) in
-      let enough : leb 0 (length below) ≡ true = grind (arith, nat_tests) in
-      ap (λ o. outcome_of G o (at place below memory trace)) calls.stands
-      ∙ rw (calls.is_call, calls.names, calls.parent, fits, there, alone, enough) refl
+      ap (λ o. outcome_of G o (at place (top ++ below) memory trace)) calls.stands
+      ∙ rw (calls.is_call, calls.names, calls.parent, fits, there, top_taken below, light) refl
 
   -- memory has not grown by it
-  grown_begun : {untouched : Slots} (place : ℕ) (injection : Injection) (memory : Memory)
+  pub grown_begun : {untouched : Slots} (place : ℕ) (injection : Injection) (memory : Memory)
       → Grown untouched injection memory injection (begun_memory place memory)
   grown_begun {untouched = untouched} place injection memory =
       let g = grown_refl {untouched = untouched} injection memory in
@@ -125,17 +132,17 @@ module _ (declared : Declarations) (G : Image) (routine : ℕ) (r : ImageRoutine
   -- the machine enters the routine, or ends where as many calls are under way as may be
   enters : (place line : ℕ) (below : List Operand) (memory : Memory) (injection : Injection) (s : meaning.State) (x : Call)
       → CallsAt G place routine line → Matches declared G injection s memory
-      → (outcome G (at place below memory s.trace) ≡ record { weight = 0; to = Running 0 (at r.entry below (begun_memory place memory) s.trace) })
-      ⊎ GivesUp G (at place below memory s.trace) 0 1 (entered x s)
+      → (outcome G (at place (top ++ below) memory s.trace) ≡ record { weight = 0; to = Running 0 (at r.entry below (begun_memory place memory) s.trace) })
+      ⊎ GivesUp G (at place (top ++ below) memory s.trace) 0 1 (entered x s)
   enters place line below memory injection s x calls h = by_test (ltb (length memory.frames.calls) call_limit) refl
     where
       by_test : (b : Bool) → ltb (length memory.frames.calls) call_limit ≡ b
-          → (outcome G (at place below memory s.trace) ≡ record { weight = 0; to = Running 0 (at r.entry below (begun_memory place memory) s.trace) })
-          ⊎ GivesUp G (at place below memory s.trace) 0 1 (entered x s)
+          → (outcome G (at place (top ++ below) memory s.trace) ≡ record { weight = 0; to = Running 0 (at r.entry below (begun_memory place memory) s.trace) })
+          ⊎ GivesUp G (at place (top ++ below) memory s.trace) 0 1 (entered x s)
       by_test true e = inl (called_at place line below memory s.trace calls ∙ rw e refl)
       by_test false e =
           let full : 10000 ≤ length memory.frames.calls = grind (arith, nat_tests, e) in
-          let stops : outcome G (at place below memory s.trace) ≡ record { weight = 0; to = Stopped (Error run_error.CALL_DEPTH (unit_in G memory.frames) calls.instruction.line) s.trace }
+          let stops : outcome G (at place (top ++ below) memory s.trace) ≡ record { weight = 0; to = Stopped (Error run_error.CALL_DEPTH (unit_in G memory.frames) calls.instruction.line) s.trace }
           = called_at place line below memory s.trace calls ∙ rw e refl in
           inr (gives_up stops (inr refl) (is_prefix s.trace) (lost_calls (suc (length s.calls)) (set_aside s.resources) (omega (arith, full, h.depth))))
 
@@ -201,7 +208,7 @@ module _ (declared : Declarations) (G : Image) (routine : ℕ) (r : ImageRoutine
         → (injection : Injection) (began : meaning.State) (memory : Memory) (below : List Operand)
         → (name from : List ℕ) (body : Computation (Unit {0})) → Steady body → (untouched : Slots)
         → Fragment declared G (InActivation within untouched injection (begun_memory place memory)) n (point injection (begun_memory place memory) r.entry below) body ret (λ a longer after operands. operands ≡ below) 63 (λ a. 63)
-        → Fragment declared G (Since untouched injection began memory) (suc n) (point injection memory place below) (in_call (activation name from line) (spend 1 (bind body (λ a. give [])))) (place + 1) (λ rs. Inside untouched injection memory (ResultsOnTop [] below rs)) 0 (λ rs. 0)
+        → Fragment declared G (Since untouched injection began memory) (suc n) (point injection memory place (top ++ below)) (in_call (activation name from line) (spend 1 (bind body (λ a. give [])))) (place + 1) (λ rs. Inside untouched injection memory (ResultsOnTop [] below rs)) 0 (λ rs. 0)
     procedure_keeps within enough n place line calls injection began memory below name from body steady untouched inner =
         record {
           by = λ s matches since.
@@ -233,9 +240,9 @@ module _ (declared : Declarations) (G : Image) (routine : ℕ) (r : ImageRoutine
         ended s h = follows_bind (λ a. steady_give []) h (λ a s1 k1 lands. follows_give [] (omega arith) (refl, lands))
 
         go : (s : meaning.State) → Matches declared G injection s memory
-            → (outcome G (at place below memory s.trace) ≡ record { weight = 0; to = Running 0 (entry s) }) ⊎ GivesUp G (at place below memory s.trace) 0 1 (entered x s)
+            → (outcome G (at place (top ++ below) memory s.trace) ≡ record { weight = 0; to = Running 0 (entry s) }) ⊎ GivesUp G (at place (top ++ below) memory s.trace) 0 1 (entered x s)
             → Follows In G n (entry s) (entered x s) (bind body (λ a. give [])) (P s) 63 (λ a. 1)
-            → ((e : State) × (outcome G (at place below memory s.trace) ≡ record { weight = 0; to = Running 0 e }) × Follows In G n e (entered x s) (bind body (λ a. give [])) (P s) 63 (λ a. 1)) ⊎ GivesUp G (at place below memory s.trace) 0 1 (entered x s)
+            → ((e : State) × (outcome G (at place (top ++ below) memory s.trace) ≡ record { weight = 0; to = Running 0 e }) × Follows In G n e (entered x s) (bind body (λ a. give [])) (P s) 63 (λ a. 1)) ⊎ GivesUp G (at place (top ++ below) memory s.trace) 0 1 (entered x s)
         go s matches (inl o) f = inl (entry s, o, f)
         go s matches (inr y) f = inr y
 

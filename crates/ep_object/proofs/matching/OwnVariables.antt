@@ -106,11 +106,11 @@ in_activation-lasts {untouched = untouched} {declared = declared} {injection = i
 
 module _ (number n : ℕ) (variables : ℕ → Option ℕ) where
   -- the variable that is bound is the allocation
-  bound_own-same : bound_own number n variables number ≡ Some n
+  pub bound_own-same : bound_own number n variables number ≡ Some n
   bound_own-same = let self : nat_le number number ≡ true = grind (arith, nat_tests) in rw self refl
 
   -- and the others stay what they are
-  bound_own-other : (k : ℕ) → (number ≡ k → ⊥) → bound_own number n variables k ≡ variables k
+  pub bound_own-other : (k : ℕ) → (number ≡ k → ⊥) → bound_own number n variables k ≡ variables k
   bound_own-other k different = go (nat_le number k && nat_le k number) refl
     where
       go : (b : Bool) → (nat_le number k && nat_le k number) ≡ b → (if b then Some n else variables k) ≡ variables k

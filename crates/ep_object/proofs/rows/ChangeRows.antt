@@ -97,7 +97,7 @@ module _ (declared : Declarations) (G : Image) (place line : ℕ) (below : List 
         let r : Represents memory.segments memory.types p.segment here.allocation = here.represents in
         described-same memory.types r.type_number here.allocation.type_value low high r.described (subst (λ k. Describes memory.types k (type.Ordinal low high)) here.type_number described)
 
-    type_is : type_at n s ≡ type.Ordinal low high
+    pub type_is : type_at n s ≡ type.Ordinal low high
     type_is = ap type_in here.is ∙ its_type
 
     pub store_does : {untouched : Slots} {Here : Facts} → Lasts untouched Here → Here injection s memory

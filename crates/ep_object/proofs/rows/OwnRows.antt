@@ -1,11 +1,11 @@
 -- What the rows on a routine's own variables lead to, where the machine matches: `Slot`, and `Make` in its activation.
-use Rattle.std.proofs.Common.{leb, cond, ◌≡◌, ℕ, ℤ, pos, ◌+◌, ◌<◌, ◌⊎◌, inl, inr, Bool, true, false, IsTrue, List, [], ◌∷◌, length, Option, Some, None, slice_get, refl, sym, ap, ◌∙◌, subst, arith}
+use Rattle.std.proofs.Common.{leb, cond, ◌≡◌, ℕ, ℤ, pos, suc, ◌+◌, ◌<◌, ◌⊎◌, inl, inr, Bool, true, false, IsTrue, List, [], ◌∷◌, length, length-append, Option, Some, None, slice_get, refl, sym, ap, ◌∙◌, subst, arith}
 use Rattle.std.proofs.lemmas.Bool.Decides.{nat_tests}
 use Rattle.std.proofs.lemmas.Bool.{lt-ltb}
 use Rattle.std.proofs.lemmas.Option.{slice_get_within}
 use Rattle.ep_object.specs.Activations.{OwnSlot, InActivation}
 use Rattle.ep_object.specs.Follows.{GivesUp, Facts, IsStillCall, StillRuns, Inside, PlaceOnTop}
-use Rattle.ep_object.specs.Matching.{Memory, at, Injection, Describes, Slots, own_slot, slot_of_frame, MatchesSlot, HasOwnType, Matches}
+use Rattle.ep_object.specs.Matching.{Memory, at, Injection, IsPlaceOf, Grown, Describes, Slots, own_slot, slot_of_frame, MatchesSlot, HasOwnType, Matches}
 use Rattle.ep_object.specs.Operands.{Operand, Word}
 use Rattle.ep_object.specs.Operands as operand
 use Rattle.ep_object.specs.Frames.{slots_over}
@@ -20,9 +20,12 @@ use Rattle.ep_object.proofs.following.Choices.{Reads, Misses, Finds}
 use Rattle.ep_object.proofs.following.Fragments.{Does}
 use Rattle.ep_object.proofs.Grows.{is_prefix}
 use Rattle.ep_object.proofs.matching.Counts.{lost_words, past_limit, live_bounded}
+use Rattle.ep_object.proofs.matching.Awaiting.{arguments_in}
+use Rattle.ep_object.proofs.matching.Elements.{slice_get-set-same, slice_get-pushed}
 use Rattle.ep_object.proofs.matching.Growing.{inside_here}
-use Rattle.ep_object.proofs.matching.NewVariables.{with_variable, with_segment}
-use Rattle.ep_object.proofs.matching.OwnVariables.{with_own_place, matches_making_own, own_making, in_activation_making}
+use Rattle.ep_object.proofs.matching.Standing.{slice_get-some}
+use Rattle.ep_object.proofs.matching.NewVariables.{new_place, new_segment, new_place_of, with_variable, with_segment}
+use Rattle.ep_object.proofs.matching.OwnVariables.{with_own_place, grown_making_own, matches_making_own, own_making, in_activation_making}
 use Rattle.ep_object.proofs.rows.FrameRows.{own_slots, slot_pushes, slot_misses}
 use Rattle.ep_object.proofs.rows.Rows.{instr, in_one, outcome_at}
 use Rattle.ep_typed.specs.Events.{Trace}
@@ -37,13 +40,13 @@ use Rattle.ep_object.specs.declared.op.TheConstants as op
 use Rattle.ep_typed.specs.declared.run_error.TheConstants as run_error
 
 -- a slot of the innermost call is one of its frame
-record InFrame (memory : Memory) (k : ℕ) (slot : Option Place) : Type 0 where
-  frame : Frame
-  below : List Frame
-  frames : memory.frames.calls ≡ frame ∷ below
-  holds : slice_get frame.slots k ≡ Some slot
+pub record InFrame (memory : Memory) (k : ℕ) (slot : Option Place) : Type 0 where
+  pub frame : Frame
+  pub below : List Frame
+  pub frames : memory.frames.calls ≡ frame ∷ below
+  pub holds : slice_get frame.slots k ≡ Some slot
 
-in_frame : (memory : Memory) (k : ℕ) (slot : Option Place) → own_slot memory.frames k ≡ Some slot → InFrame memory k slot
+pub in_frame : (memory : Memory) (k : ℕ) (slot : Option Place) → own_slot memory.frames k ≡ Some slot → InFrame memory k slot
 in_frame memory k slot h = go memory.frames.calls refl h
   where
     go : (calls : List Frame) → memory.frames.calls ≡ calls → slot_of_frame (slots_over calls None) k ≡ Some slot → InFrame memory k slot
@@ -88,6 +91,20 @@ pub record StillBare (before : Memory) (below : List Operand) (injection : Injec
   pub runs : StillRuns before.frames memory.frames
   pub operands_are : operands ≡ below
 
+-- a variable of the routine of a type has been made, as the newest allocation, and its place is in its slot
+pub record MadeOwn (untouched : Slots) (k : ℕ) (t : TypeValue) (injection : Injection) (before : Memory) (below : List Operand)
+    (longer : Injection) (after : Memory) (operands : List Operand) : Type 0 where
+  pub grown : Grown untouched injection before longer after
+  pub runs : StillRuns before.frames after.frames
+  pub left_are : arguments_in after.frames.calls ≡ arguments_in before.frames.calls
+  pub number : ℕ
+  pub place : Place
+  pub slot : own_slot after.frames k ≡ Some (Some place)
+  pub place_of : IsPlaceOf longer after.segments (length longer) place
+  pub stands : slice_get after.segments place.segment ≡ Some (Some (new_segment number))
+  pub described : Describes after.types place.type_number t
+  pub operands_are : operands ≡ below
+
 -- what `Make` leads to: one more variable, or an error where too many words would live
 make_own_outcome : (G : Image) (place line : ℕ) (below : List Operand) (low high : ℤ) (number k : ℕ) (frame : Frame) (others : List Frame) (memory : Memory) (trace : Trace) (b : Bool)
     → slice_get G.instructions place ≡ Some (instr op.MAKE (pos k) 0 line)
@@ -109,7 +126,7 @@ pub make_own_does : {untouched : Slots} {first : Injection} {start : Memory} (de
     → (injection : Injection) (memory : Memory) (s : meaning.State)
     → Describes memory.types number (type.Ordinal low high)
     → Matches declared G injection s memory → InActivation declared untouched first start injection s memory
-    → Does declared G (InActivation declared untouched first start) (at place (Word (pos number) ∷ below) memory s.trace) 1 (place + 1) (StillBare memory below) (made_own k (type.Ordinal low high) (counted (type.Ordinal low high) s)) ⊎ GivesUp G (at place (Word (pos number) ∷ below) memory s.trace) 0 1 (counted (type.Ordinal low high) s)
+    → Does declared G (InActivation declared untouched first start) (at place (Word (pos number) ∷ below) memory s.trace) 1 (place + 1) (MadeOwn untouched k (type.Ordinal low high) injection memory below) (made_own k (type.Ordinal low high) (counted (type.Ordinal low high) s)) ⊎ GivesUp G (at place (Word (pos number) ∷ below) memory s.trace) 0 1 (counted (type.Ordinal low high) s)
 make_own_does {untouched = untouched} {first = first} {start = start} declared G place line below low high number k v has low_fits high_fits types_valid is_declared declared_so injection memory s described matches known = go (leb (memory.live + 2) live_limit) refl
   where
     frame : Frame
@@ -123,6 +140,12 @@ make_own_does {untouched = untouched} {first = first} {start = start} declared G
     within =
         let own = known.own k v is_declared in
         slice_get_within frame.slots k own.slot (sym (ap (λ cs. slot_of_frame (slots_over cs None) k) known.frames) ∙ own.is)
+
+    old : (x : Option Place) × (slice_get frame.slots k ≡ Some x)
+    old = slice_get-some frame.slots k within
+
+    newest : suc (length s.allocations) ≡ length (with_segment injection memory)
+    newest = let injected = matches.injected in omega (arith, injected.made, length-append injection (length memory.segments ∷ []))
 
     later : Memory
     later = with_variable number (with_own_place number k frame others memory) memory
@@ -140,7 +163,7 @@ make_own_does {untouched = untouched} {first = first} {start = start} declared G
     leads b e = make_own_outcome G place line below low high number k frame others memory s.trace b has known.frames described within e
 
     go : (b : Bool) → leb (memory.live + 2) live_limit ≡ b
-        → Does declared G (InActivation declared untouched first start) (at place (Word (pos number) ∷ below) memory s.trace) 1 (place + 1) (StillBare memory below) (made_own k (type.Ordinal low high) (counted (type.Ordinal low high) s)) ⊎ GivesUp G (at place (Word (pos number) ∷ below) memory s.trace) 0 1 (counted (type.Ordinal low high) s)
+        → Does declared G (InActivation declared untouched first start) (at place (Word (pos number) ∷ below) memory s.trace) 1 (place + 1) (MadeOwn untouched k (type.Ordinal low high) injection memory below) (made_own k (type.Ordinal low high) (counted (type.Ordinal low high) s)) ⊎ GivesUp G (at place (Word (pos number) ∷ below) memory s.trace) 0 1 (counted (type.Ordinal low high) s)
     go true e =
         inl (record {
           injection = with_segment injection memory;
@@ -149,7 +172,18 @@ make_own_does {untouched = untouched} {first = first} {start = start} declared G
           does = leads true e;
           matches = matches_making_own matches low high number described low_fits high_fits k frame others known.frames known.call known.others known.calls types_valid;
           here = again;
-          post = record { runs = still; operands_are = refl };
+          post = record {
+            grown = grown_making_own matches low high number described low_fits high_fits k frame others known.frames known.call known.others known.calls;
+            runs = still;
+            left_are = sym (ap arguments_in known.frames);
+            number = number;
+            place = new_place memory number;
+            slot = slice_get-set-same frame.slots k (Some (new_place memory number)) old.0 old.1;
+            place_of = subst (λ j. IsPlaceOf (with_segment injection memory) later.segments j (new_place memory number)) newest (new_place_of matches low high number described low_fits high_fits);
+            stands = slice_get-pushed memory.segments (Some (new_segment number));
+            described = described;
+            operands_are = refl;
+          };
         })
     go false e =
         let many : live_limit < memory.live + 2 = grind (arith, nat_tests) in

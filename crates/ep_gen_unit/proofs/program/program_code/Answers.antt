@@ -1,16 +1,16 @@
 use Rattle.std.proofs.Common.{◌≡◌, ◌++◌, ◌∷◌, [], length, rules, arith, ap, ◌∙◌, append_assoc}
-use Rattle.ep_gen_unit.specs.UnitCode.{routine_at}
+use Rattle.ep_gen_unit.specs.UnitCode.{plain_at}
 use Rattle.ep_gen_unit.proofs.ProgramForms.{is_program, is_compact}
 use Rattle.ep_gen_unit.proofs.program.program_code.Goals as goal
 
 abbrev all_routines : goal.After-assemble → Type 0
-all_routines c = c.push-2.new.self ≡ c.in_ok-routines.routines ++ routine_at 0 0 ∷ routine_at c.in_ok-stop_entry.stop_entry 0 ∷ []
+all_routines c = c.push-2.new.self ≡ c.in_ok-routines.routines ++ plain_at 0 ∷ plain_at c.in_ok-stop_entry.stop_entry ∷ []
 
 pushed : (c : goal.After-assemble) → all_routines c
 pushed c =
-    let start : c.push.new.self ≡ c.in_ok-routines.routines ++ routine_at 0 0 ∷ [] = search rules in
-    let stop : c.push-2.new.self ≡ c.push.new.self ++ routine_at c.in_ok-stop_entry.stop_entry 0 ∷ [] = search rules in
-    stop ∙ (ap (λ l. l ++ routine_at c.in_ok-stop_entry.stop_entry 0 ∷ []) start ∙ append_assoc c.in_ok-routines.routines (routine_at 0 0 ∷ []) (routine_at c.in_ok-stop_entry.stop_entry 0 ∷ []))
+    let start : c.push.new.self ≡ c.in_ok-routines.routines ++ plain_at 0 ∷ [] = search rules in
+    let stop : c.push-2.new.self ≡ c.push.new.self ++ plain_at c.in_ok-stop_entry.stop_entry ∷ [] = search rules in
+    stop ∙ (ap (λ l. l ++ plain_at c.in_ok-stop_entry.stop_entry ∷ []) start ∙ append_assoc c.in_ok-routines.routines (plain_at 0 ∷ []) (plain_at c.in_ok-stop_entry.stop_entry ∷ []))
 
 starts : (c : goal.After-assemble) → c.in_ok-start.start ≡ length c.in_ok-routines.routines
 starts c = search rules
