@@ -27,10 +27,10 @@ use Rattle.ep_check_expr.specs.Judgements.{Judged, Accepts, Breaks}
 use Rattle.ep_check_expr.specs.Constants.{constant_judged, bound_judged}
 use Rattle.ep_check_expr.specs.Names.{undeclared}
 use Rattle.ep_check_expr.specs.declared.constants.ConstantForm.{ConstantForm}
+use Rattle.ep_check_stmt.proofs.judged.Fits.{Any, Fits, fits_then, fits_both, fits_any}
 use Rattle.ep_check_unit.specs.Declarations.{all_variables_declared, and_then, at_line, common_host, constant_definition, constant_entered, constants_declared, core_of, core_written, declaration_ended, declared_type, entered, enumerated, enumeration, next_enumeration, noted, ordered, part_declared, parts_declared, range, scopes_of, settled, settled_type, Standing, Stands, Falls, subrange, type_definition, type_definitions, type_entered, type_meant, type_named, type_written, unused, variable_declaration, variable_entered, variables_declared, variables_entered, with_constant, with_name, with_type, with_variable, own_thing, Written}
 use Rattle.ep_check_unit.specs.Units.{parameter_entered, parameters_entered, standard_file}
 use Rattle.ep_check_unit.specs.declared.block.Block.{Block}
-use Rattle.ep_check_unit.proofs.Fits.{Any, Fits, fits_then, fits_both, fits_any}
 
 module _ (n : List ℕ) where
   abbrev pub IsOf : Block → Type 0

@@ -1,14 +1,8 @@
-pub mod Branches
-pub mod Called
-pub mod CaseParts
 pub mod Defined
-pub mod Fits
-pub mod Gathered
 pub mod Kept
 pub mod Parameters
 pub mod Programs
 pub mod Refusing
 pub mod Rounds
-pub mod Rows
 pub mod Subranges
 pub mod valid

@@ -9,16 +9,16 @@ use Rattle.ep_typed.specs.declared.tree.TypedStmt.TheOpen as layer
 use Rattle.ep_typed.specs.declared.tree.TypedStmt.TheFolds.{fold-roll-TypedStmt}
 use Rattle.ep_typed.specs.declared.unit.Unit.{Unit as TypedUnit}
 use Rattle.ep_check_expr.specs.Judgements.{Accepts}
-use Rattle.ep_check_unit.specs.Answers.{RefusesRow, passed, stmts_of}
+use Rattle.ep_check_stmt.specs.Answers.{RefusesRow, passed, stmts_of}
+use Rattle.ep_check_stmt.specs.Statements.{Judgement, Passes, Waits, Fails, after, compound_judged}
+use Rattle.ep_check_stmt.specs.declared.outcome.CheckRefusal.{CheckRefusal}
+use Rattle.ep_check_stmt.specs.declared.outcome.CheckRefusal.TheVariants as refusal
+use Rattle.ep_check_stmt.specs.declared.outcome.Outcome.{Outcome}
+use Rattle.ep_check_stmt.specs.declared.outcome.Outcome.TheVariants as outcome
 use Rattle.ep_check_unit.specs.Checks.{AnswersBuilt, IsRefusalOf, IsUnitWith}
 use Rattle.ep_check_unit.specs.Declarations.{Stands, at_line, parts_declared}
-use Rattle.ep_check_unit.specs.Statements.{Judgement, Passes, Waits, Fails, after, compound_judged}
 use Rattle.ep_check_unit.specs.Units.{IsTypedProgram, body_judged, context_of, declarations_wait, first_block, imports_of, parameters_entered, program_form, program_judged}
 use Rattle.ep_check_unit.specs.declared.block.Block.{Block}
-use Rattle.ep_check_unit.specs.declared.outcome.CheckRefusal.{CheckRefusal}
-use Rattle.ep_check_unit.specs.declared.outcome.CheckRefusal.TheVariants as refusal
-use Rattle.ep_check_unit.specs.declared.outcome.Outcome.{Outcome}
-use Rattle.ep_check_unit.specs.declared.outcome.Outcome.TheVariants as outcome
 use Rattle.ep_check_unit.proofs.Kept.{parameters-unit, parts-unit}
 use Rattle.ep_check_unit.proofs.Refusing.{then_stands}
 

@@ -8,10 +8,10 @@ use Rattle.ep_check_expr.specs.Constants.{bound_judged}
 use Rattle.ep_check_expr.specs.Judgements.{Judged, Accepts, when_accepted, both}
 use Rattle.ep_check_expr.specs.declared.constants.ConstantForm.{ConstantForm}
 use Rattle.ep_check_expr.specs.declared.forms.Refusal.{Refusal}
-use Rattle.ep_check_unit.specs.Answers.{Refuses}
+use Rattle.ep_check_stmt.specs.Answers.{Refuses}
+use Rattle.ep_check_stmt.proofs.judged.Refusing.{from_judged, first_refused, second_refused, both_refused, part_refused, rest_refused, both_accepted}
 use Rattle.ep_check_unit.specs.Declarations.{Written, common_host, ordered, range, scopes_of, subrange}
 use Rattle.ep_check_unit.specs.declared.block.Block.{Block}
-use Rattle.ep_check_unit.proofs.Refusing.{from_judged, first_refused, second_refused, both_refused, part_refused, rest_refused, both_accepted}
 
 -- a subrange with these bounds
 abbrev pub ranged : ℕ → Block → Expression → Expression → Judged Written

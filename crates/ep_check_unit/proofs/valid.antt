@@ -5,7 +5,4 @@ pub mod Meant
 pub mod Constants
 pub mod Types
 pub mod Items
-pub mod Passing
-pub mod Cases
-pub mod Statements
 pub mod Units

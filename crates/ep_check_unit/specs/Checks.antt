@@ -6,15 +6,15 @@ use Rattle.ep_typed.specs.declared.interface.ImportSpec.{ImportSpec}
 use Rattle.ep_typed.specs.declared.tree.TypedStmt.{TypedStmt}
 use Rattle.ep_typed.specs.declared.tree.TypedStmt.TheVariants as stmt
 use Rattle.ep_typed.specs.declared.unit.Unit.{Unit as TypedUnit}
-use Rattle.ep_check_unit.specs.Statements.{Judgement, Waits, fails_at}
+use Rattle.ep_check_stmt.specs.Statements.{Judgement, Waits, fails_at}
+use Rattle.ep_check_stmt.specs.declared.outcome.CheckRefusal.{CheckRefusal}
+use Rattle.ep_check_stmt.specs.declared.outcome.CheckRefusal.TheVariants as refusal
+use Rattle.ep_check_stmt.specs.declared.outcome.Outcome.{Outcome}
+use Rattle.ep_check_stmt.specs.declared.outcome.Outcome.TheVariants as outcome
 use Rattle.ep_check_unit.specs.Units.{IsTyped, BreaksAt, WaitsAt}
 use Rattle.ep_check_unit.specs.declared.block.Block.{Block}
 use Rattle.ep_check_unit.specs.declared.component.Checked.{Checked}
 use Rattle.ep_check_unit.specs.declared.component.Checked.TheVariants as checked
-use Rattle.ep_check_unit.specs.declared.outcome.CheckRefusal.{CheckRefusal}
-use Rattle.ep_check_unit.specs.declared.outcome.CheckRefusal.TheVariants as refusal
-use Rattle.ep_check_unit.specs.declared.outcome.Outcome.{Outcome}
-use Rattle.ep_check_unit.specs.declared.outcome.Outcome.TheVariants as outcome
 
 -- what is answered of a component that has a typed unit; there are only programs so far
 abbrev pub IsChecked : Component → Checked → Type 0

@@ -14,8 +14,8 @@ use Rattle.ep_typed.specs.declared.unit.Unit.{Unit as TypedUnit}
 use Rattle.ep_scope.specs.Scopes.{empty_region}
 use Rattle.ep_scope.specs.declared.thing.Thing.TheVariants as thing
 use Rattle.ep_check_expr.specs.Judgements.{Judged, Accepts, unbuilt, when_accepted}
+use Rattle.ep_check_stmt.specs.Statements.{Context, Judgement, Passes, Waits, Fails, fails_at, after, compound_judged}
 use Rattle.ep_check_unit.specs.Declarations.{Standing, Stands, Falls, at_line, and_then, entered, parts_declared, scopes_of}
-use Rattle.ep_check_unit.specs.Statements.{Context, Judgement, Passes, Waits, Fails, fails_at, after, compound_judged}
 use Rattle.ep_check_unit.specs.declared.block.Block.{Block}
 
 -- ---- the first words (ISO 10206, 6.12), an item on the line of the word `program`

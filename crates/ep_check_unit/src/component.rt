@@ -11,11 +11,9 @@ ghost use Rattle.ep_check_unit.specs.Units.{IsTypedProgram, has_name, imports_of
 
 use crate::block::Block;
 use crate::laws::laws_of_typed_units;
-pub use crate::outcome::CheckRefusal;
-use crate::outcome::{Outcome, refused_at};
-use crate::statements::Context;
 use ep_base::{Line, List, Name, NameRefusal, NoMemory};
 use ep_check_expr::Refusal;
+use ep_check_stmt::{CheckRefusal, Context, Outcome, refused_at};
 use ep_scope::Thing;
 use ep_tree::{Component, Program};
 use ep_typed::{ConstantEntry, ImportSpec, ImportSpecs, Interface, StandardFile, TypedStmts, Unit};

@@ -5,15 +5,16 @@ ghost use Rattle.ep_built.specs.Built.{component_value_unbuilt, constant_unbuilt
 ghost use Rattle.ep_tree.specs.declared.routine.Part.{out-Part};
 ghost use Rattle.ep_tree.specs.declared.types.Core.{out-Core};
 ghost use Rattle.ep_check_expr.specs.Judgements.{when_accepted};
-ghost use Rattle.ep_check_unit.specs.Answers.{AnswersBlock, AnswersForm, AnswersStanding, denoter_named, named_in};
+ghost use Rattle.ep_check_stmt.specs.Answers.{AnswersForm};
+ghost use Rattle.ep_check_unit.specs.Answers.{AnswersBlock, AnswersStanding, denoter_named, named_in};
 ghost use Rattle.ep_check_unit.specs.Declarations as spec;
 ghost use Rattle.ep_check_unit.specs.Declarations.{all_variables_declared, constant_definition, constants_declared, part_declared, parts_declared, settled_type, type_definition, type_definitions, variable_declaration, variable_entered, variables_entered};
 
 use crate::block::{Block, number};
-use crate::outcome::{CheckRefusal, refused_at};
 use crate::types::{NamedType, TypeName};
 use ep_base::{Line, List, Name};
 use ep_check_expr::{Refusal, constant_value};
+use ep_check_stmt::{CheckRefusal, refused_at};
 use ep_scope::{Declaration, Kind};
 use ep_tree::{ConstantDefinition, Core, Part, TypeDefinition, VariableDeclaration};
 use ep_typed::UnitVariable;

@@ -10,7 +10,7 @@ use Rattle.ep_grammar.specs.declared.stop.TheConstants.{MAX_NESTING}
 use Rattle.ep_typed.specs.Nodes.{unit_nodes, type_nodes, constant_nodes, variable_nodes, routine_nodes, stmt_nodes}
 use Rattle.ep_typed.specs.Viewed.{stmt_of}
 use Rattle.ep_typed.specs.declared.unit.Unit.{Unit as TypedUnit}
-use Rattle.ep_check_unit.specs.Statements.{Judgement, Passes, Waits, Fails, fails_at}
+use Rattle.ep_check_stmt.specs.Statements.{Judgement, Passes, Waits, Fails, fails_at}
 use Rattle.ep_check_unit.specs.Units.{ProgramForm, IsUnitOf, IsTyped, BreaksAt, WaitsAt, component_judged}
 use Rattle.ep_drive.specs.ProgramTexts.{HasBuilt, IsSound, IsTooLarge}
 use Rattle.ep_drive.specs.Refusals.{RulesOut, IsRuledOut, AreAlike}

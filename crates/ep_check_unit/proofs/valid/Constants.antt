@@ -20,11 +20,11 @@ use Rattle.ep_check_expr.specs.Constants.{constant_judged}
 use Rattle.ep_check_expr.specs.Judgements.{Judged, Accepts, Breaks}
 use Rattle.ep_check_expr.specs.Laws.{ConstantsAreSound, ConstantsAreKnown}
 use Rattle.ep_check_expr.specs.declared.constants.ConstantForm.{ConstantForm}
+use Rattle.ep_check_stmt.proofs.judged.Fits.{Any, Fits, fits_any, fits_both, fits_is, fits_then}
 use Rattle.ep_check_unit.specs.Declarations.{constant_definition, constant_entered, enumerated, host_denoter, own_thing, scopes_of, unused, with_constant}
 use Rattle.ep_check_unit.specs.declared.block.Block.{Block}
-use Rattle.ep_check_unit.proofs.Fits.{Any, Fits, fits_any, fits_both, fits_then}
 use Rattle.ep_check_unit.proofs.valid.Holds.{Holds, Lists, ListsKind, constant_valid, holds_agrees, known_listed, lists_small, things_push}
-use Rattle.ep_check_unit.proofs.valid.Leading.{Grows, Leads, Enters, enters_refl, enters_then, fits_is, length_push, noted_leads, prefix_length, prefix_more, prefix_refl}
+use Rattle.ep_check_unit.proofs.valid.Leading.{Grows, Leads, Enters, enters_refl, enters_then, length_push, noted_leads, prefix_length, prefix_more, prefix_refl}
 
 constant_grows : (name : List ℕ) (k : Kind) (v : Value) (b : Block) → Grows b (with_constant name k v b)
 constant_grows name (kind.Ordinal h) v b = record { types = prefix_refl b.types; constants = prefix_more b.constants _; variables = prefix_refl b.variables; waits = λ w. w }

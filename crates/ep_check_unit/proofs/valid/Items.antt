@@ -25,10 +25,10 @@ use Rattle.ep_scope.specs.declared.thing.Thing.TheVariants as thing
 use Rattle.ep_check_expr.specs.Hosts.{typed_host}
 use Rattle.ep_check_expr.specs.Judgements.{Judged, Accepts, Breaks}
 use Rattle.ep_check_expr.specs.Laws.{BoundsAreKnown, BoundsAreSound, ConstantsAreKnown, ConstantsAreSound}
+use Rattle.ep_check_stmt.proofs.judged.Fits.{Any, Fits, fits_any, fits_then}
 use Rattle.ep_check_unit.specs.Declarations.{Standing, Stands, Falls, Written, all_variables_declared, and_then, at_line, constant_definition, constants_declared, core_of, core_written, declaration_ended, own_thing, part_declared, parts_declared, settled, settled_type, type_definition, type_definitions, type_entered, type_written, unused, variable_declaration, variable_entered, variables_declared, variables_entered, with_name, with_type, with_variable}
 use Rattle.ep_check_unit.specs.Units.{parameter_entered, parameters_entered, standard_file}
 use Rattle.ep_check_unit.specs.declared.block.Block.{Block}
-use Rattle.ep_check_unit.proofs.Fits.{Any, Fits, fits_any, fits_then}
 use Rattle.ep_check_unit.proofs.valid.Constants.{constant_definition-leads}
 use Rattle.ep_check_unit.proofs.valid.Denoting.{Denotes, denotes_named, denotes_valid}
 use Rattle.ep_check_unit.proofs.valid.Holds.{HasHostHere, Holds, Lists, named_is, things_push}

@@ -6,9 +6,9 @@ use Rattle.ep_outside.specs.Known.{IsPrefix}
 use Rattle.ep_typed.specs.declared.unit.Unit.{Unit as TypedUnit}
 use Rattle.ep_scope.specs.declared.thing.Thing.{Thing}
 use Rattle.ep_check_expr.specs.Judgements.{Judged, Accepts, Breaks, when_accepted}
+use Rattle.ep_check_stmt.proofs.judged.Fits.{Any, Fits, fits_any, fits_then}
 use Rattle.ep_check_unit.specs.Declarations.{entered, noted, unused, with_name}
 use Rattle.ep_check_unit.specs.declared.block.Block.{Block}
-use Rattle.ep_check_unit.proofs.Fits.{Any, Fits, fits_any, fits_then}
 use Rattle.ep_check_unit.proofs.valid.Holds.{Holds, HoldsThing, things_push}
 
 -- ---- lists that grow
@@ -57,11 +57,6 @@ grows_trans b c d p q = record {
   variables = prefix_trans b.variables c.variables d.variables p.variables q.variables;
   waits = λ w. p.waits (q.waits w);
 }
-
--- what is accepted, is
-pub fits_is : {A : Type 0} (j : Judged A) → Fits (λ a. j ≡ Accepts a) j
-fits_is (Accepts a) = refl
-fits_is (Breaks rules) = tt
 
 -- an item that is not built makes the block wait
 pub waits_some : (o : Option ℕ) (line : ℕ) → option_or o (Some line) ≡ None → ⊥

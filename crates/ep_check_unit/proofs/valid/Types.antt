@@ -40,13 +40,14 @@ use Rattle.ep_check_expr.specs.Judgements.{Accepts, Breaks}
 use Rattle.ep_check_expr.specs.Laws.{BoundsAreSound, BoundsAreKnown}
 use Rattle.ep_check_expr.specs.Names.{undeclared}
 use Rattle.ep_check_expr.specs.declared.constants.ConstantForm.{ConstantForm}
+use Rattle.ep_check_stmt.proofs.judged.SameHost.{host_same}
+use Rattle.ep_check_stmt.proofs.judged.Fits.{Fits, fits_both, fits_is, fits_pair, fits_then, fits_weaker}
 use Rattle.ep_check_unit.specs.Declarations.{Written, common_host, core_written, declared_type, enumerated, enumeration, host_denoter, next_enumeration, noted, number_in, ordered, range, required_host, scopes_of, subrange, subrange_denoter, type_meant, type_named}
 use Rattle.ep_check_unit.specs.declared.block.Block.{Block}
-use Rattle.ep_check_unit.proofs.Fits.{Fits, fits_both, fits_pair, fits_then, fits_weaker}
 use Rattle.ep_check_unit.proofs.valid.Constants.{ListsWithin, enumerated_counts, enumerated_enters}
 use Rattle.ep_check_unit.proofs.valid.Denoting.{Denotes, IsSmall, denotes_enumeration, denotes_more, denotes_required, denotes_subrange, full_type}
 use Rattle.ep_check_unit.proofs.valid.Holds.{HasHostHere, Holds, HoldsDeclaration, Lists, ListsEnumeration, ListsKind, enumeration_is, holds_agrees, holds_more, host_denotes, known_listed, lists_more, lists_small, named_is, required_lists, subrange_is}
-use Rattle.ep_check_unit.proofs.valid.Leading.{Extends, Enters, Grows, fits_is, grows_refl, prefix_length, prefix_refl, waits_some}
+use Rattle.ep_check_unit.proofs.valid.Leading.{Extends, Enters, Grows, grows_refl, prefix_length, prefix_refl, waits_some}
 use Rattle.ep_check_unit.proofs.valid.Meant.{HoldsMeant, meant_holds, meant_in_holds}
 
 module _ (u : TypedUnit) where
@@ -144,28 +145,6 @@ module _ (u : TypedUnit) where
   one_host (kind.Ordinal g) kind.File h e = cc
   one_host kind.Text l h e = cc
   one_host kind.File l h e = cc
-
-  last_same : (e g : Enumeration) → same_host (host.Enumeration e) (host.Enumeration g) ≡ true → g.last ≡ e.last
-  last_same e g s = grind (arith, nat_tests)
-
-  -- the same host has the same values
-  pub host_same : (h g : Host) → same_host h g ≡ true → typed_host g ≡ typed_host h
-  host_same host.Integer host.Integer e = refl
-  host_same host.Char host.Char e = refl
-  host_same host.Boolean host.Boolean e = refl
-  host_same (host.Enumeration e) (host.Enumeration g) s = ap typed.Enumeration (last_same e g s)
-  host_same host.Integer host.Char e = cc
-  host_same host.Integer host.Boolean e = cc
-  host_same host.Integer (host.Enumeration g) e = cc
-  host_same host.Char host.Integer e = cc
-  host_same host.Char host.Boolean e = cc
-  host_same host.Char (host.Enumeration g) e = cc
-  host_same host.Boolean host.Integer e = cc
-  host_same host.Boolean host.Char e = cc
-  host_same host.Boolean (host.Enumeration g) e = cc
-  host_same (host.Enumeration f) host.Integer e = cc
-  host_same (host.Enumeration f) host.Char e = cc
-  host_same (host.Enumeration f) host.Boolean e = cc
 
   -- a bound is of its host
   bound_of_host : (h : Host) (v : Value) → IsConstantOf (kind.Ordinal h) v → IsTrue (is_of_host (typed_host h) (number_in v))

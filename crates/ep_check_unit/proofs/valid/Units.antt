@@ -6,20 +6,20 @@ use Rattle.ep_tree.specs.declared.component.Component.TheVariants as component_i
 use Rattle.ep_tree.specs.declared.component.Program.{Program}
 use Rattle.ep_typed.specs.Operations.{maxint}
 use Rattle.ep_typed.specs.Trees.{Stmts}
-use Rattle.ep_typed.specs.Valid.{AreStmts, IsConstant, IsRoutine, IsStmt, IsType, IsValid, IsVariable, own}
+use Rattle.ep_typed.specs.Valid.{IsConstant, IsRoutine, IsStmt, IsType, IsValid, IsVariable, own}
 use Rattle.ep_typed.specs.declared.unit.Unit.{Unit as TypedUnit}
 use Rattle.ep_check_expr.specs.Judgements.{Judged, Accepts, Breaks}
-use Rattle.ep_check_expr.specs.Laws.{BoundsAreKnown, BoundsAreSound, ConstantsAreKnown, ConstantsAreSound, ExpressionsAreSound, LabelsAreSound, ValuesAreSound}
+use Rattle.ep_check_expr.specs.Laws.{BoundsAreKnown, BoundsAreSound, ConstantsAreKnown, ConstantsAreSound}
+use Rattle.ep_check_stmt.specs.Laws.{StatementsAreSound}
+use Rattle.ep_check_stmt.specs.Statements.{Judgement, Passes, Waits, Fails, after, compound_judged}
+use Rattle.ep_check_stmt.proofs.judged.Fits.{Fits}
 use Rattle.ep_check_unit.specs.Declarations.{Standing, Stands, Falls, and_then, at_line, parts_declared}
 use Rattle.ep_check_unit.specs.Laws.{UnitsAreValid}
-use Rattle.ep_check_unit.specs.Statements.{Judgement, Passes, Waits, Fails, after, compound_judged}
 use Rattle.ep_check_unit.specs.Units.{IsTypedProgram, ProgramForm, body_judged, context_of, declarations_wait, first_block, parameters_entered, program_form, program_judged}
 use Rattle.ep_check_unit.specs.declared.block.Block.{Block}
-use Rattle.ep_check_unit.proofs.Fits.{Fits}
-use Rattle.ep_check_unit.proofs.valid.Holds.{Holds}
+use Rattle.ep_check_unit.proofs.valid.Holds.{Holds, holds_agrees}
 use Rattle.ep_check_unit.proofs.valid.Items.{LeadsOn, parameters_lead, parts_lead}
 use Rattle.ep_check_unit.proofs.valid.Leading.{Leads, leads_trans, prefix_refl}
-use Rattle.ep_check_unit.proofs.valid.Statements.{FitsRow, compound_fits}
 
 -- a program that passes, by its parts
 record IsMade (p : Program) (form : ProgramForm) : Type 0 where
@@ -58,7 +58,7 @@ program_made : (p : Program) (form : ProgramForm) → program_judged p ≡ Passe
 program_made p form e =
     parts_pass p (parameters_entered p.parameters (first_block p.name)) form refl (body_passes p (and_then (parts_declared p.parts) (at_line p.line (parameters_entered p.parameters (first_block p.name)))) form e)
 
-module _ (expressions : ExpressionsAreSound) (values : ValuesAreSound) (labels : LabelsAreSound) (constants : ConstantsAreSound) (bounds : BoundsAreSound) (constant_hosts : ConstantsAreKnown) (bound_hosts : BoundsAreKnown) where
+module _ (statements : StatementsAreSound) (constants : ConstantsAreSound) (bounds : BoundsAreSound) (constant_hosts : ConstantsAreKnown) (bound_hosts : BoundsAreKnown) where
   -- the unit holds its block
   block_held : (p : Program) (u : TypedUnit) (form : ProgramForm) → IsMade p form → length u.constants ≤ maxint → u.name ≡ p.name → u.types ≡ form.block.types → u.constants ≡ form.block.constants → u.variables ≡ form.block.variables
       → Holds u (length form.block.types) form.block
@@ -87,7 +87,7 @@ module _ (expressions : ExpressionsAreSound) (values : ValuesAreSound) (labels :
         variables = All-same (IsVariable u.types) u.variables t.form.block.variables t.unit.variables held.variables;
         routines = All-same (IsRoutine (own u)) u.routines [] t.unit.routines (All-nil (IsRoutine (own u)));
         start = subst (IsStmt (own u)) (sym t.unit.start)
-            (subst (FitsRow (AreStmts (own u))) made.statements (compound_fits u expressions values labels (length t.form.block.types) t.form.block le held (context_of p t.form.block) refl p.body));
+            (statements (context_of p t.form.block) p.body t.form.statements made.statements (own u) (holds_agrees u (length t.form.block.types) t.form.block le held));
         stop = t.unit.stop;
       }
 

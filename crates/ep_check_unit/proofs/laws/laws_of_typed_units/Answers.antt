@@ -4,4 +4,4 @@ use Rattle.ep_check_unit.proofs.laws.laws_of_typed_units.Goals as goal
 pub returns : goal.returns
 returns c =
     let laws = c.laws_of_expressions.ensures in
-    units_valid laws.expressions laws.values laws.labels laws.constants laws.bounds laws.constant_hosts laws.bound_hosts
+    units_valid c.laws_of_statements.ensures laws.constants laws.bounds laws.constant_hosts laws.bound_hosts

@@ -1,0 +1,41 @@
+-- Statements in statements.
+use Rattle.std.proofs.Common.{◌≡◌, ℕ, Option, Some, None, ap, sym, ◌∙◌}
+use Rattle.std.specs.Option.{option_map, option_or}
+use Rattle.ep_built.specs.Built.{Found, Placed, expression_unbuilt, first_if, statement_unbuilt}
+use Rattle.ep_built.specs.Built as built
+use Rattle.ep_tree.specs.declared.expression.Expression.{Expression}
+use Rattle.ep_tree.specs.declared.statement.Statement.{Statement, fold-roll-Statement}
+use Rattle.ep_tree.specs.declared.statement.Statement.TheOpen.{Statement-F}
+use Rattle.ep_tree.specs.declared.statement.Statement.TheVariants as statement
+use Rattle.ep_typed.specs.Trees as tree
+use Rattle.ep_typed.specs.Trees.{Stmt, Stmts}
+use Rattle.ep_check_stmt.specs.Statements.{ArmJudged, Context, Judgement, after, at_arm, at_compound, at_otherwise, at_statement, condition_judged, statement_judged}
+use Rattle.ep_check_stmt.proofs.judged.Rounds.{first_built, rest_of}
+
+-- a `while` statement is judged by its parts
+pub while_is : (context : Context) (line : ℕ) (e : Expression) (body : Statement)
+    → statement_judged context (statement.While line e body) ≡ after (tree.While line) (condition_judged context line e) (statement_judged context body)
+while_is context line e body =
+    ap (statement_judged context) (sym (statement.rolls-While line e body))
+    ∙ fold-roll-Statement (Judgement Stmt) ArmJudged (Judgement Stmts) (Judgement Stmts) (at_statement context) (at_arm context) (at_compound context) (at_otherwise context) (Statement-F.While line e body)
+
+if_unbuilt : (line : ℕ) (e : Expression) (then : Statement) (other : Option Statement)
+    → statement_unbuilt (statement.If line e then other) ≡ option_or (expression_unbuilt e) (option_or (statement_unbuilt then) (first_if (option_map statement_unbuilt other)))
+if_unbuilt line e then None =
+    ap statement_unbuilt (sym (statement.rolls-If line e then None))
+    ∙ fold-roll-Statement Found Found Placed Found built.at_statement built.at_arm built.at_compound built.at_otherwise (Statement-F.If line e then None)
+if_unbuilt line e then (Some other) =
+    ap statement_unbuilt (sym (statement.rolls-If line e then (Some other)))
+    ∙ fold-roll-Statement Found Found Placed Found built.at_statement built.at_arm built.at_compound built.at_otherwise (Statement-F.If line e then (Some other))
+
+branches_built : (line : ℕ) (e : Expression) (then : Statement) (other : Option Statement) → statement_unbuilt (statement.If line e then other) ≡ None
+    → option_or (statement_unbuilt then) (first_if (option_map statement_unbuilt other)) ≡ None
+branches_built line e then other h =
+    rest_of (expression_unbuilt e) (option_or (statement_unbuilt then) (first_if (option_map statement_unbuilt other))) (sym (if_unbuilt line e then other) ∙ h)
+
+-- the branches of an `if` statement that is built
+pub then_built : (line : ℕ) (e : Expression) (then : Statement) (other : Option Statement) → statement_unbuilt (statement.If line e then other) ≡ None → statement_unbuilt then ≡ None
+then_built line e then other h = first_built (statement_unbuilt then) (first_if (option_map statement_unbuilt other)) (branches_built line e then other h)
+
+pub other_built : (line : ℕ) (e : Expression) (then other : Statement) → statement_unbuilt (statement.If line e then (Some other)) ≡ None → statement_unbuilt other ≡ None
+other_built line e then other h = rest_of (statement_unbuilt then) (statement_unbuilt other) (branches_built line e then (Some other) h)

@@ -1,0 +1,222 @@
+-- A `case` statement and its parts.
+use Rattle.std.proofs.Common.{◌≡◌, ℕ, ℤ, nat_eq, ◌==◌, eq-eqb, Bool, true, false, ◌&&◌, ◌+◌, ◌<◌, ◌≤◌, List, [], ◌∷◌, ◌++◌, map, drop, length, get_or, Option, Some, None, refl, sym, ap, ◌∙◌, subst}
+use Rattle.std.specs.List.{list_any}
+use Rattle.std.proofs.lemmas.List.{drop_all}
+use Rattle.std.specs.Option.{option_or}
+use Rattle.ep_built.specs.Built.{Found, Placed, arm_unbuilt, expression_unbuilt, first_if, first_in, label_unbuilt, statement_unbuilt}
+use Rattle.ep_built.specs.Built as built
+use Rattle.ep_tree.specs.declared.expression.Expression.{Expression}
+use Rattle.ep_tree.specs.declared.statement.Arm.{Arm, out-Arm}
+use Rattle.ep_tree.specs.declared.statement.Otherwise.{Otherwise, out-Otherwise}
+use Rattle.ep_tree.specs.declared.statement.Statement.{fold-roll-Statement}
+use Rattle.ep_tree.specs.declared.statement.Statement.TheFolds.{fold_out-Arm, fold_out-Otherwise}
+use Rattle.ep_tree.specs.declared.statement.Statement.TheOpen.{Statement-F}
+use Rattle.ep_tree.specs.declared.statement.Statement.TheVariants as statement
+use Rattle.ep_typed.specs.Trees as tree
+use Rattle.ep_typed.specs.Trees.{Stmt, Stmts, Arms, Other, next_arm, no_arm, arms}
+use Rattle.ep_typed.specs.Viewed.{arm_of}
+use Rattle.ep_typed.specs.declared.tree.CaseArm.{CaseArm}
+use Rattle.ep_check_expr.specs.Judgements.{Judged, Accepts, Breaks, when_accepted}
+use Rattle.ep_check_expr.specs.declared.forms.Refusal.{Refusal}
+use Rattle.ep_check_expr.specs.declared.forms.Refusal.TheVariants.{Rule, NoMemory}
+use Rattle.ep_check_stmt.specs.Answers.{Refuses, RefusesRow, labels_of}
+use Rattle.ep_scope.specs.Scopes.{Region}
+use Rattle.ep_scope.specs.declared.kind.Host.{Host}
+use Rattle.ep_check_stmt.specs.Cases.{CaseSelector, end_judged, range_judged, ranging, selector_judged}
+use Rattle.ep_check_stmt.specs.Outcomes.{refused_at}
+use Rattle.ep_check_stmt.specs.Statements.{ArmJudged, Context, Judgement, Passes, Waits, Fails, after, arm_judged, arm_row, arms_in_order, at_arm, at_compound, at_otherwise, at_statement, case_judged, in_order, other_judged, otherwise_judged, statement_judged}
+use Rattle.ep_check_stmt.specs.declared.cases.Labels.{Labels}
+use Rattle.ep_check_stmt.specs.declared.outcome.CheckRefusal.{CheckRefusal}
+use Rattle.ep_check_stmt.specs.declared.outcome.CheckRefusal.TheVariants as refusal
+use Rattle.ep_check_stmt.proofs.judged.Refusing.{first_refused, part_refused, second_refused}
+use Rattle.ep_check_stmt.proofs.judged.Rounds.{first_built, next_item, rest_of}
+use Rattle.ep_check_stmt.proofs.Rows.{first_falls}
+
+-- ---- labels that are taken one after another
+
+-- the refusal of the one that comes next is that of all
+pub taken_refused : {X : Type 0} (all_of : List X → Labels → Judged Labels) (one_of : X → Labels → Judged Labels) → ((x : X) (xs : List X) (found : Labels) → all_of (x ∷ xs) found ≡ when_accepted (all_of xs) (one_of x found))
+    → (all : List X) (i : ℕ) (x : X) (first now : Labels) (e : Refusal) → i < length all → x ≡ get_or all i x → all_of (drop i all) now ≡ all_of all first
+    → Refuses e (one_of x now) → Refuses e (all_of all first)
+taken_refused all_of one_of takes all i x first now e h is same r =
+    subst (Refuses e) (sym (takes x (drop (i + 1) all) now) ∙ (sym (ap (λ xs. all_of xs now) (next_item all i x h is)) ∙ same)) (part_refused (all_of (drop (i + 1) all)) e (one_of x now) r)
+
+-- ---- the ends of a label
+
+module _ (scopes : List Region) (h : Host) (low : Expression) where
+  -- the refusal of the first end
+  pub low_refused : (high : Option Expression) (e : Refusal) → Refuses e (end_judged scopes h low) → Refuses e (range_judged scopes h low high)
+  low_refused None e r = part_refused (λ z. ranging z z) e (end_judged scopes h low) r
+  low_refused (Some high) e r = first_refused ranging e (end_judged scopes h low) (end_judged scopes h high) r
+
+  -- and of the second one
+  pub high_refused : (high : Expression) (e : Refusal) (z : Option ℤ) → end_judged scopes h low ≡ Accepts z → Refuses e (end_judged scopes h high) → Refuses e (range_judged scopes h low (Some high))
+  high_refused high e z is r = second_refused ranging e (end_judged scopes h low) (end_judged scopes h high) z is r
+
+-- ---- arms in order
+
+-- these arms before those
+abbrev pub joined : List tree.Arm → Arms → Arms
+joined [] more = more
+joined (a ∷ found) more = next_arm a.0 a.1 (joined found more)
+
+joined_more : (found : List tree.Arm) (a : tree.Arm) (more : Arms) → joined found (next_arm a.0 a.1 more) ≡ joined (found ++ a ∷ []) more
+joined_more [] a more = refl
+joined_more (b ∷ found) a more = ap (next_arm b.0 b.1) (joined_more found a more)
+
+joined_all : (found : List tree.Arm) → joined found no_arm ≡ arms found
+joined_all [] = refl
+joined_all (a ∷ found) = ap (next_arm a.0 a.1) (joined_all found)
+
+-- the arms so far, of which the first that is not built begins on this line, and those that come
+abbrev pub arms_together : List tree.Arm → Option ℕ → Judgement Arms → Judgement Arms
+arms_together found waits (Fails line rules) = Fails line rules
+arms_together found None (Passes more) = Passes (joined found more)
+arms_together found None (Waits line) = Waits line
+arms_together found (Some line) (Passes more) = Waits line
+arms_together found (Some line) (Waits other) = Waits line
+
+abbrev before : tree.Arm → Arms → Arms
+before x more = next_arm x.0 x.1 more
+
+one_passes : (found : List tree.Arm) (waits : Option ℕ) (a : tree.Arm) (rest : Judgement Arms) → arms_together found waits (after before (Passes a) rest) ≡ arms_together (found ++ a ∷ []) waits rest
+one_passes found None a (Passes more) = ap Passes (joined_more found a more)
+one_passes found (Some line) a (Passes more) = refl
+one_passes found None a (Waits line) = refl
+one_passes found (Some first) a (Waits line) = refl
+one_passes found waits a (Fails line rules) = refl
+
+one_waits : (found : List tree.Arm) (waits : Option ℕ) (line : ℕ) (rest : Judgement Arms) → arms_together found waits (after before (Waits line) rest) ≡ arms_together found (option_or waits (Some line)) rest
+one_waits found None line (Passes more) = refl
+one_waits found (Some first) line (Passes more) = refl
+one_waits found None line (Waits other) = refl
+one_waits found (Some first) line (Waits other) = refl
+one_waits found None line (Fails other rules) = refl
+one_waits found (Some first) line (Fails other rules) = refl
+
+refused_through : (r : CheckRefusal) (found : List tree.Arm) (waits : Option ℕ) (j : Judgement Arms) → RefusesRow r j → RefusesRow r (arms_together found waits j)
+refused_through refusal.NoMemory found waits j h = tt
+refused_through (refusal.NotBuilt line) found waits j h = h
+refused_through (refusal.Broken b) found waits (Passes more) h = cc
+refused_through (refusal.Broken b) found waits (Waits line) h = cc
+refused_through (refusal.Broken b) found waits (Fails line rules) h = h
+
+module _ {X Y : Type 0} (view : X → Y) (judge : Y → Judgement tree.Arm) (all : List X) (n : ℕ) (x : X) (h : n < length all) (is : x ≡ get_or all n x) where
+  abbrev rest : Judgement Arms
+  rest = arms_in_order (map judge (map view (drop (n + 1) all)))
+
+  at_next : arms_in_order (map judge (map view (drop n all))) ≡ after before (judge (view x)) rest
+  at_next = ap (λ xs. arms_in_order (map judge (map view xs))) (next_item all n x h is)
+
+  -- the turn of a loop, with an arm that is built
+  pub more_arms : (found : List tree.Arm) (waits : Option ℕ) (a : tree.Arm) → judge (view x) ≡ Passes a → arms_together found waits (arms_in_order (map judge (map view (drop n all)))) ≡ arms_in_order (map judge (map view all))
+      → arms_together (found ++ a ∷ []) waits rest ≡ arms_in_order (map judge (map view all))
+  more_arms found waits a e same = sym (one_passes found waits a rest) ∙ (sym (ap (arms_together found waits) (at_next ∙ ap (λ j. after before j rest) e)) ∙ same)
+
+  -- with one that is not
+  pub less_arms : (found : List tree.Arm) (waits : Option ℕ) (line : ℕ) → judge (view x) ≡ Waits line → arms_together found waits (arms_in_order (map judge (map view (drop n all)))) ≡ arms_in_order (map judge (map view all))
+      → arms_together found (option_or waits (Some line)) rest ≡ arms_in_order (map judge (map view all))
+  less_arms found waits line e same = sym (one_waits found waits line rest) ∙ (sym (ap (arms_together found waits) (at_next ∙ ap (λ j. after before j rest) e)) ∙ same)
+
+  -- the arm is refused
+  pub arm_falls : (r : CheckRefusal) (found : List tree.Arm) (waits : Option ℕ) → arms_together found waits (arms_in_order (map judge (map view (drop n all)))) ≡ arms_in_order (map judge (map view all)) → RefusesRow r (judge (view x)) → RefusesRow r (arms_in_order (map judge (map view all)))
+  arm_falls r found waits same f =
+      subst (RefusesRow r) same
+      (refused_through r found waits (arms_in_order (map judge (map view (drop n all))))
+      (subst (RefusesRow r) (sym at_next) (first_falls before r (judge (view x)) rest f)))
+
+-- one arm more at the end
+pub arms_more : (found : List CaseArm) (a : CaseArm) → map arm_of (found ++ a ∷ []) ≡ map arm_of found ++ arm_of a ∷ []
+arms_more [] a = refl
+arms_more (b ∷ found) a = ap (λ xs. arm_of b ∷ xs) (arms_more found a)
+
+-- the end of a loop in which all were built
+pub all_arms : {X Y : Type 0} (view : X → Y) (judge : Y → Judgement tree.Arm) (all : List X) (n : ℕ) (found : List tree.Arm) (waits : Option ℕ) → length all ≤ n → waits ≡ None
+    → arms_together found waits (arms_in_order (map judge (map view (drop n all)))) ≡ arms_in_order (map judge (map view all)) → arms_in_order (map judge (map view all)) ≡ Passes (arms found)
+all_arms view judge all n found waits h none_waits same =
+    sym same ∙ (ap (λ xs. arms_together found waits (arms_in_order (map judge (map view xs)))) (drop_all n all h) ∙ (ap (λ w. arms_together found w (Passes no_arm)) none_waits ∙ ap Passes (joined_all found)))
+
+-- ---- the equations of the nodes
+
+-- an arm is judged by its parts
+pub arm_is : (context : Context) (a : Arm) → arm_judged context a ≡ (labels_of a, statement_judged context (out-Arm a).body)
+arm_is context a = fold_out-Arm (Judgement Stmt) ArmJudged (Judgement Stmts) (Judgement Stmts) (at_statement context) (at_arm context) (at_compound context) (at_otherwise context) a
+
+arms_labels : (context : Context) (all : List Arm) → map (λ (a : ArmJudged). a.0) (map (arm_judged context) all) ≡ map labels_of all
+arms_labels context [] = refl
+arms_labels context (a ∷ all) = ap (λ (p : ArmJudged). p.0 ∷ map (λ (b : ArmJudged). b.0) (map (arm_judged context) all)) (arm_is context a) ∙ ap (λ ls. labels_of a ∷ ls) (arms_labels context all)
+
+-- the statements behind `otherwise` are judged one after another
+otherwise_is : (context : Context) (o : Otherwise) → otherwise_judged context o ≡ in_order (map (statement_judged context) (out-Otherwise o).statements)
+otherwise_is context o = fold_out-Otherwise (Judgement Stmt) ArmJudged (Judgement Stmts) (Judgement Stmts) (at_statement context) (at_arm context) (at_compound context) (at_otherwise context) o
+
+-- what the `otherwise` part is judged to be
+abbrev pub rest_judged : Context → Option Otherwise → Option (Judgement Stmts)
+rest_judged context None = None
+rest_judged context (Some o) = Some (in_order (map (statement_judged context) (out-Otherwise o).statements))
+
+-- a `case` statement is judged by its parts
+pub case_is : (context : Context) (line : ℕ) (e : Expression) (all : List Arm) (other : Option Otherwise)
+    → statement_judged context (statement.Case line e all other) ≡ case_judged line (selector_judged context.scopes e (map labels_of all)) (λ h. arms_in_order (map (arm_row context.scopes line h) (map (arm_judged context) all))) (other_judged (rest_judged context other))
+case_is context line e all None =
+    ap (statement_judged context) (sym (statement.rolls-Case line e all None))
+    ∙ fold-roll-Statement (Judgement Stmt) ArmJudged (Judgement Stmts) (Judgement Stmts) (at_statement context) (at_arm context) (at_compound context) (at_otherwise context) (Statement-F.Case line e all None)
+    ∙ ap (λ ls. case_judged line (selector_judged context.scopes e ls) (λ h. arms_in_order (map (arm_row context.scopes line h) (map (arm_judged context) all))) (other_judged None)) (arms_labels context all)
+case_is context line e all (Some o) =
+    ap (statement_judged context) (sym (statement.rolls-Case line e all (Some o)))
+    ∙ fold-roll-Statement (Judgement Stmt) ArmJudged (Judgement Stmts) (Judgement Stmts) (at_statement context) (at_arm context) (at_compound context) (at_otherwise context) (Statement-F.Case line e all (Some o))
+    ∙ ap (λ ls. case_judged line (selector_judged context.scopes e ls) (λ h. arms_in_order (map (arm_row context.scopes line h) (map (arm_judged context) all))) (other_judged (Some (otherwise_judged context o)))) (arms_labels context all)
+    ∙ ap (λ j. case_judged line (selector_judged context.scopes e (map labels_of all)) (λ h. arms_in_order (map (arm_row context.scopes line h) (map (arm_judged context) all))) (other_judged (Some j))) (otherwise_is context o)
+
+-- the refusal of the selector is that of the statement
+pub selector_falls : (line : ℕ) (j : Judged CaseSelector) (rows : Host → Judgement Arms) (other : Judgement Other) (e : Refusal) → Refuses e j → RefusesRow (refused_at line e) (case_judged line j rows other)
+selector_falls line j rows other NoMemory r = tt
+selector_falls line (Accepts s) rows other (Rule rule) r = cc
+selector_falls line (Breaks rules) rows other (Rule rule) r = both_pass (line == line) (list_any (nat_eq rule) rules) (eq-eqb line line refl) r
+  where
+    both_pass : (a b : Bool) → a ≡ true → b ≡ true → (a && b) ≡ true
+    both_pass true b p q = q
+    both_pass false b p q = p
+
+-- ---- what is built
+
+-- the first line in a `case` statement that is built
+abbrev rest_unbuilt : Option Otherwise → Found
+rest_unbuilt None = None
+rest_unbuilt (Some o) = first_in (map statement_unbuilt (out-Otherwise o).statements)
+
+case_unbuilt : (line : ℕ) (e : Expression) (all : List Arm) (other : Option Otherwise) → statement_unbuilt (statement.Case line e all other) ≡ option_or (expression_unbuilt e) (option_or (first_in (map arm_unbuilt all)) (rest_unbuilt other))
+case_unbuilt line e all None =
+    ap statement_unbuilt (sym (statement.rolls-Case line e all None))
+    ∙ fold-roll-Statement Found Found Placed Found built.at_statement built.at_arm built.at_compound built.at_otherwise (Statement-F.Case line e all None)
+case_unbuilt line e all (Some o) =
+    ap statement_unbuilt (sym (statement.rolls-Case line e all (Some o)))
+    ∙ fold-roll-Statement Found Found Placed Found built.at_statement built.at_arm built.at_compound built.at_otherwise (Statement-F.Case line e all (Some o))
+    ∙ ap (λ x. option_or (expression_unbuilt e) (option_or (first_in (map arm_unbuilt all)) x)) (fold_out-Otherwise Found Found Placed Found built.at_statement built.at_arm built.at_compound built.at_otherwise o)
+
+module _ (line : ℕ) (e : Expression) (all : List Arm) (other : Option Otherwise) (h : statement_unbuilt (statement.Case line e all other) ≡ None) where
+  both_built : option_or (expression_unbuilt e) (option_or (first_in (map arm_unbuilt all)) (rest_unbuilt other)) ≡ None
+  both_built = sym (case_unbuilt line e all other) ∙ h
+
+  pub selector_built : expression_unbuilt e ≡ None
+  selector_built = first_built (expression_unbuilt e) (option_or (first_in (map arm_unbuilt all)) (rest_unbuilt other)) both_built
+
+  more_built : option_or (first_in (map arm_unbuilt all)) (rest_unbuilt other) ≡ None
+  more_built = rest_of (expression_unbuilt e) (option_or (first_in (map arm_unbuilt all)) (rest_unbuilt other)) both_built
+
+  pub arms_built : first_in (map arm_unbuilt all) ≡ None
+  arms_built = first_built (first_in (map arm_unbuilt all)) (rest_unbuilt other) more_built
+
+  pub rest_built : rest_unbuilt other ≡ None
+  rest_built = rest_of (first_in (map arm_unbuilt all)) (rest_unbuilt other) more_built
+
+-- an arm by its parts
+arm_unbuilt_is : (a : Arm) → arm_unbuilt a ≡ option_or (first_in (map label_unbuilt (labels_of a))) (statement_unbuilt (out-Arm a).body)
+arm_unbuilt_is a = fold_out-Arm Found Found Placed Found built.at_statement built.at_arm built.at_compound built.at_otherwise a
+
+module _ (a : Arm) (h : arm_unbuilt a ≡ None) where
+  pub labels_built : first_in (map label_unbuilt (labels_of a)) ≡ None
+  labels_built = first_built (first_in (map label_unbuilt (labels_of a))) (statement_unbuilt (out-Arm a).body) (sym (arm_unbuilt_is a) ∙ h)
+
+  pub body_built : statement_unbuilt (out-Arm a).body ≡ None
+  body_built = rest_of (first_in (map label_unbuilt (labels_of a))) (statement_unbuilt (out-Arm a).body) (sym (arm_unbuilt_is a) ∙ h)

@@ -1,0 +1,7 @@
+pub mod Branches
+pub mod Called
+pub mod CaseParts
+pub mod Gathered
+pub mod judged
+pub mod Rows
+pub mod valid

@@ -1,0 +1,4 @@
+pub mod Fits
+pub mod Refusing
+pub mod Rounds
+pub mod SameHost

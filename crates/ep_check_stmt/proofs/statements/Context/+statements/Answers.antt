@@ -1,0 +1,90 @@
+use Rattle.std.proofs.Common.{rules, ◌≡◌, ◌∙◌, ◌+◌, None, map, drop, ap}
+use Rattle.ep_tree.specs.declared.statement.Statement.TheViews.{the_lemmas}
+use Rattle.ep_built.specs.Built.{arm_unbuilt, first_in, statement_unbuilt}
+use Rattle.ep_typed.specs.Viewed.{arm_of, other_of, stmt_of}
+use Rattle.ep_check_expr.specs.Judgements.{Accepts}
+use Rattle.ep_check_stmt.specs.Answers.{AnswersRow, context_of, labels_of, passed, selector_of}
+use Rattle.ep_check_stmt.specs.Cases.{selector_judged}
+use Rattle.ep_check_stmt.specs.Statements.{arm_judged, arm_row, arms_in_order, other_judged, statement_judged}
+use Rattle.ep_check_stmt.proofs.CaseParts.{all_arms, arms_more, case_is, less_arms, more_arms, rest_judged, selector_falls}
+use Rattle.ep_check_stmt.proofs.judged.Rounds.{rest_built}
+use Rattle.ep_check_stmt.proofs.Branches.{other_built, then_built, while_is}
+use Rattle.ep_check_stmt.proofs.Rows.{all_together, assignment_is, item_answers, less_together, more_together, statements_more}
+use Rattle.ep_check_stmt.proofs.statements.Context.+statements.Goals as goal
+use Rattle.ep_check_stmt.proofs.statements.Context.+statements.Goals.{arms-in-Passes+in_ok-push-in-Passes, arms-in-Waits, statement-in-None-other, statement-in-Some-other, statements-in-Passes+in_ok-push-in-Passes, statements-in-Waits}
+
+pub statements-loop-s-preserved : goal.statements-loop-s-preserved
+statements-loop-s-preserved t c =
+    let rest : first_in (map statement_unbuilt (drop (c.loop-s.s-index + 1) c.args.all.now)) ≡ None = rest_built statement_unbuilt c.args.all.now c.loop-s.s-index c.s-item.result c.loop-s-test.true c.s-item.is c.loop-s.invariant.built in
+    elim c.match-branch-2.branch [
+      | statements-in-Passes+in_ok-push-in-Passes w ↦ record {
+        built = rest;
+        same =
+            rw (w.waits-is, w.found-is, w.in_ok-push-in-Passes.ensures.ok, statements_more, w.into_inner.ensures)
+            (more_together (statement_judged (context_of c.args.self.now)) c.args.all.now c.loop-s.s-index c.s-item.result c.loop-s-test.true c.s-item.is (map stmt_of c.loop-s.found) c.loop-s.waits (stmt_of w.in-Passes.form) (c.in_ok-form.ensures ∙ ap (passed stmt_of) w.in-Passes.is) c.loop-s.invariant.same);
+      }
+      | statements-in-Waits w ↦ record {
+        built = rest;
+        same =
+            rw (w.waits-is, w.found-is, w.or-waits.ensures)
+            (less_together (statement_judged (context_of c.args.self.now)) c.args.all.now c.loop-s.s-index c.s-item.result c.loop-s-test.true c.s-item.is (map stmt_of c.loop-s.found) c.loop-s.waits w.in-Waits.line (c.in_ok-form.ensures ∙ ap (passed stmt_of) w.in-Waits.is) c.loop-s.invariant.same);
+      }
+    ]
+
+pub statements-returns-in-None : goal.statements-returns-in-None
+statements-returns-in-None t c = all_together (statement_judged (context_of c.args.self.now)) c.args.all.now c.loop-s.s-index (map stmt_of c.loop-s.found) c.loop-s.waits c.loop-s-test.false c.in-None.is c.loop-s.invariant.same
+
+pub statement-returns-in-Assignment : goal.statement-returns-in-Assignment
+statement-returns-in-Assignment t c =
+    rw (c.item_at.ensures, c.in-Assignment.is, assignment_is) (item_answers stmt_of c.in-Assignment.line c.assignment.result _ c.assignment.ensures)
+
+pub statement-returns-in-While : goal.statement-returns-in-While
+statement-returns-in-While t c =
+    rw (c.in-While.is, while_is) (c.while_form.ensures _ _ (rw c.get-in-While-2.ensures at c.condition-in-While.ensures) (rw c.get-in-While.ensures at c.statement-inner.ensures))
+
+pub statement-statement-first-requires : goal.statement-statement-first-requires
+statement-statement-first-requires t c =
+    (search (rules, the_lemmas), rw c.get.ensures (then_built c.in-If.line c.in-If.e c.in-If.then c.in-If.other (rw c.in-If.is at c.requires)))
+
+pub statement-statement-second-requires : goal.statement-statement-second-requires
+statement-statement-second-requires t c =
+    (search (rules, the_lemmas), rw c.get-in-Some.ensures (other_built c.in-If.line c.in-If.e c.in-If.then c.in-Some.other (rw (c.in-If.is, c.in-Some.is) at c.requires)))
+
+pub arms-loop-a-preserved : goal.arms-loop-a-preserved
+arms-loop-a-preserved t c =
+    let rest : first_in (map arm_unbuilt (drop (c.loop-a.a-index + 1) c.args.all.now)) ≡ None = rest_built arm_unbuilt c.args.all.now c.loop-a.a-index c.a-item.result c.loop-a-test.true c.a-item.is c.loop-a.invariant.built in
+    elim c.match-branch-2.branch [
+      | arms-in-Passes+in_ok-push-in-Passes w ↦ record {
+        built = rest;
+        same =
+            rw (w.waits-is, w.found-is, w.in_ok-push-in-Passes.ensures.ok, arms_more, w.into_inner.ensures)
+            (more_arms (arm_judged (context_of c.args.self.now)) (arm_row c.args.self.now.scopes.now c.args.line c.args.host) c.args.all.now c.loop-a.a-index c.a-item.result c.loop-a-test.true c.a-item.is (map arm_of c.loop-a.found) c.loop-a.waits (arm_of w.in-Passes.form) (c.in_ok-form.ensures ∙ ap (passed arm_of) w.in-Passes.is) c.loop-a.invariant.same);
+      }
+      | arms-in-Waits w ↦ record {
+        built = rest;
+        same =
+            rw (w.waits-is, w.found-is, w.or-waits.ensures)
+            (less_arms (arm_judged (context_of c.args.self.now)) (arm_row c.args.self.now.scopes.now c.args.line c.args.host) c.args.all.now c.loop-a.a-index c.a-item.result c.loop-a-test.true c.a-item.is (map arm_of c.loop-a.found) c.loop-a.waits w.in-Waits.line (c.in_ok-form.ensures ∙ ap (passed arm_of) w.in-Waits.is) c.loop-a.invariant.same);
+      }
+    ]
+
+pub arms-returns-in-None : goal.arms-returns-in-None
+arms-returns-in-None t c =
+    all_arms (arm_judged (context_of c.args.self.now)) (arm_row c.args.self.now.scopes.now c.args.line c.args.host) c.args.all.now c.loop-a.a-index (map arm_of c.loop-a.found) c.loop-a.waits c.loop-a-test.false c.in-None.is c.loop-a.invariant.same
+
+pub statement-returns-in-Err : goal.statement-returns-in-Err
+statement-returns-in-Err t c =
+    rw (c.refused_at.ensures, c.in-Case.is, case_is)
+    (selector_falls c.in-Case.line _ _ _ c.in-Err.refusal (rw (c.get-in-Case.ensures, c.items.ensures) at c.in-Err.ensures))
+
+pub statement-returns-after-other-2 : goal.statement-returns-after-other-2
+statement-returns-after-other-2 t c =
+    let line = c.in-Case.line in
+    let chosen : selector_judged c.args.self.now.scopes.now c.in-Case.e (map labels_of c.in-Case.arms) ≡ Accepts (selector_of c.in-Ok.selector) = rw (c.get-in-Case.ensures, c.items.ensures) at c.in-Ok.ensures in
+    let rest : AnswersRow other_of c.match-other-2.rest (other_judged (rest_judged (context_of c.args.self.now) c.in-Case.other)) =
+    elim c.match-other-2.branch [
+      | statement-in-None-other w ↦ rw (w.rest-is, w.in-None-other.is) w.no_otherwise-rest.ensures
+      | statement-in-Some-other w ↦ rw (w.rest-is, w.in-Some-other.is) (w.otherwise_form-rest.ensures _ (rw w.items-in-Some-other.ensures at w.statements.ensures))
+    ] in
+    rw (c.in-Case.is, case_is, chosen)
+    (rw c.into_form.ensures at (c.case_form.ensures (arms_in_order (map (arm_row c.args.self.now.scopes.now line c.in-Ok.selector.host) (map (arm_judged (context_of c.args.self.now)) c.in-Case.arms))) (other_judged (rest_judged (context_of c.args.self.now) c.in-Case.other)) (rw c.items-in-Case.ensures at c.arms-inner.ensures) rest))

@@ -1,0 +1,5 @@
+use Rattle.ep_check_stmt.proofs.Called.{written_arguments}
+use Rattle.ep_check_stmt.proofs.statements.Context.call.Goals as goal
+
+pub call_required-requires : goal.call_required-requires
+call_required-requires c = written_arguments c.args.access.now c.call_arguments-arguments.result.now c.requires.arguments c.call_arguments-arguments.ensures

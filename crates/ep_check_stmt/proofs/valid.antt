@@ -1,0 +1,4 @@
+pub mod Meant
+pub mod Passing
+pub mod Cases
+pub mod Statements

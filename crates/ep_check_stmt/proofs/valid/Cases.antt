@@ -1,0 +1,247 @@
+-- The selector and the labels of a `case` that the rules accept, its arms and its ranges.
+use Rattle.std.proofs.Common.{◌≡◌, ℕ, ℤ, Bool, true, false, ◌&&◌, List, [], ◌∷◌, ◌++◌, map, Option, Some, None, refl, sym, ap, ◌∙◌, subst, append_assoc, append-nil}
+use Rattle.std.specs.Prelude.{All, ⊤, IsTrue, int_le, if◌then◌else◌}
+use Rattle.std.specs.List.{list_all}
+use Rattle.std.proofs.lemmas.List.Elements.{All-nil, All-push}
+use Rattle.ep_tree.specs.declared.expression.Expression.{Expression}
+use Rattle.ep_tree.specs.declared.expression.Label.{Label, out-Label}
+use Rattle.ep_typed.specs.Hosts.{is_of_host}
+use Rattle.ep_typed.specs.Operations.{is_apart}
+use Rattle.ep_typed.specs.Trees as tree
+use Rattle.ep_typed.specs.Trees.{Expr, Stmt, Stmts, Arms, Other, no_arm, next_arm}
+use Rattle.ep_typed.specs.Valid as valid
+use Rattle.ep_typed.specs.Valid.{AreApart, AreArms, AreStmts, Declarations, HasRange, IsExpr, IsOther, IsRange, IsStmt, ranges_of}
+use Rattle.ep_typed.specs.declared.tree.CaseRange.{CaseRange}
+use Rattle.ep_typed.specs.declared.value.Value.{Value}
+use Rattle.ep_typed.specs.declared.value.Value.TheVariants as value
+use Rattle.ep_scope.specs.Kinds.{same_host}
+use Rattle.ep_scope.specs.Scopes.{Region}
+use Rattle.ep_scope.specs.declared.kind.Host.{Host}
+use Rattle.ep_scope.specs.declared.kind.Kind.{Kind}
+use Rattle.ep_scope.specs.declared.kind.Kind.TheVariants as kind
+use Rattle.ep_scope.specs.declared.rule.TheConstants as rule
+use Rattle.ep_check_expr.specs.Agreement.{Agrees, IsConstantOf}
+use Rattle.ep_check_expr.specs.Constants.{label_judged}
+use Rattle.ep_check_expr.specs.Hosts.{typed_host}
+use Rattle.ep_check_expr.specs.Judgements.{Judged, Accepts, Breaks, when_accepted}
+use Rattle.ep_check_expr.specs.Laws.{LabelsAreSound}
+use Rattle.ep_check_expr.specs.declared.constants.ConstantForm.{ConstantForm}
+use Rattle.ep_check_stmt.specs.Cases.{CaseSelector, added, arms_taken, at_least_one, end_judged, fitting, label_taken, labelled, labels_taken, no_labels, own_ranges, range_judged, ranges_formed, ranging}
+use Rattle.ep_check_stmt.specs.Statements.{ArmJudged, Judgement, after, arm_row, arms_in_order, at_item, case_row}
+use Rattle.ep_check_stmt.specs.declared.cases.Labels.{Labels}
+use Rattle.ep_check_stmt.proofs.judged.Fits.{Fits, fits_both, fits_then}
+use Rattle.ep_check_stmt.proofs.judged.SameHost.{host_same}
+use Rattle.ep_check_stmt.proofs.valid.Passing.{FitsRow, IfForm, after_fits, item_fits}
+
+-- ---- ranges that are apart
+
+-- one range more, which is apart from each of those before it
+apart_push : (rs : List CaseRange) (r : CaseRange) → AreApart rs → list_all (λ s. is_apart s r) rs ≡ true → AreApart (rs ++ r ∷ [])
+apart_push [] r h t = (All-nil (λ s. IsTrue (is_apart r s)), tt)
+apart_push (x ∷ rs) r h t =
+    let p = both_true (is_apart x r) (list_all (λ s. is_apart s r) rs) t in
+    (All-push (λ s. IsTrue (is_apart x s)) rs r h.0 p.0, apart_push rs r h.1 p.1)
+  where
+    both_true : (a b : Bool) → (a && b) ≡ true → (a ≡ true) × (b ≡ true)
+    both_true true true e = (refl, refl)
+    both_true true false e = cc
+    both_true false b e = cc
+
+-- ---- the same labels after others
+
+-- two rows of labels have grown by the same ranges
+record Alike (x x2 y y2 : Labels) : Type 0 where
+  more : List CaseRange
+  first : x2.ranges ≡ x.ranges ++ more
+  second : y2.ranges ≡ y.ranges ++ more
+
+-- one label more, and then others that are alike
+module _ (take : Labels → Judged Labels) (again : (x x2 y y2 : Labels) → take x ≡ Accepts x2 → take y ≡ Accepts y2 → Alike x x2 y y2) (x x2 y y2 : Labels) where
+  one_alike : (r : CaseRange) (a b : Bool) → when_accepted take (if a then Accepts (record x { ranges = x.ranges ++ r ∷ [] }) else Breaks (rule.CASE_LABELS ∷ [])) ≡ Accepts x2 → when_accepted take (if b then Accepts (record y { ranges = y.ranges ++ r ∷ [] }) else Breaks (rule.CASE_LABELS ∷ [])) ≡ Accepts y2 → Alike x x2 y y2
+  one_alike r true true p q =
+      let z = again (record x { ranges = x.ranges ++ r ∷ [] }) x2 (record y { ranges = y.ranges ++ r ∷ [] }) y2 p q in
+      record { more = r ∷ z.more; first = z.first ∙ append_assoc x.ranges (r ∷ []) z.more; second = z.second ∙ append_assoc y.ranges (r ∷ []) z.more }
+  one_alike r false b p q = cc
+  one_alike r true false p q = cc
+
+  next_alike : (j : Judged (Option CaseRange)) → when_accepted take (when_accepted (added x) j) ≡ Accepts x2 → when_accepted take (when_accepted (added y) j) ≡ Accepts y2 → Alike x x2 y y2
+  next_alike (Breaks rules) p q = cc
+  next_alike (Accepts None) p q =
+      let z = again (record x { built = false }) x2 (record y { built = false }) y2 p q in
+      record { more = z.more; first = z.first; second = z.second }
+  next_alike (Accepts (Some r)) p q = one_alike r (list_all (λ s. is_apart s r) x.ranges) (list_all (λ s. is_apart s r) y.ranges) p q
+
+module _ (scopes : List Region) (h : Host) where
+  alike : (ls : List Label) (x x2 y y2 : Labels) → labels_taken scopes h ls x ≡ Accepts x2 → labels_taken scopes h ls y ≡ Accepts y2 → Alike x x2 y y2
+  alike [] x x2 y y2 p q =
+      let a : x ≡ x2 = cc in
+      let b : y ≡ y2 = cc in
+      record { more = []; first = ap (λ l. l.ranges) (sym a) ∙ sym (append-nil x.ranges); second = ap (λ l. l.ranges) (sym b) ∙ sym (append-nil y.ranges) }
+  alike (l ∷ ls) x x2 y y2 p q = next_alike (labels_taken scopes h ls) (alike ls) x x2 y y2 (range_judged scopes h (out-Label l).low (out-Label l).high) p q
+
+  -- what the labels of an arm are after others: their own ranges more
+  abbrev HasOwn : List Label → List CaseRange → Type 0
+  HasOwn ls rs = (found more : Labels) → labels_taken scopes h ls found ≡ Accepts more → more.ranges ≡ found.ranges ++ rs
+
+  abbrev HaveOwn : List (List Label) → Arms → Type 0
+  HaveOwn all arms = (found more : Labels) → arms_taken scopes h all found ≡ Accepts more → more.ranges ≡ found.ranges ++ ranges_of arms
+
+  own_is : (ls : List Label) → Fits (IfForm (HasOwn ls)) (own_ranges scopes h ls)
+  own_is ls = go (labels_taken scopes h ls no_labels) refl
+    where
+      by_ranges : (found : Labels) (rs : List CaseRange) → labels_taken scopes h ls no_labels ≡ Accepts found → found.ranges ≡ rs → Fits (IfForm (HasOwn ls)) (at_least_one rs)
+      by_ranges found [] is e = tt
+      by_ranges found (r ∷ rs) is e = λ before more taken.
+          let z = alike ls no_labels found before more is taken in
+          z.second ∙ ap (λ l. before.ranges ++ l) (sym z.first ∙ e)
+
+      by_built : (found : Labels) (b : Bool) → labels_taken scopes h ls no_labels ≡ Accepts found → Fits (IfForm (HasOwn ls)) (if b then at_least_one found.ranges else Accepts None)
+      by_built found true is = by_ranges found found.ranges is refl
+      by_built found false is = tt
+
+      go : (j : Judged Labels) → labels_taken scopes h ls no_labels ≡ j → Fits (IfForm (HasOwn ls)) (when_accepted ranges_formed j)
+      go (Breaks rules) is = tt
+      go (Accepts found) is = by_built found found.built is
+
+  one_more : (ls : List Label) (all : List (List Label)) (rs : List CaseRange) (s : Stmt) (arms : Arms) → HasOwn ls rs → HaveOwn all arms → HaveOwn (ls ∷ all) (next_arm rs s arms)
+  one_more ls all rs s arms p q found more taken = go (labels_taken scopes h ls found) refl taken
+    where
+      go : (j : Judged Labels) → labels_taken scopes h ls found ≡ j → when_accepted (arms_taken scopes h all) j ≡ Accepts more → more.ranges ≡ found.ranges ++ (rs ++ ranges_of arms)
+      go (Breaks rules) is e = cc
+      go (Accepts next) is e = q next more e ∙ (ap (λ l. l ++ ranges_of arms) (p found next is) ∙ append_assoc found.ranges rs (ranges_of arms))
+
+module _ (declared : Declarations) (labels : LabelsAreSound) (scopes : List Region) (agrees : Agrees declared scopes) (h : Host) where
+  -- ---- labels
+
+  -- an end of a label is a value of the host
+  abbrev IsEnd : ℤ → Type 0
+  IsEnd z = IsTrue (is_of_host (typed_host h) z)
+
+  end_by : (g : Host) (z : ℤ) (built same : Bool) → same_host h g ≡ same → IsTrue (is_of_host (typed_host g) z) → Fits (IfForm IsEnd) (if same then Accepts (if built then Some z else None) else Breaks (rule.CASE_LABELS ∷ []))
+  end_by g z true true e p = subst (λ k. IsTrue (is_of_host k z)) (host_same h g e) p
+  end_by g z false true e p = tt
+  end_by g z built false e p = tt
+
+  fitting_fits : (k : Kind) (v : Value) (built : Bool) → IsConstantOf k v → Fits (IfForm IsEnd) (fitting h k v built)
+  fitting_fits (kind.Ordinal g) (value.Word z) built p = end_by g z built (same_host h g) refl p.1
+  fitting_fits (kind.Ordinal g) (value.Text bytes) built p = absurd p
+  fitting_fits kind.Text (value.Word z) built p = tt
+  fitting_fits kind.Text (value.Text bytes) built p = tt
+  fitting_fits kind.File (value.Word z) built p = tt
+  fitting_fits kind.File (value.Text bytes) built p = tt
+
+  end_fits : (e : Expression) → Fits (IfForm IsEnd) (end_judged scopes h e)
+  end_fits e = go (label_judged scopes e) refl
+    where
+      go : (j : Judged ConstantForm) → label_judged scopes e ≡ j → Fits (IfForm IsEnd) (when_accepted (λ c. fitting h c.kind c.value c.built) j)
+      go (Accepts c) is = fitting_fits c.kind c.value c.built (labels scopes e c is declared agrees)
+      go (Breaks rules) is = tt
+
+  abbrev IsRangeOf : CaseRange → Type 0
+  IsRangeOf r = IsRange declared (typed_host h) r
+
+  ordered : (low high : ℤ) (t : Bool) → int_le low high ≡ t → IsEnd low → IsEnd high → Fits (IfForm IsRangeOf) (if t then Accepts (Some (record { low = low; high = high })) else Breaks (rule.CASE_LABELS ∷ []))
+  ordered low high true e p q = (e, p, q)
+  ordered low high false e p q = tt
+
+  ranging_fits : (low high : Option ℤ) → IfForm IsEnd low → IfForm IsEnd high → Fits (IfForm IsRangeOf) (ranging low high)
+  ranging_fits (Some low) (Some high) p q = ordered low high (int_le low high) refl p q
+  ranging_fits None None p q = tt
+  ranging_fits None (Some high) p q = tt
+  ranging_fits (Some low) None p q = tt
+
+  range_fits : (low : Expression) (high : Option Expression) → Fits (IfForm IsRangeOf) (range_judged scopes h low high)
+  range_fits low None = fits_then (IfForm IsEnd) (IfForm IsRangeOf) (λ z. ranging z z) (end_judged scopes h low) (end_fits low) (λ z p. ranging_fits z z p p)
+  range_fits low (Some high) = fits_both (IfForm IsEnd) (IfForm IsEnd) (IfForm IsRangeOf) ranging (end_judged scopes h low) (end_judged scopes h high) (end_fits low) (end_fits high) (λ x y p q. ranging_fits x y p q)
+
+  -- the ranges so far are of the host, and no value is in two of them
+  abbrev AreLabels : Labels → Type 0
+  AreLabels found = All IsRangeOf found.ranges × AreApart found.ranges
+
+  added_by : (found : Labels) (r : CaseRange) (t : Bool) → list_all (λ s. is_apart s r) found.ranges ≡ t → AreLabels found → IsRangeOf r → Fits AreLabels (if t then Accepts (record found { ranges = found.ranges ++ r ∷ [] }) else Breaks (rule.CASE_LABELS ∷ []))
+  added_by found r true e p q = (All-push IsRangeOf found.ranges r p.0 q, apart_push found.ranges r p.1 e)
+  added_by found r false e p q = tt
+
+  added_fits : (found : Labels) (r : Option CaseRange) → AreLabels found → IfForm IsRangeOf r → Fits AreLabels (added found r)
+  added_fits found None p q = p
+  added_fits found (Some r) p q = added_by found r (list_all (λ s. is_apart s r) found.ranges) refl p q
+
+  labels_fit : (ls : List Label) (found : Labels) → AreLabels found → Fits AreLabels (labels_taken scopes h ls found)
+  labels_fit [] found p = p
+  labels_fit (l ∷ ls) found p =
+      fits_then AreLabels AreLabels (labels_taken scopes h ls) (label_taken scopes h l found)
+      (fits_then (IfForm IsRangeOf) AreLabels (added found) (range_judged scopes h (out-Label l).low (out-Label l).high) (range_fits (out-Label l).low (out-Label l).high) (λ r q. added_fits found r p q)) (λ next q. labels_fit ls next q)
+
+  all_labels_fit : (all : List (List Label)) (found : Labels) → AreLabels found → Fits AreLabels (arms_taken scopes h all found)
+  all_labels_fit [] found p = p
+  all_labels_fit (ls ∷ all) found p = fits_then AreLabels AreLabels (arms_taken scopes h all) (labels_taken scopes h ls found) (labels_fit ls found p) (λ next q. all_labels_fit all next q)
+
+  none_yet : AreLabels no_labels
+  none_yet = (All-nil IsRangeOf, tt)
+
+  -- ---- arms
+
+  -- the ranges of an arm: at least one, and each of the host
+  abbrev AreOwn : List CaseRange → Type 0
+  AreOwn rs = HasRange declared rs × All IsRangeOf rs
+
+  at_least : (rs : List CaseRange) → All IsRangeOf rs → Fits (IfForm AreOwn) (at_least_one rs)
+  at_least [] p = tt
+  at_least (r ∷ rs) p = (tt, p)
+
+  formed_by : (found : Labels) (t : Bool) → AreLabels found → Fits (IfForm AreOwn) (if t then at_least_one found.ranges else Accepts None)
+  formed_by found true p = at_least found.ranges p.0
+  formed_by found false p = tt
+
+  own_fits : (ls : List Label) → Fits (IfForm AreOwn) (own_ranges scopes h ls)
+  own_fits ls = fits_then AreLabels (IfForm AreOwn) ranges_formed (labels_taken scopes h ls no_labels) (labels_fit ls no_labels none_yet) (λ found p. formed_by found found.built p)
+
+  pair_if : (P Q : List CaseRange → Type 0) (j : Judged (Option (List CaseRange))) → Fits (IfForm P) j → Fits (IfForm Q) j → Fits (IfForm (λ rs. P rs × Q rs)) j
+  pair_if P Q (Accepts None) p q = tt
+  pair_if P Q (Accepts (Some rs)) p q = (p, q)
+  pair_if P Q (Breaks rules) p q = tt
+
+  -- the statement of each arm is valid, where it passes
+  abbrev pub BodiesFit : List ArmJudged → Type 0
+  BodiesFit [] = ⊤
+  BodiesFit (a ∷ all) = FitsRow (IsStmt declared) a.1 × BodiesFit all
+
+  abbrev labels_in : List ArmJudged → List (List Label)
+  labels_in all = map (λ (a : ArmJudged). a.0) all
+
+  abbrev AreOwnArms : List ArmJudged → Arms → Type 0
+  AreOwnArms all arms = AreArms declared (typed_host h) arms × HaveOwn scopes h (labels_in all) arms
+
+  arms_fit : (line : ℕ) (all : List ArmJudged) → BodiesFit all → FitsRow (AreOwnArms all) (arms_in_order (map (arm_row scopes line h) all))
+  arms_fit line [] p = (tt, λ found more e. let same : found ≡ more = cc in ap (λ l. l.ranges) (sym same) ∙ sym (append-nil found.ranges))
+  arms_fit line (a ∷ all) p =
+      after_fits (λ (x : tree.Arm). (AreOwn x.0 × HasOwn scopes h a.0 x.0) × IsStmt declared x.1) (AreOwnArms all) (AreOwnArms (a ∷ all)) _ (arm_row scopes line h a) (arms_in_order (map (arm_row scopes line h) all))
+      (after_fits (λ rs. AreOwn rs × HasOwn scopes h a.0 rs) (IsStmt declared) (λ (x : tree.Arm). (AreOwn x.0 × HasOwn scopes h a.0 x.0) × IsStmt declared x.1) _ (at_item line (own_ranges scopes h a.0)) a.1
+      (item_fits (λ rs. AreOwn rs × HasOwn scopes h a.0 rs) line (own_ranges scopes h a.0) (pair_if AreOwn (HasOwn scopes h a.0) (own_ranges scopes h a.0) (own_fits a.0) (own_is scopes h a.0))) p.0 (λ rs s q r. (q, r)))
+      (arms_fit line all p.1)
+      (λ x arms q r. ((q.0.0.0, q.0.0.1, q.1, r.0), one_more scopes h a.0 (labels_in all) x.0 x.1 arms q.0.1 r.1))
+
+  -- ---- the statement
+
+  -- the form of a selector of this host, and the labels of all arms
+  abbrev pub IsSelected : List (List Label) → Option Expr → Type 0
+  IsSelected all form = IfForm (λ x. IsExpr declared (valid.Ordinal (typed_host h)) x) form × ((found : Labels) × (arms_taken scopes h all no_labels ≡ Accepts found) × AreApart found.ranges)
+
+  pub row_fits : (line : ℕ) (form : Option Expr) (all : List ArmJudged) (other : Judgement Other) → IsSelected (labels_in all) form → BodiesFit all → FitsRow (IsOther declared) other → FitsRow (IsStmt declared) (case_row line form (arms_in_order (map (arm_row scopes line h) all)) other)
+  row_fits line form all other p q r =
+      after_fits (IsExpr declared (valid.Ordinal (typed_host h))) (λ (x : Arms × Other). AreOwnArms all x.0 × IsOther declared x.1) (IsStmt declared) _ (at_item line (Accepts form)) (after (λ a b. (a, b)) (arms_in_order (map (arm_row scopes line h) all)) other)
+      (item_fits (IsExpr declared (valid.Ordinal (typed_host h))) line (Accepts form) p.0)
+      (after_fits (AreOwnArms all) (IsOther declared) (λ (x : Arms × Other). AreOwnArms all x.0 × IsOther declared x.1) (λ a b. (a, b)) (arms_in_order (map (arm_row scopes line h) all)) other (arms_fit line all q) r (λ a b x y. (x, y)))
+      (λ x parts e f. ((typed_host h, e, f.0.0), f.1, subst AreApart (f.0.1 no_labels p.1.0 p.1.1) p.1.2))
+
+  -- the form, where the labels are built too
+  pub labelled_fits : (all : List (List Label)) (form : Option Expr) → IfForm (λ x. IsExpr declared (valid.Ordinal (typed_host h)) x) form → Fits (λ (s : CaseSelector). (s.host ≡ h) × IsSelected all s.form) (labelled scopes all (record { host = h; form = form }))
+  labelled_fits all form p = go (arms_taken scopes h all no_labels) refl (all_labels_fit all no_labels none_yet)
+    where
+      by_built : (found : Labels) (t : Bool) → arms_taken scopes h all no_labels ≡ Accepts found → AreApart found.ranges → IsSelected all (if t then form else None)
+      by_built found true is q = (p, (found, is, q))
+      by_built found false is q = (tt, (found, is, q))
+
+      go : (j : Judged Labels) → arms_taken scopes h all no_labels ≡ j → Fits AreLabels j → Fits (λ (s : CaseSelector). (s.host ≡ h) × IsSelected all s.form) (when_accepted (λ found. Accepts (record { host = h; form = if found.built then form else None })) j)
+      go (Accepts found) is q = (refl, by_built found found.built is q.1)
+      go (Breaks rules) is q = tt

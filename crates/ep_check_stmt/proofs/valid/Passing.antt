@@ -1,0 +1,37 @@
+-- What passes of rows of items has a property, where the items have theirs.
+use Rattle.std.proofs.Common.{ℕ, Option, Some, None}
+use Rattle.std.specs.Prelude.{⊤}
+use Rattle.ep_check_expr.specs.Judgements.{Judged, Accepts, Breaks}
+use Rattle.ep_check_stmt.specs.Statements.{Judgement, Passes, Waits, Fails, after, at_item, formed, waiting}
+use Rattle.ep_check_stmt.proofs.judged.Fits.{Fits}
+
+-- what passes has the property
+abbrev pub FitsRow : {A : Type 0} → (A → Type 0) → Judgement A → Type 0
+FitsRow P (Passes a) = P a
+FitsRow P (Waits line) = ⊤
+FitsRow P (Fails line rules) = ⊤
+
+-- a form has it, where it is there
+abbrev pub IfForm : {A : Type 0} → (A → Type 0) → Option A → Type 0
+IfForm P None = ⊤
+IfForm P (Some a) = P a
+
+pub item_fits : {A : Type 0} (P : A → Type 0) (line : ℕ) (j : Judged (Option A)) → Fits (IfForm P) j → FitsRow P (at_item line j)
+item_fits P line (Accepts None) h = tt
+item_fits P line (Accepts (Some a)) h = h
+item_fits P line (Breaks rules) h = tt
+
+pub formed_fits : {A B : Type 0} (P : A → Type 0) (Q : B → Type 0) (f : A → B) (x : Judgement A) → FitsRow P x → ((a : A) → P a → Q (f a)) → FitsRow Q (formed f x)
+formed_fits P Q f (Passes a) h g = g a h
+formed_fits P Q f (Waits line) h g = tt
+formed_fits P Q f (Fails line rules) h g = tt
+
+pub waiting_fits : {A B : Type 0} (Q : B → Type 0) (line : ℕ) (x : Judgement A) → FitsRow Q (waiting line x)
+waiting_fits Q line (Passes a) = tt
+waiting_fits Q line (Waits other) = tt
+waiting_fits Q line (Fails other rules) = tt
+
+pub after_fits : {A B C : Type 0} (P : A → Type 0) (Q : B → Type 0) (R : C → Type 0) (f : A → B → C) (x : Judgement A) (y : Judgement B) → FitsRow P x → FitsRow Q y → ((a : A) (b : B) → P a → Q b → R (f a b)) → FitsRow R (after f x y)
+after_fits P Q R f (Passes a) y h k g = formed_fits Q R (f a) y k (λ b q. g a b h q)
+after_fits P Q R f (Waits line) y h k g = waiting_fits R line y
+after_fits P Q R f (Fails line rules) y h k g = tt

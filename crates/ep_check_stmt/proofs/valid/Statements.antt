@@ -1,0 +1,444 @@
+-- Statements that the rules accept are valid under declarations that hold what the scopes declare.
+use Rattle.std.proofs.Common.{◌≡◌, ℕ, Bool, true, false, List, [], ◌∷◌, map, Option, Some, None, refl, sym, ap, ◌∙◌, subst}
+use Rattle.std.specs.Prelude.{⊤, if◌then◌else◌}
+use Rattle.std.specs.Option.{option_map}
+use Rattle.ep_tree.specs.Nodes.{argument_node}
+use Rattle.ep_tree.specs.declared.expression.Access.{out-Access}
+use Rattle.ep_tree.specs.declared.expression.Argument.{Argument, out-Argument, roll-out-Argument}
+use Rattle.ep_tree.specs.declared.expression.ComponentValue.{ComponentValue}
+use Rattle.ep_tree.specs.declared.expression.ComponentValue.TheFolds.{fold-roll-Argument}
+use Rattle.ep_tree.specs.declared.expression.Expression.{Expression}
+use Rattle.ep_tree.specs.declared.expression.Selector.{Selector}
+use Rattle.ep_tree.specs.declared.expression.Label.{Label}
+use Rattle.ep_tree.specs.declared.statement.Arm.{Arm, map-Arm, roll-Arm}
+use Rattle.ep_tree.specs.declared.statement.Compound.{Compound, map-Compound, roll-Compound}
+use Rattle.ep_tree.specs.declared.statement.Otherwise.{Otherwise, map-Otherwise, roll-Otherwise}
+use Rattle.ep_tree.specs.declared.statement.Statement.{Statement, map-Statement, roll-Statement}
+use Rattle.ep_tree.specs.declared.statement.Statement.TheFolds.{fold-roll-Arm, fold-roll-Compound, fold-roll-Otherwise, fold-roll-Statement, ind-Compound}
+use Rattle.ep_tree.specs.declared.statement.Statement.TheOpen.{Statement-F, Arm-F, Compound-F, Otherwise-F}
+use Rattle.ep_typed.specs.Hosts as typed
+use Rattle.ep_typed.specs.Trees as tree
+use Rattle.ep_typed.specs.Trees.{Place, Expr, Item, Other, Stmt, Stmts}
+use Rattle.ep_typed.specs.Valid as valid
+use Rattle.ep_typed.specs.Valid.{AreItems, AreStmts, Declarations, IsExpr, IsItem, IsOther, IsPlace, IsStmt, WritesSomething, printed_kind}
+use Rattle.ep_typed.specs.declared.operations.Print.{Print}
+use Rattle.ep_typed.specs.declared.tree.StandardFile.{StandardFile}
+use Rattle.ep_typed.specs.declared.tree.StandardFile.TheVariants as file
+use Rattle.ep_scope.specs.Kinds.{same_host}
+use Rattle.ep_scope.specs.Scopes.{Region, Meant, Declares, Standard, Requires, Nothing, meant}
+use Rattle.ep_scope.specs.declared.kind.Host.{Host}
+use Rattle.ep_scope.specs.declared.kind.Host.TheVariants as host
+use Rattle.ep_scope.specs.declared.kind.Kind.{Kind}
+use Rattle.ep_scope.specs.declared.kind.Kind.TheVariants as kind
+use Rattle.ep_scope.specs.declared.required.Procedure.{Procedure}
+use Rattle.ep_scope.specs.declared.required.Procedure.TheVariants as procedure
+use Rattle.ep_scope.specs.declared.required.Required.{Required}
+use Rattle.ep_scope.specs.declared.required.Required.TheVariants as required
+use Rattle.ep_scope.specs.declared.rule.TheConstants as rule
+use Rattle.ep_scope.specs.declared.thing.Declaration.{Declaration}
+use Rattle.ep_scope.specs.declared.thing.Declaration.TheVariants as declaration
+use Rattle.ep_scope.specs.declared.thing.Declared.{Declared}
+use Rattle.ep_check_expr.specs.Agreement.{Agrees, IsDeclaration, IsFormOf}
+use Rattle.ep_check_expr.specs.Expressions.{given, judged, judged_value}
+use Rattle.ep_check_expr.specs.Functions.{Given}
+use Rattle.ep_check_expr.specs.Hosts.{typed_host}
+use Rattle.ep_check_expr.specs.Judgements.{Judged, Accepts, Breaks, Typed, both, when_accepted}
+use Rattle.ep_check_expr.specs.Laws.{ExpressionsAreSound, LabelsAreSound, ValuesAreSound}
+use Rattle.ep_check_stmt.specs.Cases.{CaseSelector, labelled, selecting, selector_judged}
+use Rattle.ep_check_stmt.specs.Laws.{StatementsAreSound}
+use Rattle.ep_check_stmt.specs.Statements.{ArmJudged, Context, Judgement, Passes, Shown, after, arm_judged, arm_row, arms_in_order, assigned, at_arm, at_compound, at_item, at_otherwise, at_statement, available, call_arguments, call_judged, case_judged, compound_judged, condition, condition_judged, declared_target, file_given, formed, given_to, if_judged, in_order, item_form, item_judged, items_judged, measured, name_called, one_more, otherwise_judged, place_named, procedure_called, required_called, shown, something, statement_judged, target_judged, tested, to_file, usually_written, width_judged, write_judged, written, written_or}
+use Rattle.ep_check_stmt.proofs.judged.Fits.{Any, Fits, fits_any, fits_both, fits_is, fits_then, fits_weaker}
+use Rattle.ep_check_stmt.proofs.judged.SameHost.{host_same}
+use Rattle.ep_check_stmt.proofs.valid.Meant.{IsMeant, meant_declared}
+use Rattle.ep_check_stmt.proofs.valid.Passing.{FitsRow, IfForm, after_fits, formed_fits, item_fits}
+use Rattle.ep_check_stmt.proofs.valid.Cases.{BodiesFit, IsSelected, labelled_fits, row_fits as arms_row_fits}
+
+-- the two parts of an argument of a call
+node_is : (scopes : List Region) (line : ℕ) (e : Expression) (w : Option Expression) → given scopes (argument_node line e w) ≡ record { value = judged scopes e; width = option_map (judged scopes) w }
+node_is scopes line e None = simp fold-roll-Argument
+node_is scopes line e (Some w) = simp fold-roll-Argument
+
+argument_is : (scopes : List Region) (a : Argument) → given scopes a ≡ record { value = judged scopes (out-Argument a).value; width = option_map (judged scopes) (out-Argument a).width }
+argument_is scopes a = ap (given scopes) (sym (roll-out-Argument a)) ∙ node_is scopes (out-Argument a).line (out-Argument a).value (out-Argument a).width
+
+module _ (declared : Declarations) (expressions : ExpressionsAreSound) (values : ValuesAreSound) (labels : LabelsAreSound) (scopes : List Region) (agrees : Agrees declared scopes) where
+  -- a typed form is valid
+  abbrev IsSoundForm : Typed → Type 0
+  IsSoundForm t = IsFormOf declared t.kind t.form
+
+  expression_fits : (e : Expression) → Fits IsSoundForm (judged scopes e)
+  expression_fits e = go (judged scopes e) refl
+    where
+      go : (j : Judged Typed) → judged scopes e ≡ j → Fits IsSoundForm j
+      go (Accepts t) is = expressions scopes e t is declared agrees
+      go (Breaks rules) is = tt
+
+  value_fits : (v : ComponentValue) → Fits IsSoundForm (judged_value scopes v)
+  value_fits v = go (judged_value scopes v) refl
+    where
+      go : (j : Judged Typed) → judged_value scopes v ≡ j → Fits IsSoundForm j
+      go (Accepts t) is = values scopes v t is declared agrees
+      go (Breaks rules) is = tt
+
+  -- ---- conditions
+
+  tested_fits : (k : Kind) (form : Option Expr) → IsFormOf declared k form → Fits (IfForm (IsExpr declared (valid.Ordinal typed.Boolean))) (tested k form)
+  tested_fits (kind.Ordinal host.Boolean) None h = tt
+  tested_fits (kind.Ordinal host.Boolean) (Some x) h = h.1
+  tested_fits (kind.Ordinal host.Integer) form h = tt
+  tested_fits (kind.Ordinal host.Char) form h = tt
+  tested_fits (kind.Ordinal (host.Enumeration e)) form h = tt
+  tested_fits kind.Text form h = tt
+  tested_fits kind.File form h = tt
+
+  condition_fits : (c : Context) → c.scopes ≡ scopes → (line : ℕ) (e : Expression) → FitsRow (IsExpr declared (valid.Ordinal typed.Boolean)) (condition_judged c line e)
+  condition_fits c is line e =
+      subst (λ s. FitsRow (IsExpr declared (valid.Ordinal typed.Boolean)) (at_item line (condition (judged s e)))) (sym is)
+      (item_fits (IsExpr declared (valid.Ordinal typed.Boolean)) line (condition (judged scopes e))
+      (fits_then IsSoundForm (IfForm (IsExpr declared (valid.Ordinal typed.Boolean))) (λ v. tested v.kind v.form) (judged scopes e) (expression_fits e) (λ t h. tested_fits t.kind t.form h)))
+
+  -- ---- assignments
+
+  -- a variable of an ordinal type is a place; to no other one is anything given
+  abbrev IsTarget : Kind → Place → Type 0
+  IsTarget (kind.Ordinal h) place = IsPlace declared (typed_host h) place
+  IsTarget kind.Text place = ⊥
+  IsTarget kind.File place = ⊤
+
+  declared_fits : (d : Declared) (what : Declaration) → IsDeclaration declared d.unit d.number what → Fits (λ t. IsTarget t.kind t.place) (declared_target d what)
+  declared_fits d (declaration.Variable (kind.Ordinal h)) x = x.1
+  declared_fits d (declaration.Variable kind.Text) x = absurd x
+  declared_fits d (declaration.Variable kind.File) x = tt
+  declared_fits d (declaration.Constant k v) x = tt
+  declared_fits d (declaration.«Type» h) x = tt
+
+  place_fits : (name : List ℕ) (m : Meant) → IsMeant declared m → Fits (λ t. IsTarget t.kind t.place) (place_named name m)
+  place_fits name (Declares d) x = declared_fits d d.what x
+  place_fits name (Standard f) x = tt
+  place_fits name (Requires r) x = tt
+  place_fits name Nothing x = tt
+
+  target_fits : (c : Context) → c.scopes ≡ scopes → (name : List ℕ) (selectors : List Selector) → Fits (λ t. IsTarget t.kind t.place) (target_judged c name selectors)
+  target_fits c is name [] = subst (λ s. Fits (λ t. IsTarget t.kind t.place) (place_named name (meant s name))) (sym is) (place_fits name (meant scopes name) (meant_declared declared scopes name agrees))
+  target_fits c is name (s ∷ ss) = tt
+
+  assign_form : (h g : Host) (line : ℕ) (place : Place) (form : Option Expr) → same_host h g ≡ true → IsPlace declared (typed_host h) place → IsFormOf declared (kind.Ordinal g) form
+      → IfForm (IsStmt declared) (option_map (tree.Assign line place) form)
+  assign_form h g line place None s p f = tt
+  assign_form h g line place (Some x) s p f = (typed_host h, p, subst (λ k. IsExpr declared (valid.Ordinal k) x) (host_same h g s) f.1)
+
+  given_if : (same : Bool) (h g : Host) (line : ℕ) (place : Place) (form : Option Expr) → same_host h g ≡ same → IsPlace declared (typed_host h) place → IsFormOf declared (kind.Ordinal g) form
+      → Fits (IfForm (IsStmt declared)) (if same then Accepts (option_map (tree.Assign line place) form) else Breaks (rule.ASSIGNMENT ∷ []))
+  given_if true h g line place form s p f = assign_form h g line place form s p f
+  given_if false h g line place form s p f = tt
+
+  given_fits : (to from : Kind) (line : ℕ) (place : Place) (form : Option Expr) → IsTarget to place → IsFormOf declared from form → Fits (IfForm (IsStmt declared)) (given_to to from line place form)
+  given_fits (kind.Ordinal h) (kind.Ordinal g) line place form p f = given_if (same_host h g) h g line place form refl p f
+  given_fits (kind.Ordinal host.Char) kind.Text line place form p f = tt
+  given_fits (kind.Ordinal host.Integer) kind.Text line place form p f = tt
+  given_fits (kind.Ordinal host.Boolean) kind.Text line place form p f = tt
+  given_fits (kind.Ordinal (host.Enumeration e)) kind.Text line place form p f = tt
+  given_fits (kind.Ordinal host.Char) kind.File line place form p f = tt
+  given_fits (kind.Ordinal host.Integer) kind.File line place form p f = tt
+  given_fits (kind.Ordinal host.Boolean) kind.File line place form p f = tt
+  given_fits (kind.Ordinal (host.Enumeration e)) kind.File line place form p f = tt
+  given_fits kind.Text from line place form p f = absurd p
+  given_fits kind.File (kind.Ordinal g) line place form p f = tt
+  given_fits kind.File kind.Text line place form p f = tt
+  given_fits kind.File kind.File line place form p f = tt
+
+  assignment_fits : (c : Context) → c.scopes ≡ scopes → (line : ℕ) (name : List ℕ) (selectors : List Selector) (v : ComponentValue)
+      → FitsRow (IsStmt declared) (at_item line (both (assigned line) (target_judged c name selectors) (judged_value c.scopes v)))
+  assignment_fits c is line name selectors v =
+      item_fits (IsStmt declared) line _
+      (fits_both (λ t. IsTarget t.kind t.place) IsSoundForm (IfForm (IsStmt declared)) (assigned line) (target_judged c name selectors) (judged_value c.scopes v) (target_fits c is name selectors)
+      (subst (λ s. Fits IsSoundForm (judged_value s v)) (sym is) (value_fits v)) (λ t x p f. given_fits t.kind x.kind line t.place x.form p f))
+
+  -- ---- `write` and `writeln`
+
+  -- the form is of the kind that is printed so
+  abbrev IsShown : Shown → Type 0
+  IsShown s = IfForm (IsExpr declared (printed_kind s.print)) s.form
+
+  ordinal_form : (h : Host) (form : Option Expr) → IsFormOf declared (kind.Ordinal h) form → IfForm (IsExpr declared (valid.Ordinal (typed_host h))) form
+  ordinal_form h None f = tt
+  ordinal_form h (Some x) f = f.1
+
+  text_form : (form : Option Expr) → IsFormOf declared kind.Text form → IfForm (IsExpr declared valid.Bytes) form
+  text_form None f = tt
+  text_form (Some x) f = f
+
+  shown_by : (k : Kind) (form : Option Expr) (t : Typed) → t.form ≡ form → t.kind ≡ k → IsFormOf declared k form → Fits IsShown (shown t)
+  shown_by (kind.Ordinal host.Integer) form t e g f = rw (e, g) (ordinal_form host.Integer form f)
+  shown_by (kind.Ordinal host.Char) form t e g f = rw (e, g) (ordinal_form host.Char form f)
+  shown_by (kind.Ordinal host.Boolean) form t e g f = rw (e, g) (ordinal_form host.Boolean form f)
+  shown_by (kind.Ordinal (host.Enumeration n)) form t e g f = rw (e, g) tt
+  shown_by kind.Text form t e g f = rw (e, g) (text_form form f)
+  shown_by kind.File form t e g f = rw (e, g) tt
+
+  -- a width is an integer, where it is there
+  abbrev IsWidth : Option (Option Expr) → Type 0
+  IsWidth None = ⊤
+  IsWidth (Some form) = IfForm (IsExpr declared (valid.Ordinal typed.Integer)) form
+
+  measured_fits : (k : Kind) (form : Option Expr) → IsFormOf declared k form → Fits (IfForm (IsExpr declared (valid.Ordinal typed.Integer))) (measured k form)
+  measured_fits (kind.Ordinal host.Integer) form f = ordinal_form host.Integer form f
+  measured_fits (kind.Ordinal host.Char) form f = tt
+  measured_fits (kind.Ordinal host.Boolean) form f = tt
+  measured_fits (kind.Ordinal (host.Enumeration n)) form f = tt
+  measured_fits kind.Text form f = tt
+  measured_fits kind.File form f = tt
+
+  width_fits : (w : Option Expression) → Fits IsWidth (width_judged (option_map (judged scopes) w))
+  width_fits None = tt
+  width_fits (Some e) =
+      fits_then IsSoundForm IsWidth _ (judged scopes e) (expression_fits e)
+      (λ t h. fits_then (IfForm (IsExpr declared (valid.Ordinal typed.Integer))) IsWidth (λ form. Accepts (Some form)) (measured t.kind t.form) (measured_fits t.kind t.form h) (λ form p. p))
+
+  item_form_fits : (how : Print) (form : Option Expr) (width : Option (Option Expr)) → IfForm (IsExpr declared (printed_kind how)) form → IsWidth width → IfForm (IsItem declared) (item_form how form width)
+  item_form_fits how None width f w = tt
+  item_form_fits how (Some x) None f w = f
+  item_form_fits how (Some x) (Some None) f w = tt
+  item_form_fits how (Some x) (Some (Some y)) f w = (f, w)
+
+  item_judged_fits : (a : Argument) → Fits (IfForm (IsItem declared)) (item_judged (given scopes a))
+  item_judged_fits a =
+      subst (λ g. Fits (IfForm (IsItem declared)) (item_judged g)) (sym (argument_is scopes a))
+      (fits_both IsShown IsWidth (IfForm (IsItem declared)) (λ value width. Accepts (item_form value.print value.form width)) _ _
+      (fits_then IsSoundForm IsShown shown (judged scopes (out-Argument a).value) (expression_fits (out-Argument a).value) (λ t h. shown_by t.kind t.form t refl refl h))
+      (width_fits (out-Argument a).width)
+      (λ s w f g. item_form_fits s.print s.form w f g))
+
+  more_fits : (x : Option Item) (xs : Option (List Item)) → IfForm (IsItem declared) x → IfForm (AreItems declared) xs → IfForm (AreItems declared) (one_more x xs)
+  more_fits None xs f g = tt
+  more_fits (Some x) None f g = tt
+  more_fits (Some x) (Some xs) f g = (f, g)
+
+  items_fit : (arguments : List Argument) → Fits (IfForm (AreItems declared)) (items_judged (map (given scopes) arguments))
+  items_fit [] = tt
+  items_fit (a ∷ arguments) = fits_both (IfForm (IsItem declared)) (IfForm (AreItems declared)) (IfForm (AreItems declared)) _ _ _ (item_judged_fits a) (items_fit arguments) (λ x xs f g. more_fits x xs f g)
+
+  -- arguments many items arguments parameters, where they are built
+  abbrev IsAsLong : List Given → Option (List Item) → Type 0
+  IsAsLong [] (Some (x ∷ xs)) = ⊥
+  IsAsLong (g ∷ gs) (Some []) = ⊥
+  IsAsLong gs items = ⊤
+
+  as_long : (x : Option Item) (xs : Option (List Item)) (g : Given) (gs : List Given) → IsAsLong (g ∷ gs) (one_more x xs)
+  as_long None xs g gs = tt
+  as_long (Some x) None g gs = tt
+  as_long (Some x) (Some xs) g gs = tt
+
+  items_long : (gs : List Given) → Fits (IsAsLong gs) (items_judged gs)
+  items_long [] = tt
+  items_long (g ∷ gs) = fits_both Any Any (IsAsLong (g ∷ gs)) _ (item_judged g) (items_judged gs) (fits_any (item_judged g)) (fits_any (items_judged gs)) (λ x xs p q. as_long x xs g gs)
+
+  something_written : (ends_line : Bool) (gs : List Given) (items : List Item) (a : Unit {0}) → something ends_line gs ≡ Accepts a → IsAsLong gs (Some items) → WritesSomething declared items ends_line
+  something_written true gs [] a e l = tt
+  something_written true gs (x ∷ xs) a e l = tt
+  something_written false [] [] a e l = cc
+  something_written false [] (x ∷ xs) a e l = absurd l
+  something_written false (g ∷ gs) [] a e l = absurd l
+  something_written false (g ∷ gs) (x ∷ xs) a e l = tt
+
+  file_fits : (f : StandardFile) (line : ℕ) (ends_line : Bool) (gs : List Given) (a : Unit {0}) (items : Option (List Item)) → something ends_line gs ≡ Accepts a → IfForm (AreItems declared) items → IsAsLong gs items
+      → IfForm (IsStmt declared) (to_file f (option_map (λ is. tree.Write line is ends_line) items))
+  file_fits file.Input line ends_line gs a items e f l = tt
+  file_fits file.Output line ends_line gs a None e f l = tt
+  file_fits file.Output line ends_line gs a (Some items) e f l = (f, something_written ends_line gs items a e l)
+
+  pair_fits : {A : Type 0} (P Q : A → Type 0) (j : Judged A) → Fits P j → Fits Q j → Fits (λ x. P x × Q x) j
+  pair_fits P Q (Accepts a) p q = (p, q)
+  pair_fits P Q (Breaks rules) p q = tt
+
+  written_fits : (f : StandardFile) (line : ℕ) (ends_line : Bool) (arguments : List Argument) → Fits (IfForm (IsStmt declared)) (written f line ends_line (map (given scopes) arguments))
+  written_fits f line ends_line arguments =
+      let gs = map (given scopes) arguments in
+      fits_both (λ a. something ends_line gs ≡ Accepts a) (λ items. IfForm (AreItems declared) items × IsAsLong gs items) (IfForm (IsStmt declared)) _ (something ends_line gs) (items_judged gs)
+      (fits_is (something ends_line gs))
+      (pair_fits (IfForm (AreItems declared)) (IsAsLong gs) (items_judged gs) (items_fit arguments) (items_long gs))
+      (λ a items e p. file_fits f line ends_line gs a items e p.0 p.1)
+
+  usually_fits : (c : Context) → c.scopes ≡ scopes → (line : ℕ) (ends_line : Bool) (arguments : List Argument) → Fits (IfForm (IsStmt declared)) (usually_written c line ends_line arguments)
+  usually_fits c is line ends_line arguments =
+      fits_both (IfForm (IsStmt declared)) Any (IfForm (IsStmt declared)) (λ form there. Accepts form) _ (available c.output)
+      (subst (λ s. Fits (IfForm (IsStmt declared)) (written file.Output line ends_line (map (given s) arguments))) (sym is) (written_fits file.Output line ends_line arguments)) (fits_any (available c.output)) (λ form there p q. p)
+
+  written_or_fits : (c : Context) → c.scopes ≡ scopes → (f : Option StandardFile) (line : ℕ) (ends_line : Bool) (first : Argument) (more : List Argument) → Fits (IfForm (IsStmt declared)) (written_or c f line ends_line first more)
+  written_or_fits c is (Some f) line ends_line first more = subst (λ s. Fits (IfForm (IsStmt declared)) (written f line ends_line (map (given s) more))) (sym is) (written_fits f line ends_line more)
+  written_or_fits c is None line ends_line first more = usually_fits c is line ends_line (first ∷ more)
+
+  write_fits : (c : Context) → c.scopes ≡ scopes → (line : ℕ) (ends_line : Bool) (arguments : List Argument) → Fits (IfForm (IsStmt declared)) (write_judged c line ends_line arguments)
+  write_fits c is line ends_line [] = usually_fits c is line ends_line []
+  write_fits c is line ends_line (first ∷ more) = written_or_fits c is (file_given c first) line ends_line first more
+
+  -- ---- `case`
+
+  -- the statements of arms are valid, where they pass
+  abbrev ArmsFit : List ArmJudged → Type 0
+  ArmsFit [] = ⊤
+  ArmsFit (a ∷ all) = FitsRow (IsStmt declared) a.1 × ArmsFit all
+
+  abbrev labels_in : List ArmJudged → List (List Label)
+  labels_in all = map (λ (a : ArmJudged). a.0) all
+
+  -- a selector, with its labels
+  abbrev IsChosen : List (List Label) → CaseSelector → Type 0
+  IsChosen all s = IsSelected declared labels scopes agrees s.host all s.form
+
+  selecting_fits : (all : List (List Label)) (k : Kind) (form : Option Expr) → IsFormOf declared k form → Fits (IsChosen all) (when_accepted (labelled scopes all) (selecting k form))
+  selecting_fits all (kind.Ordinal h) form f =
+      fits_weaker (λ (s : CaseSelector). (s.host ≡ h) × IsSelected declared labels scopes agrees h all s.form) (IsChosen all) (labelled scopes all (record { host = h; form = form }))
+      (λ s p. subst (λ g. IsSelected declared labels scopes agrees g all s.form) (sym p.0) p.1) (labelled_fits declared labels scopes agrees h all form (ordinal_form h form f))
+  selecting_fits all kind.Text form f = tt
+  selecting_fits all kind.File form f = tt
+
+  selector_fits : (e : Expression) (all : List (List Label)) → Fits (IsChosen all) (selector_judged scopes e all)
+  selector_fits e all = go (judged scopes e) (expression_fits e)
+    where
+      go : (j : Judged Typed) → Fits IsSoundForm j → Fits (IsChosen all) (when_accepted (labelled scopes all) (when_accepted (λ t. selecting t.kind t.form) j))
+      go (Accepts t) p = selecting_fits all t.kind t.form p
+      go (Breaks rules) p = tt
+
+  chosen_fits : (line : ℕ) (j : Judged CaseSelector) (all : List ArmJudged) (other : Judgement Other) → Fits (IsChosen (labels_in all)) j → ArmsFit all → FitsRow (IsOther declared) other → FitsRow (IsStmt declared) (case_judged line j (λ h. arms_in_order (map (arm_row scopes line h) all)) other)
+  chosen_fits line (Accepts s) all other p q r = arms_row_fits declared labels scopes agrees s.host line s.form all other p (bodies s.host all q) r
+    where
+      bodies : (h : Host) (all : List ArmJudged) → ArmsFit all → BodiesFit declared labels scopes agrees h all
+      bodies h [] q = tt
+      bodies h (a ∷ all) q = (q.0, bodies h all q.1)
+  chosen_fits line (Breaks rules) all other p q r = tt
+
+  case_fits : (c : Context) → c.scopes ≡ scopes → (line : ℕ) (e : Expression) (all : List ArmJudged) (other : Judgement Other) → ArmsFit all → FitsRow (IsOther declared) other → FitsRow (IsStmt declared) (case_judged line (selector_judged c.scopes e (labels_in all)) (λ h. arms_in_order (map (arm_row c.scopes line h) all)) other)
+  case_fits c is line e all other q r =
+      subst (λ s. FitsRow (IsStmt declared) (case_judged line (selector_judged s e (labels_in all)) (λ h. arms_in_order (map (arm_row s line h) all)) other)) (sym is)
+      (chosen_fits line (selector_judged scopes e (labels_in all)) all other (selector_fits e (labels_in all)) q r)
+
+  -- ---- calls
+
+  procedure_fits : (c : Context) → c.scopes ≡ scopes → (line : ℕ) (p : Procedure) (arguments : List Argument) → Fits (IfForm (IsStmt declared)) (procedure_called c line p arguments)
+  procedure_fits c is line procedure.Halt [] = tt
+  procedure_fits c is line procedure.Halt (a ∷ arguments) = tt
+  procedure_fits c is line procedure.Write arguments = write_fits c is line false arguments
+  procedure_fits c is line procedure.WriteLine arguments = write_fits c is line true arguments
+
+  required_fits : (c : Context) → c.scopes ≡ scopes → (line : ℕ) (r : Required) (arguments : List Argument) → Fits (IfForm (IsStmt declared)) (required_called c line r arguments)
+  required_fits c is line (required.Constant k) arguments = tt
+  required_fits c is line (required.«Type» t) arguments = tt
+  required_fits c is line (required.Function f) arguments = tt
+  required_fits c is line (required.Procedure p) arguments = procedure_fits c is line p arguments
+
+  call_fits : (c : Context) → c.scopes ≡ scopes → (line : ℕ) (name : List ℕ) (m : Meant) (arguments : List Argument) → Fits (IfForm (IsStmt declared)) (call_judged c line name m arguments)
+  call_fits c is line name (Declares d) arguments = tt
+  call_fits c is line name (Standard f) arguments = tt
+  call_fits c is line name (Requires r) arguments = required_fits c is line r arguments
+  call_fits c is line name Nothing arguments = tt
+
+  called_fits : (c : Context) → c.scopes ≡ scopes → (line : ℕ) (name : List ℕ) (arguments : Option (List Argument)) → Fits (IfForm (IsStmt declared)) (name_called c line name arguments)
+  called_fits c is line name None = tt
+  called_fits c is line name (Some arguments) = call_fits c is line name (meant c.scopes name) arguments
+
+  -- ---- statements
+
+  module _ (c : Context) (is : c.scopes ≡ scopes) where
+    abbrev IsStatement : Statement → Type 0
+    IsStatement s = FitsRow (IsStmt declared) (statement_judged c s)
+
+    abbrev IsCompound : Compound → Type 0
+    IsCompound s = FitsRow (AreStmts declared) (compound_judged c s)
+
+    abbrev IsArm : Arm → Type 0
+    IsArm a = FitsRow (IsStmt declared) (arm_judged c a).1
+
+    abbrev IsOtherwise : Otherwise → Type 0
+    IsOtherwise o = FitsRow (AreStmts declared) (otherwise_judged c o)
+
+    abbrev ValidStatement : Type 0
+    ValidStatement = (s : Statement) × IsStatement s
+
+    abbrev ValidArm : Type 0
+    ValidArm = (a : Arm) × IsArm a
+
+    abbrev ValidCompound : Type 0
+    ValidCompound = (s : Compound) × IsCompound s
+
+    abbrev ValidOtherwise : Type 0
+    ValidOtherwise = (o : Otherwise) × IsOtherwise o
+
+    -- layers of such statements, without what holds of them
+    abbrev statement_layer : Statement-F ValidStatement ValidArm ValidCompound ValidOtherwise → Statement-F Statement Arm Compound Otherwise
+    statement_layer = map-Statement ValidStatement ValidArm ValidCompound ValidOtherwise Statement Arm Compound Otherwise (λ s. s.0) (λ a. a.0) (λ s. s.0) (λ o. o.0)
+
+    abbrev compound_layer : Compound-F ValidStatement ValidArm ValidCompound ValidOtherwise → Compound-F Statement Arm Compound Otherwise
+    compound_layer = map-Compound ValidStatement ValidArm ValidCompound ValidOtherwise Statement Arm Compound Otherwise (λ s. s.0) (λ a. a.0) (λ s. s.0) (λ o. o.0)
+
+    abbrev arm_layer : Arm-F ValidStatement ValidArm ValidCompound ValidOtherwise → Arm-F Statement Arm Compound Otherwise
+    arm_layer = map-Arm ValidStatement ValidArm ValidCompound ValidOtherwise Statement Arm Compound Otherwise (λ s. s.0) (λ a. a.0) (λ s. s.0) (λ o. o.0)
+
+    abbrev otherwise_layer : Otherwise-F ValidStatement ValidArm ValidCompound ValidOtherwise → Otherwise-F Statement Arm Compound Otherwise
+    otherwise_layer = map-Otherwise ValidStatement ValidArm ValidCompound ValidOtherwise Statement Arm Compound Otherwise (λ s. s.0) (λ a. a.0) (λ s. s.0) (λ o. o.0)
+
+    rolled_arm : (x : Arm-F Statement Arm Compound Otherwise) → FitsRow (IsStmt declared) (statement_judged c x.body) → IsArm (roll-Arm x)
+    rolled_arm x h = subst (λ (a : ArmJudged). FitsRow (IsStmt declared) a.1) (sym (fold-roll-Arm (Judgement Stmt) ArmJudged (Judgement Stmts) (Judgement Stmts) (at_statement c) (at_arm c) (at_compound c) (at_otherwise c) x)) h
+
+    rolled_otherwise : (x : Otherwise-F Statement Arm Compound Otherwise) → FitsRow (AreStmts declared) (in_order (map (statement_judged c) x.statements)) → IsOtherwise (roll-Otherwise x)
+    rolled_otherwise x h = subst (FitsRow (AreStmts declared)) (sym (fold-roll-Otherwise (Judgement Stmt) ArmJudged (Judgement Stmts) (Judgement Stmts) (at_statement c) (at_arm c) (at_compound c) (at_otherwise c) x)) h
+
+    rolled : (x : Statement-F Statement Arm Compound Otherwise) → FitsRow (IsStmt declared) (at_statement c (map-Statement Statement Arm Compound Otherwise (Judgement Stmt) ArmJudged (Judgement Stmts) (Judgement Stmts) (statement_judged c) (arm_judged c) (compound_judged c) (otherwise_judged c) x)) → IsStatement (roll-Statement x)
+    rolled x h = subst (FitsRow (IsStmt declared)) (sym (fold-roll-Statement (Judgement Stmt) ArmJudged (Judgement Stmts) (Judgement Stmts) (at_statement c) (at_arm c) (at_compound c) (at_otherwise c) x)) h
+
+    rolled_compound : (x : Compound-F Statement Arm Compound Otherwise) → FitsRow (AreStmts declared) (in_order (map (statement_judged c) x.statements)) → IsCompound (roll-Compound x)
+    rolled_compound x h = subst (FitsRow (AreStmts declared)) (sym (fold-roll-Compound (Judgement Stmt) ArmJudged (Judgement Stmts) (Judgement Stmts) (at_statement c) (at_arm c) (at_compound c) (at_otherwise c) x)) h
+
+    row_fits : (ss : List ValidStatement) → FitsRow (AreStmts declared) (in_order (map (statement_judged c) (map (λ s. s.0) ss)))
+    row_fits [] = tt
+    row_fits (s ∷ ss) = after_fits (IsStmt declared) (AreStmts declared) (AreStmts declared) tree.next (statement_judged c s.0) (in_order (map (statement_judged c) (map (λ s. s.0) ss))) s.1 (row_fits ss) (λ x xs p q. (p, q))
+
+    if_fits : (line : ℕ) (x : Judgement Expr) (y z : Judgement Stmt) → FitsRow (IsExpr declared (valid.Ordinal typed.Boolean)) x → FitsRow (IsStmt declared) y → FitsRow (IsStmt declared) z → FitsRow (IsStmt declared) (if_judged line x y z)
+    if_fits line x y z h k l =
+        after_fits (IsExpr declared (valid.Ordinal typed.Boolean)) (λ p. IsStmt declared p.0 × IsStmt declared p.1) (IsStmt declared) _ x (after (λ a b. (a, b)) y z) h
+        (after_fits (IsStmt declared) (IsStmt declared) (λ p. IsStmt declared p.0 × IsStmt declared p.1) (λ a b. (a, b)) y z k l (λ a b p q. (p, q)))
+        (λ e p f g. (f, g.0, g.1))
+
+    bodies_fit : (all : List ValidArm) → ArmsFit (map (arm_judged c) (map (λ a. a.0) all))
+    bodies_fit [] = tt
+    bodies_fit (a ∷ all) = (a.1, bodies_fit all)
+
+    -- each statement, where those in it are valid
+    statement_step : (y : Statement-F ValidStatement ValidArm ValidCompound ValidOtherwise) → IsStatement (roll-Statement (statement_layer y))
+    statement_step (Statement-F.Empty line) = rolled (Statement-F.Empty line) tt
+    statement_step (Statement-F.Assignment line access v) = rolled (Statement-F.Assignment line access v) (assignment_fits c is line (out-Access access).name (out-Access access).selectors v)
+    statement_step (Statement-F.Call line access) =
+        rolled (Statement-F.Call line access)
+        (item_fits (IsStmt declared) line (name_called c line (out-Access access).name (call_arguments (out-Access access).selectors)) (called_fits c is line (out-Access access).name (call_arguments (out-Access access).selectors)))
+    statement_step (Statement-F.Compound s) = rolled (Statement-F.Compound s.0) (formed_fits (AreStmts declared) (IsStmt declared) tree.Compound (compound_judged c s.0) s.1 (λ ss p. p))
+    statement_step (Statement-F.If line e then_part None) =
+        rolled (statement_layer (Statement-F.If line e then_part None)) (if_fits line (condition_judged c line e) (statement_judged c then_part.0) (Passes tree.Empty) (condition_fits c is line e) then_part.1 tt)
+    statement_step (Statement-F.If line e then_part (Some other)) =
+        rolled (statement_layer (Statement-F.If line e then_part (Some other))) (if_fits line (condition_judged c line e) (statement_judged c then_part.0) (statement_judged c other.0) (condition_fits c is line e) then_part.1 other.1)
+    statement_step (Statement-F.While line e body) =
+        rolled (Statement-F.While line e body.0)
+        (after_fits (IsExpr declared (valid.Ordinal typed.Boolean)) (IsStmt declared) (IsStmt declared) (tree.While line) (condition_judged c line e) (statement_judged c body.0) (condition_fits c is line e) body.1 (λ x s p q. (p, q)))
+    statement_step (Statement-F.Case line e arms None) =
+        rolled (statement_layer (Statement-F.Case line e arms None)) (case_fits c is line e (map (arm_judged c) (map (λ a. a.0) arms)) (Passes tree.no_other) (bodies_fit arms) tt)
+    statement_step (Statement-F.Case line e arms (Some o)) =
+        rolled (statement_layer (Statement-F.Case line e arms (Some o)))
+        (case_fits c is line e (map (arm_judged c) (map (λ a. a.0) arms)) (formed tree.otherwise_do (otherwise_judged c o.0)) (bodies_fit arms) (formed_fits (AreStmts declared) (IsOther declared) tree.otherwise_do (otherwise_judged c o.0) o.1 (λ ss p. p)))
+    statement_step (Statement-F.Repeat line statements e) =
+        rolled (statement_layer (Statement-F.Repeat line statements e))
+        (after_fits (IsExpr declared (valid.Ordinal typed.Boolean)) (AreStmts declared) (IsStmt declared) (λ form body. tree.Repeat line body form) (condition_judged c line e) (in_order (map (statement_judged c) (map (λ s. s.0) statements))) (condition_fits c is line e) (row_fits statements) (λ x ss p q. (q, p)))
+    statement_step (Statement-F.For line variable start direction end body) = rolled (statement_layer (Statement-F.For line variable start direction end body)) tt
+    statement_step (Statement-F.ForIn line variable members body) = rolled (statement_layer (Statement-F.ForIn line variable members body)) tt
+    statement_step (Statement-F.With line accesses body) = rolled (statement_layer (Statement-F.With line accesses body)) tt
+
+    -- the statements of a compound statement that pass are valid
+    pub compound_fits : (s : Compound) → FitsRow (AreStmts declared) (compound_judged c s)
+    compound_fits =
+        ind-Compound IsStatement IsArm IsCompound IsOtherwise
+        (λ x y e. subst (λ z. IsStatement (roll-Statement z)) e (statement_step y))
+        (λ x y e. subst (λ z. IsArm (roll-Arm z)) e (rolled_arm (arm_layer y) y.body.1))
+        (λ x y e. subst (λ z. IsCompound (roll-Compound z)) e (rolled_compound (compound_layer y) (row_fits y.statements)))
+        (λ x y e. subst (λ z. IsOtherwise (roll-Otherwise z)) e (rolled_otherwise (otherwise_layer y) (row_fits y.statements)))
+
+-- the law
+pub statements_are_sound : ExpressionsAreSound → ValuesAreSound → LabelsAreSound → StatementsAreSound
+statements_are_sound expressions values labels context c ss is declared agrees = subst (FitsRow (AreStmts declared)) is (compound_fits declared expressions values labels context.scopes agrees context refl c)

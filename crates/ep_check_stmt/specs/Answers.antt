@@ -1,0 +1,92 @@
+-- What the functions answer of what is judged: the form, or a rule that fails first; want of memory is free.
+use Rattle.std.specs.Prelude.{◌≡◌, ℕ, nat_eq, Bool, List, map, Option, Result, Ok, Err, IsTrue, ⊤}
+use Rattle.std.specs.List.{list_any}
+use Rattle.std.specs.Option.{option_map}
+use Rattle.ep_typed.specs.Trees.{Item, Stmts, stmts}
+use Rattle.ep_typed.specs.Viewed.{expr_of, item_of, place_of, stmt_of, arm_of}
+use Rattle.ep_tree.specs.declared.expression.Label.{Label}
+use Rattle.ep_tree.specs.declared.statement.Arm.{Arm, out-Arm}
+use Rattle.ep_typed.specs.Trees as tree
+use Rattle.ep_typed.specs.declared.tree.CaseArm.{CaseArm}
+use Rattle.ep_typed.specs.declared.operations.Print.{Print}
+use Rattle.ep_typed.specs.declared.tree.TypedExpr.{TypedExpr}
+use Rattle.ep_typed.specs.declared.tree.TypedStmt.{TypedStmt}
+use Rattle.ep_typed.specs.declared.tree.WriteItem.{WriteItem}
+use Rattle.ep_check_expr.specs.Judgements.{Judged, Accepts, breaks}
+use Rattle.ep_check_expr.specs.declared.forms.Refusal.{Refusal}
+use Rattle.ep_check_expr.specs.declared.forms.Refusal.TheVariants.{Rule, NoMemory}
+use Rattle.ep_check_stmt.specs.Statements.{Judgement, Passes, Shown, Waits, fails_at}
+use Rattle.ep_check_stmt.specs.Statements as rows
+use Rattle.ep_check_stmt.specs.Cases as cases
+use Rattle.ep_check_stmt.specs.declared.cases.Labels.{Labels}
+use Rattle.ep_check_stmt.specs.declared.cases.CaseSelector.{CaseSelector}
+use Rattle.ep_check_stmt.specs.declared.outcome.CheckRefusal.{CheckRefusal}
+use Rattle.ep_check_stmt.specs.declared.outcome.CheckRefusal.TheVariants as refusal
+use Rattle.ep_check_stmt.specs.declared.outcome.Outcome.{Outcome}
+use Rattle.ep_check_stmt.specs.declared.outcome.Outcome.TheVariants as outcome
+use Rattle.ep_check_stmt.specs.declared.statements.Context.{Context}
+use Rattle.ep_check_stmt.specs.declared.statements.Target.{Target}
+
+-- whether the rule is one of these
+abbrev pub fails_among : ℕ → List ℕ → Bool
+fails_among rule rules = list_any (nat_eq rule) rules
+
+-- a rule that fails in what is judged, or want of memory
+abbrev pub Refuses : {A : Type 0} → Refusal → Judged A → Type 0
+Refuses (Rule rule) judged = IsTrue (breaks rule judged)
+Refuses NoMemory judged = ⊤
+
+-- the form exactly where it is accepted, or a refusal
+abbrev pub AnswersForm : {T A : Type 0} → (T → A) → Result T Refusal → Judged A → Type 0
+AnswersForm view (Ok t) judged = judged ≡ Accepts (view t)
+AnswersForm view (Err refusal) judged = Refuses refusal judged
+
+-- the labels after what is judged, exactly where it is accepted, or a refusal
+abbrev pub AnswersLabels : Result (Unit {0}) Refusal → Labels → Judged Labels → Type 0
+AnswersLabels (Ok done) new judged = judged ≡ Accepts new
+AnswersLabels (Err refusal) new judged = Refuses refusal judged
+
+-- what items come to that break no rule
+abbrev pub passed : {T A : Type 0} → (T → A) → Outcome T → Judgement A
+passed view (outcome.Passes t) = Passes (view t)
+passed view (outcome.Waits line) = Waits line
+
+-- a rule that fails at the first item of a row that breaks one, or want of memory
+abbrev pub RefusesRow : {A : Type 0} → CheckRefusal → Judgement A → Type 0
+RefusesRow (refusal.Broken b) row = IsTrue (fails_at b.rule b.line row)
+RefusesRow (refusal.NotBuilt line) row = ⊥
+RefusesRow refusal.NoMemory row = ⊤
+
+-- what a row of items comes to, exactly where it breaks no rule, or a refusal
+abbrev pub AnswersRow : {T A : Type 0} → (T → A) → Result (Outcome T) CheckRefusal → Judgement A → Type 0
+AnswersRow view (Ok found) row = row ≡ passed view found
+AnswersRow view (Err r) row = RefusesRow r row
+
+-- what the statements of a block know
+abbrev pub context_of : Context → rows.Context
+context_of c = record { scopes = c.scopes.now; output = c.output }
+
+-- what is assigned to
+abbrev pub target_of : Target → rows.Target
+target_of t = record { place = place_of t.place; kind = t.kind }
+
+-- statements and written items, as plain data
+abbrev pub stmts_of : List TypedStmt → Stmts
+stmts_of ts = stmts (map stmt_of ts)
+
+-- the selector of a `case`, the labels of an arm, and the arms
+abbrev pub selector_of : CaseSelector → cases.CaseSelector
+selector_of s = record { host = s.host; form = option_map expr_of s.form }
+
+abbrev pub labels_of : Arm → List Label
+labels_of a = (out-Arm a).labels
+
+abbrev pub arms_of : List CaseArm → tree.Arms
+arms_of arms = tree.arms (map arm_of arms)
+
+abbrev pub items_of : List WriteItem → List Item
+items_of is = map item_of is
+
+-- a value that is written
+abbrev pub shown_of : Print × Option TypedExpr → Shown
+shown_of p = record { print = p.0; form = option_map expr_of p.1 }

@@ -1,0 +1,5 @@
+pub mod Answers
+pub mod Cases
+pub mod Laws
+pub mod Outcomes
+pub mod Statements

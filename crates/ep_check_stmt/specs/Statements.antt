@@ -1,0 +1,363 @@
+-- What the static rules say of statements: their typed forms, or the first item that breaks a rule.
+--
+-- Items are taken in the order of the text: a statement without its inner statements is one, on the line of its first token. A form that is no form of a program that is built fails by no rule here.
+use Rattle.std.specs.Prelude.{ℕ, nat_eq, ◌==◌, ◌&&◌, Bool, true, false, List, [], ◌∷◌, ◌++◌, map, Option, Some, None, if◌then◌else◌}
+use Rattle.std.specs.List.{list_any}
+use Rattle.std.specs.Option.{option_map}
+use Rattle.ep_tree.specs.declared.expression.Access.{out-Access}
+use Rattle.ep_tree.specs.declared.expression.Expression.{Expression}
+use Rattle.ep_tree.specs.declared.expression.Argument.{Argument, out-Argument}
+use Rattle.ep_tree.specs.declared.expression.Selector.{Selector, out-Selector}
+use Rattle.ep_tree.specs.Shapes.{arguments_in, as_identifier}
+use Rattle.ep_tree.specs.declared.statement.Statement.TheOpen.{Statement-F, Arm-F, Compound-F, Otherwise-F}
+use Rattle.ep_tree.specs.declared.statement.Statement.{Statement, fold-Statement}
+use Rattle.ep_tree.specs.declared.statement.Arm.{fold-Arm}
+use Rattle.ep_tree.specs.declared.statement.Arm as syntax
+use Rattle.ep_tree.specs.declared.statement.Otherwise.{Otherwise, fold-Otherwise}
+use Rattle.ep_tree.specs.declared.expression.Label.{Label}
+use Rattle.ep_tree.specs.declared.statement.Compound.{Compound, fold-Compound}
+use Rattle.ep_typed.specs.Trees as tree
+use Rattle.ep_typed.specs.Trees.{Place, Expr, Item, Stmt, Stmts, Arm, Arms, Other}
+use Rattle.ep_typed.specs.declared.operations.Print.{Print}
+use Rattle.ep_typed.specs.declared.operations.Print.TheVariants as print
+use Rattle.ep_typed.specs.declared.tree.StandardFile.{StandardFile}
+use Rattle.ep_typed.specs.declared.tree.StandardFile.TheVariants as file
+use Rattle.ep_scope.specs.Kinds.{same_host}
+use Rattle.ep_scope.specs.Scopes.{Region, Meant, Declares, Standard, Requires, Nothing, meant}
+use Rattle.ep_scope.specs.declared.kind.Host.{Host}
+use Rattle.ep_scope.specs.declared.kind.Host.TheVariants as host
+use Rattle.ep_scope.specs.declared.kind.Kind.{Kind}
+use Rattle.ep_scope.specs.declared.kind.Kind.TheVariants as kind
+use Rattle.ep_scope.specs.declared.required.Procedure.{Procedure}
+use Rattle.ep_scope.specs.declared.required.Procedure.TheVariants as procedure
+use Rattle.ep_scope.specs.declared.required.Required.{Required}
+use Rattle.ep_scope.specs.declared.required.Required.TheVariants as required
+use Rattle.ep_scope.specs.declared.rule.TheConstants as rule
+use Rattle.ep_scope.specs.declared.thing.Declaration.{Declaration}
+use Rattle.ep_scope.specs.declared.thing.Declaration.TheVariants as declaration
+use Rattle.ep_scope.specs.declared.thing.Declared.{Declared}
+use Rattle.ep_check_expr.specs.Judgements.{Judged, Accepts, Breaks, Typed, unbuilt, when_accepted, both}
+use Rattle.ep_check_expr.specs.Functions.{Given}
+use Rattle.ep_check_expr.specs.Names.{undeclared}
+use Rattle.ep_check_expr.specs.Expressions.{given, judged, judged_value}
+use Rattle.ep_check_stmt.specs.Cases.{CaseSelector, own_ranges, selector_judged}
+
+-- ---- rows of items
+
+-- what a row of items comes to
+pub data Judgement (A : Type 0) : Type 0 where
+  -- they break no rule and are built
+  Passes : (form : A) → Judgement A
+  -- they break no rule, and the first one that is not built begins on this line
+  Waits : (line : ℕ) → Judgement A
+  -- the first one that breaks a rule begins on this line, and these rules fail there
+  Fails : (line : ℕ) (rules : List ℕ) → Judgement A
+
+-- whether the first item that breaks a rule begins on this line, and this rule fails there
+abbrev pub fails_at : {A : Type 0} → ℕ → ℕ → Judgement A → Bool
+fails_at rule line (Passes form) = false
+fails_at rule line (Waits other) = false
+fails_at rule line (Fails first rules) = line == first && list_any (nat_eq rule) rules
+
+-- one item, whose form is there where it is built
+abbrev pub at_item : {A : Type 0} → ℕ → Judged (Option A) → Judgement A
+at_item line (Accepts None) = Waits line
+at_item line (Accepts (Some form)) = Passes form
+at_item line (Breaks rules) = Fails line rules
+
+-- the form around a row
+abbrev pub formed : {A B : Type 0} → (A → B) → Judgement A → Judgement B
+formed f (Passes a) = Passes (f a)
+formed f (Waits line) = Waits line
+formed f (Fails line rules) = Fails line rules
+
+-- a row after one that waits
+abbrev pub waiting : {A B : Type 0} → ℕ → Judgement A → Judgement B
+waiting line (Passes a) = Waits line
+waiting line (Waits other) = Waits line
+waiting line (Fails other rules) = Fails other rules
+
+-- one row after another
+abbrev pub after : {A B C : Type 0} → (A → B → C) → Judgement A → Judgement B → Judgement C
+after f (Passes a) more = formed (f a) more
+after f (Waits line) more = waiting line more
+after f (Fails line rules) more = Fails line rules
+
+-- ---- assignments (ISO 10206, 6.9.2.2)
+
+-- what can be assigned to
+pub record Target : Type 0 where
+  pub place : Place
+  pub kind : Kind
+
+-- a name of the unit that is assigned to
+abbrev pub declared_target : Declared → Declaration → Judged Target
+declared_target d (declaration.Variable k) = Accepts (record { place = tree.Variable d.unit d.number; kind = k })
+declared_target d (declaration.Constant k value) = Breaks (rule.CONSTANT_THREATENED ∷ rule.VARIABLE_NEEDED ∷ [])
+declared_target d (declaration.«Type» h) = Breaks (rule.OTHER_THING ∷ rule.VARIABLE_NEEDED ∷ [])
+
+-- the rules that fail where a required identifier is assigned to
+abbrev pub target_rules : Required → List ℕ
+target_rules (required.Constant c) = rule.CONSTANT_THREATENED ∷ rule.VARIABLE_NEEDED ∷ []
+target_rules (required.«Type» t) = rule.OTHER_THING ∷ rule.VARIABLE_NEEDED ∷ []
+target_rules (required.Function f) = rule.FUNCTION_ASSIGNED ∷ rule.VARIABLE_NEEDED ∷ []
+target_rules (required.Procedure p) = rule.OTHER_THING ∷ rule.VARIABLE_NEEDED ∷ []
+
+-- a name that means this
+abbrev pub place_named : List ℕ → Meant → Judged Target
+place_named name (Declares d) = declared_target d d.what
+place_named name (Standard f) = Accepts (record { place = tree.Standard f; kind = kind.File })
+place_named name (Requires r) = Breaks (target_rules r)
+place_named name Nothing = Breaks (undeclared name)
+
+-- a value is given to a variable of the same host; a text that is given to a char is not built
+abbrev pub given_to : Kind → Kind → ℕ → Place → Option Expr → Judged (Option Stmt)
+given_to (kind.Ordinal h) (kind.Ordinal g) line place value = if same_host h g then Accepts (option_map (tree.Assign line place) value) else Breaks (rule.ASSIGNMENT ∷ [])
+given_to (kind.Ordinal host.Char) kind.Text line place value = Accepts None
+given_to kind.File from line place value = Breaks (rule.FILE_TYPE ∷ rule.ASSIGNMENT ∷ [])
+given_to to kind.File line place value = Breaks (rule.FILE_TYPE ∷ rule.ASSIGNMENT ∷ [])
+given_to to from line place value = Breaks (rule.ASSIGNMENT ∷ [])
+
+abbrev pub assigned : ℕ → Target → Typed → Judged (Option Stmt)
+assigned line target value = given_to target.kind value.kind line target.place value.form
+
+-- ---- conditions (ISO 10206, 6.9.3)
+
+abbrev pub tested : Kind → Option Expr → Judged (Option Expr)
+tested (kind.Ordinal host.Boolean) form = Accepts form
+tested _ form = Breaks (rule.CONDITION ∷ [])
+
+abbrev pub condition : Judged Typed → Judged (Option Expr)
+condition value = when_accepted (λ v. tested v.kind v.form) value
+
+-- ---- `write` and `writeln` (ISO 10206, 6.10.3 and 6.10.4)
+
+-- how values of this kind are printed, and whether they are
+abbrev pub printed : Kind → Judged Print
+printed (kind.Ordinal host.Integer) = Accepts print.Integer
+printed (kind.Ordinal host.Char) = Accepts print.Char
+printed (kind.Ordinal host.Boolean) = Accepts print.Boolean
+printed (kind.Ordinal (host.Enumeration e)) = Breaks (rule.WRITTEN_TYPE ∷ [])
+printed kind.Text = Accepts print.Text
+printed kind.File = Breaks (rule.WRITTEN_TYPE ∷ [])
+
+-- a value that is written
+pub record Shown : Type 0 where
+  pub print : Print
+  pub form : Option Expr
+
+abbrev pub shown : Typed → Judged Shown
+shown value = when_accepted (λ how. Accepts (record { print = how; form = value.form })) (printed value.kind)
+
+-- a width is an integer
+abbrev pub measured : Kind → Option Expr → Judged (Option Expr)
+measured (kind.Ordinal host.Integer) form = Accepts form
+measured _ form = Breaks (rule.WIDTH ∷ [])
+
+abbrev pub width_judged : Option (Judged Typed) → Judged (Option (Option Expr))
+width_judged None = Accepts None
+width_judged (Some width) = when_accepted (λ w. when_accepted (λ form. Accepts (Some form)) (measured w.kind w.form)) width
+
+-- what is written for a parameter, where it is built
+abbrev pub item_form : Print → Option Expr → Option (Option Expr) → Option Item
+item_form how None width = None
+item_form how (Some x) None = Some (tree.Plain how x)
+item_form how (Some x) (Some width) = option_map (tree.Wide how x) width
+
+abbrev pub item_judged : Given → Judged (Option Item)
+item_judged g = both (λ value width. Accepts (item_form value.print value.form width)) (when_accepted shown g.value) (width_judged g.width)
+
+abbrev pub one_more : Option Item → Option (List Item) → Option (List Item)
+one_more None more = None
+one_more (Some i) more = option_map (λ is. i ∷ is) more
+
+-- items with one more at the end, where all are built
+abbrev pub one_after : Option (List Item) → Option Item → Option (List Item)
+one_after items None = None
+one_after None (Some i) = None
+one_after (Some items) (Some i) = Some (items ++ i ∷ [])
+
+abbrev pub items_judged : List Given → Judged (Option (List Item))
+items_judged [] = Accepts (Some [])
+items_judged (g ∷ gs) = both (λ i is. Accepts (one_more i is)) (item_judged g) (items_judged gs)
+
+-- `write` has at least one parameter besides the file
+abbrev pub something : Bool → List Given → Judged (Unit {0})
+something false [] = Breaks (rule.ARGUMENTS ∷ [])
+something _ gs = Accepts tt
+
+-- writing to `input` is accepted, and not built
+abbrev pub to_file : StandardFile → Option Stmt → Option Stmt
+to_file file.Input form = None
+to_file file.Output form = form
+
+-- these parameters are written to a file, on a line that ends where the mark says so
+abbrev pub written : StandardFile → ℕ → Bool → List Given → Judged (Option Stmt)
+written f line ends_line gs =
+    both (λ some items. Accepts (to_file f (option_map (λ is. tree.Write line is ends_line) items))) (something ends_line gs) (items_judged gs)
+
+-- `output` is a parameter of the program or imported
+abbrev pub available : Bool → Judged (Unit {0})
+available true = Accepts tt
+available false = Breaks (rule.STANDARD_FILE ∷ [])
+
+-- ---- statements
+
+-- an `if` statement, by its condition and its parts (ISO 10206, 6.9.3.4)
+abbrev pub if_judged : ℕ → Judgement Expr → Judgement Stmt → Judgement Stmt → Judgement Stmt
+if_judged line test then_part else_part =
+    after (λ form. λ (parts : Stmt × Stmt). tree.If line form parts.0 parts.1) test (after (λ a b. (a, b)) then_part else_part)
+
+-- a `repeat` statement, by its condition, which has the line of its first word, and its statements (ISO 10206, 6.9.3.7)
+abbrev pub repeat_judged : ℕ → Judgement Expr → Judgement Stmts → Judgement Stmt
+repeat_judged line test body = after (λ form statements. tree.Repeat line statements form) test body
+
+-- a missing `else` is the empty statement
+abbrev pub else_judged : Option (Judgement Stmt) → Judgement Stmt
+else_judged None = Passes tree.Empty
+else_judged (Some s) = s
+
+-- statements in order
+abbrev pub in_order : List (Judgement Stmt) → Judgement Stmts
+in_order [] = Passes tree.none
+in_order (s ∷ ss) = after tree.next s (in_order ss)
+
+-- the arms of a `case` in order
+abbrev pub arms_in_order : List (Judgement Arm) → Judgement Arms
+arms_in_order [] = Passes tree.no_arm
+arms_in_order (a ∷ arms) = after (λ x more. tree.next_arm x.0 x.1 more) a (arms_in_order arms)
+
+-- an arm of a `case`: its labels, which belong to the statement itself, and its statement
+abbrev pub ArmJudged : Type 0
+ArmJudged = List Label × Judgement Stmt
+
+-- an arm of a `case` on a line, whose selector has a host
+abbrev pub arm_row : List Region → ℕ → Host → ArmJudged → Judgement Arm
+arm_row scopes line h a = after (λ ranges s. (ranges, s)) (at_item line (own_ranges scopes h a.0)) a.1
+
+-- a missing `otherwise`
+abbrev pub other_judged : Option (Judgement Stmts) → Judgement Other
+other_judged None = Passes tree.no_other
+other_judged (Some ss) = formed tree.otherwise_do ss
+
+-- a `case` statement, by the form of its selector, its arms and its `otherwise` part (ISO 10206, 6.9.3.5)
+abbrev pub case_row : ℕ → Option Expr → Judgement Arms → Judgement Other → Judgement Stmt
+case_row line form arms other =
+    after (λ x. λ (parts : Arms × Other). tree.Case line x parts.0 parts.1) (at_item line (Accepts form)) (after (λ a b. (a, b)) arms other)
+
+-- by its selector with the labels, its arms for a host of the selector, and its `otherwise` part
+abbrev pub case_judged : ℕ → Judged CaseSelector → (Host → Judgement Arms) → Judgement Other → Judgement Stmt
+case_judged line (Breaks rules) arms other = Fails line rules
+case_judged line (Accepts s) arms other = case_row line s.form (arms s.host) other
+
+-- `halt` has no arguments
+abbrev pub halt_judged : ℕ → List Argument → Judged (Option Stmt)
+halt_judged line [] = Accepts (Some (tree.Halt line))
+halt_judged line (first ∷ more) = Breaks (rule.ARGUMENTS ∷ [])
+
+-- what a block knows: its scopes, the innermost first, and whether `output` is a parameter or imported
+pub record Context : Type 0 where
+  pub scopes : List Region
+  pub output : Bool
+
+-- the text file that a name means
+abbrev pub file_meant : Meant → Option StandardFile
+file_meant (Standard f) = Some f
+file_meant _ = None
+
+-- the arguments of a call, which are none or stand in one pair of parentheses
+abbrev pub call_arguments : List Selector → Option (List Argument)
+call_arguments [] = Some []
+call_arguments (s ∷ []) = arguments_in (out-Selector s)
+call_arguments _ = None
+
+module _ (context : Context) where
+  -- the text file that a parameter is, where it is a name without a width
+  abbrev pub file_named : Option (List ℕ) → Option Expression → Option StandardFile
+  file_named (Some name) None = file_meant (meant context.scopes name)
+  file_named _ _ = None
+
+  abbrev pub file_given : Argument → Option StandardFile
+  file_given a = file_named (as_identifier (out-Argument a).value) (out-Argument a).width
+
+  -- what is written where no file is given
+  abbrev pub usually_written : ℕ → Bool → List Argument → Judged (Option Stmt)
+  usually_written line ends_line arguments = both (λ form there. Accepts form) (written file.Output line ends_line (map (given context.scopes) arguments)) (available context.output)
+
+  abbrev pub written_or : Option StandardFile → ℕ → Bool → Argument → List Argument → Judged (Option Stmt)
+  written_or (Some f) line ends_line first more = written f line ends_line (map (given context.scopes) more)
+  written_or None line ends_line first more = usually_written line ends_line (first ∷ more)
+
+  -- The file is the first parameter where that is one, and else `output`. With the mark it is `writeln`.
+  abbrev pub write_judged : ℕ → Bool → List Argument → Judged (Option Stmt)
+  write_judged line ends_line [] = usually_written line ends_line []
+  write_judged line ends_line (first ∷ more) = written_or (file_given first) line ends_line first more
+
+  -- a required procedure is called (ISO 10206, 6.9.2.3)
+  abbrev pub procedure_called : ℕ → Procedure → List Argument → Judged (Option Stmt)
+  procedure_called line procedure.Halt [] = Accepts (Some (tree.Halt line))
+  procedure_called line procedure.Halt (a ∷ arguments) = Breaks (rule.ARGUMENTS ∷ [])
+  procedure_called line procedure.Write arguments = write_judged line false arguments
+  procedure_called line procedure.WriteLine arguments = write_judged line true arguments
+
+  -- a required identifier is called; a function is no statement
+  abbrev pub required_called : ℕ → Required → List Argument → Judged (Option Stmt)
+  required_called line (required.Constant c) arguments = Breaks (rule.OTHER_THING ∷ [])
+  required_called line (required.«Type» t) arguments = Breaks (rule.OTHER_THING ∷ [])
+  required_called line (required.Function f) arguments = Breaks (rule.PROCEDURE ∷ [])
+  required_called line (required.Procedure p) arguments = procedure_called line p arguments
+
+  -- a statement of a name that means this, with these arguments
+  abbrev pub call_judged : ℕ → List ℕ → Meant → List Argument → Judged (Option Stmt)
+  call_judged line name (Declares d) arguments = Breaks (rule.OTHER_THING ∷ [])
+  call_judged line name (Standard f) arguments = Breaks (rule.OTHER_THING ∷ [])
+  call_judged line name (Requires r) arguments = required_called line r arguments
+  call_judged line name Nothing arguments = Breaks (undeclared name)
+
+  abbrev pub name_called : ℕ → List ℕ → Option (List Argument) → Judged (Option Stmt)
+  name_called line name None = unbuilt
+  name_called line name (Some arguments) = call_judged line name (meant context.scopes name) arguments
+
+  -- a name without selectors is assigned to
+  abbrev pub target_judged : List ℕ → List Selector → Judged Target
+  target_judged name [] = place_named name (meant context.scopes name)
+  target_judged name _ = unbuilt
+
+  -- a statement with this condition
+  abbrev pub condition_judged : ℕ → Expression → Judgement Expr
+  condition_judged line e = at_item line (condition (judged context.scopes e))
+
+  abbrev pub at_statement : Statement-F (Judgement Stmt) ArmJudged (Judgement Stmts) (Judgement Stmts) → Judgement Stmt
+  at_statement (Statement-F.Empty line) = Passes tree.Empty
+  at_statement (Statement-F.Assignment line access v) =
+      at_item line (both (assigned line) (target_judged (out-Access access).name (out-Access access).selectors) (judged_value context.scopes v))
+  at_statement (Statement-F.Call line access) = at_item line (name_called line (out-Access access).name (call_arguments (out-Access access).selectors))
+  at_statement (Statement-F.Compound statements) = formed tree.Compound statements
+  at_statement (Statement-F.If line e then_part other) = if_judged line (condition_judged line e) then_part (else_judged other)
+  at_statement (Statement-F.While line e body) = after (tree.While line) (condition_judged line e) body
+  at_statement (Statement-F.Case line e arms other) = case_judged line (selector_judged context.scopes e (map (λ a. a.0) arms)) (λ h. arms_in_order (map (arm_row context.scopes line h) arms)) (other_judged other)
+  at_statement (Statement-F.Repeat line statements e) = repeat_judged line (condition_judged line e) (in_order statements)
+  at_statement (Statement-F.For line variable start direction end body) = Fails line []
+  at_statement (Statement-F.ForIn line variable members body) = Fails line []
+  at_statement (Statement-F.With line accesses body) = Fails line []
+
+  abbrev pub at_compound : Compound-F (Judgement Stmt) ArmJudged (Judgement Stmts) (Judgement Stmts) → Judgement Stmts
+  at_compound c = in_order c.statements
+
+  abbrev pub at_arm : Arm-F (Judgement Stmt) ArmJudged (Judgement Stmts) (Judgement Stmts) → ArmJudged
+  at_arm a = (a.labels, a.body)
+
+  abbrev pub at_otherwise : Otherwise-F (Judgement Stmt) ArmJudged (Judgement Stmts) (Judgement Stmts) → Judgement Stmts
+  at_otherwise o = in_order o.statements
+
+  abbrev pub statement_judged : Statement → Judgement Stmt
+  statement_judged = fold-Statement (Judgement Stmt) ArmJudged (Judgement Stmts) (Judgement Stmts) at_statement at_arm at_compound at_otherwise
+
+  abbrev pub arm_judged : syntax.Arm → ArmJudged
+  arm_judged = fold-Arm (Judgement Stmt) ArmJudged (Judgement Stmts) (Judgement Stmts) at_statement at_arm at_compound at_otherwise
+
+  abbrev pub otherwise_judged : Otherwise → Judgement Stmts
+  otherwise_judged = fold-Otherwise (Judgement Stmt) ArmJudged (Judgement Stmts) (Judgement Stmts) at_statement at_arm at_compound at_otherwise
+
+  abbrev pub compound_judged : Compound → Judgement Stmts
+  compound_judged = fold-Compound (Judgement Stmt) ArmJudged (Judgement Stmts) (Judgement Stmts) at_statement at_arm at_compound at_otherwise

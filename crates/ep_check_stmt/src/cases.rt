@@ -1,0 +1,291 @@
+//! The selector and the labels of `case`, and its form.
+
+ghost use Rattle.std.specs.Prelude.{◌≡◌, None, Some, List, map};
+ghost use Rattle.std.specs.List.{list_all};
+ghost use Rattle.std.specs.Option.{option_map};
+ghost use Rattle.ep_built.specs.Built.{arm_unbuilt, expression_unbuilt, first_in, label_unbuilt};
+ghost use Rattle.ep_tree.specs.declared.expression.Label.{out-Label};
+ghost use Rattle.ep_typed.specs.Operations.{is_apart};
+ghost use Rattle.ep_typed.specs.Trees.{Arms, Other, Stmt, Stmts};
+ghost use Rattle.ep_typed.specs.Viewed.{arm_of, expr_of, other_of, stmt_of};
+ghost use Rattle.ep_check_stmt.specs.Answers.{AnswersForm, AnswersLabels, AnswersRow, arms_of, labels_of, selector_of, stmts_of};
+ghost use Rattle.ep_check_stmt.specs.Cases as spec;
+ghost use Rattle.ep_check_stmt.specs.Cases.{added, arms_taken, end_judged, fitting, label_taken, labels_taken, own_ranges, range_judged, ranges_formed, ranging, selector_judged};
+ghost use Rattle.ep_check_stmt.specs.Statements.{Judgement, after, case_row, other_judged};
+
+use crate::outcome::Outcome;
+use crate::statements::{Context, Row};
+use ep_base::{Boxed, Line, List};
+use ep_check_expr::{ConstantForm, Refusal, label_value, typed_expression};
+use ep_scope::{Host, Kind, rule, same_host};
+use ep_tree::{Arm, Expression, Label};
+use ep_typed::{CaseArm, CaseArms, CaseRange, CaseRanges, TypedExpr, TypedStmt, TypedStmts, Value};
+use std::alloc::Global;
+
+/// The ranges of labels so far, and whether all labels are built.
+pub(crate) struct Labels {
+    /// The ranges of those that are built.
+    pub(crate) ranges: CaseRanges,
+    /// Whether all are.
+    pub(crate) built: bool,
+}
+
+impl Drop for Labels {
+    fn drop(self) {
+        let Labels {
+            ranges: _,
+            built: _,
+        } = self;
+    }
+}
+
+impl Labels {
+    /// None yet.
+    fn new(alloc: Global) -> Labels
+        ensures { result ≡ spec.no_labels }
+    {
+        Labels {
+            ranges: List::new(alloc),
+            built: true,
+        }
+    }
+
+    /// One label more, which has no value of those before it.
+    fn add(&mut self, range: Option<CaseRange>) -> Result<(), Refusal>
+        ensures { AnswersLabels result self.new (added self.old range) }
+    {
+        let Some(range) = range else {
+            self.built = false;
+            return Ok(());
+        };
+        if !is_apart_from_all(self.ranges.items(), range) {
+            return Err(Refusal::Rule(rule::CASE_LABELS));
+        }
+        self.ranges.push(range)?;
+        Ok(())
+    }
+
+    /// The ranges, of which there is at least one, where all labels are built.
+    fn into_ranges(self) -> Result<Option<CaseRanges>, Refusal>
+        ensures { AnswersForm (λ ranges. ranges) result (ranges_formed self) }
+    {
+        let Labels { ranges, built } = self;
+        if !built {
+            return Ok(None);
+        }
+        if ranges.items().is_empty() {
+            return Err(Refusal::Rule(rule::CASE_LABELS));
+        }
+        Ok(Some(ranges))
+    }
+}
+
+/// Whether no value is in a range and in one of these.
+fn is_apart_from_all(ranges: &[CaseRange], range: CaseRange) -> bool
+    ensures { result ≡ list_all (λ s. is_apart s range) ranges.now }
+{
+    ranges
+        .iter()
+        .all(|other| other.high < range.low || range.high < other.low)
+}
+
+/// The selector of a `case`: its host, and its form where it and the labels are built.
+pub(crate) struct CaseSelector {
+    /// The host.
+    pub(crate) host: Host,
+    /// The form.
+    form: Option<Boxed<TypedExpr>>,
+}
+
+impl Drop for CaseSelector {
+    fn drop(self) {
+        let CaseSelector { host: _, form: _ } = self;
+    }
+}
+
+impl CaseSelector {
+    /// The form alone.
+    pub(crate) fn into_form(self) -> Option<Boxed<TypedExpr>>
+        ensures { result ≡ self.form }
+    {
+        let CaseSelector { host: _, form } = self;
+        form
+    }
+}
+
+/// The value of an end of a label, where it is built, for a selector of this host.
+fn fitting(host: Host, end: &ConstantForm) -> Result<Option<i64>, Refusal>
+    ensures { AnswersForm (λ z. z) result (fitting host end.now.kind end.now.value end.now.built) }
+{
+    match (end.kind, &end.value) {
+        (Kind::Ordinal(own), Value::Word(word)) if same_host(host, own) => {
+            Ok(if end.built { Some(*word) } else { None })
+        }
+        _ => Err(Refusal::Rule(rule::CASE_LABELS)),
+    }
+}
+
+/// The values from one to another, which is not below it, where both are built.
+fn ranging(low: Option<i64>, high: Option<i64>) -> Result<Option<CaseRange>, Refusal>
+    ensures { AnswersForm (λ range. range) result (ranging low high) }
+{
+    match (low, high) {
+        (Some(low), Some(high)) if low <= high => Ok(Some(CaseRange { low, high })),
+        (Some(_), Some(_)) => Err(Refusal::Rule(rule::CASE_LABELS)),
+        _ => Ok(None),
+    }
+}
+
+impl Context<'_> {
+    /// The selector of a `case`, with the labels of all its arms.
+    pub(crate) fn selector(&self, e: &Expression, arms: &[Arm]) -> Result<CaseSelector, Refusal>
+        requires selector { expression_unbuilt e.now ≡ None }
+        requires labels { first_in (map arm_unbuilt arms.now) ≡ None }
+        ensures { AnswersForm selector_of result
+            (selector_judged self.now.scopes.now e.now (map labels_of arms.now)) }
+    {
+        let value = typed_expression(self.alloc, e, self.scopes)?;
+        let Kind::Ordinal(host) = value.kind else {
+            return Err(Refusal::Rule(rule::ORDINAL));
+        };
+        let mut labels = Labels::new(self.alloc);
+        self.all_labels(host, arms, &mut labels)?;
+        let form = if labels.built {
+            value.into_form()
+        } else {
+            None
+        };
+        Ok(CaseSelector { host, form })
+    }
+
+    /// The labels of arms, one arm after another.
+    fn all_labels(&self, host: Host, arms: &[Arm], found: &mut Labels) -> Result<(), Refusal>
+        requires { first_in (map arm_unbuilt arms.now) ≡ None }
+        ensures { AnswersLabels result found.new
+            (arms_taken self.now.scopes.now host (map labels_of arms.now) found.old) }
+    {
+        for arm in arms {
+            self.labels(host, arm.labels.items(), found)?;
+        }
+        Ok(())
+    }
+
+    /// The ranges of one arm alone.
+    pub(crate) fn own_ranges(
+        &self,
+        host: Host,
+        labels: &[Label],
+    ) -> Result<Option<CaseRanges>, Refusal>
+        requires { first_in (map label_unbuilt labels.now) ≡ None }
+        ensures { AnswersForm (λ ranges. ranges) result (own_ranges self.now.scopes.now host labels.now) }
+    {
+        let mut found = Labels::new(self.alloc);
+        self.labels(host, labels, &mut found)?;
+        found.into_ranges()
+    }
+
+    /// Labels one after another.
+    fn labels(&self, host: Host, labels: &[Label], found: &mut Labels) -> Result<(), Refusal>
+        requires { first_in (map label_unbuilt labels.now) ≡ None }
+        ensures { AnswersLabels result found.new
+            (labels_taken self.now.scopes.now host labels.now found.old) }
+    {
+        for label in labels {
+            self.label(host, label, found)?;
+        }
+        Ok(())
+    }
+
+    /// A label after others.
+    fn label(&self, host: Host, label: &Label, found: &mut Labels) -> Result<(), Refusal>
+        requires { label_unbuilt label.now ≡ None }
+        ensures { AnswersLabels result found.new
+            (label_taken self.now.scopes.now host label.now found.old) }
+    {
+        let range = self.range(host, label)?;
+        found.add(range)
+    }
+
+    /// The values that a label has, where it is built.
+    fn range(&self, host: Host, label: &Label) -> Result<Option<CaseRange>, Refusal>
+        requires { label_unbuilt label.now ≡ None }
+        ensures { AnswersForm (λ range. range) result
+            (range_judged self.now.scopes.now host (out-Label label.now).low (out-Label label.now).high) }
+    {
+        let low = self.end(host, label.low.get())?;
+        match &label.high {
+            None => ranging(low, low),
+            Some(high) => ranging(low, self.end(host, high.get())?),
+        }
+    }
+
+    /// An end of a label, where it is built.
+    fn end(&self, host: Host, e: &Expression) -> Result<Option<i64>, Refusal>
+        requires { expression_unbuilt e.now ≡ None }
+        ensures { AnswersForm (λ z. z) result (end_judged self.now.scopes.now host e.now) }
+    {
+        let end = label_value(self.alloc, e, self.scopes)?;
+        fitting(host, &end)
+    }
+}
+
+/// An arm of these ranges and this statement.
+pub(crate) fn arm_form(
+    alloc: Global,
+    ranges: Row<CaseRanges>,
+    body: Row<Boxed<TypedStmt>>,
+) -> Row<Boxed<CaseArm>>
+    ensures { (x : Judgement (List CaseRange)) (y : Judgement Stmt)
+        → AnswersRow (λ ranges. ranges) ranges x → AnswersRow stmt_of body y
+        → AnswersRow arm_of result (after (λ a b. (a, b)) x y) }
+{
+    match (ranges?, body?) {
+        (Outcome::Passes(ranges), Outcome::Passes(body)) => {
+            let form = Boxed::new(alloc, CaseArm { ranges, body })?;
+            Ok(Outcome::Passes(form))
+        }
+        (Outcome::Waits(first), _) => Ok(Outcome::Waits(first)),
+        (_, Outcome::Waits(first)) => Ok(Outcome::Waits(first)),
+    }
+}
+
+/// A `case` without `otherwise`.
+pub(crate) fn no_otherwise() -> Row<Option<TypedStmts>>
+    ensures { AnswersRow other_of result (other_judged None) }
+{
+    Ok(Outcome::Passes(None))
+}
+
+/// The statements of `otherwise`.
+pub(crate) fn otherwise_form(statements: Row<TypedStmts>) -> Row<Option<TypedStmts>>
+    ensures { (x : Judgement Stmts) → AnswersRow stmts_of statements x
+        → AnswersRow other_of result (other_judged (Some x)) }
+{
+    match statements? {
+        Outcome::Passes(all) => Ok(Outcome::Passes(Some(all))),
+        Outcome::Waits(line) => Ok(Outcome::Waits(line)),
+    }
+}
+
+/// A `case` statement of these parts, in order.
+pub(crate) fn case_form(
+    alloc: Global,
+    line: Line,
+    form: Option<Boxed<TypedExpr>>,
+    arms: Row<CaseArms>,
+    other: Row<Option<TypedStmts>>,
+) -> Row<Boxed<TypedStmt>>
+    ensures { (x : Judgement Arms) (y : Judgement Other) → AnswersRow arms_of arms x
+        → AnswersRow other_of other y
+        → AnswersRow stmt_of result (case_row line (option_map expr_of form) x y) }
+{
+    match (form, arms?, other?) {
+        (Some(form), Outcome::Passes(arms), Outcome::Passes(other)) => {
+            let form = Boxed::new(alloc, TypedStmt::Case(line, form, arms, other))?;
+            Ok(Outcome::Passes(form))
+        }
+        (None, _, _) => Ok(Outcome::Waits(line)),
+        (_, Outcome::Waits(first), _) => Ok(Outcome::Waits(first)),
+        (_, _, Outcome::Waits(first)) => Ok(Outcome::Waits(first)),
+    }
+}

@@ -1,0 +1,432 @@
+//! Statements, item by item.
+
+ghost use Rattle.std.specs.Prelude.{◌≡◌, ℕ, List, None, true, IsTrue, map};
+ghost use Rattle.std.specs.Option.{option_map};
+ghost use Rattle.ep_built.specs.Built.{arm_unbuilt, built_call, built_target, call_unbuilt, component_value_unbuilt, compound_unbuilt, expression_unbuilt, first_if, first_in, statement_unbuilt, written_unbuilt};
+ghost use Rattle.ep_scope.specs.Scopes.{meant};
+ghost use Rattle.ep_tree.specs.declared.expression.Access.{out-Access};
+ghost use Rattle.ep_typed.specs.Trees as tree;
+ghost use Rattle.ep_typed.specs.Trees.{Expr, Stmt, Stmts};
+ghost use Rattle.ep_typed.specs.Viewed.{arm_of, expr_of, stmt_of};
+ghost use Rattle.ep_check_expr.specs.Answers.{typed_of};
+ghost use Rattle.ep_check_expr.specs.Expressions.{judged, judged_value};
+ghost use Rattle.ep_check_expr.specs.Judgements.{both};
+ghost use Rattle.ep_check_stmt.specs.Answers.{AnswersForm, AnswersRow, arms_of, context_of, fails_among, stmts_of, target_of};
+ghost use Rattle.ep_check_stmt.specs.Statements as spec;
+ghost use Rattle.ep_check_stmt.specs.Statements.{Judgement, after, arm_judged, arm_row, arms_in_order, assigned, compound_judged, condition_judged, declared_target, formed, if_judged, in_order, name_called, repeat_judged, place_named, required_called, statement_judged, target_judged, target_rules, tested};
+
+use crate::cases::{arm_form, case_form, no_otherwise, otherwise_form};
+use crate::outcome::{CheckRefusal, Outcome, item_at, refused_at};
+use ep_base::{Boxed, Line, List, Name};
+use ep_check_expr::{Refusal, Typed, typed_expression, typed_value, undeclared};
+use ep_scope::{
+    Declaration, Declared, Host, Kind, Meaning, Procedure, Required, Scope, meaning_of, rule,
+    same_host,
+};
+use ep_tree::{Access, Argument, Arm, ComponentValue, Compound, Expression, Selector, Statement};
+use ep_typed::{CaseArm, CaseArms, TypedExpr, TypedPlace, TypedStmt, TypedStmts};
+use std::alloc::{AllocError, Global};
+
+/// What the statements of a block know.
+#[derive(Clone, Copy)]
+pub struct Context<'a> {
+    /// Where memory is taken.
+    pub alloc: Global,
+    /// The scopes, the innermost first.
+    pub scopes: &'a [Scope],
+    /// Whether `output` is a parameter or imported.
+    pub output: bool,
+}
+
+/// What is assigned to, and its kind.
+pub(crate) struct Target {
+    /// The place.
+    place: TypedPlace,
+    /// The kind.
+    kind: Kind,
+}
+
+impl Drop for Target {
+    fn drop(self) {
+        let Target { place: _, kind: _ } = self;
+    }
+}
+
+impl Target {
+    /// The place alone.
+    fn into_place(self) -> TypedPlace
+        ensures { result ≡ self.place }
+    {
+        let Target { place, kind: _ } = self;
+        place
+    }
+}
+
+/// A declared name as what is assigned to.
+fn declared_target(alloc: Global, declared: &Declared) -> Result<Target, Refusal>
+    ensures { AnswersForm target_of result (declared_target declared.now declared.now.what) }
+{
+    match &declared.what {
+        Declaration::Variable(kind) => {
+            let unit = declared.unit.copy(alloc)?;
+            let place = TypedPlace::Variable(unit, declared.number);
+            Ok(Target { place, kind: *kind })
+        }
+        Declaration::Constant(_, _) => Err(Refusal::Rule(rule::CONSTANT_THREATENED)),
+        Declaration::Type(_) => Err(Refusal::Rule(rule::OTHER_THING)),
+    }
+}
+
+/// A rule that fails where a required identifier is assigned to.
+fn required_target(required: Required) -> u32
+    ensures { IsTrue (fails_among result (target_rules required)) }
+{
+    match required {
+        Required::Constant(_) => rule::CONSTANT_THREATENED,
+        Required::Type(_) => rule::OTHER_THING,
+        Required::Function(_) => rule::FUNCTION_ASSIGNED,
+        Required::Procedure(_) => rule::OTHER_THING,
+    }
+}
+
+/// An assignment of a value.
+fn assigned(
+    alloc: Global,
+    line: Line,
+    target: Target,
+    value: Typed,
+) -> Result<Option<Boxed<TypedStmt>>, Refusal>
+    ensures { AnswersForm (option_map stmt_of) result (assigned line (target_of target) (typed_of value)) }
+{
+    match (target.kind, value.kind) {
+        (Kind::Ordinal(left), Kind::Ordinal(right)) if same_host(left, right) => {
+            let Some(form) = value.into_form() else {
+                return Ok(None);
+            };
+            let assignment = TypedStmt::Assign(line, target.into_place(), form);
+            Ok(Some(Boxed::new(alloc, assignment)?))
+        }
+        (Kind::Ordinal(Host::Char), Kind::Text) => Ok(None),
+        _ => Err(Refusal::Rule(rule::ASSIGNMENT)),
+    }
+}
+
+/// The form of a condition.
+fn tested(value: Typed) -> Result<Option<Boxed<TypedExpr>>, Refusal>
+    ensures { AnswersForm (option_map expr_of) result (tested value.kind (typed_of value).form) }
+{
+    match value.kind {
+        Kind::Ordinal(Host::Boolean) => Ok(value.into_form()),
+        _ => Err(Refusal::Rule(rule::CONDITION)),
+    }
+}
+
+/// What a row of items comes to.
+pub type Row<T> = Result<Outcome<T>, CheckRefusal>;
+
+/// A compound statement of these.
+fn compound_form(alloc: Global, statements: Row<TypedStmts>) -> Row<Boxed<TypedStmt>>
+    ensures { (x : Judgement Stmts) → AnswersRow stmts_of statements x
+        → AnswersRow stmt_of result (formed tree.Compound x) }
+{
+    match statements? {
+        Outcome::Passes(all) => {
+            let form = Boxed::new(alloc, TypedStmt::Compound(all))?;
+            Ok(Outcome::Passes(form))
+        }
+        Outcome::Waits(line) => Ok(Outcome::Waits(line)),
+    }
+}
+
+/// An `if` statement of these parts, in order.
+fn if_form(
+    alloc: Global,
+    line: Line,
+    condition: Row<Boxed<TypedExpr>>,
+    then: Row<Boxed<TypedStmt>>,
+    other: Row<Boxed<TypedStmt>>,
+) -> Row<Boxed<TypedStmt>>
+    ensures { (x : Judgement Expr) (y z : Judgement Stmt) → AnswersRow expr_of condition x
+        → AnswersRow stmt_of then y → AnswersRow stmt_of other z
+        → AnswersRow stmt_of result (if_judged line x y z) }
+{
+    match (condition?, then?, other?) {
+        (Outcome::Passes(condition), Outcome::Passes(then), Outcome::Passes(other)) => {
+            let form = Boxed::new(alloc, TypedStmt::If(line, condition, then, other))?;
+            Ok(Outcome::Passes(form))
+        }
+        (Outcome::Waits(first), _, _) => Ok(Outcome::Waits(first)),
+        (_, Outcome::Waits(first), _) => Ok(Outcome::Waits(first)),
+        (_, _, Outcome::Waits(first)) => Ok(Outcome::Waits(first)),
+    }
+}
+
+/// A `while` statement of these parts, in order.
+fn while_form(
+    alloc: Global,
+    line: Line,
+    condition: Row<Boxed<TypedExpr>>,
+    body: Row<Boxed<TypedStmt>>,
+) -> Row<Boxed<TypedStmt>>
+    ensures { (x : Judgement Expr) (y : Judgement Stmt) → AnswersRow expr_of condition x
+        → AnswersRow stmt_of body y → AnswersRow stmt_of result (after (tree.While line) x y) }
+{
+    match (condition?, body?) {
+        (Outcome::Passes(condition), Outcome::Passes(body)) => {
+            let form = Boxed::new(alloc, TypedStmt::While(line, condition, body))?;
+            Ok(Outcome::Passes(form))
+        }
+        (Outcome::Waits(first), _) => Ok(Outcome::Waits(first)),
+        (_, Outcome::Waits(first)) => Ok(Outcome::Waits(first)),
+    }
+}
+
+/// A `repeat` statement of these parts, the condition first, since it belongs to the statement itself.
+fn repeat_form(
+    alloc: Global,
+    line: Line,
+    condition: Row<Boxed<TypedExpr>>,
+    statements: Row<TypedStmts>,
+) -> Row<Boxed<TypedStmt>>
+    ensures { (x : Judgement Expr) (y : Judgement Stmts) → AnswersRow expr_of condition x
+        → AnswersRow stmts_of statements y → AnswersRow stmt_of result (repeat_judged line x y) }
+{
+    match (condition?, statements?) {
+        (Outcome::Passes(condition), Outcome::Passes(all)) => {
+            let form = Boxed::new(alloc, TypedStmt::Repeat(line, all, condition))?;
+            Ok(Outcome::Passes(form))
+        }
+        (Outcome::Waits(first), _) => Ok(Outcome::Waits(first)),
+        (_, Outcome::Waits(first)) => Ok(Outcome::Waits(first)),
+    }
+}
+
+/// The arguments of a call, which are none or stand in one pair of parentheses.
+fn call_arguments(access: &Access) -> &[Argument]
+    requires { built_call access.now ≡ true }
+    ensures { spec.call_arguments (out-Access access.now).selectors ≡ Some result.now }
+{
+    match access.selectors.items() {
+        [] => &[],
+        [Selector::Arguments(_, arguments)] => arguments.items(),
+        _ => unreachable!(),
+    }
+}
+
+impl Context<'_> {
+    /// The statements of a compound statement.
+    #[cycle(statements)]
+    pub fn compound(&self, c: &Compound) -> Row<TypedStmts>
+        requires { compound_unbuilt c.now ≡ None }
+        ensures { AnswersRow stmts_of result (compound_judged (context_of self.now) c.now) }
+    {
+        self.statements(c.statements.items())
+    }
+
+    /// Statements in order.
+    #[cycle(statements)]
+    fn statements(&self, all: &[Statement]) -> Row<TypedStmts>
+        requires { first_in (map statement_unbuilt all.now) ≡ None }
+        ensures { AnswersRow stmts_of result (in_order (map (statement_judged (context_of self.now)) all.now)) }
+    {
+        let mut found = List::new(self.alloc);
+        let mut waits = None;
+        for s in all {
+            match self.statement(s)? {
+                Outcome::Passes(form) => found.push(form.into_inner())?,
+                Outcome::Waits(line) => waits = waits.or(Some(line)),
+            }
+        }
+        match waits {
+            None => Ok(Outcome::Passes(found)),
+            Some(line) => Ok(Outcome::Waits(line)),
+        }
+    }
+
+    #[cycle(statements)]
+    #[tactic(auto, using(crate::proofs::judged::Rounds::rest_of))]
+    fn statement(&self, s: &Statement) -> Row<Boxed<TypedStmt>>
+        requires { statement_unbuilt s.now ≡ None }
+        ensures { AnswersRow stmt_of result (statement_judged (context_of self.now) s.now) }
+    {
+        match s {
+            Statement::Empty(_) => self.empty(),
+            Statement::Assignment(line, access, value) => {
+                item_at(*line, self.assignment(*line, access, value))
+            }
+            Statement::Call(line, access) => item_at(*line, self.call(*line, access)),
+            Statement::Compound(c) => compound_form(self.alloc, self.compound(c)),
+            Statement::If(line, e, then, other) => {
+                let first = self.statement(then.get());
+                let second = match other {
+                    None => self.empty(),
+                    Some(other) => self.statement(other.get()),
+                };
+                if_form(
+                    self.alloc,
+                    *line,
+                    self.condition(*line, e.get()),
+                    first,
+                    second,
+                )
+            }
+            Statement::Case(line, e, arms, other) => {
+                let selector = match self.selector(e.get(), arms.items()) {
+                    Ok(selector) => selector,
+                    Err(refusal) => return Err(refused_at(*line, refusal)),
+                };
+                let inner = self.arms(*line, selector.host, arms.items());
+                let rest = match other {
+                    None => no_otherwise(),
+                    Some(other) => otherwise_form(self.statements(other.statements.items())),
+                };
+                case_form(self.alloc, *line, selector.into_form(), inner, rest)
+            }
+            Statement::While(line, e, body) => {
+                let inner = self.statement(body.get());
+                while_form(self.alloc, *line, self.condition(*line, e.get()), inner)
+            }
+            Statement::Repeat(line, all, e) => {
+                let inner = self.statements(all.items());
+                repeat_form(self.alloc, *line, self.condition(*line, e.get()), inner)
+            }
+            _ => unreachable!(),
+        }
+    }
+
+    /// The arms of a `case` on this line, whose selector has this host, in order.
+    #[cycle(statements)]
+    fn arms(&self, line: Line, host: Host, all: &[Arm]) -> Row<CaseArms>
+        requires { first_in (map arm_unbuilt all.now) ≡ None }
+        ensures { AnswersRow arms_of result (arms_in_order (map
+            (arm_row self.now.scopes.now line host) (map (arm_judged (context_of self.now)) all.now))) }
+    {
+        let mut found = List::new(self.alloc);
+        let mut waits = None;
+        for a in all {
+            match self.arm(line, host, a)? {
+                Outcome::Passes(form) => found.push(form.into_inner())?,
+                Outcome::Waits(line) => waits = waits.or(Some(line)),
+            }
+        }
+        match waits {
+            None => Ok(Outcome::Passes(found)),
+            Some(line) => Ok(Outcome::Waits(line)),
+        }
+    }
+
+    #[cycle(statements)]
+    fn arm(&self, line: Line, host: Host, a: &Arm) -> Row<Boxed<CaseArm>>
+        requires { arm_unbuilt a.now ≡ None }
+        ensures { AnswersRow arm_of result
+            (arm_row self.now.scopes.now line host (arm_judged (context_of self.now) a.now)) }
+    {
+        let body = self.statement(a.body.get());
+        let ranges = item_at(line, self.own_ranges(host, a.labels.items()));
+        arm_form(self.alloc, ranges, body)
+    }
+
+    /// The empty statement.
+    fn empty(&self) -> Row<Boxed<TypedStmt>>
+        ensures { AnswersRow stmt_of result (spec.Passes tree.Empty) }
+    {
+        let form = Boxed::new(self.alloc, TypedStmt::Empty)?;
+        Ok(Outcome::Passes(form))
+    }
+
+    /// The condition of a statement on this line.
+    fn condition(&self, line: Line, e: &Expression) -> Row<Boxed<TypedExpr>>
+        requires { expression_unbuilt e.now ≡ None }
+        ensures { AnswersRow expr_of result (condition_judged (context_of self.now) line e.now) }
+    {
+        item_at(line, self.tested(e))
+    }
+
+    fn tested(&self, e: &Expression) -> Result<Option<Boxed<TypedExpr>>, Refusal>
+        requires { expression_unbuilt e.now ≡ None }
+        ensures { AnswersForm (option_map expr_of) result (spec.condition (judged self.now.scopes.now e.now)) }
+    {
+        let value = typed_expression(self.alloc, e, self.scopes)?;
+        tested(value)
+    }
+
+    /// `access ":=" cvalue`
+    fn assignment(
+        &self,
+        line: Line,
+        access: &Access,
+        value: &ComponentValue,
+    ) -> Result<Option<Boxed<TypedStmt>>, Refusal>
+        requires target { built_target access.now ≡ true }
+        requires value { component_value_unbuilt value.now ≡ None }
+        ensures { AnswersForm (option_map stmt_of) result (both (assigned line)
+            (target_judged (context_of self.now) (out-Access access.now).name (out-Access access.now).selectors)
+            (judged_value self.now.scopes.now value.now)) }
+    {
+        let target = self.target(&access.name)?;
+        let value = typed_value(self.alloc, value, self.scopes)?;
+        assigned(self.alloc, line, target, value)
+    }
+
+    /// A name that is assigned to.
+    fn target(&self, name: &Name) -> Result<Target, Refusal>
+        ensures { AnswersForm target_of result (place_named name.now (meant self.now.scopes.now name.now)) }
+    {
+        match &meaning_of(self.scopes, name) {
+            Meaning::Declared(declared) => declared_target(self.alloc, declared),
+            Meaning::Standard(file) => Ok(Target {
+                place: TypedPlace::Standard(*file),
+                kind: Kind::File,
+            }),
+            Meaning::Required(required) => Err(Refusal::Rule(required_target(*required))),
+            Meaning::Nothing => Err(Refusal::Rule(undeclared(name))),
+        }
+    }
+
+    /// `access` as a statement.
+    fn call(&self, line: Line, access: &Access) -> Result<Option<Boxed<TypedStmt>>, Refusal>
+        requires call { built_call access.now ≡ true }
+        requires arguments { call_unbuilt access.now ≡ None }
+        ensures { AnswersForm (option_map stmt_of) result (name_called (context_of self.now) line
+            (out-Access access.now).name (spec.call_arguments (out-Access access.now).selectors)) }
+    {
+        let arguments = call_arguments(access);
+        match &meaning_of(self.scopes, &access.name) {
+            Meaning::Declared(_) => Err(Refusal::Rule(rule::OTHER_THING)),
+            Meaning::Standard(_) => Err(Refusal::Rule(rule::OTHER_THING)),
+            Meaning::Required(required) => self.call_required(line, *required, arguments),
+            Meaning::Nothing => Err(Refusal::Rule(undeclared(&access.name))),
+        }
+    }
+
+    /// A call of a required identifier.
+    fn call_required(
+        &self,
+        line: Line,
+        required: Required,
+        arguments: &[Argument],
+    ) -> Result<Option<Boxed<TypedStmt>>, Refusal>
+        requires { first_in (map written_unbuilt arguments.now) ≡ None }
+        ensures { AnswersForm (option_map stmt_of) result
+            (required_called (context_of self.now) line required arguments.now) }
+    {
+        match required {
+            Required::Constant(_) => Err(Refusal::Rule(rule::OTHER_THING)),
+            Required::Type(_) => Err(Refusal::Rule(rule::OTHER_THING)),
+            Required::Function(_) => Err(Refusal::Rule(rule::PROCEDURE)),
+            Required::Procedure(Procedure::Halt) => self.halt(line, arguments),
+            Required::Procedure(Procedure::Write) => self.write(line, false, arguments),
+            Required::Procedure(Procedure::WriteLine) => self.write(line, true, arguments),
+        }
+    }
+
+    /// `halt`, which has no arguments.
+    fn halt(&self, line: Line, arguments: &[Argument]) -> Result<Option<Boxed<TypedStmt>>, Refusal>
+        ensures { AnswersForm (option_map stmt_of) result (spec.halt_judged line arguments.now) }
+    {
+        if !arguments.is_empty() {
+            return Err(Refusal::Rule(rule::ARGUMENTS));
+        }
+        Ok(Some(Boxed::new(self.alloc, TypedStmt::Halt(line))?))
+    }
+}

@@ -1,0 +1,221 @@
+//! `write` and `writeln`.
+
+ghost use Rattle.std.specs.Prelude.{◌≡◌, IfOk, None, map};
+ghost use Rattle.std.specs.Option.{option_copied, option_map};
+ghost use Rattle.ep_built.specs.Built.{expression_unbuilt, first_if, first_in, written_unbuilt, written_value_unbuilt};
+ghost use Rattle.ep_tree.specs.Shapes.{as_identifier};
+ghost use Rattle.ep_tree.specs.declared.expression.Argument.{out-Argument};
+ghost use Rattle.ep_typed.specs.Viewed.{expr_of, item_of, stmt_of};
+ghost use Rattle.ep_check_expr.specs.Answers.{typed_of};
+ghost use Rattle.ep_check_expr.specs.Expressions.{given, judged};
+ghost use Rattle.ep_check_expr.specs.Judgements.{Accepts, when_accepted};
+ghost use Rattle.ep_check_stmt.specs.Answers.{AnswersForm, context_of, items_of, shown_of};
+ghost use Rattle.ep_check_stmt.specs.Statements as spec;
+ghost use Rattle.ep_check_stmt.specs.Statements.{file_given, item_form, item_judged, items_judged, one_after, printed, shown, width_judged, write_judged, written};
+
+use crate::statements::Context;
+use ep_base::{Boxed, Line, List, Name, NoMemory};
+use ep_check_expr::{Refusal, typed_expression, written_expression};
+use ep_scope::{Host, Kind, Meaning, meaning_of, rule};
+use ep_tree::{Argument, Expression, Factor};
+use ep_typed::{Print, StandardFile, TypedExpr, TypedStmt, WriteItem, WriteItems};
+use std::alloc::Global;
+
+/// How values of this kind are printed.
+fn printed(kind: Kind) -> Result<Print, Refusal>
+    ensures { AnswersForm (λ how. how) result (printed kind) }
+{
+    match kind {
+        Kind::Ordinal(Host::Integer) => Ok(Print::Integer),
+        Kind::Ordinal(Host::Char) => Ok(Print::Char),
+        Kind::Ordinal(Host::Boolean) => Ok(Print::Boolean),
+        Kind::Ordinal(Host::Enumeration(_)) => Err(Refusal::Rule(rule::WRITTEN_TYPE)),
+        Kind::Text => Ok(Print::Text),
+        Kind::File => Err(Refusal::Rule(rule::WRITTEN_TYPE)),
+    }
+}
+
+/// What is written for a parameter, where it is built.
+fn item_form(
+    print: Print,
+    value: Option<Boxed<TypedExpr>>,
+    width: Option<Option<Boxed<TypedExpr>>>,
+) -> Option<WriteItem>
+    ensures { option_map item_of result
+        ≡ item_form print (option_map expr_of value) (option_map (option_map expr_of) width) }
+{
+    let value = value?;
+    let width = match width {
+        None => None,
+        Some(None) => return None,
+        Some(Some(width)) => Some(width),
+    };
+    Some(WriteItem {
+        print,
+        value,
+        width,
+    })
+}
+
+/// The items with one more at the end, where all are built.
+fn added(items: Option<WriteItems>, item: Option<WriteItem>) -> Result<Option<WriteItems>, NoMemory>
+    ensures { IfOk result (λ now. option_map items_of now
+        ≡ one_after (option_map items_of items) (option_map item_of item)) }
+{
+    let Some(mut items) = items else {
+        return Ok(None);
+    };
+    let Some(item) = item else {
+        return Ok(None);
+    };
+    items.push(item)?;
+    Ok(Some(items))
+}
+
+/// The name that an expression is, where it is nothing more.
+fn identifier(e: &Expression) -> Option<&Name>
+    ensures { option_copied result ≡ as_identifier e.now }
+{
+    if e.right.is_some() || e.left.sign.is_some() {
+        return None;
+    }
+    if !e.left.more.items().is_empty() || !e.left.first.more.items().is_empty() {
+        return None;
+    }
+    match e.left.first.first.get() {
+        Factor::Access(access) if access.selectors.items().is_empty() => Some(&access.name),
+        _ => None,
+    }
+}
+
+impl Context<'_> {
+    /// `write`, or `writeln` where the line is ended.
+    pub(crate) fn write(
+        &self,
+        line: Line,
+        ends_line: bool,
+        arguments: &[Argument],
+    ) -> Result<Option<Boxed<TypedStmt>>, Refusal>
+        requires { first_in (map written_unbuilt arguments.now) ≡ None }
+        ensures { AnswersForm (option_map stmt_of) result
+            (write_judged (context_of self.now) line ends_line arguments.now) }
+    {
+        if let Some((first, more)) = arguments.split_first() {
+            if let Some(file) = self.file_given(first) {
+                return self.write_to(file, line, ends_line, more);
+            }
+        }
+        let form = self.write_to(StandardFile::Output, line, ends_line, arguments)?;
+        if self.output {
+            Ok(form)
+        } else {
+            Err(Refusal::Rule(rule::STANDARD_FILE))
+        }
+    }
+
+    /// The text file that a parameter is.
+    fn file_given(&self, argument: &Argument) -> Option<StandardFile>
+        ensures { result ≡ file_given (context_of self.now) argument.now }
+    {
+        if argument.width.is_some() {
+            return None;
+        }
+        let name = identifier(argument.value.get())?;
+        match &meaning_of(self.scopes, name) {
+            Meaning::Standard(file) => Some(*file),
+            _ => None,
+        }
+    }
+
+    /// These parameters are written to a file.
+    fn write_to(
+        &self,
+        file: StandardFile,
+        line: Line,
+        ends_line: bool,
+        arguments: &[Argument],
+    ) -> Result<Option<Boxed<TypedStmt>>, Refusal>
+        requires { first_in (map written_unbuilt arguments.now) ≡ None }
+        ensures { AnswersForm (option_map stmt_of) result
+            (written file line ends_line (map (given self.now.scopes.now) arguments.now)) }
+    {
+        if !ends_line && arguments.is_empty() {
+            return Err(Refusal::Rule(rule::ARGUMENTS));
+        }
+        let items = self.items(arguments)?;
+        match (file, items) {
+            (StandardFile::Output, Some(items)) => {
+                let form = TypedStmt::Write(line, items, ends_line);
+                Ok(Some(Boxed::new(self.alloc, form)?))
+            }
+            _ => Ok(None),
+        }
+    }
+
+    /// What is written for parameters, where all are built.
+    fn items(&self, arguments: &[Argument]) -> Result<Option<WriteItems>, Refusal>
+        requires { first_in (map written_unbuilt arguments.now) ≡ None }
+        ensures { AnswersForm (option_map items_of) result
+            (items_judged (map (given self.now.scopes.now) arguments.now)) }
+    {
+        let mut items = Some(List::new(self.alloc));
+        for argument in arguments {
+            items = self.add_item(items, argument)?;
+        }
+        Ok(items)
+    }
+
+    /// The items with what is written for a parameter more, where all are built.
+    fn add_item(
+        &self,
+        items: Option<WriteItems>,
+        argument: &Argument,
+    ) -> Result<Option<WriteItems>, Refusal>
+        requires { written_unbuilt argument.now ≡ None }
+        ensures { AnswersForm (option_map items_of) result
+            (when_accepted (λ item. Accepts (one_after (option_map items_of items) item))
+            (item_judged (given self.now.scopes.now argument.now))) }
+    {
+        let item = self.item(argument)?;
+        Ok(added(items, item)?)
+    }
+
+    /// What is written for a parameter, where it is built.
+    fn item(&self, argument: &Argument) -> Result<Option<WriteItem>, Refusal>
+        requires { written_unbuilt argument.now ≡ None }
+        ensures { AnswersForm (option_map item_of) result (item_judged (given self.now.scopes.now argument.now)) }
+    {
+        let (print, value) = self.shown(argument.value.get())?;
+        let width = self.width(&argument.width)?;
+        Ok(item_form(print, value, width))
+    }
+
+    /// How a value is printed, and its form where it is built.
+    fn shown(&self, value: &Expression) -> Result<(Print, Option<Boxed<TypedExpr>>), Refusal>
+        requires { written_value_unbuilt value.now ≡ None }
+        ensures { AnswersForm shown_of result (when_accepted shown (judged self.now.scopes.now value.now)) }
+    {
+        let value = written_expression(self.alloc, value, self.scopes)?;
+        let print = printed(value.kind)?;
+        Ok((print, value.into_form()))
+    }
+
+    /// The width of a parameter, where it has one.
+    fn width(
+        &self,
+        width: &Option<Boxed<Expression>>,
+    ) -> Result<Option<Option<Boxed<TypedExpr>>>, Refusal>
+        requires { first_if (option_map expression_unbuilt width.now) ≡ None }
+        ensures { AnswersForm (option_map (option_map expr_of)) result
+            (width_judged (option_map (judged self.now.scopes.now) width.now)) }
+    {
+        let Some(width) = width else {
+            return Ok(None);
+        };
+        let value = typed_expression(self.alloc, width.get(), self.scopes)?;
+        match value.kind {
+            Kind::Ordinal(Host::Integer) => Ok(Some(value.into_form())),
+            _ => Err(Refusal::Rule(rule::WIDTH)),
+        }
+    }
+}
