@@ -5,12 +5,12 @@
 -- - the component, for a module
 -- - the program, for a parameter that is neither `input` nor `output`
 -- - the import
--- - the part, for a routine
+-- - the part, for a function, for a procedure with formals, and in the block of a procedure for variables and for a routine
 -- - the type definition, for discriminants
 -- - the type denoter, for an initial state
 -- - the type denoter without its initial state, for `bindable`
 -- - the type itself, for what is no name, no subrange and no enumeration, for a name with a tuple, and for a name that is not built
--- - the statement, for an assignment to something else than a name that is built, for a call of something else than `write`, `writeln` and `halt` or with other selectors than one pair of parentheses, and for what is no assignment, call, compound, empty, `if`, `case`, `while` or `repeat` statement
+-- - the statement, for an assignment to something else than a name that is built, for a call of `write`, `writeln` or `halt` with other selectors than one pair of parentheses, for a call of another name with selectors, for a call of a name that is not built, and for what is no assignment, call, compound, empty, `if`, `case`, `while` or `repeat` statement
 -- - the structured value, with the name of its type or without
 -- - the expression, the simple expression or the term, for an operator that is not built
 -- - the factor, for `nil`, for a set, and for a character string of another length than one that is not the whole value of an argument of a `write` or `writeln` statement
@@ -48,15 +48,20 @@ use Rattle.ep_tree.specs.declared.types.Core.{Core, out-Core}
 use Rattle.ep_tree.specs.declared.types.Plain.{Plain, out-Plain}
 use Rattle.ep_tree.specs.declared.types.TypeDenoter.{TypeDenoter, out-TypeDenoter}
 use Rattle.ep_tree.specs.declared.declaration.ConstantDefinition.{ConstantDefinition}
+use Rattle.ep_tree.specs.declared.declaration.RoutineHeading.{RoutineHeading}
+use Rattle.ep_tree.specs.declared.declaration.RoutineHeading.TheVariants as heading_is
 use Rattle.ep_tree.specs.declared.declaration.TypeDefinition.{TypeDefinition}
 use Rattle.ep_tree.specs.declared.declaration.VariableDeclaration.{VariableDeclaration}
 use Rattle.ep_tree.specs.declared.statement.Statement.TheOpen.{Statement-F, Arm-F, Compound-F, Otherwise-F}
 use Rattle.ep_tree.specs.declared.statement.Statement.{Statement, fold-Statement}
 use Rattle.ep_tree.specs.declared.statement.Arm.{Arm, fold-Arm}
 use Rattle.ep_tree.specs.declared.statement.Compound.{Compound, fold-Compound}
-use Rattle.ep_tree.specs.declared.routine.Part.TheOpen.{Part-F}
+use Rattle.ep_tree.specs.declared.routine.Part.TheOpen.{Part-F, RoutineBody-F}
 use Rattle.ep_tree.specs.declared.routine.Part.{Part, out-Part}
 use Rattle.ep_tree.specs.declared.routine.Routine.{Routine, out-Routine}
+use Rattle.ep_tree.specs.declared.routine.RoutineBody.{RoutineBody, out-RoutineBody}
+use Rattle.ep_tree.specs.declared.routine.RoutineStart.{RoutineStart}
+use Rattle.ep_tree.specs.declared.routine.RoutineStart.TheVariants as start_is
 use Rattle.ep_tree.specs.declared.component.Component.{Component}
 use Rattle.ep_tree.specs.declared.component.Import.{Import}
 use Rattle.ep_tree.specs.declared.component.Program.{Program}
@@ -119,10 +124,26 @@ built_program p = list_all (is_among program_parameters) p.parameters
 abbrev pub built_import : Import → Bool
 built_import i = false
 
--- a part is no routine
-abbrev pub built_part : {A B C : Type 0} → Part-F A B C → Bool
-built_part (Part-F.Routine r) = false
+-- a heading is one of a procedure without formals
+abbrev pub built_heading : RoutineHeading → Bool
+built_heading (heading_is.Procedure line name formals) = length formals == 0
+built_heading _ = false
+
+abbrev pub built_start : RoutineStart → Bool
+built_start (start_is.Heading heading) = built_heading heading
+built_start _ = false
+
+-- a routine is such a procedure
+abbrev pub built_part : {A B : Type 0} → Part-F A B Routine → Bool
+built_part (Part-F.Routine r) = built_start (out-Routine r).start
 built_part _ = true
+
+-- a part of the block of a routine is one of constants or of types
+abbrev pub built_local_part : {A B C : Type 0} → Part-F A B C → Bool
+built_local_part (Part-F.Constants c) = true
+built_local_part (Part-F.Types t) = true
+built_local_part (Part-F.Variables v) = false
+built_local_part (Part-F.Routine r) = false
 
 -- a type definition has no discriminants
 abbrev pub built_type_definition : TypeDefinition → Bool
@@ -162,9 +183,12 @@ built_call_selectors [] = true
 built_call_selectors (selector ∷ []) = built_selector (out-Selector selector)
 built_call_selectors _ = false
 
--- a call is one of such a procedure, with such selectors
+-- a call is one of such a procedure, with such selectors, or a name alone that is built
+abbrev pub built_call_of : List ℕ → List Selector → Bool
+built_call_of name selectors = if built_procedure name then built_call_selectors selectors else ((length selectors == 0) && not (is_later name))
+
 abbrev pub built_call : Access → Bool
-built_call a = built_procedure (out-Access a).name && built_call_selectors (out-Access a).selectors
+built_call a = built_call_of (out-Access a).name (out-Access a).selectors
 
 -- a statement is empty, an assignment, a call, compound, an `if`, a `case`, a `while` or a `repeat`
 abbrev pub built_statement : {A B C D : Type 0} → Statement-F A B C D → Bool
@@ -542,7 +566,7 @@ arm_unbuilt = fold-Arm Found Found Placed Found at_statement at_arm at_compound 
 abbrev pub compound_unbuilt : Compound → Found
 compound_unbuilt c = (fold-Compound Found Found Placed Found at_statement at_arm at_compound at_otherwise c).1
 
--- ---- programs. Nothing inside a routine, an import or a module is reached while none of their forms is built.
+-- ---- programs. Nothing inside an import or a module is reached while none of their forms is built.
 
 -- the first line in a constant definition
 abbrev pub constant_unbuilt : ConstantDefinition → Found
@@ -556,19 +580,37 @@ type_unbuilt d = at_node (built_type_definition d) d.line (type_denoter_unbuilt 
 abbrev pub variable_unbuilt : VariableDeclaration → Found
 variable_unbuilt d = type_denoter_unbuilt d.of
 
--- the first line inside a part, by its definitions or declarations
-abbrev pub in_part : {A B C : Type 0} → Part-F A B C → Found
-in_part (Part-F.Constants c) = first_in (map constant_unbuilt c.definitions)
-in_part (Part-F.Types t) = first_in (map type_unbuilt t.definitions)
-in_part (Part-F.Variables v) = first_in (map variable_unbuilt v.declarations)
-in_part (Part-F.Routine r) = None
-
 -- the line of a part
 abbrev pub part_line : {A B : Type 0} → Part-F A B Routine → ℕ
 part_line (Part-F.Constants c) = c.line
 part_line (Part-F.Types t) = t.line
 part_line (Part-F.Variables v) = v.line
 part_line (Part-F.Routine r) = (out-Routine r).line
+
+-- the first line inside a part of the block of a routine
+abbrev pub in_local_part : {A B C : Type 0} → Part-F A B C → Found
+in_local_part (Part-F.Constants c) = first_in (map constant_unbuilt c.definitions)
+in_local_part (Part-F.Types t) = first_in (map type_unbuilt t.definitions)
+in_local_part _ = None
+
+-- the first line in a part of the block of a routine
+abbrev pub local_part_unbuilt : Part → Found
+local_part_unbuilt p = at_node (built_local_part (out-Part p)) (part_line (out-Part p)) (in_local_part (out-Part p))
+
+-- the first line in the body of a routine: its parts, then its statements
+abbrev pub in_body : {A C : Type 0} → RoutineBody-F Part A C → Found
+in_body (RoutineBody-F.Forward line) = None
+in_body (RoutineBody-F.Block line parts statements) = option_or (first_in (map local_part_unbuilt parts)) (compound_unbuilt statements)
+
+abbrev pub body_unbuilt : RoutineBody → Found
+body_unbuilt b = in_body (out-RoutineBody b)
+
+-- the first line inside a part, by its definitions or declarations
+abbrev pub in_part : {A B : Type 0} → Part-F A B Routine → Found
+in_part (Part-F.Constants c) = first_in (map constant_unbuilt c.definitions)
+in_part (Part-F.Types t) = first_in (map type_unbuilt t.definitions)
+in_part (Part-F.Variables v) = first_in (map variable_unbuilt v.declarations)
+in_part (Part-F.Routine r) = body_unbuilt (out-Routine r).body
 
 -- the first line in a part
 abbrev pub part_unbuilt : Part → Found

@@ -104,6 +104,7 @@ module _ (declared : Declarations) where
   value_declared-fits unit number (declaration.Constant k v) s = constant-fits k v s
   value_declared-fits unit number (declaration.«Type» host) s = tt
   value_declared-fits unit number (declaration.Variable k) s = variable-fits unit number k s
+  value_declared-fits unit number declaration.Procedure s = tt
 
   value_required-fits : (r : Required) → Fits declared (value_required r)
   value_required-fits (required.Constant constant.MaxInt) = (refl, (hosts.Integer, refl, refl))

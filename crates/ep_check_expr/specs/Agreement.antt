@@ -1,10 +1,11 @@
 -- Declarations that hold what scopes declare, under which typed forms are valid.
-use Rattle.std.specs.Prelude.{ℕ, pos, List, [], ◌∷◌, Option, Some, None, IsTrue, int_le, ⊤}
+use Rattle.std.specs.Prelude.{◌≡◌, ℕ, pos, List, [], ◌∷◌, Option, Some, None, IsTrue, int_le, slice_get, ⊤}
 use Rattle.ep_typed.specs.Hosts.{greatest, is_of_host}
 use Rattle.ep_typed.specs.Operations.{maxint}
 use Rattle.ep_typed.specs.Trees.{Expr, Constant, Text, Read, One, Two, Short, Step, Variable}
-use Rattle.ep_typed.specs.Valid.{Declarations, IsPlace, IsExpr}
+use Rattle.ep_typed.specs.Valid.{Declarations, IsPlace, IsExpr, IsProcedure}
 use Rattle.ep_typed.specs.Valid as valid
+use Rattle.ep_typed.specs.declared.interface.RoutineEntry.{RoutineEntry}
 use Rattle.ep_typed.specs.declared.value.Value.{Value}
 use Rattle.ep_typed.specs.declared.value.Value.TheVariants as value
 use Rattle.ep_scope.specs.Scopes.{Entries, Region}
@@ -47,10 +48,15 @@ module _ (declared : Declarations) where
   IsVariableOf unit number kind.Text = ⊥
   IsVariableOf unit number kind.File = ⊤
 
+  -- the routine is declared, and a procedure without parameters
+  abbrev pub IsProcedureOf : List ℕ → ℕ → Type 0
+  IsProcedureOf unit number = (r : RoutineEntry) × (slice_get (declared.routines unit) number ≡ Some r) × IsProcedure r × (r.formals ≡ [])
+
   abbrev pub IsDeclaration : List ℕ → ℕ → Declaration → Type 0
   IsDeclaration unit number (declaration.Constant kind value) = IsConstantOf kind value
   IsDeclaration unit number (declaration.«Type» host) = IsHost host
   IsDeclaration unit number (declaration.Variable kind) = IsVariableOf unit number kind
+  IsDeclaration unit number declaration.Procedure = IsProcedureOf unit number
 
   abbrev pub IsThing : Thing → Type 0
   IsThing (thing.Declared d) = IsDeclaration d.unit d.number d.what

@@ -95,6 +95,7 @@ abbrev pub declared_target : Declared → Declaration → Judged Target
 declared_target d (declaration.Variable k) = Accepts (record { place = tree.Variable d.unit d.number; kind = k })
 declared_target d (declaration.Constant k value) = Breaks (rule.CONSTANT_THREATENED ∷ rule.VARIABLE_NEEDED ∷ [])
 declared_target d (declaration.«Type» h) = Breaks (rule.OTHER_THING ∷ rule.VARIABLE_NEEDED ∷ [])
+declared_target d declaration.Procedure = Breaks (rule.OTHER_THING ∷ rule.VARIABLE_NEEDED ∷ [])
 
 -- the rules that fail where a required identifier is assigned to
 abbrev pub target_rules : Required → List ℕ
@@ -255,6 +256,18 @@ abbrev pub halt_judged : ℕ → List Argument → Judged (Option Stmt)
 halt_judged line [] = Accepts (Some (tree.Halt line))
 halt_judged line (first ∷ more) = Breaks (rule.ARGUMENTS ∷ [])
 
+-- a procedure of a unit is called, which has no parameters (ISO 10206, 6.9.2.3)
+abbrev pub own_called : ℕ → Declared → List Argument → Judged (Option Stmt)
+own_called line d [] = Accepts (Some (tree.Procedure line d.unit d.number []))
+own_called line d (first ∷ more) = Breaks (rule.ARGUMENTS ∷ [])
+
+-- nothing else that is declared is a statement
+abbrev pub declared_called : ℕ → Declared → Declaration → List Argument → Judged (Option Stmt)
+declared_called line d declaration.Procedure arguments = own_called line d arguments
+declared_called line d (declaration.Constant k value) arguments = Breaks (rule.OTHER_THING ∷ [])
+declared_called line d (declaration.«Type» h) arguments = Breaks (rule.OTHER_THING ∷ [])
+declared_called line d (declaration.Variable k) arguments = Breaks (rule.OTHER_THING ∷ [])
+
 -- what a block knows: its scopes, the innermost first, and whether `output` is a parameter or imported
 pub record Context : Type 0 where
   pub scopes : List Region
@@ -309,7 +322,7 @@ module _ (context : Context) where
 
   -- a statement of a name that means this, with these arguments
   abbrev pub call_judged : ℕ → List ℕ → Meant → List Argument → Judged (Option Stmt)
-  call_judged line name (Declares d) arguments = Breaks (rule.OTHER_THING ∷ [])
+  call_judged line name (Declares d) arguments = declared_called line d d.what arguments
   call_judged line name (Standard f) arguments = Breaks (rule.OTHER_THING ∷ [])
   call_judged line name (Requires r) arguments = required_called line r arguments
   call_judged line name Nothing arguments = Breaks (undeclared name)

@@ -13,7 +13,7 @@ ghost use Rattle.ep_check_expr.specs.Expressions.{judged, judged_value};
 ghost use Rattle.ep_check_expr.specs.Judgements.{both};
 ghost use Rattle.ep_check_stmt.specs.Answers.{AnswersForm, AnswersRow, arms_of, context_of, fails_among, stmts_of, target_of};
 ghost use Rattle.ep_check_stmt.specs.Statements as spec;
-ghost use Rattle.ep_check_stmt.specs.Statements.{Judgement, after, arm_judged, arm_row, arms_in_order, assigned, compound_judged, condition_judged, declared_target, formed, if_judged, in_order, name_called, repeat_judged, place_named, required_called, statement_judged, target_judged, target_rules, tested};
+ghost use Rattle.ep_check_stmt.specs.Statements.{Judgement, after, arm_judged, arm_row, arms_in_order, assigned, compound_judged, condition_judged, declared_called, declared_target, formed, if_judged, in_order, name_called, own_called, repeat_judged, place_named, required_called, statement_judged, target_judged, target_rules, tested};
 
 use crate::cases::{arm_form, case_form, no_otherwise, otherwise_form};
 use crate::outcome::{CheckRefusal, Outcome, item_at, refused_at};
@@ -74,6 +74,7 @@ fn declared_target(alloc: Global, declared: &Declared) -> Result<Target, Refusal
         }
         Declaration::Constant(_, _) => Err(Refusal::Rule(rule::CONSTANT_THREATENED)),
         Declaration::Type(_) => Err(Refusal::Rule(rule::OTHER_THING)),
+        Declaration::Procedure => Err(Refusal::Rule(rule::OTHER_THING)),
     }
 }
 
@@ -392,11 +393,46 @@ impl Context<'_> {
     {
         let arguments = call_arguments(access);
         match &meaning_of(self.scopes, &access.name) {
-            Meaning::Declared(_) => Err(Refusal::Rule(rule::OTHER_THING)),
+            Meaning::Declared(declared) => self.call_declared(line, declared, arguments),
             Meaning::Standard(_) => Err(Refusal::Rule(rule::OTHER_THING)),
             Meaning::Required(required) => self.call_required(line, *required, arguments),
             Meaning::Nothing => Err(Refusal::Rule(undeclared(&access.name))),
         }
+    }
+
+    /// A declared name as a statement.
+    fn call_declared(
+        &self,
+        line: Line,
+        declared: &Declared,
+        arguments: &[Argument],
+    ) -> Result<Option<Boxed<TypedStmt>>, Refusal>
+        ensures { AnswersForm (option_map stmt_of) result
+            (declared_called line declared.now declared.now.what arguments.now) }
+    {
+        match &declared.what {
+            Declaration::Procedure => self.call_own(line, declared, arguments),
+            Declaration::Constant(_, _) => Err(Refusal::Rule(rule::OTHER_THING)),
+            Declaration::Type(_) => Err(Refusal::Rule(rule::OTHER_THING)),
+            Declaration::Variable(_) => Err(Refusal::Rule(rule::OTHER_THING)),
+        }
+    }
+
+    /// A call of a procedure of a unit, which has no parameters.
+    fn call_own(
+        &self,
+        line: Line,
+        declared: &Declared,
+        arguments: &[Argument],
+    ) -> Result<Option<Boxed<TypedStmt>>, Refusal>
+        ensures { AnswersForm (option_map stmt_of) result (own_called line declared.now arguments.now) }
+    {
+        if !arguments.is_empty() {
+            return Err(Refusal::Rule(rule::ARGUMENTS));
+        }
+        let unit = declared.unit.copy(self.alloc)?;
+        let call = TypedStmt::Procedure(line, unit, declared.number, List::new(self.alloc));
+        Ok(Some(Boxed::new(self.alloc, call)?))
     }
 
     /// A call of a required identifier.

@@ -10,7 +10,7 @@ use Rattle.ep_check_expr.specs.declared.forms.Refusal.{Refusal}
 use Rattle.ep_check_stmt.specs.Answers.{Refuses}
 use Rattle.ep_check_stmt.proofs.judged.Refusing.{from_judged, first_refused, both_accepted}
 use Rattle.ep_check_unit.specs.Declarations.{constant_definition, constant_entered, noted, scopes_of, unused, with_constant}
-use Rattle.ep_check_unit.specs.declared.block.Block.{Block}
+use Rattle.ep_check_unit.specs.Blocks.{Block}
 
 -- the value is refused
 pub value_refused : (scopes : List Region) (b : Block) (d : ConstantDefinition) (e : Refusal) → scopes ≡ scopes_of b → AnswersJudged (λ (c : ConstantForm). c) (Err e) (constant_judged scopes d.value) → Refuses e (constant_definition d b)

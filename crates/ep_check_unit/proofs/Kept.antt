@@ -1,17 +1,27 @@
--- A block stays that of its unit.
-use Rattle.std.proofs.Common.{◌≡◌, ℕ, pos, suc, Bool, true, false, ◌&&◌, List, [], ◌∷◌, length, Option, Some, None, subst}
-use Rattle.std.specs.Prelude.{⊤}
+-- A block stays that of its unit, and its routines stay plain.
+use Rattle.std.proofs.Common.{◌≡◌, ℕ, pos, suc, Bool, true, false, ◌&&◌, ◌||◌, List, [], ◌∷◌, length, Option, Some, None, refl, subst}
+use Rattle.std.proofs.lemmas.List.Elements.{All-push}
+use Rattle.std.specs.Prelude.{All, ⊤, if◌then◌else◌}
 use Rattle.ep_tree.specs.declared.declaration.ConstantDefinition.{ConstantDefinition}
 use Rattle.ep_tree.specs.declared.declaration.TypeDefinition.{TypeDefinition}
 use Rattle.ep_tree.specs.declared.declaration.VariableDeclaration.{VariableDeclaration}
-use Rattle.ep_tree.specs.declared.routine.Part.TheOpen.{Part-F}
+use Rattle.ep_tree.specs.declared.declaration.RoutineHeading.{RoutineHeading}
+use Rattle.ep_tree.specs.declared.declaration.RoutineHeading.TheVariants as heading
+use Rattle.ep_tree.specs.declared.routine.Part.TheOpen.{Part-F, RoutineBody-F}
 use Rattle.ep_tree.specs.declared.routine.Part.{Part, out-Part}
+use Rattle.ep_tree.specs.declared.routine.Routine.{Routine, out-Routine}
+use Rattle.ep_tree.specs.declared.routine.RoutineBody.{out-RoutineBody}
+use Rattle.ep_tree.specs.declared.routine.RoutineStart.{RoutineStart}
+use Rattle.ep_tree.specs.declared.routine.RoutineStart.TheVariants as start
 use Rattle.ep_tree.specs.declared.types.Core.TheOpen.{Core-F}
 use Rattle.ep_tree.specs.declared.types.Core.{out-Core}
+use Rattle.ep_typed.specs.Trees as tree
+use Rattle.ep_typed.specs.Trees.{Stmt, Stmts}
 use Rattle.ep_typed.specs.declared.denoter.Denoter.{Denoter}
 use Rattle.ep_typed.specs.declared.tree.StandardFile.{StandardFile}
 use Rattle.ep_typed.specs.declared.value.Value.{Value}
 use Rattle.ep_typed.specs.declared.value.Value.TheVariants as value
+use Rattle.ep_scope.specs.Required.{look_up}
 use Rattle.ep_scope.specs.Scopes.{Meant, Declares, Standard, Requires, Nothing, meant, meant_in}
 use Rattle.ep_scope.specs.declared.kind.Host.{Host}
 use Rattle.ep_scope.specs.declared.kind.Kind.{Kind}
@@ -28,16 +38,28 @@ use Rattle.ep_check_expr.specs.Constants.{constant_judged, bound_judged}
 use Rattle.ep_check_expr.specs.Names.{undeclared}
 use Rattle.ep_check_expr.specs.declared.constants.ConstantForm.{ConstantForm}
 use Rattle.ep_check_stmt.proofs.judged.Fits.{Any, Fits, fits_then, fits_both, fits_any}
-use Rattle.ep_check_unit.specs.Declarations.{all_variables_declared, and_then, at_line, common_host, constant_definition, constant_entered, constants_declared, core_of, core_written, declaration_ended, declared_type, entered, enumerated, enumeration, next_enumeration, noted, ordered, part_declared, parts_declared, range, scopes_of, settled, settled_type, Standing, Stands, Falls, subrange, type_definition, type_definitions, type_entered, type_meant, type_named, type_written, unused, variable_declaration, variable_entered, variables_declared, variables_entered, with_constant, with_name, with_type, with_variable, own_thing, Written}
+use Rattle.ep_check_stmt.specs.Statements.{Judgement, Passes, Waits, Fails, compound_judged}
+use Rattle.ep_check_unit.specs.Declarations.{Headed, block_declared, body_declared, body_ended, context_of, forwarded, has_body, headed_again, headed_first, headed_over, headed_then, heading_declared, local_part_declared, local_parts_declared, procedure_declared, procedure_form, procedure_headed, procedure_there, scope_opened, start_declared, with_procedure, all_variables_declared, and_then, at_line, common_host, constant_definition, constant_entered, constants_declared, core_of, core_written, declaration_ended, declared_type, entered, enumerated, enumeration, next_enumeration, noted, ordered, part_declared, parts_declared, range, scopes_of, settled, settled_type, Standing, Stands, Falls, subrange, type_definition, type_definitions, type_entered, type_meant, type_named, type_written, unused, variable_declaration, variable_entered, variables_declared, variables_entered, with_constant, with_name, with_type, with_variable, own_thing, Written}
 use Rattle.ep_check_unit.specs.Units.{parameter_entered, parameters_entered, standard_file}
-use Rattle.ep_check_unit.specs.declared.block.Block.{Block}
+use Rattle.ep_check_unit.specs.Blocks.{Block, RoutineForm}
+use Rattle.ep_check_unit.proofs.Forms.{all_set}
+
+-- a routine without parameters and result, and without variables and routines of its own
+pub record IsPlain (r : RoutineForm) : Type 0 where
+  pub formals : r.formals ≡ []
+  pub result : r.result ≡ None
+  pub variables : r.variables ≡ []
+  pub routines : r.routines ≡ []
+
+procedure_plain : (name : List ℕ) (line : ℕ) (s : Stmt) → IsPlain (procedure_form name line s)
+procedure_plain name line s = record { formals = refl; result = refl; variables = refl; routines = refl }
 
 module _ (n : List ℕ) where
   abbrev pub IsOf : Block → Type 0
-  IsOf b = b.unit ≡ n
+  IsOf b = (b.unit ≡ n) × All IsPlain b.routines
 
   abbrev IsIn : Written → Type 0
-  IsIn w = w.block.unit ≡ n
+  IsIn w = IsOf w.block
 
   entered-kept : (name : List ℕ) (t : Thing) (b : Block) → IsOf b → Fits IsOf (entered name t b)
   entered-kept name t b h = fits_then Any IsOf (λ _. Accepts (with_name name t b)) (unused name b) (fits_any (unused name b)) (λ a i. h)
@@ -60,6 +82,7 @@ module _ (n : List ℕ) where
   declared_type-kept d (declaration.«Type» h) b i = i
   declared_type-kept d (declaration.Constant k v) b i = tt
   declared_type-kept d (declaration.Variable k) b i = tt
+  declared_type-kept d declaration.Procedure b i = tt
 
   type_meant-kept : (missing : List ℕ) (m : Meant) (b : Block) → IsOf b → Fits IsIn (type_meant missing m b)
   type_meant-kept missing (Declares d) b h = declared_type-kept d d.what b h
@@ -160,19 +183,76 @@ module _ (n : List ℕ) where
   variables-kept [] b i = i
   variables-kept (d ∷ ds) b i = then-kept (all_variables_declared ds) (at_line d.line (variable_declaration d b)) (line-kept d.line (variable_declaration d b) (variable_declaration-kept d b i)) (λ c j. variables-kept ds c j)
 
-  part-kept : {A B C : Type 0} (p : Part-F A B C) (b : Block) → IsOf b → Remains (part_declared p b)
+  -- ---- procedures
+
+  abbrev IsHeaded : Headed → Type 0
+  IsHeaded h = IsOf h.block
+
+  headed_first-kept : (name : List ℕ) (line : ℕ) (b : Block) → IsOf b → Fits IsHeaded (headed_first name line b)
+  headed_first-kept name line b i =
+      let t = own_thing b (length b.routines) declaration.Procedure in
+      fits_then IsOf IsHeaded (λ c. Accepts (record { number = length b.routines; block = c })) (entered name t (with_procedure name line b))
+      (entered-kept name t (with_procedure name line b) (i.0, All-push IsPlain b.routines (procedure_form name line tree.Empty) i.1 (procedure_plain name line tree.Empty))) (λ c k. k)
+
+  again_if-kept : (repeated : Bool) (b : Block) (number : ℕ) → IsOf b → Fits IsHeaded (if repeated then Breaks (rule.REPEATED_HEADING ∷ []) else Accepts (record { number = number; block = b }))
+  again_if-kept true b number i = tt
+  again_if-kept false b number i = i
+
+  headed_over-kept : (is_forward : Bool) (name : List ℕ) (line : ℕ) (o : Option Thing) (b : Block) → IsOf b → Fits IsHeaded (headed_over is_forward name line o b)
+  headed_over-kept is_forward name line None b i = headed_first-kept name line b i
+  headed_over-kept is_forward name line (Some t) b i =
+      fits_then Any IsHeaded (headed_again is_forward b) (procedure_there t) (fits_any (procedure_there t)) (λ m k. again_if-kept (is_forward || has_body m b) b m i)
+
+  headed_then-kept : (line : ℕ) (more : Headed → Standing) (j : Judged Headed) → Fits IsHeaded j → ((h : Headed) → IsHeaded h → Remains (more h)) → Remains (headed_then line more j)
+  headed_then-kept line more (Accepts h) p g = g h p
+  headed_then-kept line more (Breaks rules) p g = tt
+
+  body_ended-kept : (name : List ℕ) (line number : ℕ) (b : Block) (row : Judgement Stmts) → IsOf b → Remains (body_ended name line number b row)
+  body_ended-kept name line number b (Passes ss) i = (i.0, all_set IsPlain b.routines number (procedure_form name line (tree.Compound ss)) i.1 (procedure_plain name line (tree.Compound ss)))
+  body_ended-kept name line number b (Waits at) i = i
+  body_ended-kept name line number b (Fails at rules) i = tt
+
+  local_part-kept : {A B C : Type 0} (p : Part-F A B C) (b : Block) → IsOf b → Remains (local_part_declared p b)
+  local_part-kept (Part-F.Constants c) b i = constants-kept c.definitions b i
+  local_part-kept (Part-F.Types t) b i = line-kept t.line (type_definitions t.line t.definitions b) (type_definitions-kept t.line t.definitions b i)
+  local_part-kept (Part-F.Variables v) b i = tt
+  local_part-kept (Part-F.Routine r) b i = tt
+
+  local_parts-kept : (ps : List Part) (b : Block) → IsOf b → Remains (local_parts_declared ps b)
+  local_parts-kept [] b i = i
+  local_parts-kept (p ∷ ps) b i = then-kept (local_parts_declared ps) (local_part_declared (out-Part p) b) (local_part-kept (out-Part p) b i) (λ c j. local_parts-kept ps c j)
+
+  procedure-kept : {A C : Type 0} (line : ℕ) (name : List ℕ) (body : RoutineBody-F Part A C) (b : Block) → IsOf b → Remains (procedure_declared line name body b)
+  procedure-kept line name (RoutineBody-F.Forward at) b i =
+      headed_then-kept line (λ h. Stands (forwarded line h)) (procedure_headed true name line b) (headed_over-kept true name line (look_up b.scopes.inner.entries name) b i) (λ h j. j)
+  procedure-kept line name (RoutineBody-F.Block at ps c) b i =
+      headed_then-kept line (block_declared name line ps c) (procedure_headed false name line b) (headed_over-kept false name line (look_up b.scopes.inner.entries name) b i)
+      (λ h j. then-kept (body_declared name line h.number c) (local_parts_declared ps (scope_opened h.block)) (local_parts-kept ps (scope_opened h.block) j)
+      (λ d k. body_ended-kept name line h.number d (compound_judged (context_of d) c) k))
+
+  heading-kept : {A C : Type 0} (line : ℕ) (h : RoutineHeading) (body : RoutineBody-F Part A C) (b : Block) → IsOf b → Remains (heading_declared line h body b)
+  heading-kept line (heading.Procedure at name formals) body b i = procedure-kept line name body b i
+  heading-kept line (heading.Function at name formals result type) body b i = tt
+
+  start-kept : {A C : Type 0} (line : ℕ) (s : RoutineStart) (body : RoutineBody-F Part A C) (b : Block) → IsOf b → Remains (start_declared line s body b)
+  start-kept line (start.Heading h) body b i = heading-kept line h body b i
+  start-kept line (start.Function at name) body b i = tt
+
+  -- ---- all parts
+
+  part-kept : {A B : Type 0} (p : Part-F A B Routine) (b : Block) → IsOf b → Remains (part_declared p b)
   part-kept (Part-F.Constants c) b i = constants-kept c.definitions b i
   part-kept (Part-F.Types t) b i = line-kept t.line (type_definitions t.line t.definitions b) (type_definitions-kept t.line t.definitions b i)
   part-kept (Part-F.Variables v) b i = variables-kept v.declarations b i
-  part-kept (Part-F.Routine r) b i = tt
+  part-kept (Part-F.Routine r) b i = start-kept (out-Routine r).line (out-Routine r).start (out-RoutineBody (out-Routine r).body) b i
 
   parts-kept : (ps : List Part) (b : Block) → IsOf b → Remains (parts_declared ps b)
   parts-kept [] b i = i
   parts-kept (p ∷ ps) b i = then-kept (parts_declared ps) (part_declared (out-Part p) b) (part-kept (out-Part p) b i) (λ c j. parts-kept ps c j)
 
-  -- the block after parts that stand is one of the same unit
-  pub parts-unit : (ps : List Part) (b c : Block) → parts_declared ps b ≡ Stands c → b.unit ≡ n → c.unit ≡ n
-  parts-unit ps b c e i = subst Remains e (parts-kept ps b i)
+  -- so the block after parts that stand is one of the same unit
+  pub parts-remain : (ps : List Part) (b c : Block) → parts_declared ps b ≡ Stands c → IsOf b → IsOf c
+  parts-remain ps b c e i = subst Remains e (parts-kept ps b i)
 
   parameter-kept : (name : List ℕ) (f : Option StandardFile) (b : Block) → IsOf b → Fits IsOf (parameter_entered name f b)
   parameter-kept name None b i = tt
@@ -182,5 +262,5 @@ module _ (n : List ℕ) where
   parameters-kept [] b i = i
   parameters-kept (name ∷ names) b i = fits_then IsOf IsOf (parameters_entered names) (parameter_entered name (standard_file name) b) (parameter-kept name (standard_file name) b i) (λ c j. parameters-kept names c j)
 
-  pub parameters-unit : (names : List (List ℕ)) (b c : Block) → parameters_entered names b ≡ Accepts c → b.unit ≡ n → c.unit ≡ n
-  parameters-unit names b c e i = subst (Fits IsOf) e (parameters-kept names b i)
+  pub parameters-remain : (names : List (List ℕ)) (b c : Block) → parameters_entered names b ≡ Accepts c → IsOf b → IsOf c
+  parameters-remain names b c e i = subst (Fits IsOf) e (parameters-kept names b i)

@@ -1,4 +1,6 @@
+pub mod Bodies
 pub mod Defined
+pub mod Forms
 pub mod Kept
 pub mod Parameters
 pub mod Programs

@@ -1,6 +1,8 @@
 -- Programs by their parts.
 use Rattle.std.proofs.Common.{◌≡◌, ℕ, List, map, Option, Some, None, Ok, Err, refl, sym, ap, ◌∙◌}
+use Rattle.std.proofs.lemmas.List.Elements.{All-nil}
 use Rattle.ep_tree.specs.declared.component.Program.{Program}
+use Rattle.ep_scope.specs.declared.rule.TheConstants as rule
 use Rattle.ep_typed.specs.Trees.{Stmt, Stmts, Compound, Empty, Arm, stmts}
 use Rattle.ep_typed.specs.Viewed.{stmt_of, stmt_step, arm_step}
 use Rattle.ep_typed.specs.declared.tree.TypedStmt.{TypedStmt}
@@ -15,30 +17,55 @@ use Rattle.ep_check_stmt.specs.declared.outcome.CheckRefusal.{CheckRefusal}
 use Rattle.ep_check_stmt.specs.declared.outcome.CheckRefusal.TheVariants as refusal
 use Rattle.ep_check_stmt.specs.declared.outcome.Outcome.{Outcome}
 use Rattle.ep_check_stmt.specs.declared.outcome.Outcome.TheVariants as outcome
-use Rattle.ep_check_unit.specs.Checks.{AnswersBuilt, IsRefusalOf, IsUnitWith}
-use Rattle.ep_check_unit.specs.Declarations.{Stands, at_line, parts_declared}
-use Rattle.ep_check_unit.specs.Units.{IsTypedProgram, body_judged, context_of, declarations_wait, first_block, imports_of, parameters_entered, program_form, program_judged}
-use Rattle.ep_check_unit.specs.declared.block.Block.{Block}
-use Rattle.ep_check_unit.proofs.Kept.{parameters-unit, parts-unit}
-use Rattle.ep_check_unit.proofs.Refusing.{then_stands}
+use Rattle.ep_check_unit.specs.Checks.{AnswersBuilt, AnswersMissing, IsRefusalOf, IsUnitWith}
+use Rattle.ep_check_unit.specs.Declarations.{Stands, at_line, context_of, parts_declared}
+use Rattle.ep_check_unit.specs.Units.{IsTypedProgram, ProgramForm, body_judged, declarations_wait, first_missing, imports_of, parameters_entered, program_block, program_form, program_judged, unless_missing}
+use Rattle.ep_check_unit.specs.Blocks.{Block}
+use Rattle.ep_check_unit.proofs.Kept.{IsPlain, parameters-remain, parts-remain}
+use Rattle.ep_check_unit.proofs.Refusing.{there, then_stands}
 
 -- a program by the block that its declarations make
-pub program_is : (p : Program) (first second : Block) → parameters_entered p.parameters (first_block p.name) ≡ Accepts first → parts_declared p.parts first ≡ Stands second → program_judged p ≡ body_judged p (Stands second)
+pub program_is : (p : Program) (first second : Block) → parameters_entered p.parameters (program_block p) ≡ Accepts first → parts_declared p.parts first ≡ Stands second → program_judged p ≡ body_judged p (Stands second)
 program_is p first second e f =
-    ap (body_judged p) (then_stands (parts_declared p.parts) (at_line p.line (parameters_entered p.parameters (first_block p.name))) first (ap (at_line p.line) e) ∙ f)
+    ap (body_judged p) (then_stands (parts_declared p.parts) (at_line p.line (parameters_entered p.parameters (program_block p))) first (ap (at_line p.line) e) ∙ f)
 
 -- statements that are refused
-row_refused : (b : Block) (waits : Option ℕ) (row : Judgement Stmts) (r : CheckRefusal) → RefusesRow r row → IsRefusalOf (after program_form (declarations_wait b waits) row) r
-row_refused b waits row refusal.NoMemory h = tt
-row_refused b waits row (refusal.NotBuilt line) h = absurd h
-row_refused b waits (Passes ss) (refusal.Broken c) h = cc
-row_refused b waits (Waits line) (refusal.Broken c) h = cc
-row_refused b None (Fails line rules) (refusal.Broken c) h = h
-row_refused b (Some other) (Fails line rules) (refusal.Broken c) h = h
+row_refused : (b : Block) (missing waits : Option ℕ) (row : Judgement Stmts) (r : CheckRefusal) → RefusesRow r row → IsRefusalOf (unless_missing missing (after program_form (declarations_wait b waits) row)) r
+row_refused b missing waits row refusal.NoMemory h = tt
+row_refused b missing waits row (refusal.NotBuilt line) h = absurd h
+row_refused b missing waits (Passes ss) (refusal.Broken c) h = cc
+row_refused b missing waits (Waits line) (refusal.Broken c) h = cc
+row_refused b None None (Fails line rules) (refusal.Broken c) h = h
+row_refused b None (Some other) (Fails line rules) (refusal.Broken c) h = h
+row_refused b (Some at) None (Fails line rules) (refusal.Broken c) h = h
+row_refused b (Some at) (Some other) (Fails line rules) (refusal.Broken c) h = h
 
-pub statements_refused : (p : Program) (first second : Block) (r : CheckRefusal) → parameters_entered p.parameters (first_block p.name) ≡ Accepts first → parts_declared p.parts first ≡ Stands second
-    → RefusesRow r (compound_judged (context_of p second) p.body) → IsRefusalOf (program_judged p) r
-statements_refused p first second r e f h = rw (program_is p first second e f) (row_refused second second.waits (compound_judged (context_of p second) p.body) r h)
+pub statements_refused : (p : Program) (first second : Block) (r : CheckRefusal) → parameters_entered p.parameters (program_block p) ≡ Accepts first → parts_declared p.parts first ≡ Stands second
+    → RefusesRow r (compound_judged (context_of second) p.body) → IsRefusalOf (program_judged p) r
+statements_refused p first second r e f h =
+    rw (program_is p first second e f) (row_refused second (first_missing second.forwards second.bodies) second.waits (compound_judged (context_of second) p.body) r h)
+
+-- a procedure that has no body
+missing_broken : (b : Block) (line : ℕ) (waits : Option ℕ) (found : Outcome (List TypedStmt))
+    → IsRefusalOf (unless_missing (Some line) (after program_form (declarations_wait b waits) (passed stmts_of found))) (refusal.Broken (record { rule = rule.NO_BODY; line = line }))
+missing_broken b line None (outcome.Passes ss) = there ProgramForm line
+missing_broken b line None (outcome.Waits other) = there ProgramForm line
+missing_broken b line (Some at) (outcome.Passes ss) = there ProgramForm line
+missing_broken b line (Some at) (outcome.Waits other) = there ProgramForm line
+
+missing_first : (b : Block) (missing waits : Option ℕ) (found : Outcome (List TypedStmt)) (r : CheckRefusal) → AnswersMissing missing (Err r)
+    → IsRefusalOf (unless_missing missing (after program_form (declarations_wait b waits) (passed stmts_of found))) r
+missing_first b None waits found r h = cc
+missing_first b (Some line) waits found r h = let e : r ≡ refusal.Broken (record { rule = rule.NO_BODY; line = line }) = cc in rw e (missing_broken b line waits found)
+
+pub missing_refused : (p : Program) (first second : Block) (found : Outcome (List TypedStmt)) (r : CheckRefusal) → parameters_entered p.parameters (program_block p) ≡ Accepts first → parts_declared p.parts first ≡ Stands second
+    → compound_judged (context_of second) p.body ≡ passed stmts_of found → AnswersMissing (first_missing second.forwards second.bodies) (Err r) → IsRefusalOf (program_judged p) r
+missing_refused p first second found r e f g h = rw (program_is p first second e f, g) (missing_first second (first_missing second.forwards second.bodies) second.waits found r h)
+
+-- none is missing
+none_missing : (missing : Option ℕ) → AnswersMissing missing (Ok tt) → missing ≡ None
+none_missing None h = refl
+none_missing (Some line) h = cc
 
 -- statements that wait, or declarations that do
 waits_first : (b : Block) (waits : Option ℕ) (found : Outcome (List TypedStmt)) (r : CheckRefusal) → AnswersBuilt waits found (Err r) → IsRefusalOf (after program_form (declarations_wait b waits) (passed stmts_of found)) r
@@ -47,9 +74,10 @@ waits_first b None (outcome.Waits line) r h = let e : r ≡ refusal.NotBuilt lin
 waits_first b (Some line) (outcome.Passes ss) r h = let e : r ≡ refusal.NotBuilt line = cc in rw e refl
 waits_first b (Some line) (outcome.Waits other) r h = let e : r ≡ refusal.NotBuilt line = cc in rw e refl
 
-pub waits_refused : (p : Program) (first second : Block) (found : Outcome (List TypedStmt)) (r : CheckRefusal) → parameters_entered p.parameters (first_block p.name) ≡ Accepts first → parts_declared p.parts first ≡ Stands second
-    → compound_judged (context_of p second) p.body ≡ passed stmts_of found → AnswersBuilt second.waits found (Err r) → IsRefusalOf (program_judged p) r
-waits_refused p first second found r e f g h = rw (program_is p first second e f, g) (waits_first second second.waits found r h)
+pub waits_refused : (p : Program) (first second : Block) (found : Outcome (List TypedStmt)) (r : CheckRefusal) → parameters_entered p.parameters (program_block p) ≡ Accepts first → parts_declared p.parts first ≡ Stands second
+    → compound_judged (context_of second) p.body ≡ passed stmts_of found → AnswersMissing (first_missing second.forwards second.bodies) (Ok tt) → AnswersBuilt second.waits found (Err r) → IsRefusalOf (program_judged p) r
+waits_refused p first second found r e f g m h =
+    rw (program_is p first second e f, none_missing (first_missing second.forwards second.bodies) m, g) (waits_first second second.waits found r h)
 
 -- a program that is accepted
 all_pass : (b : Block) (waits : Option ℕ) (found : Outcome (List TypedStmt)) (ss : List TypedStmt) → AnswersBuilt waits found (Ok ss) → after program_form (declarations_wait b waits) (passed stmts_of found) ≡ Passes (program_form b (stmts_of ss))
@@ -58,24 +86,25 @@ all_pass b None (outcome.Waits line) ss h = cc
 all_pass b (Some line) (outcome.Passes all) ss h = cc
 all_pass b (Some line) (outcome.Waits other) ss h = cc
 
-pub program_passes : (p : Program) (first second : Block) (found : Outcome (List TypedStmt)) (ss : List TypedStmt) → parameters_entered p.parameters (first_block p.name) ≡ Accepts first → parts_declared p.parts first ≡ Stands second
-    → compound_judged (context_of p second) p.body ≡ passed stmts_of found → AnswersBuilt second.waits found (Ok ss) → program_judged p ≡ Passes (program_form second (stmts_of ss))
-program_passes p first second found ss e f g h = rw (program_is p first second e f, g) (all_pass second second.waits found ss h)
+pub program_passes : (p : Program) (first second : Block) (found : Outcome (List TypedStmt)) (ss : List TypedStmt) → parameters_entered p.parameters (program_block p) ≡ Accepts first → parts_declared p.parts first ≡ Stands second
+    → compound_judged (context_of second) p.body ≡ passed stmts_of found → AnswersMissing (first_missing second.forwards second.bodies) (Ok tt) → AnswersBuilt second.waits found (Ok ss) → program_judged p ≡ Passes (program_form second (stmts_of ss))
+program_passes p first second found ss e f g m h =
+    rw (program_is p first second e f, none_missing (first_missing second.forwards second.bodies) m, g) (all_pass second second.waits found ss h)
 
-compound_is : (ss : List TypedStmt) → stmt_of (typed.Compound ss) ≡ Compound (stmts (map stmt_of ss))
+pub compound_is : (ss : List TypedStmt) → stmt_of (typed.Compound ss) ≡ Compound (stmts (map stmt_of ss))
 compound_is ss = ap stmt_of (sym (typed.rolls-Compound ss)) ∙ fold-roll-TypedStmt Stmt Arm stmt_step arm_step (layer.Compound ss)
 
-empty_is : stmt_of typed.Empty ≡ Empty
+pub empty_is : stmt_of typed.Empty ≡ Empty
 empty_is = ap stmt_of (sym typed.rolls-Empty) ∙ fold-roll-TypedStmt Stmt Arm stmt_step arm_step layer.Empty
 
 -- its unit
-pub program_typed : (p : Program) (first second : Block) (found : Outcome (List TypedStmt)) (ss : List TypedStmt) (u : TypedUnit) → parameters_entered p.parameters (first_block p.name) ≡ Accepts first → parts_declared p.parts first ≡ Stands second
-    → compound_judged (context_of p second) p.body ≡ passed stmts_of found → AnswersBuilt second.waits found (Ok ss) → IsUnitWith second (imports_of p.parameters) ss u → IsTypedProgram p u
-program_typed p first second found ss u e f g h w = record {
+pub program_typed : (p : Program) (first second : Block) (found : Outcome (List TypedStmt)) (ss : List TypedStmt) (u : TypedUnit) → parameters_entered p.parameters (program_block p) ≡ Accepts first → parts_declared p.parts first ≡ Stands second
+    → compound_judged (context_of second) p.body ≡ passed stmts_of found → AnswersMissing (first_missing second.forwards second.bodies) (Ok tt) → AnswersBuilt second.waits found (Ok ss) → IsUnitWith second (imports_of p.parameters) ss u → IsTypedProgram p u
+program_typed p first second found ss u e f g m h w = record {
   form = program_form second (stmts_of ss);
-  passes = program_passes p first second found ss e f g h;
+  passes = program_passes p first second found ss e f g m h;
   unit = record {
-    name = w.name ∙ parts-unit p.name p.parts first second f (parameters-unit p.name p.parameters (first_block p.name) first e refl);
+    name = w.name ∙ (parts-remain p.name p.parts first second f (parameters-remain p.name p.parameters (program_block p) first e (refl, All-nil IsPlain))).0;
     program = w.program;
     interface = w.interface;
     imports = w.imports_are;

@@ -1,16 +1,19 @@
 -- A rule that fails in an item fails where the items of a block are taken: for the exits of the functions that declare.
-use Rattle.std.proofs.Common.{◌≡◌, ℕ, nat_eq, ◌==◌, eq-eqb, Bool, true, false, ◌&&◌, refl, ap}
+use Rattle.std.proofs.Common.{◌≡◌, ℕ, nat_eq, ◌==◌, eq-eqb, Bool, true, false, ◌&&◌, [], ◌∷◌, refl, ap}
+use Rattle.std.specs.Prelude.{IsTrue}
 use Rattle.std.specs.List.{list_any}
 use Rattle.ep_check_expr.specs.Judgements.{Judged, Accepts, Breaks}
 use Rattle.ep_check_expr.specs.declared.forms.Refusal.{Refusal}
 use Rattle.ep_check_expr.specs.declared.forms.Refusal.TheVariants.{Rule, NoMemory}
 use Rattle.ep_check_stmt.specs.Answers.{Refuses}
 use Rattle.ep_check_stmt.specs.Outcomes.{refused_at}
+use Rattle.ep_check_stmt.specs.Statements.{Fails, fails_at}
+use Rattle.ep_scope.specs.declared.rule.TheConstants as rule
 use Rattle.ep_check_stmt.specs.declared.outcome.CheckRefusal.{CheckRefusal}
 use Rattle.ep_check_stmt.specs.declared.outcome.CheckRefusal.TheVariants as refusal
 use Rattle.ep_check_unit.specs.Answers.{RefusesItems}
 use Rattle.ep_check_unit.specs.Declarations.{Standing, Stands, Falls, and_then, at_line}
-use Rattle.ep_check_unit.specs.declared.block.Block.{Block}
+use Rattle.ep_check_unit.specs.Blocks.{Block}
 
 both_pass : (a b : Bool) → a ≡ true → b ≡ true → (a && b) ≡ true
 both_pass true b p q = q
@@ -31,3 +34,7 @@ then_refused more (refusal.Broken b) (Falls line rules) h = h
 -- what stands after it
 pub then_stands : (more : Block → Standing) (s : Standing) (b : Block) → s ≡ Stands b → and_then more s ≡ more b
 then_stands more s b is = ap (and_then more) is
+
+-- a rule that fails on its line
+pub there : (A : Type 0) (line : ℕ) → IsTrue (fails_at {A = A} rule.NO_BODY line (Fails line (rule.NO_BODY ∷ [])))
+there A line = both_pass (line == line) (list_any (nat_eq rule.NO_BODY) (rule.NO_BODY ∷ [])) (eq-eqb line line refl) refl

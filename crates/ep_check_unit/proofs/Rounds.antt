@@ -9,7 +9,7 @@ use Rattle.ep_check_stmt.proofs.judged.Refusing.{part_refused}
 use Rattle.ep_check_stmt.proofs.judged.Rounds.{next_item}
 use Rattle.ep_check_unit.specs.Answers.{RefusesItems}
 use Rattle.ep_check_unit.specs.Declarations.{Standing, and_then, at_line}
-use Rattle.ep_check_unit.specs.declared.block.Block.{Block}
+use Rattle.ep_check_unit.specs.Blocks.{Block}
 use Rattle.ep_check_unit.proofs.Refusing.{line_refused, then_refused}
 
 -- items that are taken one after another

@@ -5,4 +5,5 @@ pub mod Meant
 pub mod Constants
 pub mod Types
 pub mod Items
+pub mod Procedures
 pub mod Units

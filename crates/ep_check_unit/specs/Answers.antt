@@ -12,7 +12,7 @@ use Rattle.ep_check_stmt.specs.declared.outcome.CheckRefusal.{CheckRefusal}
 use Rattle.ep_check_stmt.specs.declared.outcome.CheckRefusal.TheVariants as refusal
 use Rattle.ep_check_unit.specs.Declarations as spec
 use Rattle.ep_check_unit.specs.Declarations.{Standing, Stands, falls_at}
-use Rattle.ep_check_unit.specs.declared.block.Block.{Block}
+use Rattle.ep_check_unit.specs.Blocks.{Block}
 use Rattle.ep_check_unit.specs.declared.types.NamedType.{NamedType}
 use Rattle.ep_check_unit.specs.declared.types.TypeName.{TypeName}
 use Rattle.ep_check_unit.specs.declared.types.TypeName.TheVariants as type_name
@@ -51,6 +51,10 @@ named_in b t = record { denoter = denoter_named t.name; host = t.host; block = b
 
 abbrev pub written_in : Block → Written → spec.Written
 written_in b w = record { denoter = w.denoter; host = w.host; block = b }
+
+-- a procedure that is declared, in a block
+abbrev pub headed_in : Block → ℕ → spec.Headed
+headed_in b number = record { number = number; block = b }
 
 -- a constant's entry more
 abbrev pub with_constant_entry : List ℕ → Host → Value → Block → Block

@@ -1,18 +1,19 @@
 -- What a check answers of a component.
-use Rattle.std.specs.Prelude.{◌≡◌, ℕ, true, List, [], Option, Some, None, Result, Ok, Err, IsTrue, ⊤}
+use Rattle.std.specs.Prelude.{◌≡◌, ℕ, true, List, map, Option, Some, None, Result, Ok, Err, IsTrue, ⊤}
 use Rattle.ep_tree.specs.declared.component.Component.{Component}
 use Rattle.ep_typed.specs.Valid.{IsValid}
 use Rattle.ep_typed.specs.declared.interface.ImportSpec.{ImportSpec}
 use Rattle.ep_typed.specs.declared.tree.TypedStmt.{TypedStmt}
 use Rattle.ep_typed.specs.declared.tree.TypedStmt.TheVariants as stmt
 use Rattle.ep_typed.specs.declared.unit.Unit.{Unit as TypedUnit}
+use Rattle.ep_scope.specs.declared.rule.TheConstants as rule
 use Rattle.ep_check_stmt.specs.Statements.{Judgement, Waits, fails_at}
 use Rattle.ep_check_stmt.specs.declared.outcome.CheckRefusal.{CheckRefusal}
 use Rattle.ep_check_stmt.specs.declared.outcome.CheckRefusal.TheVariants as refusal
 use Rattle.ep_check_stmt.specs.declared.outcome.Outcome.{Outcome}
 use Rattle.ep_check_stmt.specs.declared.outcome.Outcome.TheVariants as outcome
 use Rattle.ep_check_unit.specs.Units.{IsTyped, BreaksAt, WaitsAt}
-use Rattle.ep_check_unit.specs.declared.block.Block.{Block}
+use Rattle.ep_check_unit.specs.Blocks.{Block, routine_form}
 use Rattle.ep_check_unit.specs.declared.component.Checked.{Checked}
 use Rattle.ep_check_unit.specs.declared.component.Checked.TheVariants as checked
 
@@ -46,6 +47,11 @@ IsRefusalOf row (refusal.Broken b) = IsTrue (fails_at b.rule b.line row)
 IsRefusalOf row (refusal.NotBuilt line) = row ≡ Waits line
 IsRefusalOf row refusal.NoMemory = ⊤
 
+-- what is answered of the first `forward` declaration whose procedure has no body
+abbrev pub AnswersMissing : Option ℕ → Result (Unit {0}) CheckRefusal → Type 0
+AnswersMissing None result = result ≡ Ok tt
+AnswersMissing (Some line) result = result ≡ Err (refusal.Broken (record { rule = rule.NO_BODY; line = line }))
+
 -- statements that are built, behind declarations that are
 abbrev pub AnswersBuilt : Option ℕ → Outcome (List TypedStmt) → Result (List TypedStmt) CheckRefusal → Type 0
 AnswersBuilt None (outcome.Passes ss) result = result ≡ Ok ss
@@ -61,6 +67,6 @@ pub record IsUnitWith (b : Block) (imports : List ImportSpec) (ss : List TypedSt
   pub types : u.types ≡ b.types
   pub constants : u.constants ≡ b.constants
   pub variables : u.variables ≡ b.variables
-  pub routines : u.routines ≡ []
+  pub routines : map routine_form u.routines ≡ b.routines
   pub start : u.start ≡ stmt.Compound ss
   pub stop : u.stop ≡ stmt.Empty

@@ -1,8 +1,8 @@
 -- What the static rules say of declarations, item by item: what has been declared so far, or the first item that breaks a rule.
 --
--- Items are taken in the order of the text. A constant definition and a variable declaration are items, on the line of their first token, and a type part is one, on the line of the word `type`. A name means what is declared before its use, or outside of the block: a later declaration of it plays no part (own).
+-- Items are taken in the order of the text. A constant definition and a variable declaration are items, on the line of their first token, a type part is one, on the line of the word `type`, and the declaration of a procedure without its block, on the line of the word `procedure`. A name means what is declared before its use, or outside of the block: a later declaration of it plays no part (own).
 use Rattle.std.specs.List.{list_any}
-use Rattle.std.specs.Prelude.{ℕ, nat_eq, ◌==◌, ℤ, pos, suc, int_le, Bool, true, false, ◌&&◌, List, [], ◌∷◌, ◌++◌, length, Option, Some, None, if◌then◌else◌}
+use Rattle.std.specs.Prelude.{ℕ, nat_eq, ◌==◌, ℤ, pos, suc, int_le, Bool, true, false, ◌&&◌, ◌||◌, List, [], ◌∷◌, ◌++◌, length, slice_set, Option, Some, None, if◌then◌else◌}
 use Rattle.std.specs.Option.{option_or}
 use Rattle.ep_tree.specs.declared.types.Core.TheOpen.{Core-F}
 use Rattle.ep_tree.specs.declared.types.Core.{Core, out-Core}
@@ -11,8 +11,17 @@ use Rattle.ep_tree.specs.declared.types.TypeDenoter.{TypeDenoter, out-TypeDenote
 use Rattle.ep_tree.specs.declared.declaration.ConstantDefinition.{ConstantDefinition}
 use Rattle.ep_tree.specs.declared.declaration.TypeDefinition.{TypeDefinition}
 use Rattle.ep_tree.specs.declared.declaration.VariableDeclaration.{VariableDeclaration}
-use Rattle.ep_tree.specs.declared.routine.Part.TheOpen.{Part-F}
+use Rattle.ep_tree.specs.declared.declaration.RoutineHeading.{RoutineHeading}
+use Rattle.ep_tree.specs.declared.declaration.RoutineHeading.TheVariants as heading
+use Rattle.ep_tree.specs.declared.routine.Part.TheOpen.{Part-F, RoutineBody-F}
 use Rattle.ep_tree.specs.declared.routine.Part.{Part, out-Part}
+use Rattle.ep_tree.specs.declared.routine.Routine.{Routine, out-Routine}
+use Rattle.ep_tree.specs.declared.routine.RoutineBody.{out-RoutineBody}
+use Rattle.ep_tree.specs.declared.routine.RoutineStart.{RoutineStart}
+use Rattle.ep_tree.specs.declared.routine.RoutineStart.TheVariants as start
+use Rattle.ep_tree.specs.declared.statement.Compound.{Compound}
+use Rattle.ep_typed.specs.Trees as tree
+use Rattle.ep_typed.specs.Trees.{Stmt, Stmts}
 use Rattle.ep_typed.specs.declared.denoter.Bound.TheVariants.{Constant as Fixed}
 use Rattle.ep_typed.specs.declared.denoter.Denoter.{Denoter}
 use Rattle.ep_typed.specs.declared.denoter.Denoter.TheVariants as denoter
@@ -22,7 +31,7 @@ use Rattle.ep_typed.specs.declared.value.Value.{Value}
 use Rattle.ep_typed.specs.declared.value.Value.TheVariants as value
 use Rattle.ep_scope.specs.Kinds.{same_host}
 use Rattle.ep_scope.specs.Required.{look_up}
-use Rattle.ep_scope.specs.Scopes.{Region, with_entry, Meant, Declares, Standard, Requires, Nothing, meant, meant_in}
+use Rattle.ep_scope.specs.Scopes.{Region, in_view, with_inner, opened, closed, Meant, Declares, Standard, Requires, Nothing, meant, meant_in}
 use Rattle.ep_scope.specs.declared.kind.Host.{Host}
 use Rattle.ep_scope.specs.declared.kind.Host.TheVariants as host
 use Rattle.ep_scope.specs.declared.kind.Kind.{Kind}
@@ -38,13 +47,14 @@ use Rattle.ep_check_expr.specs.Judgements.{Judged, Accepts, Breaks, unbuilt, whe
 use Rattle.ep_check_expr.specs.Constants.{constant_judged, bound_judged}
 use Rattle.ep_check_expr.specs.declared.constants.ConstantForm.{ConstantForm}
 use Rattle.ep_check_expr.specs.Names.{undeclared}
-use Rattle.ep_check_unit.specs.declared.block.Block.{Block}
+use Rattle.ep_check_stmt.specs.Statements.{Context, Judgement, Passes, Waits, Fails, compound_judged}
+use Rattle.ep_check_unit.specs.Blocks.{Block, RoutineForm}
 
 -- ---- names
 
 -- the scopes in view, the innermost first
 abbrev pub scopes_of : Block → List Region
-scopes_of b = b.scope ∷ []
+scopes_of b = in_view b.scopes
 
 -- no name is declared twice in one scope (ISO 10206, 6.2.2.7)
 abbrev pub unless_there : Option Thing → Judged (Unit {0})
@@ -52,7 +62,7 @@ unless_there None = Accepts tt
 unless_there (Some other) = Breaks (rule.TWICE ∷ [])
 
 abbrev pub unused : List ℕ → Block → Judged (Unit {0})
-unused name b = unless_there (look_up b.scope.entries name)
+unused name b = unless_there (look_up b.scopes.inner.entries name)
 
 -- what a declaration of this unit is, by its number
 abbrev pub own_thing : Block → ℕ → Declaration → Thing
@@ -60,7 +70,7 @@ own_thing b number what = thing.Declared (record { unit = b.unit; number = numbe
 
 -- one name more
 abbrev pub with_name : List ℕ → Thing → Block → Block
-with_name name t b = record b { scope = with_entry b.scope name t }
+with_name name t b = record b { scopes = with_inner b.scopes name t }
 
 -- a name is entered, where it is not there
 abbrev pub entered : List ℕ → Thing → Block → Judged Block
@@ -292,11 +302,135 @@ abbrev pub all_variables_declared : List VariableDeclaration → Block → Stand
 all_variables_declared [] b = Stands b
 all_variables_declared (d ∷ ds) b = and_then (all_variables_declared ds) (at_line d.line (variable_declaration d b))
 
-abbrev pub part_declared : {A B C : Type 0} → Part-F A B C → Block → Standing
+-- ---- procedures (ISO 10206, 6.7.1)
+
+-- a procedure without parameters, and without variables and routines of its own
+abbrev pub procedure_form : List ℕ → ℕ → Stmt → RoutineForm
+procedure_form name line s = record { name = name; line = line; formals = []; result = None; variables = []; routines = []; block = s }
+
+-- one more, which does nothing so far
+abbrev pub with_procedure : List ℕ → ℕ → Block → Block
+with_procedure name line b = record b { routines = b.routines ++ procedure_form name line tree.Empty ∷ [] }
+
+-- a procedure that is declared: its number, and what has been declared with it
+pub record Headed : Type 0 where
+  pub number : ℕ
+  pub block : Block
+
+-- Its first declaration. The name is there before the block of the procedure is, so the procedure may call itself.
+abbrev pub headed_first : List ℕ → ℕ → Block → Judged Headed
+headed_first name line b =
+    when_accepted (λ c. Accepts (record { number = length b.routines; block = c }))
+    (entered name (own_thing b (length b.routines) declaration.Procedure) (with_procedure name line b))
+
+-- the number of the procedure that is declared under a name already; a name that stands for something else is declared twice
+abbrev pub declared_procedure : ℕ → Declaration → Judged ℕ
+declared_procedure number declaration.Procedure = Accepts number
+declared_procedure number (declaration.Constant k v) = Breaks (rule.TWICE ∷ [])
+declared_procedure number (declaration.«Type» h) = Breaks (rule.TWICE ∷ [])
+declared_procedure number (declaration.Variable k) = Breaks (rule.TWICE ∷ [])
+
+abbrev pub procedure_there : Thing → Judged ℕ
+procedure_there (thing.Declared d) = declared_procedure d.number d.what
+procedure_there (thing.Standard file) = Breaks (rule.TWICE ∷ [])
+
+-- whether a list has a number
+abbrev pub has_number : ℕ → List ℕ → Bool
+has_number number numbers = list_any (λ n. nat_eq n number) numbers
+
+-- whether the procedure of this number has a body
+abbrev pub has_body : ℕ → Block → Bool
+has_body number b = has_number number b.bodies
+
+-- another declaration of a procedure is its body, where it has none yet
+abbrev pub headed_again : Bool → Block → ℕ → Judged Headed
+headed_again is_forward b number = if is_forward || has_body number b then Breaks (rule.REPEATED_HEADING ∷ []) else Accepts (record { number = number; block = b })
+
+-- a declaration by what its name stands for in the scope
+abbrev pub headed_over : Bool → List ℕ → ℕ → Option Thing → Block → Judged Headed
+headed_over is_forward name line None b = headed_first name line b
+headed_over is_forward name line (Some t) b = when_accepted (headed_again is_forward b) (procedure_there t)
+
+abbrev pub procedure_headed : Bool → List ℕ → ℕ → Block → Judged Headed
+procedure_headed is_forward name line b = headed_over is_forward name line (look_up b.scopes.inner.entries name) b
+
+-- and then more
+abbrev pub headed_then : ℕ → (Headed → Standing) → Judged Headed → Standing
+headed_then line more (Accepts h) = more h
+headed_then line more (Breaks rules) = Falls line rules
+
+-- a `forward` declaration, whose body comes later
+abbrev pub forwarded : ℕ → Headed → Block
+forwarded line h = let b = h.block in record b { forwards = b.forwards ++ record { number = h.number; line = line } ∷ [] }
+
+-- The block of a procedure is a scope of its own inside of that of the program (ISO 10206, 6.2.2).
+abbrev pub scope_opened : Block → Block
+scope_opened b = record b { scopes = opened b.scopes }
+
+abbrev pub scope_closed : Block → Block
+scope_closed b = record b { scopes = closed b.scopes }
+
+-- what the statements of a block know
+abbrev pub context_of : Block → Context
+context_of b = record { scopes = scopes_of b; output = b.output }
+
+-- what a procedure does
+abbrev pub with_block : List ℕ → ℕ → ℕ → Stmt → Block → Block
+with_block name line number s b = record b { routines = slice_set b.routines number (procedure_form name line s) }
+
+-- it has its body
+abbrev pub with_body : ℕ → Block → Block
+with_body number b = record b { bodies = b.bodies ++ number ∷ [] }
+
+-- the end of a body by its statements
+abbrev pub body_ended : List ℕ → ℕ → ℕ → Block → Judgement Stmts → Standing
+body_ended name line number b (Passes ss) = Stands (scope_closed (with_body number (with_block name line number (tree.Compound ss) b)))
+body_ended name line number b (Waits at) = Stands (scope_closed (with_body number (noted false at b)))
+body_ended name line number b (Fails at rules) = Falls at rules
+
+-- a part of the block of a procedure; no other one is built
+abbrev pub local_part_declared : {A B C : Type 0} → Part-F A B C → Block → Standing
+local_part_declared (Part-F.Constants c) b = constants_declared c.definitions b
+local_part_declared (Part-F.Types t) b = at_line t.line (type_definitions t.line t.definitions b)
+local_part_declared (Part-F.Variables v) b = Falls 0 []
+local_part_declared (Part-F.Routine r) b = Falls 0 []
+
+abbrev pub local_parts_declared : List Part → Block → Standing
+local_parts_declared [] b = Stands b
+local_parts_declared (p ∷ ps) b = and_then (local_parts_declared ps) (local_part_declared (out-Part p) b)
+
+-- the statements of the procedure of this number
+abbrev pub body_declared : List ℕ → ℕ → ℕ → Compound → Block → Standing
+body_declared name line number c b = body_ended name line number b (compound_judged (context_of b) c)
+
+-- its block: its parts, and then its statements
+abbrev pub block_declared : List ℕ → ℕ → List Part → Compound → Headed → Standing
+block_declared name line ps c h = and_then (body_declared name line h.number c) (local_parts_declared ps (scope_opened h.block))
+
+-- a procedure with its body
+abbrev pub procedure_declared : {A C : Type 0} → ℕ → List ℕ → RoutineBody-F Part A C → Block → Standing
+procedure_declared line name (RoutineBody-F.Forward at) b = headed_then line (λ h. Stands (forwarded line h)) (procedure_headed true name line b)
+procedure_declared line name (RoutineBody-F.Block at ps c) b = headed_then line (block_declared name line ps c) (procedure_headed false name line b)
+
+-- no function is built
+abbrev pub heading_declared : {A C : Type 0} → ℕ → RoutineHeading → RoutineBody-F Part A C → Block → Standing
+heading_declared line (heading.Procedure at name formals) body b = procedure_declared line name body b
+heading_declared line (heading.Function at name formals result type) body b = Falls 0 []
+
+abbrev pub start_declared : {A C : Type 0} → ℕ → RoutineStart → RoutineBody-F Part A C → Block → Standing
+start_declared line (start.Heading h) body b = heading_declared line h body b
+start_declared line (start.Function at name) body b = Falls 0 []
+
+abbrev pub routine_declared : Routine → Block → Standing
+routine_declared r b = start_declared (out-Routine r).line (out-Routine r).start (out-RoutineBody (out-Routine r).body) b
+
+-- ---- all parts
+
+abbrev pub part_declared : {A B : Type 0} → Part-F A B Routine → Block → Standing
 part_declared (Part-F.Constants c) b = constants_declared c.definitions b
 part_declared (Part-F.Types t) b = at_line t.line (type_definitions t.line t.definitions b)
 part_declared (Part-F.Variables v) b = all_variables_declared v.declarations b
-part_declared (Part-F.Routine r) b = Falls 0 []
+part_declared (Part-F.Routine r) b = routine_declared r b
 
 abbrev pub parts_declared : List Part → Block → Standing
 parts_declared [] b = Stands b

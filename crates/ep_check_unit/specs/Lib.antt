@@ -1,4 +1,5 @@
 pub mod Answers
+pub mod Blocks
 pub mod Checks
 pub mod Declarations
 pub mod Laws

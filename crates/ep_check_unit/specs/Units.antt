@@ -1,5 +1,5 @@
 -- Which typed unit a program is, or where it first breaks a rule.
-use Rattle.std.specs.Prelude.{◌≡◌, ℕ, Bool, true, false, List, [], ◌∷◌, ◌++◌, codes, Option, Some, None, IsTrue, if◌then◌else◌}
+use Rattle.std.specs.Prelude.{◌≡◌, ℕ, Bool, true, false, List, [], ◌∷◌, ◌++◌, map, codes, Option, Some, None, IsTrue, if◌then◌else◌}
 use Rattle.std.specs.List.{list_any}
 use Rattle.std.specs.Str.{bytes_eq}
 use Rattle.ep_tree.specs.declared.component.Component.{Component}
@@ -11,12 +11,14 @@ use Rattle.ep_typed.specs.declared.interface.ImportSpec.{ImportSpec}
 use Rattle.ep_typed.specs.declared.tree.StandardFile.{StandardFile}
 use Rattle.ep_typed.specs.declared.tree.StandardFile.TheVariants as file
 use Rattle.ep_typed.specs.declared.unit.Unit.{Unit as TypedUnit}
-use Rattle.ep_scope.specs.Scopes.{empty_region}
+use Rattle.ep_scope.specs.Scopes.{row_of}
+use Rattle.ep_scope.specs.declared.rule.TheConstants as rule
 use Rattle.ep_scope.specs.declared.thing.Thing.TheVariants as thing
 use Rattle.ep_check_expr.specs.Judgements.{Judged, Accepts, unbuilt, when_accepted}
-use Rattle.ep_check_stmt.specs.Statements.{Context, Judgement, Passes, Waits, Fails, fails_at, after, compound_judged}
-use Rattle.ep_check_unit.specs.Declarations.{Standing, Stands, Falls, at_line, and_then, entered, parts_declared, scopes_of}
-use Rattle.ep_check_unit.specs.declared.block.Block.{Block}
+use Rattle.ep_check_stmt.specs.Statements.{Judgement, Passes, Waits, Fails, fails_at, after, compound_judged}
+use Rattle.ep_check_unit.specs.Declarations.{Standing, Stands, Falls, at_line, and_then, context_of, entered, has_number, parts_declared}
+use Rattle.ep_check_unit.specs.Blocks.{Block, routine_form}
+use Rattle.ep_check_unit.specs.declared.block.Forward.{Forward}
 
 -- ---- the first words (ISO 10206, 6.12), an item on the line of the word `program`
 
@@ -33,9 +35,10 @@ abbrev pub parameters_entered : List (List ℕ) → Block → Judged Block
 parameters_entered [] b = Accepts b
 parameters_entered (name ∷ names) b = when_accepted (parameters_entered names) (parameter_entered name (standard_file name) b)
 
--- nothing is declared yet
-abbrev pub first_block : List ℕ → Block
-first_block name = record { unit = name; scope = empty_region; types = []; constants = []; variables = []; declarations = 0; waits = None }
+-- nothing is declared yet in the block of a unit, which has `output` as a parameter or has not
+abbrev pub first_block : List ℕ → Bool → Block
+first_block name output =
+    record { unit = name; output = output; scopes = row_of []; types = []; constants = []; variables = []; declarations = 0; routines = []; forwards = []; bodies = []; waits = None }
 
 -- ---- programs
 
@@ -48,9 +51,21 @@ pub record ProgramForm : Type 0 where
 abbrev pub has_name : List ℕ → List (List ℕ) → Bool
 has_name name names = list_any (λ other. bytes_eq other name) names
 
--- what the statements of a program know
-abbrev pub context_of : Program → Block → Context
-context_of p b = record { scopes = scopes_of b; output = has_name (codes "output") p.parameters }
+-- the block of a program, in which nothing is declared yet
+abbrev pub program_block : Program → Block
+program_block p = first_block p.name (has_name (codes "output") p.parameters)
+
+-- the line of the first `forward` declaration whose procedure has no body
+abbrev pub first_missing : List Forward → List ℕ → Option ℕ
+first_missing [] bodies = None
+first_missing (f ∷ fs) bodies = if has_number f.number bodies then first_missing fs bodies else Some f.line
+
+-- A procedure that is declared `forward` has a body (ISO 10206, 6.7.1). It is tested only where all items break no other rule (own).
+abbrev pub unless_missing : {A : Type 0} → Option ℕ → Judgement A → Judgement A
+unless_missing None row = row
+unless_missing (Some line) (Passes form) = Fails line (rule.NO_BODY ∷ [])
+unless_missing (Some line) (Waits other) = Fails line (rule.NO_BODY ∷ [])
+unless_missing (Some line) (Fails other rules) = Fails other rules
 
 -- declarations that break no rule
 abbrev pub declarations_wait : Block → Option ℕ → Judgement Block
@@ -60,13 +75,13 @@ declarations_wait b (Some line) = Waits line
 abbrev pub program_form : Block → Stmts → ProgramForm
 program_form b ss = record { block = b; statements = ss }
 
--- the declarations, and then the statements
+-- the declarations, then the statements, and then the `forward` declarations once more
 abbrev pub body_judged : Program → Standing → Judgement ProgramForm
-body_judged p (Stands b) = after program_form (declarations_wait b b.waits) (compound_judged (context_of p b) p.body)
+body_judged p (Stands b) = unless_missing (first_missing b.forwards b.bodies) (after program_form (declarations_wait b b.waits) (compound_judged (context_of b) p.body))
 body_judged p (Falls line rules) = Fails line rules
 
 abbrev pub program_judged : Program → Judgement ProgramForm
-program_judged p = body_judged p (and_then (parts_declared p.parts) (at_line p.line (parameters_entered p.parameters (first_block p.name))))
+program_judged p = body_judged p (and_then (parts_declared p.parts) (at_line p.line (parameters_entered p.parameters (program_block p))))
 
 -- no module is built
 abbrev pub component_judged : Component → Judgement ProgramForm
@@ -102,7 +117,7 @@ pub record IsUnitOf (p : Program) (form : ProgramForm) (u : TypedUnit) : Type 0 
   pub types : u.types ≡ form.block.types
   pub constants : u.constants ≡ form.block.constants
   pub variables : u.variables ≡ form.block.variables
-  pub routines : u.routines ≡ []
+  pub routines : map routine_form u.routines ≡ form.block.routines
   pub start : stmt_of u.start ≡ Compound form.statements
   pub stop : stmt_of u.stop ≡ Empty
 

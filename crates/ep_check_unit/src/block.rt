@@ -3,17 +3,18 @@
 ghost use Rattle.std.specs.Prelude.{◌≡◌, IfOk, OnOk};
 ghost use Rattle.std.specs.Option.{option_map};
 ghost use Rattle.ep_check_unit.specs.Answers.{AnswersBlock, AnswersNumber, AnswersType, with_constant_entry};
-ghost use Rattle.ep_check_unit.specs.Declarations.{constant_entered, entered, noted, own_thing, with_type};
+ghost use Rattle.ep_check_unit.specs.Blocks.{block_of};
+ghost use Rattle.ep_check_unit.specs.Declarations.{constant_entered, entered, has_number, noted, own_thing, with_type};
 ghost use Rattle.ep_check_unit.specs.Checks.{IsUnitWith};
 ghost use Rattle.ep_check_unit.specs.Units.{first_block};
 
 use crate::types::host_type;
 use ep_base::{Line, List, Name, NoMemory};
 use ep_check_expr::Refusal;
-use ep_scope::{Declaration, Declared, Host, Kind, Scope, ScopeRefusal, Thing, rule};
+use ep_scope::{Declaration, Declared, Host, Kind, ScopeRefusal, Scopes, Thing, rule};
 use ep_typed::{
     ConstantEntries, ConstantEntry, Denoter, ImportSpecs, TypeEntry, TypedStmt, TypedStmts, Unit,
-    UnitType, UnitTypes, UnitVariables, Value,
+    UnitRoutines, UnitType, UnitTypes, UnitVariables, Value,
 };
 use std::alloc::Global;
 
@@ -21,8 +22,10 @@ use std::alloc::Global;
 pub(crate) struct Block {
     /// The unit.
     pub(crate) unit: Name,
-    /// The names that are declared, and what they stand for.
-    pub(crate) scope: Scope,
+    /// Whether `output` is a parameter.
+    pub(crate) output: bool,
+    /// The scopes in view: the names that are declared, and what they stand for.
+    pub(crate) scopes: Scopes,
     /// The types.
     pub(crate) types: UnitTypes,
     /// The constants.
@@ -31,6 +34,12 @@ pub(crate) struct Block {
     pub(crate) variables: UnitVariables,
     /// How many variable declarations there were.
     pub(crate) declarations: u32,
+    /// The routines, by number. One whose body is still to come does nothing.
+    pub(crate) routines: UnitRoutines,
+    /// The procedures that are declared `forward`.
+    pub(crate) forwards: List<Forward>,
+    /// The numbers of the routines that have a body.
+    pub(crate) bodies: List<u32>,
     /// The line of the first item that is accepted and not built.
     pub(crate) waits: Option<Line>,
 }
@@ -39,14 +48,27 @@ impl Drop for Block {
     fn drop(self) {
         let Block {
             unit: _,
-            scope: _,
+            output: _,
+            scopes: _,
             types: _,
             constants: _,
             variables: _,
             declarations: _,
+            routines: _,
+            forwards: _,
+            bodies: _,
             waits: _,
         } = self;
     }
+}
+
+/// A procedure that is declared `forward` (ISO 10206, 6.7.1).
+#[derive(Clone, Copy, Drop)]
+pub(crate) struct Forward {
+    /// Its number.
+    pub(crate) number: u32,
+    /// The line of the declaration.
+    pub(crate) line: Line,
 }
 
 /// A count as a number of a unit, which has 32 bits.
@@ -59,38 +81,49 @@ pub(crate) fn number(count: usize) -> Result<u32, Refusal>
     }
 }
 
+/// Whether a list has a number.
+pub(crate) fn has_number(number: u32, numbers: &[u32]) -> bool
+    ensures { result ≡ has_number number numbers.now }
+{
+    numbers.contains(&number)
+}
+
 impl Block {
-    /// A block in which nothing is declared yet.
-    pub(crate) fn new(alloc: Global, unit: Name) -> Block
-        ensures { result ≡ first_block unit }
+    /// A block in which nothing is declared yet, of a unit that has `output` as a parameter or has not.
+    pub(crate) fn new(alloc: Global, unit: Name, output: bool) -> Result<Block, NoMemory>
+        ensures { IfOk result (λ b. block_of b ≡ first_block unit output) }
     {
-        Block {
+        let scopes = Scopes::new(alloc)?;
+        Ok(Block {
             unit,
-            scope: Scope::new(alloc),
+            output,
+            scopes,
             types: List::new(alloc),
             constants: List::new(alloc),
             variables: List::new(alloc),
             declarations: 0,
+            routines: List::new(alloc),
+            forwards: List::new(alloc),
+            bodies: List::new(alloc),
             waits: None,
-        }
+        })
     }
 
     /// The unit of a program with these statements.
-    pub(crate) fn into_unit(
-        self,
-        alloc: Global,
-        imports: ImportSpecs,
-        statements: TypedStmts,
-    ) -> Unit
-        ensures { IsUnitWith self imports statements result }
+    pub(crate) fn into_unit(self, imports: ImportSpecs, statements: TypedStmts) -> Unit
+        ensures { IsUnitWith (block_of self) imports statements result }
     {
         let Block {
             unit,
-            scope: _,
+            output: _,
+            scopes: _,
             types,
             constants,
             variables,
             declarations: _,
+            routines,
+            forwards: _,
+            bodies: _,
             waits: _,
         } = self;
         Unit {
@@ -101,7 +134,7 @@ impl Block {
             types,
             constants,
             variables,
-            routines: List::new(alloc),
+            routines,
             start: TypedStmt::Compound(statements),
             stop: TypedStmt::Empty,
         }
@@ -109,7 +142,7 @@ impl Block {
 
     /// An item on this line is accepted, and maybe not built.
     pub(crate) fn note(&mut self, built: bool, line: Line)
-        ensures { self.new ≡ noted built line self.old }
+        ensures { block_of self.new ≡ noted built line (block_of self.old) }
     {
         if !built && self.waits.is_none() {
             self.waits = Some(line);
@@ -123,7 +156,7 @@ impl Block {
         number: u32,
         what: Declaration,
     ) -> Result<Thing, NoMemory>
-        ensures { IfOk result (λ thing. thing ≡ own_thing self.now number what) }
+        ensures { IfOk result (λ thing. thing ≡ own_thing (block_of self.now) number what) }
     {
         let unit = self.unit.copy(alloc)?;
         Ok(Thing::Declared(Declared { unit, number, what }))
@@ -131,10 +164,10 @@ impl Block {
 
     /// A name is entered, where it is not there.
     pub(crate) fn enter(&mut self, alloc: Global, name: &Name, thing: Thing) -> Result<(), Refusal>
-        ensures { AnswersBlock result self.new (entered name.now thing self.old) }
+        ensures { AnswersBlock result (block_of self.new) (entered name.now thing (block_of self.old)) }
     {
         let copy = name.copy(alloc)?;
-        match self.scope.enter(copy, thing) {
+        match self.scopes.enter(copy, thing) {
             Ok(()) => Ok(()),
             Err(ScopeRefusal::Twice(..)) => Err(Refusal::Rule(rule::TWICE)),
             Err(ScopeRefusal::NoMemory { .. }) => Err(Refusal::NoMemory),
@@ -151,7 +184,7 @@ impl Block {
         kind: Kind,
         value: &Value,
     ) -> Result<(), Refusal>
-        ensures { AnswersBlock result self.new (constant_entered name.now kind value.now self.old) }
+        ensures { AnswersBlock result (block_of self.new) (constant_entered name.now kind value.now (block_of self.old)) }
     {
         let number = number(self.constants.items().len())?;
         if let Kind::Ordinal(host) = kind {
@@ -170,7 +203,7 @@ impl Block {
         host: Host,
         value: &Value,
     ) -> Result<(), NoMemory>
-        ensures { OnOk result (self.new ≡ with_constant_entry name.now host value.now self.old) }
+        ensures { OnOk result (block_of self.new ≡ with_constant_entry name.now host value.now (block_of self.old)) }
     {
         let entry = ConstantEntry {
             name: name.copy(alloc)?,
@@ -188,7 +221,7 @@ impl Block {
         line: Line,
         denoter: Denoter,
     ) -> Result<u32, Refusal>
-        ensures { AnswersType (option_map (λ n. n.now) name.entry) line denoter self.old result self.new }
+        ensures { AnswersType (option_map (λ n. n.now) name.entry) line denoter (block_of self.old) result (block_of self.new) }
     {
         let number = number(self.types.items().len())?;
         let name = match name {

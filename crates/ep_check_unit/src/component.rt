@@ -5,20 +5,20 @@ ghost use Rattle.std.specs.List.{list_all};
 ghost use Rattle.std.specs.Result.{IfErr};
 ghost use Rattle.ep_built.specs.Built.{component_unbuilt, is_among, program_parameters, program_unbuilt};
 ghost use Rattle.ep_check_unit.specs.Answers.{AnswersBlock};
-ghost use Rattle.ep_check_unit.specs.Checks.{AnswersBuilt, HasValidUnit, IsChecked, IsRefusal, IsRefusalOf, unit_in};
+ghost use Rattle.ep_check_unit.specs.Blocks.{block_of};
+ghost use Rattle.ep_check_unit.specs.Checks.{AnswersBuilt, AnswersMissing, HasValidUnit, IsChecked, IsRefusal, IsRefusalOf, unit_in};
 ghost use Rattle.ep_typed.specs.Operations.{maxint};
-ghost use Rattle.ep_check_unit.specs.Units.{IsTypedProgram, has_name, imports_of, parameters_entered, program_judged, standard_file, standard_import, standard_interface};
+ghost use Rattle.ep_check_unit.specs.Units.{IsTypedProgram, first_missing, has_name, imports_of, parameters_entered, program_judged, standard_file, standard_import, standard_interface};
 
-use crate::block::Block;
+use crate::block::{Block, Forward, has_number};
 use crate::laws::laws_of_typed_units;
 use ep_base::{Line, List, Name, NameRefusal, NoMemory};
 use ep_check_expr::Refusal;
 use ep_check_stmt::{CheckRefusal, Context, Outcome, refused_at};
-use ep_scope::Thing;
+use ep_scope::{Thing, rule};
 use ep_tree::{Component, Program};
 use ep_typed::{ConstantEntry, ImportSpec, ImportSpecs, Interface, StandardFile, TypedStmts, Unit};
 use std::alloc::{AllocError, Global};
-use std::slice;
 
 /// What a component is that breaks no rule.
 pub enum Checked {
@@ -86,20 +86,34 @@ fn check_program(alloc: Global, p: &Program) -> Result<Unit, CheckRefusal>
     ensures typed { IfOk result (λ u. IsTypedProgram p.now u) }
     ensures refused { IfErr result (λ refusal. IsRefusalOf (program_judged p.now) refusal) }
 {
-    let mut block = Block::new(alloc, p.name.copy(alloc)?);
+    let output = has_name(p.parameters.items(), b"output");
+    let mut block = Block::new(alloc, p.name.copy(alloc)?, output)?;
     if let Err(refusal) = block.enter_parameters(alloc, p.parameters.items()) {
         return Err(refused_at(p.line, refusal));
     }
     block.declare(alloc, p.parts.items())?;
     let context = Context {
         alloc,
-        scopes: slice::from_ref(&block.scope),
-        output: has_name(p.parameters.items(), b"output"),
+        scopes: block.scopes.in_view(),
+        output: block.output,
     };
     let found = context.compound(&p.body)?;
+    all_there(block.forwards.items(), block.bodies.items())?;
     let statements = all_built(block.waits, found)?;
     let imports = imports(alloc, p.parameters.items())?;
-    Ok(block.into_unit(alloc, imports, statements))
+    Ok(block.into_unit(imports, statements))
+}
+
+/// Each procedure that is declared `forward` has a body.
+fn all_there(forwards: &[Forward], bodies: &[u32]) -> Result<(), CheckRefusal>
+    ensures { AnswersMissing (first_missing forwards.now bodies.now) result }
+{
+    for forward in forwards {
+        if !has_number(forward.number, bodies) {
+            return Err(refused_at(forward.line, Refusal::Rule(rule::NO_BODY)));
+        }
+    }
+    Ok(())
 }
 
 /// The statements of a block, where these and its declarations are built.
@@ -181,7 +195,7 @@ impl Block {
     /// The parameters of a program are entered, in order.
     fn enter_parameters(&mut self, alloc: Global, names: &[Name]) -> Result<(), Refusal>
         requires { list_all (is_among program_parameters) names.now ≡ true }
-        ensures { AnswersBlock result self.new (parameters_entered names.now self.old) }
+        ensures { AnswersBlock result (block_of self.new) (parameters_entered names.now (block_of self.old)) }
     {
         for name in names {
             match standard_file(name) {

@@ -7,8 +7,9 @@ ghost use Rattle.ep_tree.specs.declared.types.Core.{out-Core};
 ghost use Rattle.ep_check_expr.specs.Judgements.{when_accepted};
 ghost use Rattle.ep_check_stmt.specs.Answers.{AnswersForm};
 ghost use Rattle.ep_check_unit.specs.Answers.{AnswersBlock, AnswersStanding, denoter_named, named_in};
+ghost use Rattle.ep_check_unit.specs.Blocks.{block_of};
 ghost use Rattle.ep_check_unit.specs.Declarations as spec;
-ghost use Rattle.ep_check_unit.specs.Declarations.{all_variables_declared, constant_definition, constants_declared, part_declared, parts_declared, settled_type, type_definition, type_definitions, variable_declaration, variable_entered, variables_entered};
+ghost use Rattle.ep_check_unit.specs.Declarations.{all_variables_declared, at_line, constant_definition, constants_declared, part_declared, parts_declared, settled_type, type_definition, type_definitions, variable_declaration, variable_entered, variables_entered};
 
 use crate::block::{Block, number};
 use crate::types::{NamedType, TypeName};
@@ -16,16 +17,15 @@ use ep_base::{Line, List, Name};
 use ep_check_expr::{Refusal, constant_value};
 use ep_check_stmt::{CheckRefusal, refused_at};
 use ep_scope::{Declaration, Kind};
-use ep_tree::{ConstantDefinition, Core, Part, TypeDefinition, VariableDeclaration};
+use ep_tree::{ConstantDefinition, Core, Part, TypeDefinition, Types, VariableDeclaration};
 use ep_typed::UnitVariable;
 use std::alloc::Global;
-use std::slice;
 
 impl Block {
     /// The parts of a block, in order.
     pub(crate) fn declare(&mut self, alloc: Global, parts: &[Part]) -> Result<(), CheckRefusal>
         requires { first_in (map part_unbuilt parts.now) ≡ None }
-        ensures { AnswersStanding result self.new (parts_declared parts.now self.old) }
+        ensures { AnswersStanding result (block_of self.new) (parts_declared parts.now (block_of self.old)) }
     {
         for part in parts {
             self.declare_part(alloc, part)?;
@@ -35,27 +35,36 @@ impl Block {
 
     fn declare_part(&mut self, alloc: Global, part: &Part) -> Result<(), CheckRefusal>
         requires { part_unbuilt part.now ≡ None }
-        ensures { AnswersStanding result self.new (part_declared (out-Part part.now) self.old) }
+        ensures { AnswersStanding result (block_of self.new) (part_declared (out-Part part.now) (block_of self.old)) }
     {
         match part {
             Part::Constants(c) => self.define_constants(alloc, c.definitions.items()),
-            Part::Types(t) => match self.define_types(alloc, t.line, t.definitions.items()) {
-                Ok(()) => Ok(()),
-                Err(refusal) => Err(refused_at(t.line, refusal)),
-            },
+            Part::Types(t) => self.define_type_part(alloc, t),
             Part::Variables(v) => self.declare_all(alloc, v.declarations.items()),
-            Part::Routine(_) => unreachable!(),
+            Part::Routine(r) => self.declare_routine(alloc, r),
+        }
+    }
+
+    /// `types`, which is one item.
+    pub(crate) fn define_type_part(&mut self, alloc: Global, t: &Types) -> Result<(), CheckRefusal>
+        requires { first_in (map type_unbuilt t.now.definitions) ≡ None }
+        ensures { AnswersStanding result (block_of self.new)
+            (at_line t.now.line (type_definitions t.now.line t.now.definitions (block_of self.old))) }
+    {
+        match self.define_types(alloc, t.line, t.definitions.items()) {
+            Ok(()) => Ok(()),
+            Err(refusal) => Err(refused_at(t.line, refusal)),
         }
     }
 
     /// Constant definitions, each an item.
-    fn define_constants(
+    pub(crate) fn define_constants(
         &mut self,
         alloc: Global,
         definitions: &[ConstantDefinition],
     ) -> Result<(), CheckRefusal>
         requires { first_in (map constant_unbuilt definitions.now) ≡ None }
-        ensures { AnswersStanding result self.new (constants_declared definitions.now self.old) }
+        ensures { AnswersStanding result (block_of self.new) (constants_declared definitions.now (block_of self.old)) }
     {
         for definition in definitions {
             if let Err(refusal) = self.define_constant(alloc, definition) {
@@ -72,9 +81,9 @@ impl Block {
         definition: &ConstantDefinition,
     ) -> Result<(), Refusal>
         requires { component_value_unbuilt definition.now.value ≡ None }
-        ensures { AnswersBlock result self.new (constant_definition definition.now self.old) }
+        ensures { AnswersBlock result (block_of self.new) (constant_definition definition.now (block_of self.old)) }
     {
-        let form = constant_value(alloc, &definition.value, slice::from_ref(&self.scope))?;
+        let form = constant_value(alloc, &definition.value, self.scopes.in_view())?;
         self.add_constant(alloc, &definition.name, form.kind, &form.value)?;
         self.note(form.built, definition.line);
         Ok(())
@@ -88,7 +97,7 @@ impl Block {
         definitions: &[TypeDefinition],
     ) -> Result<(), Refusal>
         requires { first_in (map type_unbuilt definitions.now) ≡ None }
-        ensures { AnswersBlock result self.new (type_definitions line definitions.now self.old) }
+        ensures { AnswersBlock result (block_of self.new) (type_definitions line definitions.now (block_of self.old)) }
     {
         for definition in definitions {
             self.define_type(alloc, line, definition)?;
@@ -104,7 +113,7 @@ impl Block {
         definition: &TypeDefinition,
     ) -> Result<(), Refusal>
         requires { type_unbuilt definition.now ≡ None }
-        ensures { AnswersBlock result self.new (type_definition line definition.now self.old) }
+        ensures { AnswersBlock result (block_of self.new) (type_definition line definition.now (block_of self.old)) }
     {
         let core = &definition.of.plain.get().core;
         let written = self.written_type(alloc, line, core)?;
@@ -122,7 +131,7 @@ impl Block {
         declarations: &[VariableDeclaration],
     ) -> Result<(), CheckRefusal>
         requires { first_in (map variable_unbuilt declarations.now) ≡ None }
-        ensures { AnswersStanding result self.new (all_variables_declared declarations.now self.old) }
+        ensures { AnswersStanding result (block_of self.new) (all_variables_declared declarations.now (block_of self.old)) }
     {
         for declaration in declarations {
             if let Err(refusal) = self.declare_variables(alloc, declaration) {
@@ -139,7 +148,7 @@ impl Block {
         declaration: &VariableDeclaration,
     ) -> Result<(), Refusal>
         requires { variable_unbuilt declaration.now ≡ None }
-        ensures { AnswersBlock result self.new (variable_declaration declaration.now self.old) }
+        ensures { AnswersBlock result (block_of self.new) (variable_declaration declaration.now (block_of self.old)) }
     {
         let core = &declaration.of.plain.get().core;
         let named = self.settled_type(alloc, declaration.line, core)?;
@@ -158,7 +167,7 @@ impl Block {
     /// The type of a declaration on this line by its name, for which a type that has none gets an entry.
     fn settled_type(&mut self, alloc: Global, line: Line, core: &Core) -> Result<NamedType, Refusal>
         requires { core_unbuilt core.now ≡ None }
-        ensures { AnswersForm (named_in self.new) result (settled_type line (out-Core core.now) self.old) }
+        ensures { AnswersForm (named_in (block_of self.new)) result (settled_type line (out-Core core.now) (block_of self.old)) }
     {
         if let Core::Named(_, name, _) = core {
             return self.named_type(name);
@@ -178,8 +187,8 @@ impl Block {
         named: NamedType,
         name: &Name,
     ) -> Result<(), Refusal>
-        ensures { AnswersBlock result self.new
-            (variable_entered line (denoter_named named.name) named.host name.now self.old) }
+        ensures { AnswersBlock result (block_of self.new)
+            (variable_entered line (denoter_named named.name) named.host name.now (block_of self.old)) }
     {
         let number = number(self.variables.items().len())?;
         let kind = Kind::Ordinal(named.host);

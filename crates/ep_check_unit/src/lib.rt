@@ -10,6 +10,7 @@ mod block;
 mod component;
 mod declarations;
 mod laws;
+mod procedures;
 mod types;
 
 pub use component::{Checked, check};

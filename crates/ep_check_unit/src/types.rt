@@ -9,7 +9,7 @@ ghost use Rattle.ep_check_expr.specs.Judgements.{both};
 ghost use Rattle.ep_check_stmt.specs.Answers.{AnswersForm, fails_among};
 ghost use Rattle.ep_check_unit.specs.Answers.{AnswersBlock, denoter_named, named_in, written_in};
 ghost use Rattle.ep_check_unit.specs.Declarations as spec;
-ghost use Rattle.ep_check_unit.specs.declared.block.Block.{Block as BlockNow};
+ghost use Rattle.ep_check_unit.specs.Blocks.{Block as BlockNow, block_of};
 ghost use Rattle.ep_check_unit.specs.Declarations.{common_host, core_written, enumerated, enumeration, host_denoter, number_in, ordered, range, required_host, scopes_of, subrange_denoter, type_meant};
 
 use crate::block::{Block, number};
@@ -22,7 +22,6 @@ use ep_scope::{
 use ep_tree::{Core, Expression, QualifiedName};
 use ep_typed::{Bound, Denoter, RequiredType, Value};
 use std::alloc::Global;
-use std::slice;
 
 /// A type by its name.
 #[derive(Clone, Copy, Drop)]
@@ -193,9 +192,9 @@ fn copied(alloc: Global, names: &[Name]) -> Result<Names, NoMemory>
 impl Block {
     /// A type by its name, or by the name of an interface and that of its constituent.
     pub(crate) fn named_type(&self, name: &QualifiedName) -> Result<NamedType, Refusal>
-        ensures { AnswersForm (named_in self.now) result (spec.type_named name.now.first name.now.second self.now) }
+        ensures { AnswersForm (named_in (block_of self.now)) result (spec.type_named name.now.first name.now.second (block_of self.now)) }
     {
-        let scopes = slice::from_ref(&self.scope);
+        let scopes = self.scopes.in_view();
         match &name.second {
             None => {
                 let meaning = meaning_of(scopes, &name.first);
@@ -218,11 +217,11 @@ impl Block {
     ) -> Result<Written, Refusal>
         requires low { expression_unbuilt low.now ≡ None }
         requires high { expression_unbuilt high.now ≡ None }
-        ensures { AnswersForm (written_in self.new) result (both (range line self.old)
-            (bound_judged (scopes_of self.old) low.now) (bound_judged (scopes_of self.old) high.now)) }
+        ensures { AnswersForm (written_in (block_of self.new)) result (both (range line (block_of self.old))
+            (bound_judged (scopes_of (block_of self.old)) low.now) (bound_judged (scopes_of (block_of self.old)) high.now)) }
     {
-        let least = bound_value(alloc, low, slice::from_ref(&self.scope))?;
-        let greatest = bound_value(alloc, high, slice::from_ref(&self.scope))?;
+        let least = bound_value(alloc, low, self.scopes.in_view())?;
+        let greatest = bound_value(alloc, high, self.scopes.in_view())?;
         let host = common_host(least.kind, greatest.kind)?;
         ordered(&least, &greatest)?;
         self.note(are_built(&least, &greatest), line);
@@ -232,7 +231,7 @@ impl Block {
 
     /// The constants of an enumeration are entered, in order.
     fn enumerate(&mut self, alloc: Global, host: Host, names: &[Name]) -> Result<(), Refusal>
-        ensures { AnswersBlock result self.new (enumerated host 0 names.now self.old) }
+        ensures { AnswersBlock result (block_of self.new) (enumerated host 0 names.now (block_of self.old)) }
     {
         for (place, name) in names.iter().enumerate() {
             let ordinal = Value::Word(i64::from(number(place)?));
@@ -243,7 +242,7 @@ impl Block {
 
     /// `"(" ids ")"`
     fn enumeration(&mut self, alloc: Global, names: &[Name]) -> Result<Written, Refusal>
-        ensures { AnswersForm (written_in self.new) result (enumeration names.now self.old) }
+        ensures { AnswersForm (written_in (block_of self.new)) result (enumeration names.now (block_of self.old)) }
     {
         let Some((_, others)) = names.split_first() else {
             return Err(Refusal::Rule(rule::EMPTY_RANGE));
@@ -265,7 +264,7 @@ impl Block {
         core: &Core,
     ) -> Result<Written, Refusal>
         requires { core_unbuilt core.now ≡ None }
-        ensures { AnswersForm (written_in self.new) result (core_written line (out-Core core.now) self.old) }
+        ensures { AnswersForm (written_in (block_of self.new)) result (core_written line (out-Core core.now) (block_of self.old)) }
     {
         match core {
             Core::Named(_, name, _) => {

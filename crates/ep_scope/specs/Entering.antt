@@ -1,7 +1,7 @@
 -- How a name is entered.
 use Rattle.std.specs.Prelude.{◌≡◌, ℕ, List, [], ◌∷◌, ◌++◌, None, IsSome, Result, Ok, Err}
 use Rattle.ep_scope.specs.Required.{look_up}
-use Rattle.ep_scope.specs.Scopes.{Entries, Region, with_entry, with_constituent, look_up_in}
+use Rattle.ep_scope.specs.Scopes.{Entries, Region, Row, with_entry, with_constituent, with_inner, look_up_in}
 use Rattle.ep_scope.specs.declared.entries.EntryRefusal.{EntryRefusal}
 use Rattle.ep_scope.specs.declared.entries.EntryRefusal.TheVariants.{There, NoMemory}
 use Rattle.ep_scope.specs.declared.scope.ScopeRefusal.{ScopeRefusal}
@@ -21,6 +21,14 @@ AnswersEntered old name thing (Err (refusal.Twice twice)) new = IsSome (look_up 
 AnswersEntered old name thing (Err refusal.NoMemory) new = (look_up old.entries name ≡ None) × (new ≡ old)
 AnswersEntered old name thing (Err (refusal.NoInterface interface)) new = ⊥
 AnswersEntered old name thing (Err (refusal.NoConstituent constituent)) new = ⊥
+
+-- the innermost scope of a row alike
+abbrev pub AnswersInner : Row → List ℕ → Thing → Result (Unit {0}) ScopeRefusal → Row → Type 0
+AnswersInner old name thing (Ok done) new = (look_up old.inner.entries name ≡ None) × (new ≡ with_inner old name thing)
+AnswersInner old name thing (Err (refusal.Twice twice)) new = IsSome (look_up old.inner.entries name) × (twice ≡ name) × (new ≡ old)
+AnswersInner old name thing (Err refusal.NoMemory) new = (look_up old.inner.entries name ≡ None) × (new ≡ old)
+AnswersInner old name thing (Err (refusal.NoInterface interface)) new = ⊥
+AnswersInner old name thing (Err (refusal.NoConstituent constituent)) new = ⊥
 
 -- alike, of a constituent of an interface
 abbrev pub AnswersConstituent : Region → List ℕ → List ℕ → Thing → Result (Unit {0}) ScopeRefusal → Region → Type 0

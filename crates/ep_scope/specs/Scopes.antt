@@ -76,3 +76,35 @@ unless_hidden (Some thing) inside = Nothing
 abbrev pub meant_in : List Region → List ℕ → List ℕ → Meant
 meant_in [] interface name = Nothing
 meant_in (r ∷ rs) interface name = unless_hidden (look_up r.entries interface) (or_outside (look_up_in r interface name) (meant_in rs interface name))
+
+-- ---- the scopes in view at a place of a text
+
+-- the innermost one, and those around it from the inside to the outside (ISO 10206, 6.2.2)
+pub record Row : Type 0 where
+  pub inner : Region
+  pub outer : List Region
+
+-- all of them, the innermost first
+abbrev pub in_view : Row → List Region
+in_view r = r.inner ∷ r.outer
+
+-- one name more in the innermost one
+abbrev pub with_inner : Row → List ℕ → Thing → Row
+with_inner r name thing = record r { inner = with_entry r.inner name thing }
+
+-- one scope more, without names
+abbrev pub opened : Row → Row
+opened r = record { inner = empty_region; outer = in_view r }
+
+-- the scopes without the innermost one; the outermost one stays
+abbrev pub closed_onto : Region → List Region → Row
+closed_onto inner [] = record { inner = inner; outer = [] }
+closed_onto inner (r ∷ rs) = record { inner = r; outer = rs }
+
+abbrev pub closed : Row → Row
+closed r = closed_onto r.inner r.outer
+
+-- a list of scopes as a row
+abbrev pub row_of : List Region → Row
+row_of [] = record { inner = empty_region; outer = [] }
+row_of (r ∷ rs) = record { inner = r; outer = rs }

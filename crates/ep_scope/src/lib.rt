@@ -2,6 +2,7 @@
 //!
 //! A `Scope` has the names that one part of a text declares or imports, in the order of the text, and a row of scopes,
 //! the innermost first, says what a name means there: the nearest declaration, or else the required identifier.
+//! `Scopes` is the row at a place of a text, in which scopes are opened and closed.
 //! specs/Scopes.antt has these rules, specs/Required.antt the required identifiers. `rule` numbers the static rules.
 #![tactic(auto)]
 
@@ -11,10 +12,12 @@ mod meaning;
 mod required;
 pub mod rule;
 mod scope;
+mod scopes;
 mod thing;
 
 pub use kind::{Enumeration, Host, Kind, same_host};
 pub use meaning::{Meaning, meaning_in, meaning_of};
 pub use required::{Function, Procedure, Required, RequiredConstant, required_identifier};
 pub use scope::{Scope, ScopeRefusal};
+pub use scopes::Scopes;
 pub use thing::{Declaration, Declared, Thing};

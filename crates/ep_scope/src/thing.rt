@@ -25,7 +25,7 @@ impl Drop for Thing {
 pub struct Declared {
     /// The unit.
     pub unit: Name,
-    /// Its number among the unit's constants, types or variables.
+    /// Its number among the unit's constants, types, variables or routines.
     pub number: u32,
     /// What is declared.
     pub what: Declaration,
@@ -49,6 +49,8 @@ pub enum Declaration {
     Type(Host),
     /// A variable (ISO 10206, 6.5.1).
     Variable(Kind),
+    /// A procedure without parameters (ISO 10206, 6.7.1).
+    Procedure,
 }
 
 impl Drop for Declaration {
@@ -57,6 +59,7 @@ impl Drop for Declaration {
             Declaration::Constant(_, _) => {}
             Declaration::Type(_) => {}
             Declaration::Variable(_) => {}
+            Declaration::Procedure => {}
         }
     }
 }

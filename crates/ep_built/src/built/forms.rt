@@ -3,7 +3,7 @@
 
 ghost use Rattle.std.specs.Prelude.{◌≡◌, map};
 ghost use Rattle.ep_tree.specs.Shapes.{bare};
-ghost use Rattle.ep_built.specs.Built.{built_component, built_program, built_import, built_part, built_type_definition, built_type_denoter, built_plain, built_type_name, built_core, built_selector, built_target, built_call_selectors, built_call, built_statement, built_relation, built_adding, built_multiplying, is_character, built_factor, built_access, is_built, selector_belonging, brackets_are_built, is_bare_text};
+ghost use Rattle.ep_built.specs.Built.{built_component, built_program, built_import, built_heading, built_start, built_part, built_local_part, built_type_definition, built_type_denoter, built_plain, built_type_name, built_core, built_selector, built_target, built_call_selectors, built_call_of, built_call, built_statement, built_relation, built_adding, built_multiplying, is_character, built_factor, built_access, is_built, selector_belonging, brackets_are_built, is_bare_text};
 ghost use Rattle.ep_tree.specs.declared.expression.Factor.{out-Factor};
 ghost use Rattle.ep_tree.specs.declared.expression.Selector.{out-Selector};
 ghost use Rattle.ep_tree.specs.declared.types.Core.{out-Core};
@@ -16,8 +16,8 @@ use crate::built::names;
 use ep_base::Name;
 use ep_tree::{
     Access, AddingOperator, Component, Core, Expression, Factor, Import, MultiplyingOperator, Part,
-    Plain, Program, QualifiedName, RelationalOperator, Selector, Statement, TypeDefinition,
-    TypeDenoter,
+    Plain, Program, QualifiedName, RelationalOperator, RoutineHeading, RoutineStart, Selector,
+    Statement, TypeDefinition, TypeDenoter,
 };
 
 /// A component is a program.
@@ -48,13 +48,44 @@ pub(super) fn import_is_built(_import: &Import) -> bool
     false
 }
 
-/// A part is no routine.
+/// A heading is one of a procedure without formals.
+fn heading_is_built(h: &RoutineHeading) -> bool
+    ensures { result ≡ built_heading h.now }
+{
+    match h {
+        RoutineHeading::Procedure(_, _, formals) => formals.items().is_empty(),
+        _ => false,
+    }
+}
+
+fn start_is_built(s: &RoutineStart) -> bool
+    ensures { result ≡ built_start s.now }
+{
+    match s {
+        RoutineStart::Heading(heading) => heading_is_built(heading),
+        _ => false,
+    }
+}
+
+/// A routine is a procedure without formals.
 pub(super) fn part_is_built(p: &Part) -> bool
     ensures { result ≡ built_part (out-Part p.now) }
 {
     match p {
-        Part::Routine(_) => false,
+        Part::Routine(r) => start_is_built(&r.start),
         _ => true,
+    }
+}
+
+/// A part of the block of a routine is one of constants or of types.
+pub(super) fn local_part_is_built(p: &Part) -> bool
+    ensures { result ≡ built_local_part (out-Part p.now) }
+{
+    match p {
+        Part::Constants(_) => true,
+        Part::Types(_) => true,
+        Part::Variables(_) => false,
+        Part::Routine(_) => false,
     }
 }
 
@@ -126,10 +157,21 @@ fn call_selectors_are_built(selectors: &[Selector]) -> bool
     }
 }
 
+/// A call is one of a procedure whose calls are built, or a name alone that is built.
+fn call_of_is_built(name: &Name, selectors: &[Selector]) -> bool
+    ensures { result ≡ built_call_of name.now selectors.now }
+{
+    if names::procedure_is_built(name) {
+        call_selectors_are_built(selectors)
+    } else {
+        selectors.is_empty() && !names::is_later(name)
+    }
+}
+
 fn call_is_built(a: &Access) -> bool
     ensures { result ≡ built_call a.now }
 {
-    names::procedure_is_built(&a.name) && call_selectors_are_built(a.selectors.items())
+    call_of_is_built(&a.name, a.selectors.items())
 }
 
 pub(super) fn statement_is_built(s: &Statement) -> bool

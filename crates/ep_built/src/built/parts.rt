@@ -1,13 +1,14 @@
 //! The first node of the parts of a block before its statements that is not built.
 
 ghost use Rattle.std.specs.Prelude.{◌≡◌, map};
-ghost use Rattle.ep_built.specs.Built.{first_in, constant_unbuilt, type_unbuilt, variable_unbuilt, part_unbuilt};
+ghost use Rattle.ep_built.specs.Built.{first_in, constant_unbuilt, type_unbuilt, variable_unbuilt, part_unbuilt, local_part_unbuilt, body_unbuilt};
 
 use crate::built::expressions::component_value;
+use crate::built::statements::compound;
 use crate::built::types::type_denoter;
 use crate::built::{at_node, forms};
 use ep_base::Line;
-use ep_tree::{ConstantDefinition, Part, TypeDefinition, VariableDeclaration};
+use ep_tree::{ConstantDefinition, Part, RoutineBody, TypeDefinition, VariableDeclaration};
 
 pub(super) fn parts(all: &[Part]) -> Option<Line>
     ensures { result ≡ first_in (map part_unbuilt all.now) }
@@ -29,6 +30,43 @@ fn part(p: &Part) -> Option<Line>
         Part::Constants(c) => at_node(built, c.line, constants(c.definitions.items())),
         Part::Types(t) => at_node(built, t.line, types(t.definitions.items())),
         Part::Variables(v) => at_node(built, v.line, variables(v.declarations.items())),
+        Part::Routine(r) => at_node(built, r.line, body(&r.body)),
+    }
+}
+
+/// The first line in the body of a routine.
+fn body(b: &RoutineBody) -> Option<Line>
+    ensures { result ≡ body_unbuilt b.now }
+{
+    match b {
+        RoutineBody::Forward(_) => None,
+        RoutineBody::Block(_, all, statements) => {
+            local_parts(all.items()).or(compound(statements))
+        }
+    }
+}
+
+fn local_parts(all: &[Part]) -> Option<Line>
+    ensures { result ≡ first_in (map local_part_unbuilt all.now) }
+{
+    for p in all {
+        let line = local_part(p);
+        if line.is_some() {
+            return line;
+        }
+    }
+    None
+}
+
+/// The first line in a part of the block of a routine.
+fn local_part(p: &Part) -> Option<Line>
+    ensures { result ≡ local_part_unbuilt p.now }
+{
+    let built = forms::local_part_is_built(p);
+    match p {
+        Part::Constants(c) => at_node(built, c.line, constants(c.definitions.items())),
+        Part::Types(t) => at_node(built, t.line, types(t.definitions.items())),
+        Part::Variables(v) => at_node(built, v.line, None),
         Part::Routine(r) => at_node(built, r.line, None),
     }
 }

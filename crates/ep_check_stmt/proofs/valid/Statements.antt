@@ -20,7 +20,7 @@ use Rattle.ep_typed.specs.Hosts as typed
 use Rattle.ep_typed.specs.Trees as tree
 use Rattle.ep_typed.specs.Trees.{Place, Expr, Item, Other, Stmt, Stmts}
 use Rattle.ep_typed.specs.Valid as valid
-use Rattle.ep_typed.specs.Valid.{AreItems, AreStmts, Declarations, IsExpr, IsItem, IsOther, IsPlace, IsStmt, WritesSomething, printed_kind}
+use Rattle.ep_typed.specs.Valid.{AreGiven, AreItems, AreStmts, Declarations, IsExpr, IsItem, IsOther, IsPlace, IsStmt, WritesSomething, printed_kind}
 use Rattle.ep_typed.specs.declared.operations.Print.{Print}
 use Rattle.ep_typed.specs.declared.tree.StandardFile.{StandardFile}
 use Rattle.ep_typed.specs.declared.tree.StandardFile.TheVariants as file
@@ -46,7 +46,7 @@ use Rattle.ep_check_expr.specs.Judgements.{Judged, Accepts, Breaks, Typed, both,
 use Rattle.ep_check_expr.specs.Laws.{ExpressionsAreSound, LabelsAreSound, ValuesAreSound}
 use Rattle.ep_check_stmt.specs.Cases.{CaseSelector, labelled, selecting, selector_judged}
 use Rattle.ep_check_stmt.specs.Laws.{StatementsAreSound}
-use Rattle.ep_check_stmt.specs.Statements.{ArmJudged, Context, Judgement, Passes, Shown, after, arm_judged, arm_row, arms_in_order, assigned, at_arm, at_compound, at_item, at_otherwise, at_statement, available, call_arguments, call_judged, case_judged, compound_judged, condition, condition_judged, declared_target, file_given, formed, given_to, if_judged, in_order, item_form, item_judged, items_judged, measured, name_called, one_more, otherwise_judged, place_named, procedure_called, required_called, shown, something, statement_judged, target_judged, tested, to_file, usually_written, width_judged, write_judged, written, written_or}
+use Rattle.ep_check_stmt.specs.Statements.{ArmJudged, Context, Judgement, Passes, Shown, after, arm_judged, arm_row, arms_in_order, assigned, at_arm, at_compound, at_item, at_otherwise, at_statement, available, call_arguments, call_judged, case_judged, compound_judged, condition, condition_judged, declared_called, declared_target, file_given, formed, given_to, if_judged, in_order, item_form, item_judged, items_judged, measured, name_called, one_more, own_called, otherwise_judged, place_named, procedure_called, required_called, shown, something, statement_judged, target_judged, tested, to_file, usually_written, width_judged, write_judged, written, written_or}
 use Rattle.ep_check_stmt.proofs.judged.Fits.{Any, Fits, fits_any, fits_both, fits_is, fits_then, fits_weaker}
 use Rattle.ep_check_stmt.proofs.judged.SameHost.{host_same}
 use Rattle.ep_check_stmt.proofs.valid.Meant.{IsMeant, meant_declared}
@@ -111,6 +111,7 @@ module _ (declared : Declarations) (expressions : ExpressionsAreSound) (values :
   declared_fits d (declaration.Variable kind.File) x = tt
   declared_fits d (declaration.Constant k v) x = tt
   declared_fits d (declaration.«Type» h) x = tt
+  declared_fits d declaration.Procedure x = tt
 
   place_fits : (name : List ℕ) (m : Meant) → IsMeant declared m → Fits (λ t. IsTarget t.kind t.place) (place_named name m)
   place_fits name (Declares d) x = declared_fits d d.what x
@@ -327,15 +328,25 @@ module _ (declared : Declarations) (expressions : ExpressionsAreSound) (values :
   required_fits c is line (required.Function f) arguments = tt
   required_fits c is line (required.Procedure p) arguments = procedure_fits c is line p arguments
 
-  call_fits : (c : Context) → c.scopes ≡ scopes → (line : ℕ) (name : List ℕ) (m : Meant) (arguments : List Argument) → Fits (IfForm (IsStmt declared)) (call_judged c line name m arguments)
-  call_fits c is line name (Declares d) arguments = tt
-  call_fits c is line name (Standard f) arguments = tt
-  call_fits c is line name (Requires r) arguments = required_fits c is line r arguments
-  call_fits c is line name Nothing arguments = tt
+  own_fits : (line : ℕ) (d : Declared) (arguments : List Argument) → IsDeclaration declared d.unit d.number declaration.Procedure → Fits (IfForm (IsStmt declared)) (own_called line d arguments)
+  own_fits line d [] x = (x.0, x.1, x.2, subst (λ fs. AreGiven declared (declared.types d.unit) fs []) (sym x.3) tt)
+  own_fits line d (first ∷ more) x = tt
+
+  declared_call_fits : (line : ℕ) (d : Declared) (what : Declaration) (arguments : List Argument) → IsDeclaration declared d.unit d.number what → Fits (IfForm (IsStmt declared)) (declared_called line d what arguments)
+  declared_call_fits line d declaration.Procedure arguments x = own_fits line d arguments x
+  declared_call_fits line d (declaration.Constant k v) arguments x = tt
+  declared_call_fits line d (declaration.«Type» h) arguments x = tt
+  declared_call_fits line d (declaration.Variable k) arguments x = tt
+
+  call_fits : (c : Context) → c.scopes ≡ scopes → (line : ℕ) (name : List ℕ) (m : Meant) (arguments : List Argument) → IsMeant declared m → Fits (IfForm (IsStmt declared)) (call_judged c line name m arguments)
+  call_fits c is line name (Declares d) arguments x = declared_call_fits line d d.what arguments x
+  call_fits c is line name (Standard f) arguments x = tt
+  call_fits c is line name (Requires r) arguments x = required_fits c is line r arguments
+  call_fits c is line name Nothing arguments x = tt
 
   called_fits : (c : Context) → c.scopes ≡ scopes → (line : ℕ) (name : List ℕ) (arguments : Option (List Argument)) → Fits (IfForm (IsStmt declared)) (name_called c line name arguments)
   called_fits c is line name None = tt
-  called_fits c is line name (Some arguments) = call_fits c is line name (meant c.scopes name) arguments
+  called_fits c is line name (Some arguments) = call_fits c is line name (meant c.scopes name) arguments (subst (λ s. IsMeant declared (meant s name)) (sym is) (meant_declared declared scopes name agrees))
 
   -- ---- statements
 

@@ -22,14 +22,14 @@ use Rattle.ep_check_expr.specs.Laws.{ConstantsAreSound, ConstantsAreKnown}
 use Rattle.ep_check_expr.specs.declared.constants.ConstantForm.{ConstantForm}
 use Rattle.ep_check_stmt.proofs.judged.Fits.{Any, Fits, fits_any, fits_both, fits_is, fits_then}
 use Rattle.ep_check_unit.specs.Declarations.{constant_definition, constant_entered, enumerated, host_denoter, own_thing, scopes_of, unused, with_constant}
-use Rattle.ep_check_unit.specs.declared.block.Block.{Block}
+use Rattle.ep_check_unit.specs.Blocks.{Block}
 use Rattle.ep_check_unit.proofs.valid.Holds.{Holds, Lists, ListsKind, constant_valid, holds_agrees, known_listed, lists_small, things_push}
 use Rattle.ep_check_unit.proofs.valid.Leading.{Grows, Leads, Enters, enters_refl, enters_then, length_push, noted_leads, prefix_length, prefix_more, prefix_refl}
 
 constant_grows : (name : List ℕ) (k : Kind) (v : Value) (b : Block) → Grows b (with_constant name k v b)
-constant_grows name (kind.Ordinal h) v b = record { types = prefix_refl b.types; constants = prefix_more b.constants _; variables = prefix_refl b.variables; waits = λ w. w }
-constant_grows name kind.Text v b = record { types = prefix_refl b.types; constants = prefix_refl b.constants; variables = prefix_refl b.variables; waits = λ w. w }
-constant_grows name kind.File v b = record { types = prefix_refl b.types; constants = prefix_refl b.constants; variables = prefix_refl b.variables; waits = λ w. w }
+constant_grows name (kind.Ordinal h) v b = record { types = prefix_refl b.types; constants = prefix_more b.constants _; variables = prefix_refl b.variables; routines = omega arith; waits = λ w. w }
+constant_grows name kind.Text v b = record { types = prefix_refl b.types; constants = prefix_refl b.constants; variables = prefix_refl b.variables; routines = omega arith; waits = λ w. w }
+constant_grows name kind.File v b = record { types = prefix_refl b.types; constants = prefix_refl b.constants; variables = prefix_refl b.variables; routines = omega arith; waits = λ w. w }
 
 constant_types : (name : List ℕ) (k : Kind) (v : Value) (b : Block) → (with_constant name k v b).types ≡ b.types
 constant_types name (kind.Ordinal h) v b = refl
@@ -41,8 +41,10 @@ module _ (u : TypedUnit) where
   constant_holds : (i : ℕ) (name : List ℕ) (k : Kind) (v : Value) (b : Block) → i ≤ length u.types → IsConstantOf k v → ListsKind u i k → Holds u i b → Holds u i (with_constant name k v b)
   constant_holds i name (kind.Ordinal h) (value.Word z) b le s l x = record {
     unit = x.unit;
-    things = things_push u i b.scope.entries name (own_thing b (length b.constants) (declaration.Constant (kind.Ordinal h) (value.Word z))) x.things (x.unit, (s, l));
+    things = things_push u i b.scopes.inner.entries name (own_thing b (length b.constants) (declaration.Constant (kind.Ordinal h) (value.Word z))) x.things (x.unit, (s, l));
     plain = x.plain;
+    outer = x.outer;
+    routines = x.routines;
     types = x.types;
     constants = All-push (IsConstant u.types) b.constants (record { name = name; denoter = host_denoter h; value = value.Word z }) x.constants (constant_valid u i name h z le l s.1);
     variables = x.variables;
@@ -51,8 +53,10 @@ module _ (u : TypedUnit) where
   constant_holds i name kind.Text (value.Word z) b le s l x = absurd s
   constant_holds i name kind.Text (value.Text bytes) b le s l x = record {
     unit = x.unit;
-    things = things_push u i b.scope.entries name (own_thing b (length b.constants) (declaration.Constant kind.Text (value.Text bytes))) x.things (x.unit, (s, l));
+    things = things_push u i b.scopes.inner.entries name (own_thing b (length b.constants) (declaration.Constant kind.Text (value.Text bytes))) x.things (x.unit, (s, l));
     plain = x.plain;
+    outer = x.outer;
+    routines = x.routines;
     types = x.types;
     constants = x.constants;
     variables = x.variables;

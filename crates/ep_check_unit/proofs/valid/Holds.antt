@@ -1,12 +1,12 @@
 -- What a unit holds of the declarations of a block: each name stands for what the unit has under its number, and what stands in the block's lists is valid in the unit.
-use Rattle.std.proofs.Common.{◌≡◌, ℕ, ℤ, suc, ◌<◌, ◌≤◌, true, List, [], ◌∷◌, ◌++◌, map, length, Some, None, slice_get, bytes_eq, IsTrue, inl, inr, refl, sym, ap, ◌∙◌, subst, arith}
+use Rattle.std.proofs.Common.{◌≡◌, ℕ, ℤ, zero, suc, ◌<◌, ◌≤◌, true, List, [], ◌∷◌, ◌++◌, map, length, Some, None, slice_get, bytes_eq, IsTrue, inl, inr, refl, sym, ap, ◌∙◌, subst, arith}
 use Rattle.std.proofs.lemmas.Slice.Eq.{bytes_eq-Decides}
 use Rattle.std.specs.Prelude.{All, ⊤, if◌then◌else◌}
 use Rattle.ep_typed.specs.Denoters.{definition_of, host_of}
 use Rattle.ep_typed.specs.Hosts as typed
 use Rattle.ep_typed.specs.Hosts.{is_of_host}
 use Rattle.ep_typed.specs.Trees as tree
-use Rattle.ep_typed.specs.Valid.{IsType, IsConstant, IsVariable, IsPlace, own}
+use Rattle.ep_typed.specs.Valid.{IsType, IsConstant, IsVariable, IsPlace, IsProcedure, IsStmt, heading_of, in_routine, own}
 use Rattle.ep_typed.specs.Viewed.{bound_of, denoter_of, denoter_step}
 use Rattle.ep_typed.specs.declared.denoter.Bound.{Bound}
 use Rattle.ep_typed.specs.declared.denoter.Denoter.{Denoter}
@@ -16,11 +16,12 @@ use Rattle.ep_typed.specs.declared.denoter.Denoter.TheFolds.{fold-roll-Denoter}
 use Rattle.ep_typed.specs.declared.denoter.RequiredType.{RequiredType}
 use Rattle.ep_typed.specs.declared.denoter.RequiredType.TheVariants as simple
 use Rattle.ep_typed.specs.declared.unit.Unit.{Unit as TypedUnit}
+use Rattle.ep_typed.specs.declared.unit.UnitRoutine.{UnitRoutine}
 use Rattle.ep_typed.specs.declared.unit.UnitType.{UnitType}
 use Rattle.ep_typed.specs.declared.unit.UnitVariable.{UnitVariable}
 use Rattle.ep_typed.specs.declared.value.TypeValue.{TypeValue}
 use Rattle.ep_typed.specs.declared.value.Value.TheVariants as value
-use Rattle.ep_scope.specs.Scopes.{Entries}
+use Rattle.ep_scope.specs.Scopes.{Entries, Region}
 use Rattle.ep_scope.specs.declared.kind.Enumeration.{Enumeration}
 use Rattle.ep_scope.specs.declared.kind.Host.{Host}
 use Rattle.ep_scope.specs.declared.kind.Host.TheVariants as host
@@ -32,9 +33,9 @@ use Rattle.ep_scope.specs.declared.thing.Thing.{Thing}
 use Rattle.ep_scope.specs.declared.thing.Thing.TheVariants as thing
 use Rattle.ep_check_expr.specs.Agreement.{IsHost, IsConstantOf, IsDeclaration, IsThing, AreThings, AreInterfaces, Agrees}
 use Rattle.ep_check_expr.specs.Hosts.{typed_host}
-use Rattle.ep_check_expr.specs.Origins.{IsKnownHost, IsKnownKind, IsRequiredHost, HasHost, DeclaresHost, ThingHasHost, EntriesHaveHost, InterfacesHaveHost}
+use Rattle.ep_check_expr.specs.Origins.{IsKnownHost, IsKnownKind, IsRequiredHost, HasHost, DeclaresHost, ThingHasHost, EntriesHaveHost, InterfacesHaveHost, ScopesHaveHost}
 use Rattle.ep_check_unit.specs.Declarations.{host_denoter, scopes_of}
-use Rattle.ep_check_unit.specs.declared.block.Block.{Block}
+use Rattle.ep_check_unit.specs.Blocks.{Block, RoutineForm}
 use Rattle.ep_check_unit.proofs.valid.Denoting.{Denotes, IsSmall, full_type, denotes_more, denotes_required, denotes_named, denotes_enumeration, denotes_valid}
 
 -- ---- denoters as plain data
@@ -140,12 +141,20 @@ module _ (u : TypedUnit) where
     pub at : slice_get u.variables number ≡ Some variable
     pub denotes : HasHostHere i (denoter_of variable.denoter) h
 
+  -- the routine of this number is a procedure without parameters
+  pub record HoldsProcedure (number : ℕ) : Type 0 where
+    pub routine : UnitRoutine
+    pub at : slice_get u.routines number ≡ Some routine
+    pub is_procedure : IsProcedure (heading_of routine)
+    pub no_formals : (heading_of routine).formals ≡ []
+
   abbrev pub HoldsDeclaration : ℕ → ℕ → Declaration → Type 0
   HoldsDeclaration i number (declaration.Constant k v) = IsConstantOf k v × ListsKind i k
   HoldsDeclaration i number (declaration.«Type» h) = HoldsType i number h
   HoldsDeclaration i number (declaration.Variable (kind.Ordinal h)) = HoldsVariable i number h
   HoldsDeclaration i number (declaration.Variable kind.Text) = ⊥
   HoldsDeclaration i number (declaration.Variable kind.File) = ⊥
+  HoldsDeclaration i number declaration.Procedure = HoldsProcedure number
 
   abbrev pub HoldsThing : ℕ → Thing → Type 0
   HoldsThing i (thing.Declared d) = (d.unit ≡ u.name) × HoldsDeclaration i d.number d.what
@@ -155,14 +164,25 @@ module _ (u : TypedUnit) where
   HoldsThings i [] = ⊤
   HoldsThings i (e ∷ es) = HoldsThing i e.1 × HoldsThings i es
 
+  -- the names of scopes; a block has no interface
+  abbrev pub HoldsScopes : ℕ → List Region → Type 0
+  HoldsScopes i [] = ⊤
+  HoldsScopes i (r ∷ rs) = HoldsThings i r.entries × (r.qualified ≡ []) × HoldsScopes i rs
+
+  -- what a routine does is valid, which has no variables of its own
+  abbrev pub HoldsRoutine : RoutineForm → Type 0
+  HoldsRoutine r = IsStmt (in_routine [] u.types (own u)) r.block
+
   -- the block's names and lists, where its types are the first i ones of the unit
   pub record Holds (i : ℕ) (b : Block) : Type 0 where
     pub unit : b.unit ≡ u.name
-    pub things : HoldsThings i b.scope.entries
-    pub plain : b.scope.qualified ≡ []
+    pub things : HoldsThings i b.scopes.inner.entries
+    pub plain : b.scopes.inner.qualified ≡ []
+    pub outer : HoldsScopes i b.scopes.outer
     pub types : All (IsType u.types) b.types
     pub constants : All (IsConstant u.types) b.constants
     pub variables : All (IsVariable u.types) b.variables
+    pub routines : All HoldsRoutine b.routines
 
   -- ---- among more types
 
@@ -180,6 +200,7 @@ module _ (u : TypedUnit) where
   declaration_more i j number (declaration.Variable (kind.Ordinal h)) le x = record { lists = lists_more i j h le x.lists; variable = x.variable; at = x.at; denotes = has_host_more i j (denoter_of x.variable.denoter) h le x.denotes }
   declaration_more i j number (declaration.Variable kind.Text) le x = x
   declaration_more i j number (declaration.Variable kind.File) le x = x
+  declaration_more i j number declaration.Procedure le x = x
 
   thing_more : (i j : ℕ) (t : Thing) → i ≤ j → HoldsThing i t → HoldsThing j t
   thing_more i j (thing.Declared d) le x = (x.0, declaration_more i j d.number d.what le x.1)
@@ -189,8 +210,12 @@ module _ (u : TypedUnit) where
   things_more i j [] le x = tt
   things_more i j (e ∷ es) le x = (thing_more i j e.1 le x.0, things_more i j es le x.1)
 
+  scopes_more : (i j : ℕ) (rs : List Region) → i ≤ j → HoldsScopes i rs → HoldsScopes j rs
+  scopes_more i j [] le x = tt
+  scopes_more i j (r ∷ rs) le x = (things_more i j r.entries le x.0, x.1, scopes_more i j rs le x.2)
+
   pub holds_more : (i j : ℕ) (b : Block) → i ≤ j → Holds i b → Holds j b
-  holds_more i j b le x = record { unit = x.unit; things = things_more i j b.scope.entries le x.things; plain = x.plain; types = x.types; constants = x.constants; variables = x.variables }
+  holds_more i j b le x = record { unit = x.unit; things = things_more i j b.scopes.inner.entries le x.things; plain = x.plain; outer = scopes_more i j b.scopes.outer le x.outer; routines = x.routines; types = x.types; constants = x.constants; variables = x.variables }
 
   -- one thing more
   pub things_push : (i : ℕ) (es : Entries) (name : List ℕ) (t : Thing) → HoldsThings i es → HoldsThing i t → HoldsThings i (es ++ (name, t) ∷ [])
@@ -210,12 +235,22 @@ module _ (u : TypedUnit) where
   variable_place i number unit h le e x =
       (x.variable, variables_own unit number e ∙ x.at, ap (λ ts. host_of ts (denoter_of x.variable.denoter)) (types_own unit e) ∙ x.denotes.1.has_host (suc (length u.types)) (omega (arith, le)))
 
+  routine_at : (rs : List UnitRoutine) (number : ℕ) (r : UnitRoutine) → slice_get rs number ≡ Some r → slice_get (map heading_of rs) number ≡ Some (heading_of r)
+  routine_at [] number r h = cc
+  routine_at (x ∷ xs) zero r h = cc
+  routine_at (x ∷ xs) (suc n) r h = routine_at xs n r h
+
+  routines_own : (unit : List ℕ) → unit ≡ u.name → (own u).routines unit ≡ map heading_of u.routines
+  routines_own unit e = ap (λ b. if b then map heading_of u.routines else []) (name_same u.name unit (sym e))
+
   declared_holds : (i number : ℕ) (unit : List ℕ) (d : Declaration) → i ≤ length u.types → unit ≡ u.name → HoldsDeclaration i number d → IsDeclaration (own u) unit number d
   declared_holds i number unit (declaration.Constant k v) le e x = x.0
   declared_holds i number unit (declaration.«Type» h) le e x = lists_small i h x.lists
   declared_holds i number unit (declaration.Variable (kind.Ordinal h)) le e x = (lists_small i h x.lists, variable_place i number unit h le e x)
   declared_holds i number unit (declaration.Variable kind.Text) le e x = absurd x
   declared_holds i number unit (declaration.Variable kind.File) le e x = absurd x
+  declared_holds i number unit declaration.Procedure le e x =
+      (heading_of x.routine, ap (λ rs. slice_get rs number) (routines_own unit e) ∙ routine_at u.routines number x.routine x.at, x.is_procedure, x.no_formals)
 
   thing_holds : (i : ℕ) (t : Thing) → i ≤ length u.types → HoldsThing i t → IsThing (own u) t
   thing_holds i (thing.Declared d) le x = declared_holds i d.number d.unit d.what le x.0 x.1
@@ -225,9 +260,43 @@ module _ (u : TypedUnit) where
   things_hold i [] le x = tt
   things_hold i (e ∷ es) le x = (thing_holds i e.1 le x.0, things_hold i es le x.1)
 
-  -- so the scope agrees with them
+  scopes_hold : (i : ℕ) (rs : List Region) → i ≤ length u.types → HoldsScopes i rs → Agrees (own u) rs
+  scopes_hold i [] le x = tt
+  scopes_hold i (r ∷ rs) le x = (things_hold i r.entries le x.0, subst (AreInterfaces (own u)) (sym x.1) tt, scopes_hold i rs le x.2)
+
+  -- the scopes in view
+  pub holds_scopes : (i : ℕ) (b : Block) → Holds i b → HoldsScopes i (scopes_of b)
+  holds_scopes i b x = (x.things, x.plain, x.outer)
+
+  -- so the scopes agree with them
   pub holds_agrees : (i : ℕ) (b : Block) → i ≤ length u.types → Holds i b → Agrees (own u) (scopes_of b)
-  holds_agrees i b le x = (things_hold i b.scope.entries le x.things, subst (AreInterfaces (own u)) (sym x.plain) tt, tt)
+  holds_agrees i b le x = scopes_hold i (scopes_of b) le (holds_scopes i b x)
+
+  -- ---- and in the block of a routine they do
+
+  thing_inside : (vs : List UnitVariable) (ts : List UnitType) (t : Thing) → IsThing (own u) t → IsThing (in_routine vs ts (own u)) t
+  thing_inside vs ts (thing.Declared d) x = declared_inside d.unit d.number d.what x
+    where
+      declared_inside : (unit : List ℕ) (number : ℕ) (what : Declaration) → IsDeclaration (own u) unit number what → IsDeclaration (in_routine vs ts (own u)) unit number what
+      declared_inside unit number (declaration.Constant k v) x = x
+      declared_inside unit number (declaration.«Type» h) x = x
+      declared_inside unit number (declaration.Variable (kind.Ordinal h)) x = x
+      declared_inside unit number (declaration.Variable kind.Text) x = x
+      declared_inside unit number (declaration.Variable kind.File) x = x
+      declared_inside unit number declaration.Procedure x = x
+  thing_inside vs ts (thing.Standard file) x = tt
+
+  things_inside : (vs : List UnitVariable) (ts : List UnitType) (es : Entries) → AreThings (own u) es → AreThings (in_routine vs ts (own u)) es
+  things_inside vs ts [] x = tt
+  things_inside vs ts (e ∷ es) x = (thing_inside vs ts e.1 x.0, things_inside vs ts es x.1)
+
+  interfaces_inside : (vs : List UnitVariable) (ts : List UnitType) (es : List (List ℕ × Entries)) → AreInterfaces (own u) es → AreInterfaces (in_routine vs ts (own u)) es
+  interfaces_inside vs ts [] x = tt
+  interfaces_inside vs ts (e ∷ es) x = (things_inside vs ts e.1 x.0, interfaces_inside vs ts es x.1)
+
+  pub agrees_inside : (vs : List UnitVariable) (ts : List UnitType) (rs : List Region) → Agrees (own u) rs → Agrees (in_routine vs ts (own u)) rs
+  agrees_inside vs ts [] x = tt
+  agrees_inside vs ts (r ∷ rs) x = (things_inside vs ts r.entries x.0, interfaces_inside vs ts r.qualified x.1, agrees_inside vs ts rs x.2)
 
   -- ---- hosts that are known are listed
 
@@ -248,6 +317,7 @@ module _ (u : TypedUnit) where
   declaration_listed i number (declaration.Variable (kind.Ordinal g)) h x e = subst (Lists i) e x.lists
   declaration_listed i number (declaration.Variable kind.Text) h x e = absurd x
   declaration_listed i number (declaration.Variable kind.File) h x e = absurd x
+  declaration_listed i number declaration.Procedure h x e = absurd e
 
   thing_listed : (i : ℕ) (t : Thing) (h : Host) → HoldsThing i t → ThingHasHost t h → Lists i h
   thing_listed i (thing.Declared d) h x e = declaration_listed i d.number d.what h x.1 e
@@ -258,11 +328,15 @@ module _ (u : TypedUnit) where
   things_listed i (f ∷ es) h x (inl e) = thing_listed i f.1 h x.0 e
   things_listed i (f ∷ es) h x (inr e) = things_listed i es h x.1 e
 
+  scopes_listed : (i : ℕ) (rs : List Region) (h : Host) → HoldsScopes i rs → ScopesHaveHost rs h → Lists i h
+  scopes_listed i [] h x e = absurd e
+  scopes_listed i (r ∷ rs) h x (inl e) = things_listed i r.entries h x.0 e
+  scopes_listed i (r ∷ rs) h x (inr (inl e)) = absurd (subst (λ q. InterfacesHaveHost q h) x.1 e)
+  scopes_listed i (r ∷ rs) h x (inr (inr e)) = scopes_listed i rs h x.2 e
+
   host_listed : (i : ℕ) (b : Block) (h : Host) → Holds i b → IsKnownHost (scopes_of b) h → Lists i h
   host_listed i b h x (inl r) = required_listed i h r
-  host_listed i b h x (inr (inl e)) = things_listed i b.scope.entries h x.things e
-  host_listed i b h x (inr (inr (inl e))) = absurd (subst (λ q. InterfacesHaveHost q h) x.plain e)
-  host_listed i b h x (inr (inr (inr e))) = absurd e
+  host_listed i b h x (inr e) = scopes_listed i (scopes_of b) h (holds_scopes i b x) e
 
   -- the kind of an expression in the block
   pub known_listed : (i : ℕ) (b : Block) (k : Kind) → Holds i b → IsKnownKind (scopes_of b) k → ListsKind i k

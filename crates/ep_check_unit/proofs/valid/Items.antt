@@ -1,12 +1,10 @@
--- Items lead from one block to the next: definitions, declarations, parts of a block and program parameters.
+-- Items lead from one block to the next: definitions, variable declarations and program parameters.
 use Rattle.std.proofs.Common.{◌≡◌, ℕ, suc, ◌≤◌, false, List, [], ◌∷◌, ◌++◌, length, Option, Some, None, slice_get, refl, sym, ap, ◌∙◌, subst, arith}
 use Rattle.std.proofs.lemmas.List.Elements.{All-push}
 use Rattle.std.specs.Prelude.{⊤}
 use Rattle.ep_tree.specs.declared.declaration.ConstantDefinition.{ConstantDefinition}
 use Rattle.ep_tree.specs.declared.declaration.TypeDefinition.{TypeDefinition}
 use Rattle.ep_tree.specs.declared.declaration.VariableDeclaration.{VariableDeclaration}
-use Rattle.ep_tree.specs.declared.routine.Part.TheOpen.{Part-F}
-use Rattle.ep_tree.specs.declared.routine.Part.{Part, out-Part}
 use Rattle.ep_tree.specs.declared.types.Core.TheOpen.{Core-F}
 use Rattle.ep_tree.specs.declared.types.Core.{out-Core}
 use Rattle.ep_typed.specs.Operations.{maxint}
@@ -26,9 +24,9 @@ use Rattle.ep_check_expr.specs.Hosts.{typed_host}
 use Rattle.ep_check_expr.specs.Judgements.{Judged, Accepts, Breaks}
 use Rattle.ep_check_expr.specs.Laws.{BoundsAreKnown, BoundsAreSound, ConstantsAreKnown, ConstantsAreSound}
 use Rattle.ep_check_stmt.proofs.judged.Fits.{Any, Fits, fits_any, fits_then}
-use Rattle.ep_check_unit.specs.Declarations.{Standing, Stands, Falls, Written, all_variables_declared, and_then, at_line, constant_definition, constants_declared, core_of, core_written, declaration_ended, own_thing, part_declared, parts_declared, settled, settled_type, type_definition, type_definitions, type_entered, type_written, unused, variable_declaration, variable_entered, variables_declared, variables_entered, with_name, with_type, with_variable}
+use Rattle.ep_check_unit.specs.Declarations.{Standing, Stands, Falls, Written, all_variables_declared, and_then, at_line, constant_definition, constants_declared, core_of, core_written, declaration_ended, own_thing, settled, settled_type, type_definition, type_definitions, type_entered, type_written, unused, variable_declaration, variable_entered, variables_declared, variables_entered, with_name, with_type, with_variable}
 use Rattle.ep_check_unit.specs.Units.{parameter_entered, parameters_entered, standard_file}
-use Rattle.ep_check_unit.specs.declared.block.Block.{Block}
+use Rattle.ep_check_unit.specs.Blocks.{Block}
 use Rattle.ep_check_unit.proofs.valid.Constants.{constant_definition-leads}
 use Rattle.ep_check_unit.proofs.valid.Denoting.{Denotes, denotes_named, denotes_valid}
 use Rattle.ep_check_unit.proofs.valid.Holds.{HasHostHere, Holds, Lists, named_is, things_push}
@@ -70,7 +68,7 @@ module _ (u : TypedUnit) where
   with_entry_of name line w = record { denoter = denoter.Named (length w.block.types) []; host = w.host; block = with_type name line w.denoter w.block }
 
   type_grows : (name : Option (List ℕ)) (line : ℕ) (d : Denoter) (b : Block) → Grows b (with_type name line d b)
-  type_grows name line d b = record { types = prefix_more b.types _; constants = prefix_refl b.constants; variables = prefix_refl b.variables; waits = λ w. w }
+  type_grows name line d b = record { types = prefix_more b.types _; constants = prefix_refl b.constants; variables = prefix_refl b.variables; routines = omega arith; waits = λ w. w }
 
   pub written_settles : (name : Option (List ℕ)) (line : ℕ) (b : Block) (w : Written) → Writes u b w → Settles b (with_entry_of name line w)
   written_settles name line b w wr = record {
@@ -88,6 +86,8 @@ module _ (u : TypedUnit) where
           unit = y.block.unit;
           things = y.block.things;
           plain = y.block.plain;
+          outer = y.block.outer;
+          routines = y.block.routines;
           types = All-push (IsType u.types) w.block.types entry y.block.types (record { formals = refl; denoter = denotes_valid u.types i (denoter_of w.denoter) (typed_host w.host) y.denotes.0 (omega (arith, le)) y.denotes.1 });
           constants = y.block.constants;
           variables = y.block.variables;
@@ -111,9 +111,9 @@ module _ (u : TypedUnit) where
       let t = own_thing w.block (length w.block.types) (declaration.«Type» w.host) in
       fits_then Any (Leads u b) (λ _. Accepts (with_name d.name t c)) (unused d.name c) (fits_any (unused d.name c))
       (λ a k. record {
-        grows = grows_trans b c (with_name d.name t c) s.grows (record { types = prefix_refl c.types; constants = prefix_refl c.constants; variables = prefix_refl c.variables; waits = λ free. free });
+        grows = grows_trans b c (with_name d.name t c) s.grows (record { types = prefix_refl c.types; constants = prefix_refl c.constants; variables = prefix_refl c.variables; routines = omega arith; waits = λ free. free });
         holds = λ ext free x.
-            let y = s.holds (record { types = ext.types; constants = ext.constants; variables = ext.variables }) free x in
+            let y = s.holds (record { types = ext.types; constants = ext.constants; variables = ext.variables; routines = ext.routines }) free x in
             named_holds u (length c.types) d.name t c (
               y.block.unit,
               record {
@@ -131,15 +131,15 @@ module _ (u : TypedUnit) where
   LeadsOn b (Stands c) = Leads u b c
   LeadsOn b (Falls line rules) = ⊤
 
-  line_leads : (b : Block) (line : ℕ) (j : Judged Block) → Fits (Leads u b) j → LeadsOn b (at_line line j)
+  pub line_leads : (b : Block) (line : ℕ) (j : Judged Block) → Fits (Leads u b) j → LeadsOn b (at_line line j)
   line_leads b line (Accepts c) h = h
   line_leads b line (Breaks rules) h = tt
 
-  further : (b c : Block) (s : Standing) → Leads u b c → LeadsOn c s → LeadsOn b s
+  pub further : (b c : Block) (s : Standing) → Leads u b c → LeadsOn c s → LeadsOn b s
   further b c (Stands d) p q = leads_trans u b c d p q
   further b c (Falls line rules) p q = tt
 
-  then_leads : (b : Block) (more : Block → Standing) (s : Standing) → LeadsOn b s → ((c : Block) → LeadsOn c (more c)) → LeadsOn b (and_then more s)
+  pub then_leads : (b : Block) (more : Block → Standing) (s : Standing) → LeadsOn b s → ((c : Block) → LeadsOn c (more c)) → LeadsOn b (and_then more s)
   then_leads b more (Stands c) h g = further b c (more c) h (g c)
   then_leads b more (Falls line rules) h g = tt
 
@@ -148,7 +148,7 @@ module _ (u : TypedUnit) where
     type_definition-leads line d b =
         fits_then (Writes u b) (Leads u b) (type_entered d) (type_written line d.of b) (core_written-writes u few bounds bound_hosts line (out-Core (core_of d.of)) b) (λ w wr. definition_leads d b w wr)
 
-    type_definitions-leads : (line : ℕ) (ds : List TypeDefinition) (b : Block) → Fits (Leads u b) (type_definitions line ds b)
+    pub type_definitions-leads : (line : ℕ) (ds : List TypeDefinition) (b : Block) → Fits (Leads u b) (type_definitions line ds b)
     type_definitions-leads line [] b = leads_refl u b
     type_definitions-leads line (d ∷ ds) b = leads_then u b (type_definitions line ds) (type_definition line d b) (type_definition-leads line d b) (λ c. type_definitions-leads line ds c)
 
@@ -196,12 +196,14 @@ module _ (u : TypedUnit) where
         let v = new_variable line d name b in
         fits_then Any (Enters u (IsStanding i d h) i b) (λ _. Accepts (with_variable line d h name b)) (unused name b) (fits_any (unused name b))
         (λ a k. record {
-          grows = record { types = prefix_refl b.types; constants = prefix_refl b.constants; variables = prefix_more b.variables (v ∷ []); waits = λ free. free };
+          grows = record { types = prefix_refl b.types; constants = prefix_refl b.constants; variables = prefix_more b.variables (v ∷ []); routines = omega arith; waits = λ free. free };
           same = refl;
           holds = λ p ext x. record {
             unit = x.unit;
-            things = things_push u i b.scope.entries name t x.things (x.unit, record { lists = p.2; variable = v; at = prefix_last b.variables v u.variables ext.variables; denotes = p.1 });
+            things = things_push u i b.scopes.inner.entries name t x.things (x.unit, record { lists = p.2; variable = v; at = prefix_last b.variables v u.variables ext.variables; denotes = p.1 });
             plain = x.plain;
+            outer = x.outer;
+            routines = x.routines;
             types = x.types;
             constants = x.constants;
             variables = All-push (IsVariable u.types) b.variables v x.variables (record { denoter = denotes_valid u.types i (denoter_of d) (typed_host h) p.1.0 p.0 p.1.1; tuple = refl });
@@ -215,14 +217,14 @@ module _ (u : TypedUnit) where
 
     ended_leads : (b c : Block) (w : Written) → Settles b w → Enters u (IsStanding (length w.block.types) w.denoter w.host) (length w.block.types) w.block c → Leads u b (declaration_ended c)
     ended_leads b c w s e = record {
-      grows = grows_trans b w.block (declaration_ended c) s.grows (record { types = e.grows.types; constants = e.grows.constants; variables = e.grows.variables; waits = e.grows.waits });
+      grows = grows_trans b w.block (declaration_ended c) s.grows (record { types = e.grows.types; constants = e.grows.constants; variables = e.grows.variables; routines = e.grows.routines; waits = e.grows.waits });
       holds = λ ext free x.
-          let there : Extends u c = record { types = ext.types; constants = ext.constants; variables = ext.variables } in
+          let there : Extends u c = record { types = ext.types; constants = ext.constants; variables = ext.variables; routines = ext.routines } in
           let before : Extends u w.block = extends_before u w.block c e.grows there in
           let y = s.holds before (e.grows.waits free) x in
           let z : Holds u (length w.block.types) c = e.holds (prefix_length w.block.types u.types before.types, y.denotes, y.lists) there y.block in
           let count : length c.types ≡ length w.block.types = ap length e.same in
-          subst (λ n. Holds u n (declaration_ended c)) (sym count) (record { unit = z.unit; things = z.things; plain = z.plain; types = z.types; constants = z.constants; variables = z.variables });
+          subst (λ n. Holds u n (declaration_ended c)) (sym count) (record { unit = z.unit; things = z.things; plain = z.plain; outer = z.outer; routines = z.routines; types = z.types; constants = z.constants; variables = z.variables });
     }
 
     variable_declaration-leads : (d : VariableDeclaration) (b : Block) → Fits (Leads u b) (variable_declaration d b)
@@ -233,24 +235,14 @@ module _ (u : TypedUnit) where
 
     -- ---- parts of a block
 
-    variables_lead : (ds : List VariableDeclaration) (b : Block) → LeadsOn b (all_variables_declared ds b)
+    pub variables_lead : (ds : List VariableDeclaration) (b : Block) → LeadsOn b (all_variables_declared ds b)
     variables_lead [] b = leads_refl u b
     variables_lead (d ∷ ds) b = then_leads b (all_variables_declared ds) (at_line d.line (variable_declaration d b)) (line_leads b d.line (variable_declaration d b) (variable_declaration-leads d b)) (λ c. variables_lead ds c)
 
     module _ (constants : ConstantsAreSound) (constant_hosts : ConstantsAreKnown) where
-      constants_lead : (ds : List ConstantDefinition) (b : Block) → LeadsOn b (constants_declared ds b)
+      pub constants_lead : (ds : List ConstantDefinition) (b : Block) → LeadsOn b (constants_declared ds b)
       constants_lead [] b = leads_refl u b
       constants_lead (d ∷ ds) b = then_leads b (constants_declared ds) (at_line d.line (constant_definition d b)) (line_leads b d.line (constant_definition d b) (constant_definition-leads u constants constant_hosts d b)) (λ c. constants_lead ds c)
-
-      part_leads : {A B C : Type 0} (p : Part-F A B C) (b : Block) → LeadsOn b (part_declared p b)
-      part_leads (Part-F.Constants c) b = constants_lead c.definitions b
-      part_leads (Part-F.Types t) b = line_leads b t.line (type_definitions t.line t.definitions b) (type_definitions-leads t.line t.definitions b)
-      part_leads (Part-F.Variables v) b = variables_lead v.declarations b
-      part_leads (Part-F.Routine r) b = tt
-
-      pub parts_lead : (ps : List Part) (b : Block) → LeadsOn b (parts_declared ps b)
-      parts_lead [] b = leads_refl u b
-      parts_lead (p ∷ ps) b = then_leads b (parts_declared ps) (part_declared (out-Part p) b) (part_leads (out-Part p) b) (λ c. parts_lead ps c)
 
   -- ---- parameters of a program
 

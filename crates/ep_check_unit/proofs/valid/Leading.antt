@@ -8,7 +8,7 @@ use Rattle.ep_scope.specs.declared.thing.Thing.{Thing}
 use Rattle.ep_check_expr.specs.Judgements.{Judged, Accepts, Breaks, when_accepted}
 use Rattle.ep_check_stmt.proofs.judged.Fits.{Any, Fits, fits_any, fits_then}
 use Rattle.ep_check_unit.specs.Declarations.{entered, noted, unused, with_name}
-use Rattle.ep_check_unit.specs.declared.block.Block.{Block}
+use Rattle.ep_check_unit.specs.Blocks.{Block}
 use Rattle.ep_check_unit.proofs.valid.Holds.{Holds, HoldsThing, things_push}
 
 -- ---- lists that grow
@@ -45,16 +45,18 @@ pub record Grows (b c : Block) : Type 0 where
   pub types : IsPrefix b.types c.types
   pub constants : IsPrefix b.constants c.constants
   pub variables : IsPrefix b.variables c.variables
+  pub routines : length b.routines ≤ length c.routines
   pub waits : c.waits ≡ None → b.waits ≡ None
 
 pub grows_refl : (b : Block) → Grows b b
-grows_refl b = record { types = prefix_refl b.types; constants = prefix_refl b.constants; variables = prefix_refl b.variables; waits = λ w. w }
+grows_refl b = record { types = prefix_refl b.types; constants = prefix_refl b.constants; variables = prefix_refl b.variables; routines = omega arith; waits = λ w. w }
 
 pub grows_trans : (b c d : Block) → Grows b c → Grows c d → Grows b d
 grows_trans b c d p q = record {
   types = prefix_trans b.types c.types d.types p.types q.types;
   constants = prefix_trans b.constants c.constants d.constants p.constants q.constants;
   variables = prefix_trans b.variables c.variables d.variables p.variables q.variables;
+  routines = omega (arith, p.routines, q.routines);
   waits = λ w. p.waits (q.waits w);
 }
 
@@ -69,6 +71,7 @@ module _ (u : TypedUnit) where
     pub types : IsPrefix c.types u.types
     pub constants : IsPrefix c.constants u.constants
     pub variables : IsPrefix c.variables u.variables
+    pub routines : length c.routines ≤ length u.routines
 
   -- so it has what was in them before
   pub extends_before : (b c : Block) → Grows b c → Extends c → Extends b
@@ -76,6 +79,7 @@ module _ (u : TypedUnit) where
     types = prefix_trans b.types c.types u.types g.types e.types;
     constants = prefix_trans b.constants c.constants u.constants g.constants e.constants;
     variables = prefix_trans b.variables c.variables u.variables g.variables e.variables;
+    routines = omega (arith, g.routines, e.routines);
   }
 
   -- ---- whole declarations
@@ -93,7 +97,7 @@ module _ (u : TypedUnit) where
     holds = λ e w h. q.holds e w (p.holds (extends_before c d q.grows e) (q.grows.waits w) h);
   }
 
-  leads_on : (b c : Block) (j : Judged Block) → Leads b c → Fits (Leads c) j → Fits (Leads b) j
+  pub leads_on : (b c : Block) (j : Judged Block) → Leads b c → Fits (Leads c) j → Fits (Leads b) j
   leads_on b c (Accepts d) p q = leads_trans b c d p q
   leads_on b c (Breaks rules) p q = tt
 
@@ -105,16 +109,16 @@ module _ (u : TypedUnit) where
   pub noted_leads : (built : Bool) (line : ℕ) (b c : Block) → (built ≡ true → Leads b c) → Grows b c → Leads b (noted built line c)
   noted_leads true line b c h g = h refl
   noted_leads false line b c h g = record {
-    grows = record { types = g.types; constants = g.constants; variables = g.variables; waits = λ w. absurd (waits_some c.waits line w) };
+    grows = record { types = g.types; constants = g.constants; variables = g.variables; routines = g.routines; waits = λ w. absurd (waits_some c.waits line w) };
     holds = λ e w x. absurd (waits_some c.waits line w);
   }
 
   named_grows : (name : List ℕ) (t : Thing) (b : Block) → Grows b (with_name name t b)
-  named_grows name t b = record { types = prefix_refl b.types; constants = prefix_refl b.constants; variables = prefix_refl b.variables; waits = λ w. w }
+  named_grows name t b = record { types = prefix_refl b.types; constants = prefix_refl b.constants; variables = prefix_refl b.variables; routines = omega arith; waits = λ w. w }
 
   -- a name for something that the unit holds
   pub named_holds : (i : ℕ) (name : List ℕ) (t : Thing) (b : Block) → HoldsThing u i t → Holds u i b → Holds u i (with_name name t b)
-  named_holds i name t b h x = record { unit = x.unit; things = things_push u i b.scope.entries name t x.things h; plain = x.plain; types = x.types; constants = x.constants; variables = x.variables }
+  named_holds i name t b h x = record { unit = x.unit; things = things_push u i b.scopes.inner.entries name t x.things h; plain = x.plain; outer = x.outer; routines = x.routines; types = x.types; constants = x.constants; variables = x.variables }
 
   pub entered_leads : (name : List ℕ) (t : Thing) (b : Block) → (Extends b → Holds u (length b.types) b → HoldsThing u (length b.types) t) → Fits (Leads b) (entered name t b)
   entered_leads name t b h =

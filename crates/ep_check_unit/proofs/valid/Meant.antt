@@ -4,13 +4,13 @@ use Rattle.std.specs.Prelude.{⊤, if◌then◌else◌}
 use Rattle.std.specs.Str.{bytes_eq}
 use Rattle.ep_typed.specs.declared.unit.Unit.{Unit as TypedUnit}
 use Rattle.ep_scope.specs.Required.{look_up, required_of}
-use Rattle.ep_scope.specs.Scopes.{Entries, Meant, Declares, Standard, Requires, Nothing, as_required, as_thing, look_up_if, meant, meant_in, or_outside, unless_hidden}
+use Rattle.ep_scope.specs.Scopes.{Entries, Region, Meant, Declares, Standard, Requires, Nothing, as_required, as_thing, look_up_if, meant, meant_in, or_outside, unless_hidden}
 use Rattle.ep_scope.specs.declared.required.Required.{Required}
 use Rattle.ep_scope.specs.declared.thing.Thing.{Thing}
 use Rattle.ep_scope.specs.declared.thing.Thing.TheVariants as thing
 use Rattle.ep_check_unit.specs.Declarations.{scopes_of}
-use Rattle.ep_check_unit.specs.declared.block.Block.{Block}
-use Rattle.ep_check_unit.proofs.valid.Holds.{Holds, HoldsDeclaration, HoldsThing, HoldsThings}
+use Rattle.ep_check_unit.specs.Blocks.{Block}
+use Rattle.ep_check_unit.proofs.valid.Holds.{Holds, HoldsDeclaration, HoldsScopes, HoldsThing, HoldsThings, holds_scopes}
 
 module _ (u : TypedUnit) (i : ℕ) where
   -- what is meant is held
@@ -44,16 +44,24 @@ module _ (u : TypedUnit) (i : ℕ) where
   outside_meant None m h g = g
   outside_meant (Some t) m h g = thing_meant t h
 
+  scopes_meant : (rs : List Region) (name : List ℕ) → HoldsScopes u i rs → HoldsMeant (meant rs name)
+  scopes_meant [] name h = required_meant (required_of name)
+  scopes_meant (r ∷ rs) name h = outside_meant (look_up r.entries name) (meant rs name) (look_up_holds r.entries name h.0) (scopes_meant rs name h.2)
+
   -- a name of the block
   pub meant_holds : (b : Block) (name : List ℕ) → Holds u i b → HoldsMeant (meant (scopes_of b) name)
-  meant_holds b name x = outside_meant (look_up b.scope.entries name) (as_required (required_of name)) (look_up_holds b.scope.entries name x.things) (required_meant (required_of name))
+  meant_holds b name x = scopes_meant (scopes_of b) name (holds_scopes u i b x)
 
   hidden_meant : (o : Option Thing) (m : Meant) → HoldsMeant m → HoldsMeant (unless_hidden o m)
   hidden_meant None m h = h
   hidden_meant (Some t) m h = tt
 
+  scopes_meant_in : (rs : List Region) (interface name : List ℕ) → HoldsScopes u i rs → HoldsMeant (meant_in rs interface name)
+  scopes_meant_in [] interface name h = tt
+  scopes_meant_in (r ∷ rs) interface name h =
+      hidden_meant (look_up r.entries interface) (or_outside (look_up_if (look_up r.qualified interface) name) (meant_in rs interface name))
+      (subst (λ q. HoldsMeant (or_outside (look_up_if (look_up q interface) name) (meant_in rs interface name))) (sym h.1) (scopes_meant_in rs interface name h.2))
+
   -- a block has no interface
   pub meant_in_holds : (b : Block) (interface name : List ℕ) → Holds u i b → HoldsMeant (meant_in (scopes_of b) interface name)
-  meant_in_holds b interface name x =
-      hidden_meant (look_up b.scope.entries interface) (or_outside (look_up_if (look_up b.scope.qualified interface) name) Nothing)
-      (subst (λ q. HoldsMeant (or_outside (look_up_if (look_up q interface) name) Nothing)) (sym x.plain) tt)
+  meant_in_holds b interface name x = scopes_meant_in (scopes_of b) interface name (holds_scopes u i b x)

@@ -43,7 +43,7 @@ use Rattle.ep_check_expr.specs.declared.constants.ConstantForm.{ConstantForm}
 use Rattle.ep_check_stmt.proofs.judged.SameHost.{host_same}
 use Rattle.ep_check_stmt.proofs.judged.Fits.{Fits, fits_both, fits_is, fits_pair, fits_then, fits_weaker}
 use Rattle.ep_check_unit.specs.Declarations.{Written, common_host, core_written, declared_type, enumerated, enumeration, host_denoter, next_enumeration, noted, number_in, ordered, range, required_host, scopes_of, subrange, subrange_denoter, type_meant, type_named}
-use Rattle.ep_check_unit.specs.declared.block.Block.{Block}
+use Rattle.ep_check_unit.specs.Blocks.{Block}
 use Rattle.ep_check_unit.proofs.valid.Constants.{ListsWithin, enumerated_counts, enumerated_enters}
 use Rattle.ep_check_unit.proofs.valid.Denoting.{Denotes, IsSmall, denotes_enumeration, denotes_more, denotes_required, denotes_subrange, full_type}
 use Rattle.ep_check_unit.proofs.valid.Holds.{HasHostHere, Holds, HoldsDeclaration, Lists, ListsEnumeration, ListsKind, enumeration_is, holds_agrees, holds_more, host_denotes, known_listed, lists_more, lists_small, named_is, required_lists, subrange_is}
@@ -76,6 +76,7 @@ module _ (u : TypedUnit) where
   }
   declared_names d (declaration.Constant k v) b held = tt
   declared_names d (declaration.Variable k) b held = tt
+  declared_names d declaration.Procedure b held = tt
 
   meant_names : (missing : List ℕ) (m : Meant) (b : Block) → HeldThroughout b m → Fits (Names b) (type_meant missing m b)
   meant_names missing (Declares d) b held = declared_names d d.what b (λ i x. (held i x).1)
@@ -189,7 +190,7 @@ module _ (u : TypedUnit) where
         };
   }
   subrange_writes false line h low high b e k = record {
-    grows = record { types = prefix_refl b.types; constants = prefix_refl b.constants; variables = prefix_refl b.variables; waits = λ w. absurd (waits_some b.waits line w) };
+    grows = record { types = prefix_refl b.types; constants = prefix_refl b.constants; variables = prefix_refl b.variables; routines = omega arith; waits = λ w. absurd (waits_some b.waits line w) };
     same = refl;
     holds = λ ext free next x. absurd (waits_some b.waits line free);
   }

@@ -1,93 +1,136 @@
 -- A typed unit that the rules give is valid.
-use Rattle.std.proofs.Common.{◌≡◌, ℕ, ◌≤◌, [], length, Option, Some, None, refl, sym, ap, subst, arith}
-use Rattle.std.proofs.lemmas.List.Elements.{All-nil, All-same}
+use Rattle.std.proofs.Common.{◌≡◌, ◌∙◌, ℕ, ◌≤◌, List, [], ◌∷◌, ◌++◌, map, length, Option, Some, None, refl, sym, ap, subst, arith}
+use Rattle.std.proofs.lemmas.List.Elements.{All-cons, All-head, All-nil, All-same, All-tail}
+use Rattle.std.specs.Prelude.{All}
 use Rattle.ep_outside.specs.Known.{IsPrefix}
 use Rattle.ep_tree.specs.declared.component.Component.TheVariants as component_is
 use Rattle.ep_tree.specs.declared.component.Program.{Program}
 use Rattle.ep_typed.specs.Operations.{maxint}
 use Rattle.ep_typed.specs.Trees.{Stmts}
-use Rattle.ep_typed.specs.Valid.{IsConstant, IsRoutine, IsStmt, IsType, IsValid, IsVariable, own}
+use Rattle.ep_typed.specs.Valid.{IsConstant, IsFormal, IsRoutine, IsStmt, IsType, IsValid, IsVariable, formal_variable, in_routine, variables_of, own}
 use Rattle.ep_typed.specs.declared.unit.Unit.{Unit as TypedUnit}
+use Rattle.ep_typed.specs.declared.unit.UnitRoutine.{UnitRoutine}
+use Rattle.ep_typed.specs.declared.unit.UnitRoutine.TheViews.{out-UnitRoutine}
 use Rattle.ep_check_expr.specs.Judgements.{Judged, Accepts, Breaks}
 use Rattle.ep_check_expr.specs.Laws.{BoundsAreKnown, BoundsAreSound, ConstantsAreKnown, ConstantsAreSound}
 use Rattle.ep_check_stmt.specs.Laws.{StatementsAreSound}
 use Rattle.ep_check_stmt.specs.Statements.{Judgement, Passes, Waits, Fails, after, compound_judged}
 use Rattle.ep_check_stmt.proofs.judged.Fits.{Fits}
-use Rattle.ep_check_unit.specs.Declarations.{Standing, Stands, Falls, and_then, at_line, parts_declared}
+use Rattle.ep_check_unit.specs.Declarations.{Standing, Stands, Falls, and_then, at_line, context_of, parts_declared}
 use Rattle.ep_check_unit.specs.Laws.{UnitsAreValid}
-use Rattle.ep_check_unit.specs.Units.{IsTypedProgram, ProgramForm, body_judged, context_of, declarations_wait, first_block, parameters_entered, program_form, program_judged}
-use Rattle.ep_check_unit.specs.declared.block.Block.{Block}
-use Rattle.ep_check_unit.proofs.valid.Holds.{Holds, holds_agrees}
-use Rattle.ep_check_unit.proofs.valid.Items.{LeadsOn, parameters_lead, parts_lead}
+use Rattle.ep_check_unit.specs.Units.{IsTypedProgram, IsUnitOf, ProgramForm, body_judged, declarations_wait, first_missing, parameters_entered, program_block, program_form, program_judged, unless_missing}
+use Rattle.ep_check_unit.specs.Blocks.{Block, routine_form}
+use Rattle.ep_check_unit.proofs.Forms.{length_forms}
+use Rattle.ep_check_unit.proofs.Kept.{IsPlain, parameters-remain, parts-remain}
+use Rattle.ep_check_unit.proofs.valid.Holds.{Holds, HoldsRoutine, holds_agrees}
+use Rattle.ep_check_unit.proofs.valid.Items.{LeadsOn, parameters_lead}
 use Rattle.ep_check_unit.proofs.valid.Leading.{Leads, leads_trans, prefix_refl}
+use Rattle.ep_check_unit.proofs.valid.Procedures.{IsPlainHeading, parts_lead}
 
 -- a program that passes, by its parts
 record IsMade (p : Program) (form : ProgramForm) : Type 0 where
   first : Block
-  entered : parameters_entered p.parameters (first_block p.name) ≡ Accepts first
+  entered : parameters_entered p.parameters (program_block p) ≡ Accepts first
   declared : parts_declared p.parts first ≡ Stands form.block
   waits : form.block.waits ≡ None
-  statements : compound_judged (context_of p form.block) p.body ≡ Passes form.statements
+  statements : compound_judged (context_of form.block) p.body ≡ Passes form.statements
 
 -- the declarations and statements of what passes
 record BodyPasses (p : Program) (s : Standing) (form : ProgramForm) : Type 0 where
   stands : s ≡ Stands form.block
   waits : form.block.waits ≡ None
-  statements : compound_judged (context_of p form.block) p.body ≡ Passes form.statements
+  statements : compound_judged (context_of form.block) p.body ≡ Passes form.statements
 
-row_passes : (p : Program) (b : Block) (waits : Option ℕ) (row : Judgement Stmts) (form : ProgramForm) → b.waits ≡ waits → compound_judged (context_of p b) p.body ≡ row
-    → after program_form (declarations_wait b waits) row ≡ Passes form → BodyPasses p (Stands b) form
-row_passes p b None (Passes ss) form w c e =
+row_passes : (p : Program) (b : Block) (missing waits : Option ℕ) (row : Judgement Stmts) (form : ProgramForm) → b.waits ≡ waits → compound_judged (context_of b) p.body ≡ row
+    → unless_missing missing (after program_form (declarations_wait b waits) row) ≡ Passes form → BodyPasses p (Stands b) form
+row_passes p b None None (Passes ss) form w c e =
     let is : program_form b ss ≡ form = cc in
     subst (BodyPasses p (Stands b)) is (record { stands = refl; waits = w; statements = c })
-row_passes p b None (Waits line) form w c e = cc
-row_passes p b None (Fails line rules) form w c e = cc
-row_passes p b (Some line) (Passes ss) form w c e = cc
-row_passes p b (Some line) (Waits other) form w c e = cc
-row_passes p b (Some line) (Fails other rules) form w c e = cc
+row_passes p b None None (Waits line) form w c e = cc
+row_passes p b None None (Fails line rules) form w c e = cc
+row_passes p b None (Some line) (Passes ss) form w c e = cc
+row_passes p b None (Some line) (Waits other) form w c e = cc
+row_passes p b None (Some line) (Fails other rules) form w c e = cc
+row_passes p b (Some at) None (Passes ss) form w c e = cc
+row_passes p b (Some at) None (Waits line) form w c e = cc
+row_passes p b (Some at) None (Fails line rules) form w c e = cc
+row_passes p b (Some at) (Some line) (Passes ss) form w c e = cc
+row_passes p b (Some at) (Some line) (Waits other) form w c e = cc
+row_passes p b (Some at) (Some line) (Fails other rules) form w c e = cc
 
 body_passes : (p : Program) (s : Standing) (form : ProgramForm) → body_judged p s ≡ Passes form → BodyPasses p s form
-body_passes p (Stands b) form e = row_passes p b b.waits (compound_judged (context_of p b) p.body) form refl refl e
+body_passes p (Stands b) form e = row_passes p b (first_missing b.forwards b.bodies) b.waits (compound_judged (context_of b) p.body) form refl refl e
 body_passes p (Falls line rules) form e = cc
 
-parts_pass : (p : Program) (j : Judged Block) (form : ProgramForm) → parameters_entered p.parameters (first_block p.name) ≡ j → BodyPasses p (and_then (parts_declared p.parts) (at_line p.line j)) form → IsMade p form
+parts_pass : (p : Program) (j : Judged Block) (form : ProgramForm) → parameters_entered p.parameters (program_block p) ≡ j → BodyPasses p (and_then (parts_declared p.parts) (at_line p.line j)) form → IsMade p form
 parts_pass p (Accepts first) form e h = record { first = first; entered = e; declared = h.stands; waits = h.waits; statements = h.statements }
 parts_pass p (Breaks rules) form e h = let s = h.stands in cc
 
 program_made : (p : Program) (form : ProgramForm) → program_judged p ≡ Passes form → IsMade p form
 program_made p form e =
-    parts_pass p (parameters_entered p.parameters (first_block p.name)) form refl (body_passes p (and_then (parts_declared p.parts) (at_line p.line (parameters_entered p.parameters (first_block p.name)))) form e)
+    parts_pass p (parameters_entered p.parameters (program_block p)) form refl (body_passes p (and_then (parts_declared p.parts) (at_line p.line (parameters_entered p.parameters (program_block p)))) form e)
+
+-- ---- the routines of the unit, by those of the block
+
+plain_procedures : (rs : List UnitRoutine) → All IsPlain (map routine_form rs) → All IsPlainHeading rs
+plain_procedures [] h = All-nil IsPlainHeading
+plain_procedures (r ∷ rs) h =
+    let p = All-head IsPlain (routine_form r) (map routine_form rs) h in
+    All-cons IsPlainHeading r rs (p.result, p.formals) (plain_procedures rs (All-tail IsPlain (routine_form r) (map routine_form rs) h))
+
+routines_valid : (u : TypedUnit) (rs : List UnitRoutine) → All IsPlain (map routine_form rs) → All (HoldsRoutine u) (map routine_form rs) → All (IsRoutine (own u) u.types) rs
+routines_valid u [] h g = All-nil (IsRoutine (own u) u.types)
+routines_valid u (r ∷ rs) h g =
+    let p = All-head IsPlain (routine_form r) (map routine_form rs) h in
+    let none : variables_of r ≡ [] = ap (λ fs. map (formal_variable (out-UnitRoutine r).line) fs ++ (out-UnitRoutine r).variables) p.formals ∙ p.variables in
+    All-cons (IsRoutine (own u) u.types) r rs (record {
+      heading = p.result;
+      formals = All-same (IsFormal u.types) (out-UnitRoutine r).formals [] p.formals (All-nil (IsFormal u.types));
+      variables = All-same (IsVariable u.types) (out-UnitRoutine r).variables [] p.variables (All-nil (IsVariable u.types));
+      routines = p.routines;
+      block = subst (λ vs. IsStmt (in_routine vs u.types (own u)) (routine_form r).block) (sym none) (All-head (HoldsRoutine u) (routine_form r) (map routine_form rs) g);
+    })
+    (routines_valid u rs (All-tail IsPlain (routine_form r) (map routine_form rs) h) (All-tail (HoldsRoutine u) (routine_form r) (map routine_form rs) g))
+
+-- no routine of a program has parameters, variables or routines of its own
+routines_plain : (p : Program) (form : ProgramForm) → IsMade p form → All IsPlain form.block.routines
+routines_plain p form made =
+    (parts-remain p.name p.parts made.first form.block made.declared
+    (parameters-remain p.name p.parameters (program_block p) made.first made.entered (refl, All-nil IsPlain))).1
 
 module _ (statements : StatementsAreSound) (constants : ConstantsAreSound) (bounds : BoundsAreSound) (constant_hosts : ConstantsAreKnown) (bound_hosts : BoundsAreKnown) where
   -- the unit holds its block
-  block_held : (p : Program) (u : TypedUnit) (form : ProgramForm) → IsMade p form → length u.constants ≤ maxint → u.name ≡ p.name → u.types ≡ form.block.types → u.constants ≡ form.block.constants → u.variables ≡ form.block.variables
-      → Holds u (length form.block.types) form.block
-  block_held p u form made few name types constants_are variables =
-      let entered : Leads u (first_block p.name) made.first = subst (Fits (Leads u (first_block p.name))) made.entered (parameters_lead u p.parameters (first_block p.name)) in
-      let declared : Leads u made.first form.block = subst (LeadsOn u made.first) made.declared (parts_lead u few bounds bound_hosts constants constant_hosts p.parts made.first) in
-      let all = leads_trans u (first_block p.name) made.first form.block entered declared in
+  block_held : (p : Program) (u : TypedUnit) (form : ProgramForm) → IsMade p form → length u.constants ≤ maxint → IsUnitOf p form u → Holds u (length form.block.types) form.block
+  block_held p u form made few is =
+      let plain : All IsPlain (map routine_form u.routines) = All-same IsPlain (map routine_form u.routines) form.block.routines is.routines (routines_plain p form made) in
+      let entered : Leads u (program_block p) made.first = subst (Fits (Leads u (program_block p))) made.entered (parameters_lead u p.parameters (program_block p)) in
+      let declared : Leads u made.first form.block = subst (LeadsOn u made.first) made.declared (parts_lead u few (plain_procedures u.routines plain) statements constants bounds constant_hosts bound_hosts p.parts made.first) in
+      let all = leads_trans u (program_block p) made.first form.block entered declared in
       all.holds
       (record {
-        types = subst (IsPrefix form.block.types) (sym types) (prefix_refl form.block.types);
-        constants = subst (IsPrefix form.block.constants) (sym constants_are) (prefix_refl form.block.constants);
-        variables = subst (IsPrefix form.block.variables) (sym variables) (prefix_refl form.block.variables);
+        types = subst (IsPrefix form.block.types) (sym is.types) (prefix_refl form.block.types);
+        constants = subst (IsPrefix form.block.constants) (sym is.constants) (prefix_refl form.block.constants);
+        variables = subst (IsPrefix form.block.variables) (sym is.variables) (prefix_refl form.block.variables);
+        routines = omega (arith, ap length is.routines, length_forms u.routines);
       })
       made.waits
-      (record { unit = sym name; things = tt; plain = refl; types = All-nil (IsType u.types); constants = All-nil (IsConstant u.types); variables = All-nil (IsVariable u.types) })
+      (record { unit = sym is.name; things = tt; plain = refl; outer = tt; types = All-nil (IsType u.types); constants = All-nil (IsConstant u.types); variables = All-nil (IsVariable u.types); routines = All-nil (HoldsRoutine u) })
 
   program_valid : (p : Program) (u : TypedUnit) → IsTypedProgram p u → length u.constants ≤ maxint → IsValid u
   program_valid p u t few =
       let made = program_made p t.form t.passes in
-      let held = block_held p u t.form made few t.unit.name t.unit.types t.unit.constants t.unit.variables in
+      let held = block_held p u t.form made few t.unit in
       let le : length t.form.block.types ≤ length u.types = omega (arith, ap length t.unit.types) in
       record {
         interface = t.unit.interface;
         types = All-same (IsType u.types) u.types t.form.block.types t.unit.types held.types;
         constants = All-same (IsConstant u.types) u.constants t.form.block.constants t.unit.constants held.constants;
         variables = All-same (IsVariable u.types) u.variables t.form.block.variables t.unit.variables held.variables;
-        routines = All-same (IsRoutine (own u) u.types) u.routines [] t.unit.routines (All-nil (IsRoutine (own u) u.types));
+        routines = routines_valid u u.routines
+            (All-same IsPlain (map routine_form u.routines) t.form.block.routines t.unit.routines (routines_plain p t.form made))
+            (All-same (HoldsRoutine u) (map routine_form u.routines) t.form.block.routines t.unit.routines held.routines);
         start = subst (IsStmt (own u)) (sym t.unit.start)
-            (statements (context_of p t.form.block) p.body t.form.statements made.statements (own u) (holds_agrees u (length t.form.block.types) t.form.block le held));
+            (statements (context_of t.form.block) p.body t.form.statements made.statements (own u) (holds_agrees u (length t.form.block.types) t.form.block le held));
         stop = t.unit.stop;
       }
 

@@ -1,0 +1,75 @@
+-- What has been declared in a block, as plain data.
+use Rattle.std.specs.Prelude.{ℕ, Bool, List, map, Option}
+use Rattle.ep_typed.specs.Trees.{Stmt}
+use Rattle.ep_typed.specs.Viewed.{stmt_of}
+use Rattle.ep_typed.specs.declared.interface.ConstantEntry.{ConstantEntry}
+use Rattle.ep_typed.specs.declared.interface.Formal.{Formal}
+use Rattle.ep_typed.specs.declared.interface.RoutineResult.{RoutineResult}
+use Rattle.ep_typed.specs.declared.unit.UnitRoutine.{UnitRoutine}
+use Rattle.ep_typed.specs.declared.unit.UnitRoutine.TheViews.{out-UnitRoutine}
+use Rattle.ep_typed.specs.declared.unit.UnitType.{UnitType}
+use Rattle.ep_typed.specs.declared.unit.UnitVariable.{UnitVariable}
+use Rattle.ep_scope.specs.Scopes.{Row}
+use Rattle.ep_check_unit.specs.declared.block.Block as declared
+use Rattle.ep_check_unit.specs.declared.block.Forward.{Forward}
+
+-- a routine, whose block is a statement as plain data
+pub record RoutineForm : Type 0 where
+  pub name : List ℕ
+  -- of the declaration that has its block
+  pub line : ℕ
+  pub formals : List Formal
+  pub result : Option RoutineResult
+  pub variables : List UnitVariable
+  pub routines : List UnitRoutine
+  pub block : Stmt
+
+abbrev pub routine_form : UnitRoutine → RoutineForm
+routine_form r =
+    let parts = out-UnitRoutine r in
+    record {
+      name = parts.name;
+      line = parts.line;
+      formals = parts.formals;
+      result = parts.result;
+      variables = parts.variables;
+      routines = parts.routines;
+      block = stmt_of parts.block;
+    }
+
+-- what has been declared so far in the block of a unit
+pub record Block : Type 0 where
+  pub unit : List ℕ
+  -- whether `output` is a parameter
+  pub output : Bool
+  -- the scopes in view
+  pub scopes : Row
+  pub types : List UnitType
+  pub constants : List ConstantEntry
+  pub variables : List UnitVariable
+  -- how many variable declarations there were
+  pub declarations : ℕ
+  -- the routines in the order of their first declarations, by number; one whose body is still to come does nothing
+  pub routines : List RoutineForm
+  -- the `forward` declarations
+  pub forwards : List Forward
+  -- the numbers of the routines that have a body
+  pub bodies : List ℕ
+  -- the line of the first item that is accepted and not built
+  pub waits : Option ℕ
+
+abbrev pub block_of : declared.Block → Block
+block_of b =
+    record {
+      unit = b.unit;
+      output = b.output;
+      scopes = b.scopes;
+      types = b.types;
+      constants = b.constants;
+      variables = b.variables;
+      declarations = b.declarations;
+      routines = map routine_form b.routines;
+      forwards = b.forwards;
+      bodies = b.bodies;
+      waits = b.waits;
+    }
