@@ -1,6 +1,5 @@
 mod CallEntry
 mod CallFrames
-mod Decoding
 mod Endings
 mod Ends
 mod Fusion
@@ -12,4 +11,3 @@ mod Puts
 mod Rounds
 mod Routines
 mod Runs
-mod Unbuilt

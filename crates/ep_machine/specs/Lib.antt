@@ -1,6 +1,5 @@
 pub mod Answers
 pub mod Calls
-pub mod Decoding
 pub mod Machines
 pub mod Outputs
 pub mod Pairs

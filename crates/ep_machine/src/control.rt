@@ -3,7 +3,7 @@
 ghost use Rattle.std.specs.Prelude.{◌≡◌, ◌<◌, ◌≤◌, ◌+◌, ◌*◌, ◌^◌, suc, length, leb, if◌then◌else◌, Option, Some, None, MatchOption};
 ghost use Rattle.ep_object.specs.Operands.{one};
 ghost use Rattle.ep_object.specs.Control.{drop_row};
-ghost use Rattle.ep_machine.specs.Decoding.{jump_where_zero};
+ghost use Rattle.ep_decode.specs.Operations.{jump_where_zero};
 ghost use Rattle.ep_machine.specs.Stacks.{text_top, top_weight as weight_on_top};
 ghost use Rattle.ep_machine.specs.Steps.{IsStep, IsDone};
 

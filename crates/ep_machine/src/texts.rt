@@ -6,16 +6,16 @@ ghost use Rattle.ep_object.specs.Effects.{Continues};
 ghost use Rattle.ep_object.specs.Control.{dup_row};
 ghost use Rattle.ep_object.specs.Texts.{text_row, chars_row, form_row, form_width_row, formed as formed_of, cut, padded, boolean_text as text_of_boolean};
 ghost use Rattle.ep_object.specs.Operands.{Text, Word};
-ghost use Rattle.ep_machine.specs.Decoding.{print_number};
+ghost use Rattle.ep_decode.specs.Operations.{print_number};
 ghost use Rattle.ep_machine.specs.Printing.{printed_top, IsRestored};
 ghost use Rattle.ep_machine.specs.Steps.{IsDone, IsStep};
 
 use crate::control::{spend, top_weight};
-use crate::op::Print;
 use crate::stack::Stack;
 use crate::step::Step;
 use crate::{places, words};
 use ep_base::{Bytes, List};
+use ep_decode::Print;
 use ep_typed::run_error;
 use itoa::Buffer;
 use std::alloc::{AllocError, Global};
