@@ -1,5 +1,4 @@
-mod CallEntry
-mod CallFrames
+mod CallRows
 mod Endings
 mod Ends
 mod Fusion

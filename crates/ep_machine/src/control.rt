@@ -4,10 +4,10 @@ ghost use Rattle.std.specs.Prelude.{◌≡◌, ◌<◌, ◌≤◌, ◌+◌, ◌*
 ghost use Rattle.ep_object.specs.Operands.{one};
 ghost use Rattle.ep_object.specs.Control.{drop_row};
 ghost use Rattle.ep_decode.specs.Operations.{jump_where_zero};
-ghost use Rattle.ep_machine.specs.Stacks.{text_top, top_weight as weight_on_top};
+ghost use Rattle.ep_frames.specs.Stacks.{text_top, top_weight as weight_on_top};
 ghost use Rattle.ep_machine.specs.Steps.{IsStep, IsDone};
 
-use crate::stack::Stack;
+use ep_frames::Stack;
 use crate::step::Step;
 
 /// Spends the weight, where the limit allows it and one tick more.

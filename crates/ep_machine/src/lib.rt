@@ -4,14 +4,12 @@
 //! `Machine::run` says in the words of specs/Machines.antt. Each row of the table is a function on the part of the
 //! machine that it touches, and its contract is one equation with the row of ep_object's table.
 //!
-//! It runs the operations into which ep_decode decodes the code once. The frequent ones run in a loop of their own, in
-//! which the operand stack, the place and the ticks are local. It leaves every other one to a dispatch of its own, one
-//! instruction at a time, so no rare row makes a frequent one slow.
+//! It runs the operations into which ep_decode decodes the code once, on the operands and the calls of ep_frames. The
+//! frequent ones run in a loop of their own, in which the operand stack, the place and the ticks are local. It leaves
+//! every other one to a dispatch of its own, one instruction at a time, so no rare row makes a frequent one slow.
 #![tactic(auto)]
 
 mod arguments;
-mod calls;
-mod cell;
 mod control;
 mod end;
 mod fast;
@@ -20,7 +18,6 @@ mod pairs;
 mod places;
 mod run;
 mod segments;
-mod stack;
 mod start;
 mod state;
 mod step;

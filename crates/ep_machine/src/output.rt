@@ -10,7 +10,7 @@ ghost use Rattle.ep_typed.specs.Events.{Write};
 ghost use Rattle.ep_machine.specs.Outputs.{OnNoMemory, IsRefusal, UnlessDone, IsPut, OnFault, IsOfWriting, IsWriting, text_kind_in};
 
 use crate::control::spend;
-use crate::stack::Stack;
+use ep_frames::Stack;
 use crate::step::{Outward, Step};
 use ep_object::{Kind, OUTPUT_SEGMENT, Place, Segment, TypeEntry};
 use ep_outside::{Sink, WriteAnswer};

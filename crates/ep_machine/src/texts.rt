@@ -11,7 +11,7 @@ ghost use Rattle.ep_machine.specs.Printing.{printed_top, IsRestored};
 ghost use Rattle.ep_machine.specs.Steps.{IsDone, IsStep};
 
 use crate::control::{spend, top_weight};
-use crate::stack::Stack;
+use ep_frames::Stack;
 use crate::step::Step;
 use crate::{places, words};
 use ep_base::{Bytes, List};

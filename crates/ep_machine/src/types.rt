@@ -5,7 +5,7 @@ ghost use Rattle.ep_object.specs.Types.{is_ordinal as is_that, ordinal_number as
 ghost use Rattle.ep_machine.specs.Steps.{IsStep};
 ghost use Rattle.ep_machine.specs.Views.{typing};
 
-use crate::stack::Stack;
+use ep_frames::Stack;
 use crate::step::Step;
 use crate::words;
 use ep_object::{Kind, TypeEntry, limit};

@@ -1,9 +1,9 @@
 use Rattle.std.proofs.Common.{◌≡◌, ◌∷◌, [], ◌++◌, Some, option_map, map, take, rules, sym, ap, ◌∙◌, append_assoc}
 use Rattle.std.proofs.lemmas.List.{map-append}
 use Rattle.ep_object.specs.Operands.{Operand}
-use Rattle.ep_machine.specs.Calls.{operand_of, operands_in}
-use Rattle.ep_machine.proofs.CallEntry.{taken_one}
-use Rattle.ep_machine.proofs.calls.take_arguments.Goals as goal
+use Rattle.ep_frames.specs.Calls.{operand_of, operands_in}
+use Rattle.ep_frames.proofs.CallEntry.{taken_one}
+use Rattle.ep_frames.proofs.calls.take_arguments.Goals as goal
 
 pub loop-taken-preserved : goal.loop-taken-preserved
 loop-taken-preserved c =

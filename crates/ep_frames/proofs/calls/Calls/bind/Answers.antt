@@ -1,7 +1,7 @@
 use Rattle.std.proofs.Common.{◌≡◌, Some, length, reverse, rules, ap, ◌∙◌}
-use Rattle.ep_machine.specs.Calls.{frames_over, operands_in, IsSlot, bound, first}
-use Rattle.ep_machine.proofs.CallFrames.{bound_view}
-use Rattle.ep_machine.proofs.calls.Calls.bind.Goals as goal
+use Rattle.ep_frames.specs.Calls.{frames_over, operands_in, IsSlot, bound, first}
+use Rattle.ep_frames.proofs.CallFrames.{bound_view}
+use Rattle.ep_frames.proofs.calls.Calls.bind.Goals as goal
 
 pub returns : goal.returns
 returns c =

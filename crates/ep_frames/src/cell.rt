@@ -1,7 +1,7 @@
 //! What stands on the operand stack for an operand.
 
 ghost use Rattle.std.specs.Prelude.{◌≡◌, ◌∷◌, []};
-ghost use Rattle.ep_machine.specs.Stacks.{text_bytes};
+ghost use Rattle.ep_frames.specs.Stacks.{text_bytes};
 
 use ep_object::Place;
 

@@ -1,7 +1,7 @@
 use Rattle.std.proofs.Common.{rules, ◌≡◌, IsTrue, is_some, Some, length, option_map, reverse, sym, ap, ◌∙◌, subst}
-use Rattle.ep_machine.specs.Calls.{first, argument_of, without}
-use Rattle.ep_machine.proofs.CallFrames.{taken_view, taken_left}
-use Rattle.ep_machine.proofs.calls.Calls.take.Goals as goal
+use Rattle.ep_frames.specs.Calls.{first, argument_of, without}
+use Rattle.ep_frames.proofs.CallFrames.{taken_view, taken_left}
+use Rattle.ep_frames.proofs.calls.Calls.take.Goals as goal
 
 pub returns-clause-taken : goal.returns-clause-taken
 returns-clause-taken c =

@@ -1,7 +1,7 @@
 use Rattle.std.proofs.Common.{◌≡◌, if◌then◌else◌, ℕ, ◌+◌, ◌-◌, ◌∷◌, [], ◌++◌, None, Some, length, map, replicate, take, rules, sym, ◌∙◌, append-nil}
-use Rattle.ep_machine.specs.Calls.{operands_in}
-use Rattle.ep_machine.proofs.CallEntry.{still_below, still_there, resized, Entered, entered_if}
-use Rattle.ep_machine.proofs.calls.Calls.enter.Goals as goal
+use Rattle.ep_frames.specs.Calls.{operands_in}
+use Rattle.ep_frames.proofs.CallEntry.{still_below, still_there, resized, Entered, entered_if}
+use Rattle.ep_frames.proofs.calls.Calls.enter.Goals as goal
 
 pub invariant_of-self : goal.invariant_of-self
 invariant_of-self c =

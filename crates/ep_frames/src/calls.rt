@@ -5,7 +5,7 @@ ghost use Rattle.std.specs.Prelude.{◌^◌, IfSome, IsTrue, is_some, ◌≡◌,
 ghost use Rattle.ep_object.specs.Calls.{new_frame, word_of};
 ghost use Rattle.ep_object.specs.Frames.{call_at, found_by};
 ghost use Rattle.std.specs.Prelude.{◌+◌};
-ghost use Rattle.ep_machine.specs.Calls.{innermost_routine, innermost_slots, innermost_parent, IsSlot, bound, placed, first, innermost_made, innermost_back, rest_of, argument_of, argument_among, operand_of, operands_in, StartsWith, without};
+ghost use Rattle.ep_frames.specs.Calls.{innermost_routine, innermost_slots, innermost_parent, IsSlot, bound, placed, first, innermost_made, innermost_back, rest_of, argument_of, argument_among, operand_of, operands_in, StartsWith, without};
 ghost use Rattle.ep_object.specs.Operands.{weight};
 
 use crate::stack::Stack;
@@ -72,7 +72,7 @@ pub struct Calls {
 impl Model for Calls {
     ghost use Rattle.std.specs.Prelude.{List, reverse, length};
     ghost use Rattle.ep_object.specs.State.{Frame};
-    ghost use Rattle.ep_machine.specs.Calls.{frames_over, operands_in, AreBelow};
+    ghost use Rattle.ep_frames.specs.Calls.{frames_over, operands_in, AreBelow};
 
     ghost Value = { List Frame };
 

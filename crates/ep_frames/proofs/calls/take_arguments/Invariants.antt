@@ -1,6 +1,6 @@
 use Rattle.std.proofs.Common.{◌≡◌, ◌++◌, Some, map, take, drop}
-use Rattle.ep_machine.specs.Calls.{operands_in, StartsWith}
-use Rattle.ep_machine.proofs.calls.take_arguments.Given as goal
+use Rattle.ep_frames.specs.Calls.{operands_in, StartsWith}
+use Rattle.ep_frames.proofs.calls.take_arguments.Given as goal
 
 abbrev pub invariant-loop-taken : goal.invariant-loop-taken
 invariant-loop-taken l =
