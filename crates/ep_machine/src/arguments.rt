@@ -6,10 +6,9 @@ ghost use Rattle.ep_object.specs.Effects.{Continues};
 ghost use Rattle.ep_frames.specs.Calls.{operand_of};
 ghost use Rattle.ep_machine.specs.Steps.{IsStep};
 
-use ep_frames::{Argument, Calls};
-use ep_frames::Stack;
 use crate::step::Step;
 use crate::words;
+use ep_frames::{Argument, Calls, Stack};
 
 /// A copy of an argument of the call, which is a word.
 #[tactic(auto, using(crate::proofs::CallRows::peeked))]

@@ -7,8 +7,8 @@ ghost use Rattle.ep_decode.specs.Operations.{jump_where_zero};
 ghost use Rattle.ep_frames.specs.Stacks.{text_top, top_weight as weight_on_top};
 ghost use Rattle.ep_machine.specs.Steps.{IsStep, IsDone};
 
-use ep_frames::Stack;
 use crate::step::Step;
+use ep_frames::Stack;
 
 /// Spends the weight, where the limit allows it and one tick more.
 #[inline(always)]

@@ -16,6 +16,7 @@ mod fast;
 mod output;
 mod pairs;
 mod places;
+mod pointers;
 mod run;
 mod segments;
 mod start;

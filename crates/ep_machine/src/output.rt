@@ -10,8 +10,8 @@ ghost use Rattle.ep_typed.specs.Events.{Write};
 ghost use Rattle.ep_machine.specs.Outputs.{OnNoMemory, IsRefusal, UnlessDone, IsPut, OnFault, IsOfWriting, IsWriting, text_kind_in};
 
 use crate::control::spend;
-use ep_frames::Stack;
 use crate::step::{Outward, Step};
+use ep_frames::Stack;
 use ep_object::{Kind, OUTPUT_SEGMENT, Place, Segment, TypeEntry};
 use ep_outside::{Sink, WriteAnswer};
 use ep_typed::run_error;

@@ -6,7 +6,7 @@ ghost use Rattle.ep_object.specs.Calls.{ended, words_in, words_of};
 use ep_object::Segment;
 
 /// A segment ends, and its words no longer live.
-fn end_one(number: u64, segments: &mut [Option<Segment>], live: &mut u64)
+pub fn end_one(number: u64, segments: &mut [Option<Segment>], live: &mut u64)
     ensures segments { segments.new ≡ slice_set segments.old number None }
     ensures live { live.new ≡ live.old - words_in (slice_get segments.old number) }
 {

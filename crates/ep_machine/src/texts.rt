@@ -11,11 +11,11 @@ ghost use Rattle.ep_machine.specs.Printing.{printed_top, IsRestored};
 ghost use Rattle.ep_machine.specs.Steps.{IsDone, IsStep};
 
 use crate::control::{spend, top_weight};
-use ep_frames::Stack;
 use crate::step::Step;
 use crate::{places, words};
 use ep_base::{Bytes, List};
 use ep_decode::Print;
+use ep_frames::Stack;
 use ep_typed::run_error;
 use itoa::Buffer;
 use std::alloc::{AllocError, Global};

@@ -5,9 +5,9 @@ ghost use Rattle.ep_object.specs.Types.{is_ordinal as is_that, ordinal_number as
 ghost use Rattle.ep_machine.specs.Steps.{IsStep};
 ghost use Rattle.ep_machine.specs.Views.{typing};
 
-use ep_frames::Stack;
 use crate::step::Step;
 use crate::words;
+use ep_frames::Stack;
 use ep_object::{Kind, TypeEntry, limit};
 use ep_typed::run_error;
 

@@ -8,9 +8,9 @@ ghost use Rattle.ep_decode.specs.Operations.{comparison_number, check_with};
 ghost use Rattle.ep_machine.specs.Steps.{IsStep};
 ghost use Rattle.ep_typed.specs.declared.run_error.TheConstants as run_error;
 
-use ep_frames::Stack;
 use crate::step::Step;
 use ep_decode::Comparison;
+use ep_frames::Stack;
 use ep_typed::run_error;
 
 /// The number that a word is, of so many.
