@@ -1,10 +1,8 @@
 mod CallRows
-mod Endings
 mod Ends
 mod Fusion
 mod Leads
 mod Lifts
-mod Making
 mod Outputs
 mod Puts
 mod Rounds

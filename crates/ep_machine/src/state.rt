@@ -7,10 +7,10 @@ ghost use Rattle.ep_object.specs.Frames.{routine_in, slots_of, frame_above, fram
 ghost use Rattle.ep_machine.specs.Views.{frames_of, routines_of, HasSlot, IsPlaced, IsBound};
 ghost use Rattle.std.specs.Bool.{OnTrue};
 
-use crate::segments;
 use ep_base::List;
 use ep_frames::{Calls, Stack};
 use ep_object::{FrameNumber, ImageRoutine, Place, Segment, TypeEntry};
+use ep_rows::segments;
 use std::alloc::Global;
 
 /// What a machine has besides its place, its ticks and its operands.

@@ -2,8 +2,8 @@
 
 ghost use Rattle.std.specs.Prelude.{◌≡◌, ◌<◌};
 ghost use Rattle.ep_object.specs.Pointers.{new_row, dispose_row, deref_row};
-ghost use Rattle.ep_machine.specs.Steps.{IsStep, IsDone};
-ghost use Rattle.ep_machine.specs.Views.{storage};
+ghost use Rattle.ep_rows.specs.Steps.{IsStep, IsDone};
+ghost use Rattle.ep_rows.specs.Parts.{storage};
 
 use crate::control::spend;
 use crate::places::{allocate, has_room, index, push_place};

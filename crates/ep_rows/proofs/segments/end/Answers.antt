@@ -1,6 +1,6 @@
 use Rattle.std.proofs.Common.{sym, ◌∙◌}
-use Rattle.ep_machine.proofs.Endings.{ended_one, words_one}
-use Rattle.ep_machine.proofs.segments.end.Goals as goal
+use Rattle.ep_rows.proofs.Endings.{ended_one, words_one}
+use Rattle.ep_rows.proofs.segments.end.Goals as goal
 
 pub loop-number-preserved : goal.loop-number-preserved
 loop-number-preserved c =

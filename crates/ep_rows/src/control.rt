@@ -5,7 +5,7 @@ ghost use Rattle.ep_object.specs.Operands.{one};
 ghost use Rattle.ep_object.specs.Control.{drop_row};
 ghost use Rattle.ep_decode.specs.Operations.{jump_where_zero};
 ghost use Rattle.ep_frames.specs.Stacks.{text_top, top_weight as weight_on_top};
-ghost use Rattle.ep_machine.specs.Steps.{IsStep, IsDone};
+ghost use Rattle.ep_rows.specs.Steps.{IsStep, IsDone};
 
 use crate::step::Step;
 use ep_frames::Stack;

@@ -2,8 +2,8 @@
 use Rattle.std.specs.Prelude.{◌≡◌, ℕ, ℤ, List, [], ◌∷◌, Option, None}
 use Rattle.ep_object.specs.Operands.{Operand}
 use Rattle.ep_object.specs.Texts.{printed}
-use Rattle.ep_machine.specs.declared.step.Step.{Step}
-use Rattle.ep_machine.specs.declared.step.Step.TheVariants.{Full, NoMemory}
+use Rattle.ep_rows.specs.declared.step.Step.{Step}
+use Rattle.ep_rows.specs.declared.step.Step.TheVariants.{Full, NoMemory}
 
 -- what is printed of the operand on top
 abbrev pub printed_top : ℤ → List Operand → Option (List ℕ)

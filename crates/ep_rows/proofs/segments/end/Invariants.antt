@@ -1,6 +1,6 @@
 use Rattle.std.proofs.Common.{◌≡◌, ◌-◌, take}
 use Rattle.ep_object.specs.Calls.{ended, words_of}
-use Rattle.ep_machine.proofs.segments.end.Given as goal
+use Rattle.ep_rows.proofs.segments.end.Given as goal
 
 abbrev pub invariant-loop-number : goal.invariant-loop-number
 invariant-loop-number l =

@@ -1,8 +1,8 @@
 use Rattle.std.proofs.Common.{◌≡◌, rules}
 use Rattle.ep_object.specs.Types.{ordinal_entry}
-use Rattle.ep_machine.specs.Views.{typing}
-use Rattle.ep_machine.proofs.Making.{ordinal_added}
-use Rattle.ep_machine.proofs.types.intern.Goals as goal
+use Rattle.ep_rows.specs.Parts.{typing}
+use Rattle.ep_rows.proofs.Making.{ordinal_added}
+use Rattle.ep_rows.proofs.types.intern.Goals as goal
 
 pub returns : goal.returns
 returns c =

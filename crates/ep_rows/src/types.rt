@@ -2,8 +2,8 @@
 
 ghost use Rattle.std.specs.Prelude.{◌≡◌, ◌<◌, ◌≤◌, ◌+◌, ◌*◌, ◌^◌, suc, length, Option, Some, None, MatchOption};
 ghost use Rattle.ep_object.specs.Types.{is_ordinal as is_that, ordinal_number as number_of, ord_row, ordinal_of, ordinal_entry as ordinal, added};
-ghost use Rattle.ep_machine.specs.Steps.{IsStep};
-ghost use Rattle.ep_machine.specs.Views.{typing};
+ghost use Rattle.ep_rows.specs.Steps.{IsStep};
+ghost use Rattle.ep_rows.specs.Parts.{typing};
 
 use crate::step::Step;
 use crate::words;

@@ -7,8 +7,8 @@ ghost use Rattle.ep_object.specs.Control.{dup_row};
 ghost use Rattle.ep_object.specs.Texts.{text_row, chars_row, form_row, form_width_row, formed as formed_of, cut, padded, boolean_text as text_of_boolean};
 ghost use Rattle.ep_object.specs.Operands.{Text, Word};
 ghost use Rattle.ep_decode.specs.Operations.{print_number};
-ghost use Rattle.ep_machine.specs.Printing.{printed_top, IsRestored};
-ghost use Rattle.ep_machine.specs.Steps.{IsDone, IsStep};
+ghost use Rattle.ep_rows.specs.Printing.{printed_top, IsRestored};
+ghost use Rattle.ep_rows.specs.Steps.{IsDone, IsStep};
 
 use crate::control::{spend, top_weight};
 use crate::step::Step;
