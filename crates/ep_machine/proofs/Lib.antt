@@ -1,15 +1,10 @@
-mod CallEntry
-mod CallFrames
-mod Decoding
-mod Endings
+mod CallRows
 mod Ends
 mod Fusion
 mod Leads
 mod Lifts
-mod Making
 mod Outputs
 mod Puts
 mod Rounds
 mod Routines
 mod Runs
-mod Unbuilt

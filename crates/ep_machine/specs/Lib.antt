@@ -1,11 +1,6 @@
 pub mod Answers
-pub mod Calls
-pub mod Decoding
 pub mod Machines
 pub mod Outputs
 pub mod Pairs
-pub mod Printing
-pub mod Stacks
-pub mod Steps
 pub mod Turns
 pub mod Views

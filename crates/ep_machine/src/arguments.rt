@@ -3,16 +3,14 @@
 ghost use Rattle.std.specs.Prelude.{◌∷◌, pos};
 ghost use Rattle.ep_object.specs.Calls.{peek_row};
 ghost use Rattle.ep_object.specs.Effects.{Continues};
-ghost use Rattle.ep_machine.specs.Calls.{operand_of};
-ghost use Rattle.ep_machine.specs.Steps.{IsStep};
+ghost use Rattle.ep_frames.specs.Calls.{operand_of};
+ghost use Rattle.ep_rows.specs.Steps.{IsStep};
 
-use crate::calls::{Argument, Calls};
-use crate::stack::Stack;
-use crate::step::Step;
-use crate::words;
+use ep_frames::{Argument, Calls, Stack};
+use ep_rows::{Step, words};
 
 /// A copy of an argument of the call, which is a word.
-#[tactic(auto, using(crate::proofs::CallFrames::peeked))]
+#[tactic(auto, using(crate::proofs::CallRows::peeked))]
 pub fn peek(number: usize, calls: &Calls, stack: &mut Stack) -> Step
     ensures { IsStep (peek_row calls.now (pos number) stack.old) result stack.new }
 {

@@ -1,6 +1,11 @@
 //! How a run ends.
 
+ghost use Rattle.std.specs.Prelude.{◌≡◌, IsTrue, is_some};
+ghost use Rattle.ep_decode.specs.Decoding.{op_at};
+ghost use Rattle.ep_machine.specs.Turns.{error_end, is_named};
+
 use ep_base::{Line, Name};
+use ep_object::Image;
 
 /// How a run ended, or why it stopped.
 #[derive(Drop)]
@@ -52,4 +57,23 @@ pub enum Ended {
     WriteFault,
     /// Memory is wanting.
     NoMemory,
+}
+
+impl Ended {
+    /// The end by an error of the instruction at a place, while a routine runs.
+    #[cold]
+    #[inline(never)]
+    pub fn error(image: &Image, routine: u32, place: u32, number: u8) -> Ended
+        requires named { IsTrue (is_named image.now routine) }
+        requires there { IsTrue (is_some (op_at image.now place)) }
+        ensures { result ≡ error_end image.now routine place number }
+    {
+        let Some(routine) = image.routines.items().get(routine as usize) else {
+            unreachable!()
+        };
+        let Some(instr) = image.instructions.items().get(place as usize) else {
+            unreachable!()
+        };
+        Ended::Error(number, routine.unit, instr.line)
+    }
 }

@@ -4,33 +4,22 @@
 //! `Machine::run` says in the words of specs/Machines.antt. Each row of the table is a function on the part of the
 //! machine that it touches, and its contract is one equation with the row of ep_object's table.
 //!
-//! The code is decoded once, before the first instruction, into operations with the operands that their rows have
-//! (specs/Decoding.antt). The frequent ones run in a loop of their own, in which the operand stack, the place and the
-//! ticks are local. It leaves every other one to a dispatch of its own, one instruction at a time, so no rare row
-//! makes a frequent one slow.
+//! It runs the operations into which ep_decode decodes the code once, on the operands and the calls of ep_frames, by the
+//! rows of ep_rows and by those here that touch calls, code or the output. The frequent ones run in a loop of their own,
+//! in which the operand stack, the place and the ticks are local. It leaves every other one to a dispatch of its own, one
+//! instruction at a time, so no rare row makes a frequent one slow.
 #![tactic(auto)]
 
 mod arguments;
-mod calls;
-mod cell;
-mod code;
-mod control;
 mod end;
 mod fast;
-mod op;
 mod output;
 mod pairs;
-mod places;
 mod run;
-mod segments;
-mod stack;
 mod start;
 mod state;
 mod step;
-mod texts;
 mod turns;
-mod types;
-mod words;
 
 pub use end::End;
 pub use run::Machine;

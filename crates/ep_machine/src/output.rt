@@ -9,11 +9,12 @@ ghost use Rattle.ep_outside.specs.Answers.{Writes, write_faults};
 ghost use Rattle.ep_typed.specs.Events.{Write};
 ghost use Rattle.ep_machine.specs.Outputs.{OnNoMemory, IsRefusal, UnlessDone, IsPut, OnFault, IsOfWriting, IsWriting, text_kind_in};
 
-use crate::control::spend;
-use crate::stack::Stack;
-use crate::step::{Outward, Step};
+use crate::step::Outward;
+use ep_frames::Stack;
 use ep_object::{Kind, OUTPUT_SEGMENT, Place, Segment, TypeEntry};
 use ep_outside::{Sink, WriteAnswer};
+use ep_rows::Step;
+use ep_rows::control::spend;
 use ep_typed::run_error;
 
 /// Writes a text, if it is not empty.

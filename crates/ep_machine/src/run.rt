@@ -10,11 +10,11 @@ ghost use Rattle.ep_machine.specs.Views.{routines_of};
 ghost use Rattle.ep_machine.specs.declared.end.Ended.TheVariants as ended;
 ghost use Rattle.ep_machine.specs.Turns.{UnlessFailed, OnFailed, OnWriteFault, Ran, RunFailed, is_ready, is_known};
 
-use crate::code::Code;
 use crate::end::{End, Ended};
 use crate::start;
 use crate::state::Configuration;
 use ep_base::NoMemory;
+use ep_decode::Code;
 use ep_object::Image;
 use ep_outside::{Files, Sink, Source};
 use std::alloc::{AllocError, Global};

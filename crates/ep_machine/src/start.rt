@@ -5,10 +5,9 @@ ghost use Rattle.ep_machine.specs.Views.{state_at};
 ghost use Rattle.ep_object.specs.declared.code.Image.{Image};
 ghost use Rattle.ep_object.specs.State.{first_state, empty_slots, first_types, first_segments, text_segment as segment_of_text, integer_entry, char_entry, boolean_entry, text_entry, pointer_entry};
 
-use crate::calls::Calls;
-use crate::stack::Stack;
 use crate::state::{Configuration, Memory};
 use ep_base::List;
+use ep_frames::{Calls, Stack};
 use ep_object::{FIRST_LIVE_WORDS, ImageUnit, Kind, Place, Segment, TEXT_TYPE, TypeEntry};
 use std::alloc::{AllocError, Global};
 

@@ -1,17 +1,16 @@
 //! The state of a machine.
 
 ghost use Rattle.ep_object.specs.Calls.{ended, parent_by, words_of};
-ghost use Rattle.ep_machine.specs.Calls.{made_in, rest_of};
+ghost use Rattle.ep_frames.specs.Calls.{made_in, rest_of};
 ghost use Rattle.std.specs.Prelude.{◌≡◌, ◌-◌, suc, option_map, length};
 ghost use Rattle.ep_object.specs.Frames.{routine_in, slots_of, frame_above, frame_over, frame_up, parent_of as parent_of_frame, slots_up};
 ghost use Rattle.ep_machine.specs.Views.{frames_of, routines_of, HasSlot, IsPlaced, IsBound};
 ghost use Rattle.std.specs.Bool.{OnTrue};
 
-use crate::calls::Calls;
-use crate::segments;
-use crate::stack::Stack;
 use ep_base::List;
+use ep_frames::{Calls, Stack};
 use ep_object::{FrameNumber, ImageRoutine, Place, Segment, TypeEntry};
+use ep_rows::segments;
 use std::alloc::Global;
 
 /// What a machine has besides its place, its ticks and its operands.
@@ -112,7 +111,7 @@ impl Memory {
     }
 
     /// The innermost call is left, and the segments that were made in it end.
-    #[tactic(auto, using(crate::proofs::CallFrames::made_innermost))]
+    #[tactic(auto, using(crate::proofs::CallRows::made_innermost))]
     pub fn leave(&mut self)
         ensures calls { self.new.calls ≡ rest_of self.old.calls }
         ensures segments { self.new.segments.items
@@ -181,7 +180,7 @@ impl Memory {
 }
 
 /// The frame so many levels up from a frame.
-#[tactic(auto, using(crate::proofs::CallFrames::above_parent, crate::proofs::CallFrames::above_none))]
+#[tactic(auto, using(crate::proofs::CallRows::above_parent, crate::proofs::CallRows::above_none))]
 fn above(calls: &Calls, up: u32, from: FrameNumber) -> Option<FrameNumber>
     ensures { result ≡ frame_above calls.now up from }
 {

@@ -9,7 +9,7 @@ use Rattle.ep_object.specs.Routines.{routine_of}
 use Rattle.ep_object.specs.State.{State, Frame}
 use Rattle.ep_object.specs.Table as table
 use Rattle.ep_object.specs.Frames.{slots_of}
-use Rattle.ep_object.specs.Table.{Op, obey, obey_op, op_of, on_operands, in_segments, with_bound, bind_in, making, with_making, typing, with_typing, with_events}
+use Rattle.ep_object.specs.Table.{Op, obey, obey_op, op_of, on_operands, in_segments, with_bound, bind_in, making, with_making, with_storage, typing, with_typing, with_events}
 use Rattle.ep_object.specs.Types.{Typing}
 use Rattle.ep_object.specs.WordRows.{is_error}
 use Rattle.ep_object.specs.declared.code.Image.{Image}
@@ -134,6 +134,9 @@ module _ (Holds : State → Type 0) where
     op_keeps G i (Some table.Defined) = kept _
     op_keeps G i (Some table.Slot) = kept _
     op_keeps G i (Some table.Make) = in_frame (λ slots. only_a_weighed i (make_row s.types i.a (making s slots))) (slots_of s.frames)
+    op_keeps G i (Some table.New) = mapped_keeps (with_storage s) (λ m. quiet (with_storage s m) refl) _
+    op_keeps G i (Some table.Dispose) = mapped_keeps (with_storage s) (λ m. quiet (with_storage s m) refl) _
+    op_keeps G i (Some table.Deref) = kept _
     op_keeps G i (Some table.Store) = mapped_keeps (in_segments s) segments _
     op_keeps G i (Some table.TOrd) = mapped_keeps (with_typing s) types _
     op_keeps G i (Some table.Put) = mapped_keeps (with_events s) events _

@@ -10,6 +10,7 @@ pub mod Matching
 pub mod Operands
 pub mod Places
 pub mod Placing
+pub mod Pointers
 pub mod Promises
 pub mod Routines
 pub mod Runs

@@ -265,6 +265,50 @@ Push:7 Like Make:0 Slot:0 Push:9 Store Unit:-1:1 Slot:0 Load Form Put Return=9|n
 Text:0 Like=|broken at 1|4\n\
 Like=|broken at 0|1";
 
+/// Variables that pointers identify. The first one that is made is segment 3, behind `input` and `output`, whose places
+/// a pointer may have too.
+const POINTERS: &str = "\
+Unit:-1:1 Push:0 New Form Put Return=3|normal|9\n\
+Unit:-1:1 Push:0 New Drop Push:0 New Form Put Return=4|normal|13\n\
+Push:0 New Deref Load=|error 1 at 4|5\n\
+Unit:-1:1 Push:0 New Dup Deref Push:5 Store Deref Load Form Put Return=5|normal|15\n\
+Push:2 New Deref Push:2 Store=|error 2 at 5|6\n\
+Unit:-1:1 Push:0 New Dup Deref Bind:0 Deref Push:7 Store Slot:0 Load Form Put Return=7|normal|17\n\
+Unit:-1:1 Call:1 Deref Load Form Put Return \
+Routine Push:0 New Dup Deref Push:5 Store Return=5|normal|17\n\
+Push:2 Deref Text:0 Put Return=hi|normal|9\n\
+Push:1 Deref Text:0 Put=|error 18 at 4|8\n\
+Push:9 New=|broken at 1|2\n\
+Push:-1 New=|broken at 1|2\n\
+Unit:-1:1 New=|broken at 1|2\n\
+New=|broken at 0|1\n\
+Push:0 New:1=|broken at 1|2\n\
+Push:0 New:0:1=|broken at 1|2";
+
+/// What is disposed of, and what is no pointer to anything.
+const DISPOSALS: &str = "\
+Push:0 New Dup Dispose Deref=|error 11 at 5|6\n\
+Push:0 New Dup Dispose Dispose=|error 11 at 5|6\n\
+Push:0 New Dup Deref Bind:0 Dispose Slot:0 Load=|error 11 at 8|9\n\
+Push:0 New Dup Deref Bind:0 Dispose Slot:0 Push:1 Store=|error 11 at 9|10\n\
+Unit:-1:1 Push:0 New Dispose Push:0 New Form Put Return=4|normal|13\n\
+Push:0 New Drop Push:0 New Dispose Push:3 Deref Load=|error 1 at 9|11\n\
+Push:0 Deref=|error 10 at 2|2\n\
+Push:0 Dispose=|error 10 at 2|2\n\
+Push:-9223372036854775808 Deref=|error 1 at 2|2\n\
+Push:-9223372036854775808 Dispose=|error 1 at 2|2\n\
+Push:3 Deref=|broken at 1|2\n\
+Push:3 Dispose=|broken at 1|2\n\
+Push:-1 Deref=|broken at 1|2\n\
+Push:-9223372036854775807 Dispose=|broken at 1|2\n\
+Push:1 Dispose=|broken at 1|2\n\
+Push:2 Dispose=|broken at 1|2\n\
+Text:0 Dispose=|broken at 1|4\n\
+Unit:-1:1 Deref=|broken at 1|2\n\
+Deref=|broken at 0|1\n\
+Push:0 New Dispose:1=|broken at 2|4\n\
+Push:0 New Deref:0:1=|broken at 2|4";
+
 /// Arguments, which a start has none of.
 const ARGUMENTS: &str = "\
 Arg:0=|broken at 0|1\n\
@@ -361,7 +405,8 @@ Push:0 Make:0 Slot:0 Text:0 Put=|broken at 4|8";
 #[test]
 fn each_row_comes_to_what_the_table_of_instructions_says(rt: HostRuntime) -> Result<(), Fail> {
     for table in [
-        OPERANDS, JUMPS, VARIABLES, PLACES, ARGUMENTS, CALLS, LEVELS, SUMS, TRUTHS, TYPES, PRINTS,
+        OPERANDS, JUMPS, VARIABLES, PLACES, POINTERS, DISPOSALS, ARGUMENTS, CALLS, LEVELS, SUMS,
+        TRUTHS, TYPES, PRINTS,
     ] {
         let differing = differing(rt.alloc(), table)?;
         assert_eq!(rt; differing.as_str(), "");
@@ -386,6 +431,20 @@ Return=|normal|1=0=1";
 #[test]
 fn a_run_stops_at_its_budget_and_a_further_one_goes_on(rt: HostRuntime) -> Result<(), Fail> {
     let differing = differing(rt.alloc(), BUDGETS)?;
+    assert_eq!(rt; differing.as_str(), "");
+    Ok(())
+}
+
+/// 16,777,216 words may live, of which `input` and `output` are 4 and a variable of one word is 2. So 8,388,606 of them
+/// are made, each in five ticks with what stands around it, and the next one ends the run at its second tick. One that
+/// is disposed of at once gives its words back, however often.
+const STORAGE: &str = "\
+Push:0 New Drop Jump:0=|error 24 at 2|41943032=50000000\n\
+Push:0 New Dispose Jump:0=|budget|45000000=45000000";
+
+#[test]
+fn variables_are_made_up_to_the_limit_of_words_that_live(rt: HostRuntime) -> Result<(), Fail> {
+    let differing = differing(rt.alloc(), STORAGE)?;
     assert_eq!(rt; differing.as_str(), "");
     Ok(())
 }

@@ -1,0 +1,2 @@
+mod CallEntry
+mod CallFrames

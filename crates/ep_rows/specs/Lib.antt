@@ -1,0 +1,3 @@
+pub mod Parts
+pub mod Printing
+pub mod Steps
