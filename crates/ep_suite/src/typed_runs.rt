@@ -3,7 +3,7 @@
 use crate::machine::end_of;
 use crate::typed_programs::builder::{Builder, Step, Unbuilt};
 use crate::typed_programs::{unit_of, variable};
-use ep_base::{Bytes, List, Name};
+use ep_base::{Boxed, Bytes, List, Name};
 use ep_gen_unit::program_code;
 use ep_machine::{End, Machine};
 use ep_object::{
@@ -12,20 +12,51 @@ use ep_object::{
 };
 use ep_outside::SureSink;
 use ep_typed::{
-    Binary, Denoter, Print, RequiredType, TypedStmt, Unary, UnitRoutine, UnitRoutines,
-    UnitVariables,
+    Binary, Bound, Denoter, Formal, FormalMode, Formals, Print, RequiredType, TypedStmt, Unary,
+    UnitRoutine, UnitRoutines, UnitVariables,
 };
 use std::alloc::{AllocError, Global};
 use std::test::Fail;
 
-/// The statements of the procedures of a program `main` with an integer variable, those of the program, the budget of its
-/// run, and what is written and how the run stands then.
-type Run = (
-    &'static [&'static [Step]],
-    &'static [Step],
-    u32,
-    &'static str,
-);
+/// A formal parameter: an integer, or of the type `0..9`.
+#[derive(Clone, Copy)]
+struct Parameter {
+    mode: FormalMode,
+    digit: bool,
+}
+
+/// A procedure: its formal parameters, how many integer variables it has, which are numbered behind them, and its
+/// statements.
+#[derive(Clone, Copy)]
+struct Routine {
+    formals: &'static [Parameter],
+    variables: u32,
+    steps: &'static [Step],
+}
+
+const BY_VALUE: Parameter = Parameter {
+    mode: FormalMode::Value,
+    digit: false,
+};
+
+const PROTECTED: Parameter = Parameter {
+    mode: FormalMode::ProtectedValue,
+    digit: false,
+};
+
+const BY_REFERENCE: Parameter = Parameter {
+    mode: FormalMode::Variable,
+    digit: false,
+};
+
+const DIGIT: Parameter = Parameter {
+    mode: FormalMode::Value,
+    digit: true,
+};
+
+/// The procedures of a program `main` with an integer variable, the statements of the program, the budget of its run, and
+/// what is written and how the run stands then.
+type Run = (&'static [Routine], &'static [Step], u32, &'static str);
 
 /// Programs. Of more than ten bytes that are all the same one is told, and that there are more.
 const RUNS: &[Run] = &[
@@ -93,12 +124,16 @@ const RUNS: &[Run] = &[
     ),
     // procedure 0 is x := x + 1; x := 0; it is called twice; writeln(x: 1)
     (
-        &[&[
-            Step::Variable(0),
-            Step::Constant(1),
-            Step::Two(Binary::Add),
-            Step::Assign(2, 0),
-        ]],
+        &[Routine {
+            formals: &[],
+            variables: 0,
+            steps: &[
+                Step::Variable(0),
+                Step::Constant(1),
+                Step::Two(Binary::Add),
+                Step::Assign(2, 0),
+            ],
+        }],
         &[
             Step::Constant(0),
             Step::Assign(4, 0),
@@ -115,25 +150,33 @@ const RUNS: &[Run] = &[
     // two procedures that call one another until x is 0: the first writes x and takes 1 away, the second does nothing
     (
         &[
-            &[
-                Step::Variable(0),
-                Step::Constant(1),
-                Step::Wide(Print::Integer),
-                Step::Write(2, false),
-                Step::Variable(0),
-                Step::Constant(1),
-                Step::Two(Binary::Subtract),
-                Step::Assign(3, 0),
-                Step::Procedure(4, 1),
-            ],
-            &[
-                Step::Procedure(6, 0),
-                Step::Empty,
-                Step::Constant(0),
-                Step::Variable(0),
-                Step::Two(Binary::Less),
-                Step::If(5),
-            ],
+            Routine {
+                formals: &[],
+                variables: 0,
+                steps: &[
+                    Step::Variable(0),
+                    Step::Constant(1),
+                    Step::Wide(Print::Integer),
+                    Step::Write(2, false),
+                    Step::Variable(0),
+                    Step::Constant(1),
+                    Step::Two(Binary::Subtract),
+                    Step::Assign(3, 0),
+                    Step::Procedure(4, 1),
+                ],
+            },
+            Routine {
+                formals: &[],
+                variables: 0,
+                steps: &[
+                    Step::Procedure(6, 0),
+                    Step::Empty,
+                    Step::Constant(0),
+                    Step::Variable(0),
+                    Step::Two(Binary::Less),
+                    Step::If(5),
+                ],
+            },
         ],
         &[Step::Constant(3), Step::Assign(8, 0), Step::Procedure(9, 0)],
         10_000,
@@ -141,32 +184,48 @@ const RUNS: &[Run] = &[
     ),
     // an error in a procedure is told with its own line
     (
-        &[&[
-            Step::Constant(i64::MAX),
-            Step::Constant(1),
-            Step::Two(Binary::Add),
-            Step::Assign(2, 0),
-        ]],
+        &[Routine {
+            formals: &[],
+            variables: 0,
+            steps: &[
+                Step::Constant(i64::MAX),
+                Step::Constant(1),
+                Step::Two(Binary::Add),
+                Step::Assign(2, 0),
+            ],
+        }],
         &[Step::Procedure(4, 0)],
         10_000,
         "|error 8 in main at line 2",
     ),
     // a procedure that calls itself for ever, on line 2
     (
-        &[&[Step::Procedure(2, 0)]],
+        &[Routine {
+            formals: &[],
+            variables: 0,
+            steps: &[Step::Procedure(2, 0)],
+        }],
         &[Step::Procedure(4, 0)],
         10_000,
         "|budget",
     ),
     (
-        &[&[Step::Procedure(2, 0)]],
+        &[Routine {
+            formals: &[],
+            variables: 0,
+            steps: &[Step::Procedure(2, 0)],
+        }],
         &[Step::Procedure(4, 0)],
         100_000,
         "|error 25 in main at line 2",
     ),
     // calls in each other, 9,000, 10,000 and 10,001 of them
     (
-        &[FALLING],
+        &[Routine {
+            formals: &[],
+            variables: 0,
+            steps: FALLING,
+        }],
         &[
             Step::Constant(9_000),
             Step::Assign(4, 0),
@@ -176,7 +235,11 @@ const RUNS: &[Run] = &[
         "|normal",
     ),
     (
-        &[FALLING],
+        &[Routine {
+            formals: &[],
+            variables: 0,
+            steps: FALLING,
+        }],
         &[
             Step::Constant(10_000),
             Step::Assign(4, 0),
@@ -186,7 +249,11 @@ const RUNS: &[Run] = &[
         "|normal",
     ),
     (
-        &[FALLING],
+        &[Routine {
+            formals: &[],
+            variables: 0,
+            steps: FALLING,
+        }],
         &[
             Step::Constant(10_001),
             Step::Assign(4, 0),
@@ -194,6 +261,210 @@ const RUNS: &[Run] = &[
         ],
         400_000,
         "|error 25 in main at line 3",
+    ),
+    // y := x; x := x - 1; if 0 < x then p; write(y: 1): each activation has a variable of its own
+    (
+        &[Routine {
+            formals: &[],
+            variables: 1,
+            steps: &[
+                Step::Variable(0),
+                Step::AssignOwn(2, 0),
+                Step::Variable(0),
+                Step::Constant(1),
+                Step::Two(Binary::Subtract),
+                Step::Assign(3, 0),
+                Step::Procedure(4, 0),
+                Step::Empty,
+                Step::Constant(0),
+                Step::Variable(0),
+                Step::Two(Binary::Less),
+                Step::If(4),
+                Step::Own(0),
+                Step::Constant(1),
+                Step::Wide(Print::Integer),
+                Step::Write(5, false),
+            ],
+        }],
+        &[Step::Constant(3), Step::Assign(8, 0), Step::Procedure(9, 0)],
+        10_000,
+        "123|normal",
+    ),
+    // a variable of a procedure is undefined in each activation
+    (
+        &[Routine {
+            formals: &[],
+            variables: 2,
+            steps: &[
+                Step::Constant(7),
+                Step::AssignOwn(2, 0),
+                Step::Own(1),
+                Step::Assign(3, 0),
+            ],
+        }],
+        &[Step::Procedure(9, 0)],
+        10_000,
+        "|error 1 in main at line 3",
+    ),
+    // more calls of a procedure with variables than there is storage for at one time
+    (
+        &[Routine {
+            formals: &[BY_VALUE],
+            variables: 1,
+            steps: &[
+                Step::Own(0),
+                Step::Constant(1),
+                Step::Two(Binary::Add),
+                Step::Assign(2, 0),
+            ],
+        }],
+        &[
+            Step::Constant(0),
+            Step::Assign(4, 0),
+            Step::Variable(0),
+            Step::Given,
+            Step::Procedure(6, 0),
+            Step::Variable(0),
+            Step::Constant(1_100_000),
+            Step::Two(Binary::Less),
+            Step::While(5),
+            Step::Variable(0),
+            Step::Constant(1),
+            Step::Wide(Print::Integer),
+            Step::Write(7, false),
+        ],
+        100_000_000,
+        "1100000|normal",
+    ),
+    // a value parameter is a variable of the procedure, and what is given stays what it is
+    (
+        &[Routine {
+            formals: &[BY_VALUE, PROTECTED],
+            variables: 1,
+            steps: &[
+                Step::Own(0),
+                Step::Own(1),
+                Step::Two(Binary::Multiply),
+                Step::AssignOwn(2, 0),
+                Step::Own(0),
+                Step::AssignOwn(3, 2),
+                Step::Own(2),
+                Step::Constant(1),
+                Step::Wide(Print::Integer),
+                Step::Write(4, false),
+            ],
+        }],
+        &[
+            Step::Constant(6),
+            Step::Assign(8, 0),
+            Step::Variable(0),
+            Step::Given,
+            Step::Constant(7),
+            Step::Given,
+            Step::Procedure(9, 0),
+            Step::Variable(0),
+            Step::Constant(1),
+            Step::Wide(Print::Integer),
+            Step::Write(10, false),
+        ],
+        10_000,
+        "426|normal",
+    ),
+    // two variable parameters that are the same variable
+    (
+        &[Routine {
+            formals: &[BY_REFERENCE, BY_VALUE, BY_REFERENCE],
+            variables: 0,
+            steps: &[
+                Step::Own(1),
+                Step::AssignOwn(2, 0),
+                Step::Own(2),
+                Step::Constant(1),
+                Step::Two(Binary::Add),
+                Step::AssignOwn(3, 2),
+                Step::Own(0),
+                Step::Constant(1),
+                Step::Wide(Print::Integer),
+                Step::Write(4, false),
+            ],
+        }],
+        &[
+            Step::Passed(0),
+            Step::Constant(3),
+            Step::Given,
+            Step::Passed(0),
+            Step::Procedure(9, 0),
+            Step::Variable(0),
+            Step::Constant(1),
+            Step::Wide(Print::Integer),
+            Step::Write(10, false),
+        ],
+        10_000,
+        "44|normal",
+    ),
+    // a variable of one procedure is given to another one
+    (
+        &[
+            Routine {
+                formals: &[BY_REFERENCE],
+                variables: 0,
+                steps: &[
+                    Step::Own(0),
+                    Step::Constant(2),
+                    Step::Two(Binary::Multiply),
+                    Step::AssignOwn(2, 0),
+                ],
+            },
+            Routine {
+                formals: &[],
+                variables: 1,
+                steps: &[
+                    Step::Constant(5),
+                    Step::AssignOwn(4, 0),
+                    Step::PassedOwn(0),
+                    Step::Procedure(5, 0),
+                    Step::PassedOwn(0),
+                    Step::Procedure(6, 0),
+                    Step::Own(0),
+                    Step::Constant(1),
+                    Step::Wide(Print::Integer),
+                    Step::Write(7, false),
+                ],
+            },
+        ],
+        &[Step::Procedure(9, 1)],
+        10_000,
+        "20|normal",
+    ),
+    // a value outside of the parameter's type, on the line of the declaration
+    (
+        &[Routine {
+            formals: &[DIGIT],
+            variables: 0,
+            steps: &[],
+        }],
+        &[Step::Constant(10), Step::Given, Step::Procedure(9, 0)],
+        10_000,
+        "|error 2 in main at line 1",
+    ),
+    // an error in an argument, on the line of the call
+    (
+        &[Routine {
+            formals: &[DIGIT, BY_VALUE],
+            variables: 0,
+            steps: &[],
+        }],
+        &[
+            Step::Constant(10),
+            Step::Given,
+            Step::Constant(i64::MAX),
+            Step::Constant(1),
+            Step::Two(Binary::Add),
+            Step::Given,
+            Step::Procedure(9, 0),
+        ],
+        10_000,
+        "|error 8 in main at line 9",
     ),
 ];
 
@@ -219,31 +490,67 @@ fn integer(alloc: Global) -> Result<UnitVariables, Unbuilt> {
     Ok(variables)
 }
 
-/// A procedure that does these statements.
-fn procedure(alloc: Global, steps: &[Step]) -> Result<UnitRoutine, Unbuilt> {
-    let statements = Builder::after(alloc, steps)?.into_statements();
+/// The denoter of a formal parameter.
+fn denoter_of(alloc: Global, parameter: Parameter) -> Result<Denoter, Unbuilt> {
+    let integer = Denoter::Required(RequiredType::Integer);
+    if !parameter.digit {
+        return Ok(integer);
+    }
+    let host = Boxed::new(alloc, integer)?;
+    Ok(Denoter::Subrange(host, Bound::Constant(0), Bound::Constant(9)))
+}
+
+fn formals(alloc: Global, parameters: &[Parameter]) -> Result<Formals, Unbuilt> {
+    let mut formals = List::new(alloc);
+    for parameter in parameters {
+        let denoter = denoter_of(alloc, *parameter)?;
+        let name = Name::from_bytes(alloc, b"a")?;
+        formals.push(Formal {
+            name,
+            mode: parameter.mode,
+            section: 0,
+            denoter,
+        })?;
+    }
+    Ok(formals)
+}
+
+/// So many integer variables.
+fn integers(alloc: Global, count: u32) -> Result<UnitVariables, Unbuilt> {
+    let mut variables = List::new(alloc);
+    for _ in 0..count {
+        let denoter = Denoter::Required(RequiredType::Integer);
+        variables.push(variable(alloc, b"y", 1, denoter)?)?;
+    }
+    Ok(variables)
+}
+
+/// A procedure, which is declared on line 1.
+fn procedure(alloc: Global, routine: Routine) -> Result<UnitRoutine, Unbuilt> {
+    let statements = Builder::after(alloc, routine.steps)?.into_statements();
+    let formals = formals(alloc, routine.formals)?;
+    let variables = integers(alloc, routine.variables)?;
     Ok(UnitRoutine {
         name: Name::from_bytes(alloc, b"p")?,
         line: 1,
-        formals: List::new(alloc),
+        formals,
         result: None,
-        variables: List::new(alloc),
+        variables,
         routines: List::new(alloc),
         block: TypedStmt::Compound(statements),
     })
 }
 
-/// Procedures that do these statements.
-fn procedures(alloc: Global, all: &[&[Step]]) -> Result<UnitRoutines, Unbuilt> {
+fn procedures(alloc: Global, all: &[Routine]) -> Result<UnitRoutines, Unbuilt> {
     let mut routines = List::new(alloc);
-    for steps in all {
-        routines.push(procedure(alloc, *steps)?)?;
+    for routine in all {
+        routines.push(procedure(alloc, *routine)?)?;
     }
     Ok(routines)
 }
 
 /// The object of the program.
-fn object(alloc: Global, routines: &[&[Step]], steps: &[Step]) -> Result<Object, Unbuilt> {
+fn object(alloc: Global, routines: &[Routine], steps: &[Step]) -> Result<Object, Unbuilt> {
     let variables = integer(alloc)?;
     let statements = Builder::after(alloc, steps)?.into_statements();
     let mut unit = unit_of(alloc, List::new(alloc), variables, statements)?;

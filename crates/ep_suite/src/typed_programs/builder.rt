@@ -1,7 +1,7 @@
 //! Typed trees, built by steps.
 
 use ep_base::{Boxed, Bytes, Line, List, Name, NameRefusal};
-use ep_typed::{Binary, Print, TypedExpr, TypedPlace, TypedStmt, Unary, WriteItem};
+use ep_typed::{Actual, Binary, Print, TypedExpr, TypedPlace, TypedStmt, Unary, WriteItem};
 use std::alloc::{AllocError, Global};
 
 /// A step that builds a tree of what the steps before it left, the last first.
@@ -13,6 +13,14 @@ pub(crate) enum Step {
     Text(&'static [u8]),
     /// The value of a variable of `main`.
     Variable(u32),
+    /// The value of a variable of the routine.
+    Own(u32),
+    /// A value that is given to a value parameter of the next call.
+    Given,
+    /// A variable of `main` that is given to a variable parameter of the next call.
+    Passed(u32),
+    /// A variable of the routine that is given so.
+    PassedOwn(u32),
     /// An operation with one operand.
     One(Unary),
     /// An operation with two operands.
@@ -27,11 +35,13 @@ pub(crate) enum Step {
     Empty,
     /// An assignment of a value to a variable of `main`.
     Assign(Line, u32),
+    /// An assignment of a value to a variable of the routine.
+    AssignOwn(Line, u32),
     /// `if` with a condition and two statements.
     If(Line),
     /// `while` with a condition and a statement.
     While(Line),
-    /// A call of the procedure of this number of `main`.
+    /// A call of the procedure of this number of `main`, with all that is given.
     Procedure(Line, u32),
     /// `halt`
     Halt(Line),
@@ -68,6 +78,7 @@ pub(crate) struct Builder {
     alloc: Global,
     pub(crate) expressions: List<Boxed<TypedExpr>>,
     items: List<WriteItem>,
+    actuals: List<Actual>,
     pub(crate) statements: List<TypedStmt>,
 }
 
@@ -78,6 +89,7 @@ impl Builder {
             alloc,
             expressions: List::new(alloc),
             items: List::new(alloc),
+            actuals: List::new(alloc),
             statements: List::new(alloc),
         };
         for step in steps {
@@ -97,6 +109,10 @@ impl Builder {
             Step::Constant(value) => self.push(TypedExpr::Constant(value)),
             Step::Text(bytes) => self.text(bytes),
             Step::Variable(number) => self.variable(number),
+            Step::Own(number) => self.push(TypedExpr::Read(TypedPlace::Own(number))),
+            Step::Given => self.given(),
+            Step::Passed(number) => self.passed(number),
+            Step::PassedOwn(number) => self.pass(Actual::Variable(TypedPlace::Own(number))),
             Step::One(operation) => self.one(operation),
             Step::Two(operation) => self.two(operation),
             Step::CharStep(down) => self.char_step(down),
@@ -104,6 +120,7 @@ impl Builder {
             Step::Wide(print) => self.wide(print),
             Step::Empty => self.put(TypedStmt::Empty),
             Step::Assign(line, number) => self.assign(line, number),
+            Step::AssignOwn(line, number) => self.assign_to(line, TypedPlace::Own(number)),
             Step::If(line) => self.choice(line),
             Step::While(line) => self.repetition(line),
             Step::Procedure(line, number) => self.call(line, number),
@@ -116,7 +133,23 @@ impl Builder {
     /// A call of a procedure of `main`.
     fn call(&mut self, line: Line, number: u32) -> Result<(), Unbuilt> {
         let unit = Name::from_bytes(self.alloc, b"main")?;
-        self.put(TypedStmt::Procedure(line, unit, number))
+        let actuals = std::mem::replace(&mut self.actuals, List::new(self.alloc));
+        self.put(TypedStmt::Procedure(line, unit, number, actuals))
+    }
+
+    /// Gives a value or a variable to the next call.
+    fn pass(&mut self, actual: Actual) -> Result<(), Unbuilt> {
+        Ok(self.actuals.push(actual)?)
+    }
+
+    fn given(&mut self) -> Result<(), Unbuilt> {
+        let value = self.expression()?;
+        self.pass(Actual::Value(value))
+    }
+
+    fn passed(&mut self, number: u32) -> Result<(), Unbuilt> {
+        let place = self.place(number)?;
+        self.pass(Actual::Variable(place))
     }
 
     /// The last expression.
@@ -204,8 +237,12 @@ impl Builder {
     }
 
     fn assign(&mut self, line: Line, number: u32) -> Result<(), Unbuilt> {
-        let value = self.expression()?;
         let place = self.place(number)?;
+        self.assign_to(line, place)
+    }
+
+    fn assign_to(&mut self, line: Line, place: TypedPlace) -> Result<(), Unbuilt> {
+        let value = self.expression()?;
         self.put(TypedStmt::Assign(line, place, value))
     }
 
