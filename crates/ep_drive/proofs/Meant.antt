@@ -1,17 +1,22 @@
 -- What a run of an image within its budget says by the meaning of the units that the image implements.
-use Rattle.std.proofs.Common.{◌≡◌, ℕ, ◌+◌, ◌-◌, ◌*◌, ◌≤◌, zero, suc, false, if◌then◌else◌, slice_get, None, IsTrue, List, [], ◌∷◌, ◌⊎◌, inl, inr, refl, sym, ap, ◌∙◌, subst, arith}
+use Rattle.std.proofs.Common.{◌≡◌, ℕ, ◌+◌, ◌-◌, ◌*◌, ◌≤◌, zero, suc, false, if◌then◌else◌, slice_get, None, IsTrue, List, [], ◌∷◌, ◌⊎◌, inl, inr, refl, sym, ap, ◌∙◌, subst, arith, Bool, true, map, Option, Some}
+use Rattle.std.specs.Option.{option_map}
 use Rattle.std.specs.Str.{bytes_eq}
 use Rattle.ep_object.specs.Follows.{end_of}
 use Rattle.ep_object.specs.State.{Going, Running, Stopped, Normal, Halt, Error, Broken}
 use Rattle.ep_object.specs.Tells.{Tells}
 use Rattle.ep_typed.proofs.Lasting.{meanings_last}
+use Rattle.ep_typed.specs.Calls.{Handler, in_call}
 use Rattle.ep_typed.specs.Events.{Trace, Does}
 use Rattle.ep_typed.specs.Laws.{IsLonger}
 use Rattle.ep_typed.specs.Meaning.{routine_does, routine_of, meaning, make_all, exec}
+use Rattle.ep_typed.specs.Printing.{Result}
 use Rattle.ep_typed.specs.Viewed.{stmt_of}
-use Rattle.ep_typed.specs.Steps.{Outcome, Gives, Ends, Cut, State, state_of, cut, stop, go_on, bind, spend, first_state}
+use Rattle.ep_typed.specs.Steps.{Outcome, Gives, Ends, Cut, Computation, State, state_of, cut, give, stop, go_on, bind, spend, first_state}
 use Rattle.ep_typed.specs.Steps as meant
 use Rattle.ep_typed.specs.declared.unit.Unit.{Unit as TypedUnit}
+use Rattle.ep_typed.specs.declared.unit.UnitRoutine.{UnitRoutine}
+use Rattle.ep_check_unit.specs.Blocks.{RoutineForm, routine_form}
 use Rattle.ep_drive.specs.GoRuns.{run_within, IsRun, GoFinishes, EndsSo, MeansSo, GoMeans, GoSettles}
 use Rattle.ep_drive.specs.Outcomes.{run_status, end_status}
 use Rattle.ep_drive.specs.ProgramTexts.{IsProgramText, Joins}
@@ -147,10 +152,42 @@ settled_status units ticks m l e s (Stopped end trace) (inr t) h room few = absu
 
 -- ---- texts and units
 
--- the calls of a unit are those of its name and its routines
-same_calls : (u v : TypedUnit) (n : ℕ) → u.name ≡ v.name → u.routines ≡ v.routines → routine_of (u ∷ []) n ≡ routine_of (v ∷ []) n
+-- what a routine does, by its form
+abbrev form_does : Handler → ℕ → List ℕ → ℕ → List ℕ → Option RoutineForm → Computation (List Result)
+form_does call g from line unit None = cut
+form_does call g from line unit (Some f) = in_call (record { routine = f.name; unit = from; line = line }) (spend 1 (bind (exec call g unit f.block) (λ _. give [])))
+
+does_form : (call : Handler) (g : ℕ) (from : List ℕ) (line : ℕ) (unit : List ℕ) (o : Option UnitRoutine) → routine_does call g from line unit o ≡ form_does call g from line unit (option_map routine_form o)
+does_form call g from line unit None = refl
+does_form call g from line unit (Some r) = refl
+
+-- the form of this number
+form_at : (rs : List UnitRoutine) (number : ℕ) → option_map routine_form (slice_get rs number) ≡ slice_get (map routine_form rs) number
+form_at [] number = refl
+form_at (r ∷ rs) zero = refl
+form_at (r ∷ rs) (suc n) = form_at rs n
+
+form_if : (b : Bool) (rs : List UnitRoutine) (number : ℕ) → option_map routine_form (if b then slice_get rs number else None) ≡ (if b then slice_get (map routine_form rs) number else None)
+form_if true rs number = form_at rs number
+form_if false rs number = refl
+
+unit_does : (call : Handler) (g : ℕ) (from : List ℕ) (line : ℕ) (unit : List ℕ) (number : ℕ) (u : TypedUnit)
+    → routine_does call g from line unit (if bytes_eq u.name unit then slice_get u.routines number else None) ≡ form_does call g from line unit (if bytes_eq u.name unit then slice_get (map routine_form u.routines) number else None)
+unit_does call g from line unit number u =
+    does_form call g from line unit (if bytes_eq u.name unit then slice_get u.routines number else None) ∙ ap (form_does call g from line unit) (form_if (bytes_eq u.name unit) u.routines number)
+
+-- a call of two units alike, where the calls in it are
+call_alike : (u v : TypedUnit) (d : ℕ) → routine_of (u ∷ []) d ≡ routine_of (v ∷ []) d → u.name ≡ v.name → map routine_form u.routines ≡ map routine_form v.routines → (from : List ℕ) (line : ℕ) (unit : List ℕ) (number : ℕ)
+    → routine_does (routine_of (u ∷ []) d) d from line unit (if bytes_eq u.name unit then slice_get u.routines number else None) ≡ routine_does (routine_of (v ∷ []) d) d from line unit (if bytes_eq v.name unit then slice_get v.routines number else None)
+call_alike u v d calls a r from line unit number =
+    let inner : form_does (routine_of (u ∷ []) d) d from line unit (if bytes_eq u.name unit then slice_get (map routine_form u.routines) number else None) ≡ form_does (routine_of (v ∷ []) d) d from line unit (if bytes_eq v.name unit then slice_get (map routine_form v.routines) number else None) =
+    λ j. form_does (calls j) d from line unit (if bytes_eq (a j) unit then slice_get (r j) number else None) in
+    unit_does (routine_of (u ∷ []) d) d from line unit number u ∙ (inner ∙ sym (unit_does (routine_of (v ∷ []) d) d from line unit number v))
+
+-- the calls of a unit are those of its name and its routines' forms
+same_calls : (u v : TypedUnit) (n : ℕ) → u.name ≡ v.name → map routine_form u.routines ≡ map routine_form v.routines → routine_of (u ∷ []) n ≡ routine_of (v ∷ []) n
 same_calls u v zero a r = λ i from line unit number arguments. cut
-same_calls u v (suc d) a r = λ i from line unit number arguments. routine_does (same_calls u v d a r i) d from line unit (if bytes_eq (a i) unit then slice_get (r i) number else None)
+same_calls u v (suc d) a r = λ i from line unit number arguments. call_alike u v d (same_calls u v d a r) a r from line unit number i
 
 -- the meaning is that of the name, the types, the variables, the routines and the statements
 same_meaning : (u v : TypedUnit) (m : ℕ) → AreAlike u v → meaning (u ∷ []) m ≡ meaning (v ∷ []) m
