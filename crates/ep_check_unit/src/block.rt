@@ -164,7 +164,8 @@ impl Block {
 
     /// A name is entered, where it is not there.
     pub(crate) fn enter(&mut self, alloc: Global, name: &Name, thing: Thing) -> Result<(), Refusal>
-        ensures { AnswersBlock result (block_of self.new) (entered name.now thing (block_of self.old)) }
+        ensures { AnswersBlock result (block_of self.new)
+            (entered name.now thing (block_of self.old)) }
     {
         let copy = name.copy(alloc)?;
         match self.scopes.enter(copy, thing) {
@@ -184,7 +185,8 @@ impl Block {
         kind: Kind,
         value: &Value,
     ) -> Result<(), Refusal>
-        ensures { AnswersBlock result (block_of self.new) (constant_entered name.now kind value.now (block_of self.old)) }
+        ensures { AnswersBlock result (block_of self.new)
+            (constant_entered name.now kind value.now (block_of self.old)) }
     {
         let number = number(self.constants.items().len())?;
         if let Kind::Ordinal(host) = kind {
@@ -203,7 +205,8 @@ impl Block {
         host: Host,
         value: &Value,
     ) -> Result<(), NoMemory>
-        ensures { OnOk result (block_of self.new ≡ with_constant_entry name.now host value.now (block_of self.old)) }
+        ensures { OnOk result (block_of self.new ≡ with_constant_entry name.now host value.now
+            (block_of self.old)) }
     {
         let entry = ConstantEntry {
             name: name.copy(alloc)?,
@@ -221,7 +224,8 @@ impl Block {
         line: Line,
         denoter: Denoter,
     ) -> Result<u32, Refusal>
-        ensures { AnswersType (option_map (λ n. n.now) name.entry) line denoter (block_of self.old) result (block_of self.new) }
+        ensures { AnswersType (option_map (λ n. n.now) name.entry) line denoter
+            (block_of self.old) result (block_of self.new) }
     {
         let number = number(self.types.items().len())?;
         let name = match name {

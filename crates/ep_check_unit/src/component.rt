@@ -195,7 +195,8 @@ impl Block {
     /// The parameters of a program are entered, in order.
     fn enter_parameters(&mut self, alloc: Global, names: &[Name]) -> Result<(), Refusal>
         requires { list_all (is_among program_parameters) names.now ≡ true }
-        ensures { AnswersBlock result (block_of self.new) (parameters_entered names.now (block_of self.old)) }
+        ensures { AnswersBlock result (block_of self.new)
+            (parameters_entered names.now (block_of self.old)) }
     {
         for name in names {
             match standard_file(name) {

@@ -25,7 +25,8 @@ impl Block {
     /// The parts of a block, in order.
     pub(crate) fn declare(&mut self, alloc: Global, parts: &[Part]) -> Result<(), CheckRefusal>
         requires { first_in (map part_unbuilt parts.now) ≡ None }
-        ensures { AnswersStanding result (block_of self.new) (parts_declared parts.now (block_of self.old)) }
+        ensures { AnswersStanding result (block_of self.new)
+            (parts_declared parts.now (block_of self.old)) }
     {
         for part in parts {
             self.declare_part(alloc, part)?;
@@ -35,7 +36,8 @@ impl Block {
 
     fn declare_part(&mut self, alloc: Global, part: &Part) -> Result<(), CheckRefusal>
         requires { part_unbuilt part.now ≡ None }
-        ensures { AnswersStanding result (block_of self.new) (part_declared (out-Part part.now) (block_of self.old)) }
+        ensures { AnswersStanding result (block_of self.new)
+            (part_declared (out-Part part.now) (block_of self.old)) }
     {
         match part {
             Part::Constants(c) => self.define_constants(alloc, c.definitions.items()),
@@ -64,7 +66,8 @@ impl Block {
         definitions: &[ConstantDefinition],
     ) -> Result<(), CheckRefusal>
         requires { first_in (map constant_unbuilt definitions.now) ≡ None }
-        ensures { AnswersStanding result (block_of self.new) (constants_declared definitions.now (block_of self.old)) }
+        ensures { AnswersStanding result (block_of self.new)
+            (constants_declared definitions.now (block_of self.old)) }
     {
         for definition in definitions {
             if let Err(refusal) = self.define_constant(alloc, definition) {
@@ -81,7 +84,8 @@ impl Block {
         definition: &ConstantDefinition,
     ) -> Result<(), Refusal>
         requires { component_value_unbuilt definition.now.value ≡ None }
-        ensures { AnswersBlock result (block_of self.new) (constant_definition definition.now (block_of self.old)) }
+        ensures { AnswersBlock result (block_of self.new)
+            (constant_definition definition.now (block_of self.old)) }
     {
         let form = constant_value(alloc, &definition.value, self.scopes.in_view())?;
         self.add_constant(alloc, &definition.name, form.kind, &form.value)?;
@@ -97,7 +101,8 @@ impl Block {
         definitions: &[TypeDefinition],
     ) -> Result<(), Refusal>
         requires { first_in (map type_unbuilt definitions.now) ≡ None }
-        ensures { AnswersBlock result (block_of self.new) (type_definitions line definitions.now (block_of self.old)) }
+        ensures { AnswersBlock result (block_of self.new)
+            (type_definitions line definitions.now (block_of self.old)) }
     {
         for definition in definitions {
             self.define_type(alloc, line, definition)?;
@@ -113,7 +118,8 @@ impl Block {
         definition: &TypeDefinition,
     ) -> Result<(), Refusal>
         requires { type_unbuilt definition.now ≡ None }
-        ensures { AnswersBlock result (block_of self.new) (type_definition line definition.now (block_of self.old)) }
+        ensures { AnswersBlock result (block_of self.new)
+            (type_definition line definition.now (block_of self.old)) }
     {
         let core = &definition.of.plain.get().core;
         let written = self.written_type(alloc, line, core)?;
@@ -131,7 +137,8 @@ impl Block {
         declarations: &[VariableDeclaration],
     ) -> Result<(), CheckRefusal>
         requires { first_in (map variable_unbuilt declarations.now) ≡ None }
-        ensures { AnswersStanding result (block_of self.new) (all_variables_declared declarations.now (block_of self.old)) }
+        ensures { AnswersStanding result (block_of self.new)
+            (all_variables_declared declarations.now (block_of self.old)) }
     {
         for declaration in declarations {
             if let Err(refusal) = self.declare_variables(alloc, declaration) {
@@ -148,7 +155,8 @@ impl Block {
         declaration: &VariableDeclaration,
     ) -> Result<(), Refusal>
         requires { variable_unbuilt declaration.now ≡ None }
-        ensures { AnswersBlock result (block_of self.new) (variable_declaration declaration.now (block_of self.old)) }
+        ensures { AnswersBlock result (block_of self.new)
+            (variable_declaration declaration.now (block_of self.old)) }
     {
         let core = &declaration.of.plain.get().core;
         let named = self.settled_type(alloc, declaration.line, core)?;
@@ -167,7 +175,8 @@ impl Block {
     /// The type of a declaration on this line by its name, for which a type that has none gets an entry.
     fn settled_type(&mut self, alloc: Global, line: Line, core: &Core) -> Result<NamedType, Refusal>
         requires { core_unbuilt core.now ≡ None }
-        ensures { AnswersForm (named_in (block_of self.new)) result (settled_type line (out-Core core.now) (block_of self.old)) }
+        ensures { AnswersForm (named_in (block_of self.new)) result
+            (settled_type line (out-Core core.now) (block_of self.old)) }
     {
         if let Core::Named(_, name, _) = core {
             return self.named_type(name);

@@ -52,7 +52,8 @@ fn procedure_there(thing: &Thing) -> Result<u32, Refusal>
 impl Block {
     /// The first declaration of a procedure on this line, and its number.
     fn add_procedure(&mut self, alloc: Global, line: Line, name: &Name) -> Result<u32, Refusal>
-        ensures { AnswersForm (headed_in (block_of self.new)) result (headed_first name.now line (block_of self.old)) }
+        ensures { AnswersForm (headed_in (block_of self.new)) result
+            (headed_first name.now line (block_of self.old)) }
     {
         let number = number(self.routines.items().len())?;
         let routine = procedure(alloc, name.copy(alloc)?, line, TypedStmt::Empty);
@@ -90,7 +91,8 @@ impl Block {
     pub(crate) fn declare_routine(&mut self, alloc: Global, r: &Routine) -> Result<(), CheckRefusal>
         requires start { built_start (out-Routine r.now).start ≡ true }
         requires body { body_unbuilt (out-Routine r.now).body ≡ None }
-        ensures { AnswersStanding result (block_of self.new) (routine_declared r.now (block_of self.old)) }
+        ensures { AnswersStanding result (block_of self.new)
+            (routine_declared r.now (block_of self.old)) }
     {
         let RoutineStart::Heading(RoutineHeading::Procedure(_, name, _)) = &r.start else {
             unreachable!()
@@ -175,7 +177,8 @@ impl Block {
     /// The parts of the block of a procedure, in order.
     fn declare_local_parts(&mut self, alloc: Global, parts: &[Part]) -> Result<(), CheckRefusal>
         requires { first_in (map local_part_unbuilt parts.now) ≡ None }
-        ensures { AnswersStanding result (block_of self.new) (local_parts_declared parts.now (block_of self.old)) }
+        ensures { AnswersStanding result (block_of self.new)
+            (local_parts_declared parts.now (block_of self.old)) }
     {
         for part in parts {
             self.declare_local_part(alloc, part)?;
@@ -185,7 +188,8 @@ impl Block {
 
     fn declare_local_part(&mut self, alloc: Global, part: &Part) -> Result<(), CheckRefusal>
         requires { local_part_unbuilt part.now ≡ None }
-        ensures { AnswersStanding result (block_of self.new) (local_part_declared (out-Part part.now) (block_of self.old)) }
+        ensures { AnswersStanding result (block_of self.new)
+            (local_part_declared (out-Part part.now) (block_of self.old)) }
     {
         match part {
             Part::Constants(c) => self.define_constants(alloc, c.definitions.items()),

@@ -192,7 +192,8 @@ fn copied(alloc: Global, names: &[Name]) -> Result<Names, NoMemory>
 impl Block {
     /// A type by its name, or by the name of an interface and that of its constituent.
     pub(crate) fn named_type(&self, name: &QualifiedName) -> Result<NamedType, Refusal>
-        ensures { AnswersForm (named_in (block_of self.now)) result (spec.type_named name.now.first name.now.second (block_of self.now)) }
+        ensures { AnswersForm (named_in (block_of self.now)) result
+            (spec.type_named name.now.first name.now.second (block_of self.now)) }
     {
         let scopes = self.scopes.in_view();
         match &name.second {
@@ -217,7 +218,8 @@ impl Block {
     ) -> Result<Written, Refusal>
         requires low { expression_unbuilt low.now ≡ None }
         requires high { expression_unbuilt high.now ≡ None }
-        ensures { AnswersForm (written_in (block_of self.new)) result (both (range line (block_of self.old))
+        ensures { AnswersForm (written_in (block_of self.new)) result
+            (both (range line (block_of self.old))
             (bound_judged (scopes_of (block_of self.old)) low.now) (bound_judged (scopes_of (block_of self.old)) high.now)) }
     {
         let least = bound_value(alloc, low, self.scopes.in_view())?;
@@ -231,7 +233,8 @@ impl Block {
 
     /// The constants of an enumeration are entered, in order.
     fn enumerate(&mut self, alloc: Global, host: Host, names: &[Name]) -> Result<(), Refusal>
-        ensures { AnswersBlock result (block_of self.new) (enumerated host 0 names.now (block_of self.old)) }
+        ensures { AnswersBlock result (block_of self.new)
+            (enumerated host 0 names.now (block_of self.old)) }
     {
         for (place, name) in names.iter().enumerate() {
             let ordinal = Value::Word(i64::from(number(place)?));
@@ -242,7 +245,8 @@ impl Block {
 
     /// `"(" ids ")"`
     fn enumeration(&mut self, alloc: Global, names: &[Name]) -> Result<Written, Refusal>
-        ensures { AnswersForm (written_in (block_of self.new)) result (enumeration names.now (block_of self.old)) }
+        ensures { AnswersForm (written_in (block_of self.new)) result
+            (enumeration names.now (block_of self.old)) }
     {
         let Some((_, others)) = names.split_first() else {
             return Err(Refusal::Rule(rule::EMPTY_RANGE));
@@ -264,7 +268,8 @@ impl Block {
         core: &Core,
     ) -> Result<Written, Refusal>
         requires { core_unbuilt core.now ≡ None }
-        ensures { AnswersForm (written_in (block_of self.new)) result (core_written line (out-Core core.now) (block_of self.old)) }
+        ensures { AnswersForm (written_in (block_of self.new)) result
+            (core_written line (out-Core core.now) (block_of self.old)) }
     {
         match core {
             Core::Named(_, name, _) => {

@@ -1,17 +1,23 @@
 -- What a run of an image within its budget says by the meaning of the units that the image implements.
-use Rattle.std.proofs.Common.{◌≡◌, ℕ, ◌+◌, ◌-◌, ◌*◌, ◌≤◌, zero, suc, false, if◌then◌else◌, slice_get, None, IsTrue, List, [], ◌∷◌, ◌⊎◌, inl, inr, refl, sym, ap, ◌∙◌, subst, arith}
+use Rattle.std.proofs.Common.{◌≡◌, length, ℕ, ◌+◌, ◌-◌, ◌*◌, ◌≤◌, zero, suc, false, if◌then◌else◌, slice_get, None, IsTrue, List, [], ◌∷◌, ◌⊎◌, inl, inr, refl, sym, ap, ◌∙◌, subst, arith, Bool, true, map, Option, Some}
+use Rattle.std.specs.Option.{option_map}
 use Rattle.std.specs.Str.{bytes_eq}
 use Rattle.ep_object.specs.Follows.{end_of}
 use Rattle.ep_object.specs.State.{Going, Running, Stopped, Normal, Halt, Error, Broken}
 use Rattle.ep_object.specs.Tells.{Tells}
 use Rattle.ep_typed.proofs.Lasting.{meanings_last}
+use Rattle.ep_typed.specs.Calls.{Argument, Handler, in_call}
 use Rattle.ep_typed.specs.Events.{Trace, Does}
 use Rattle.ep_typed.specs.Laws.{IsLonger}
-use Rattle.ep_typed.specs.Meaning.{found_among, routine_does, routine_of, meaning, make_all, exec}
+use Rattle.ep_typed.specs.Meaning.{activation, takes_all, make_all_own, found_among, routine_does, routine_of, meaning, make_all, exec}
+use Rattle.ep_typed.specs.Printing.{Result}
 use Rattle.ep_typed.specs.Viewed.{stmt_of}
-use Rattle.ep_typed.specs.Steps.{Outcome, Gives, Ends, Cut, State, state_of, cut, stop, go_on, bind, spend, first_state}
+use Rattle.ep_typed.specs.Steps.{Outcome, Gives, Ends, Cut, Computation, State, state_of, cut, give, stop, go_on, bind, spend, first_state}
 use Rattle.ep_typed.specs.Steps as meant
 use Rattle.ep_typed.specs.declared.unit.Unit.{Unit as TypedUnit}
+use Rattle.ep_typed.specs.declared.unit.UnitRoutine.{UnitRoutine}
+use Rattle.ep_typed.specs.declared.unit.UnitType.{UnitType}
+use Rattle.ep_check_unit.specs.Blocks.{RoutineForm, routine_form}
 use Rattle.ep_drive.specs.GoRuns.{run_within, IsRun, GoFinishes, EndsSo, MeansSo, GoMeans, GoSettles}
 use Rattle.ep_drive.specs.Outcomes.{run_status, end_status}
 use Rattle.ep_drive.specs.ProgramTexts.{IsProgramText, Joins}
@@ -147,10 +153,42 @@ settled_status units ticks m l e s (Stopped end trace) (inr t) h room few = absu
 
 -- ---- texts and units
 
--- the calls of a unit are those of its name, its types and its routines
-same_calls : (u v : TypedUnit) (n : ℕ) → u.name ≡ v.name → u.types ≡ v.types → u.routines ≡ v.routines → routine_of (u ∷ []) n ≡ routine_of (v ∷ []) n
+-- what a routine of a unit with these types does, by its form
+abbrev form_does : Handler → ℕ → List ℕ → ℕ → List ℕ → List UnitType → Option RoutineForm → List Argument → Computation (List Result)
+form_does call g from line unit types None xs = cut
+form_does call g from line unit types (Some f) xs =
+    in_call (activation f.name from line)
+    (spend 1 (bind (bind (takes_all call g unit types f.line 0 f.formals xs) (λ _. bind (make_all_own call g unit types (length f.formals) f.variables) (λ _. exec call g unit f.block))) (λ _. give [])))
+
+does_form : (call : Handler) (g : ℕ) (from : List ℕ) (line : ℕ) (unit : List ℕ) (types : List UnitType) (o : Option UnitRoutine) (xs : List Argument)
+    → routine_does call g from line unit (found_among types o) xs ≡ form_does call g from line unit types (option_map routine_form o) xs
+does_form call g from line unit types None xs = refl
+does_form call g from line unit types (Some r) xs = refl
+
+-- the form of this number
+form_at : (rs : List UnitRoutine) (number : ℕ) → option_map routine_form (slice_get rs number) ≡ slice_get (map routine_form rs) number
+form_at [] number = refl
+form_at (r ∷ rs) zero = refl
+form_at (r ∷ rs) (suc n) = form_at rs n
+
+does_if : (b : Bool) (call : Handler) (g : ℕ) (from : List ℕ) (line : ℕ) (unit : List ℕ) (number : ℕ) (types : List UnitType) (rs : List UnitRoutine) (xs : List Argument)
+    → routine_does call g from line unit (if b then found_among types (slice_get rs number) else None) xs ≡ form_does call g from line unit types (if b then slice_get (map routine_form rs) number else None) xs
+does_if true call g from line unit number types rs xs =
+    does_form call g from line unit types (slice_get rs number) xs ∙ ap (λ o. form_does call g from line unit types o xs) (form_at rs number)
+does_if false call g from line unit number types rs xs = refl
+
+-- a call of two units alike, where the calls in it are
+call_alike : (u v : TypedUnit) (d : ℕ) → routine_of (u ∷ []) d ≡ routine_of (v ∷ []) d → u.name ≡ v.name → u.types ≡ v.types → map routine_form u.routines ≡ map routine_form v.routines → (from : List ℕ) (line : ℕ) (unit : List ℕ) (number : ℕ) (xs : List Argument)
+    → routine_does (routine_of (u ∷ []) d) d from line unit (if bytes_eq u.name unit then found_among u.types (slice_get u.routines number) else None) xs ≡ routine_does (routine_of (v ∷ []) d) d from line unit (if bytes_eq v.name unit then found_among v.types (slice_get v.routines number) else None) xs
+call_alike u v d calls a t r from line unit number xs =
+    let inner : form_does (routine_of (u ∷ []) d) d from line unit u.types (if bytes_eq u.name unit then slice_get (map routine_form u.routines) number else None) xs ≡ form_does (routine_of (v ∷ []) d) d from line unit v.types (if bytes_eq v.name unit then slice_get (map routine_form v.routines) number else None) xs =
+    λ j. form_does (calls j) d from line unit (t j) (if bytes_eq (a j) unit then slice_get (r j) number else None) xs in
+    does_if (bytes_eq u.name unit) (routine_of (u ∷ []) d) d from line unit number u.types u.routines xs ∙ (inner ∙ sym (does_if (bytes_eq v.name unit) (routine_of (v ∷ []) d) d from line unit number v.types v.routines xs))
+
+-- the calls of a unit are those of its name, its types and its routines' forms
+same_calls : (u v : TypedUnit) (n : ℕ) → u.name ≡ v.name → u.types ≡ v.types → map routine_form u.routines ≡ map routine_form v.routines → routine_of (u ∷ []) n ≡ routine_of (v ∷ []) n
 same_calls u v zero a t r = λ i from line unit number arguments. cut
-same_calls u v (suc d) a t r = λ i from line unit number arguments. routine_does (same_calls u v d a t r i) d from line unit (if bytes_eq (a i) unit then found_among (t i) (slice_get (r i) number) else None)
+same_calls u v (suc d) a t r = λ i from line unit number arguments. call_alike u v d (same_calls u v d a t r) a t r from line unit number arguments i
 
 -- the meaning is that of the name, the types, the variables, the routines and the statements
 same_meaning : (u v : TypedUnit) (m : ℕ) → AreAlike u v → meaning (u ∷ []) m ≡ meaning (v ∷ []) m

@@ -7,10 +7,13 @@ use Rattle.ep_tree.specs.declared.component.Component.TheVariants as component_i
 use Rattle.ep_grammar.proofs.Refusal.{one_tree}
 use Rattle.ep_grammar.specs.Rules.{Grammar}
 use Rattle.ep_grammar.specs.declared.stop.TheConstants.{MAX_NESTING}
-use Rattle.ep_typed.specs.Nodes.{unit_nodes, type_nodes, constant_nodes, variable_nodes, routine_nodes, stmt_nodes}
+use Rattle.ep_typed.specs.Nodes.{unit_nodes, heading_nodes, type_nodes, constant_nodes, variable_nodes, routine_nodes, stmt_nodes}
 use Rattle.ep_typed.specs.Viewed.{stmt_of}
 use Rattle.ep_typed.specs.declared.unit.Unit.{Unit as TypedUnit}
+use Rattle.ep_typed.specs.declared.unit.UnitRoutine.{UnitRoutine}
+use Rattle.ep_typed.proofs.Routines.{routine_is}
 use Rattle.ep_check_stmt.specs.Statements.{Judgement, Passes, Waits, Fails, fails_at}
+use Rattle.ep_check_unit.specs.Blocks.{RoutineForm, routine_form}
 use Rattle.ep_check_unit.specs.Units.{ProgramForm, IsUnitOf, IsTyped, BreaksAt, WaitsAt, component_judged}
 use Rattle.ep_drive.specs.ProgramTexts.{HasBuilt, IsSound, IsTooLarge}
 use Rattle.ep_drive.specs.Refusals.{RulesOut, IsRuledOut, AreAlike}
@@ -36,13 +39,21 @@ has_form (component_is.Heading h) u t = absurd t
 has_form (component_is.Block b) u t = absurd t
 has_form (component_is.Module m) u t = absurd t
 
+-- the typed nodes of a routine, by its form
+abbrev form_nodes : RoutineForm → ℕ
+form_nodes f = heading_nodes f.formals f.result + sum (map variable_nodes f.variables) + sum (map routine_nodes f.routines) + stmt_nodes f.block
+
+routines_nodes : (rs : List UnitRoutine) → map routine_nodes rs ≡ map form_nodes (map routine_form rs)
+routines_nodes [] = refl
+routines_nodes (r ∷ rs) = λ i. routine_is r i ∷ routines_nodes rs i
+
 -- two units that have the same parts, to all that is said of them
 pub record SameParts (u v : TypedUnit) : Type 0 where
   pub names : u.name ≡ v.name
   pub types : u.types ≡ v.types
   pub variables : u.variables ≡ v.variables
   pub starts : stmt_of u.start ≡ stmt_of v.start
-  pub routines : u.routines ≡ v.routines
+  pub routines : map routine_form u.routines ≡ map routine_form v.routines
   pub nodes : unit_nodes u ≡ unit_nodes v
 
 -- the typed units of one component
@@ -58,7 +69,9 @@ one_unit (component_is.Program p) u v a b =
         let types = x.types ∙ sym y.types in
         let constants = x.constants ∙ sym y.constants in
         let variables = x.variables ∙ sym y.variables in
-        let routines = x.routines ∙ sym y.routines in
+        let routines : map routine_form u.routines ≡ map routine_form v.routines = x.routines ∙ sym y.routines in
+        let counts : sum (map routine_nodes u.routines) ≡ sum (map routine_nodes v.routines) =
+        ap sum (routines_nodes u.routines ∙ (ap (map form_nodes) routines ∙ sym (routines_nodes v.routines))) in
         let starts = x.start ∙ sym y.start in
         let stops = x.stop ∙ sym y.stop in
         record {
@@ -69,7 +82,7 @@ one_unit (component_is.Program p) u v a b =
           routines = routines;
           nodes = λ i.
               length (imports i) + sum (map type_nodes (types i)) + sum (map constant_nodes (constants i)) + sum (map variable_nodes (variables i))
-              + sum (map routine_nodes (routines i)) + stmt_nodes (starts i) + stmt_nodes (stops i);
+              + counts i + stmt_nodes (starts i) + stmt_nodes (stops i);
         }
 one_unit (component_is.Heading h) u v a b = absurd a
 one_unit (component_is.Block b) u v a c = absurd a

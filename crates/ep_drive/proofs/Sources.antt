@@ -1,5 +1,5 @@
 -- Which texts are programs and which are refused: no text is both, and a text is one program at most.
-use Rattle.std.proofs.Common.{◌≡◌, ℕ, ◌+◌, ◌≤◌, List, [], ◌∷◌, ◌++◌, length, inl, inr, Option, Some, None, Result, Ok, Err, get_or, refl, sym, ap, ◌∙◌, subst, arith}
+use Rattle.std.proofs.Common.{◌≡◌, ℕ, ◌+◌, ◌≤◌, List, [], ◌∷◌, ◌++◌, length, inl, inr, Option, Some, None, Result, Ok, Err, get_or, refl, sym, ap, ◌∙◌, subst, arith, map}
 use Rattle.std.specs.Prelude.{IsOkUnless, MatchResult}
 use Rattle.std.specs.Option.{option_or}
 use Rattle.ep_token.specs.Tokens.{AreInOrder}
@@ -11,6 +11,7 @@ use Rattle.ep_grammar.specs.Units.{components}
 use Rattle.ep_grammar.specs.declared.stop.TheConstants.{MAX_NESTING}
 use Rattle.ep_typed.specs.Viewed.{stmt_of}
 use Rattle.ep_typed.specs.declared.unit.Unit.{Unit as TypedUnit}
+use Rattle.ep_check_unit.specs.Blocks.{routine_form}
 use Rattle.ep_drive.specs.ProgramTexts.{HasBuilt, HasComponents, IsProgram, IsProgramText, IsSound, IsBuilt, components_unbuilt}
 use Rattle.ep_drive.specs.Refusals.{IsRefusedText, IsRuledOut, StopsText}
 use Rattle.ep_drive.specs.declared.source.SourceRefusal.{SourceRefusal}
@@ -98,7 +99,7 @@ pub record AreAlike (u v : TypedUnit) : Type 0 where
   pub types : u.types ≡ v.types
   pub variables : u.variables ≡ v.variables
   pub starts : stmt_of u.start ≡ stmt_of v.start
-  pub routines : u.routines ≡ v.routines
+  pub routines : map routine_form u.routines ≡ map routine_form v.routines
 
 pub one_program : (text : List ℕ) (u v : TypedUnit) → IsProgramText text u → IsProgramText text v → AreAlike u v
 one_program text u v p q =
