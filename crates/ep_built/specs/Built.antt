@@ -5,7 +5,7 @@
 -- - the component, for a module
 -- - the program, for a parameter that is neither `input` nor `output`
 -- - the import
--- - the part, for a function, for a procedure with formals, and in the block of a procedure for variables and for a routine
+-- - the part, for a function, for a procedure with formals, and in the block of a procedure for a routine
 -- - the type definition, for discriminants
 -- - the type denoter, for an initial state
 -- - the type denoter without its initial state, for `bindable`
@@ -138,12 +138,10 @@ abbrev pub built_part : {A B : Type 0} → Part-F A B Routine → Bool
 built_part (Part-F.Routine r) = built_start (out-Routine r).start
 built_part _ = true
 
--- a part of the block of a routine is one of constants or of types
+-- a part of the block of a routine is no routine
 abbrev pub built_local_part : {A B C : Type 0} → Part-F A B C → Bool
-built_local_part (Part-F.Constants c) = true
-built_local_part (Part-F.Types t) = true
-built_local_part (Part-F.Variables v) = false
 built_local_part (Part-F.Routine r) = false
+built_local_part _ = true
 
 -- a type definition has no discriminants
 abbrev pub built_type_definition : TypeDefinition → Bool
@@ -591,7 +589,8 @@ part_line (Part-F.Routine r) = (out-Routine r).line
 abbrev pub in_local_part : {A B C : Type 0} → Part-F A B C → Found
 in_local_part (Part-F.Constants c) = first_in (map constant_unbuilt c.definitions)
 in_local_part (Part-F.Types t) = first_in (map type_unbuilt t.definitions)
-in_local_part _ = None
+in_local_part (Part-F.Variables v) = first_in (map variable_unbuilt v.declarations)
+in_local_part (Part-F.Routine r) = None
 
 -- the first line in a part of the block of a routine
 abbrev pub local_part_unbuilt : Part → Found

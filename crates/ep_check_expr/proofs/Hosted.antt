@@ -130,6 +130,7 @@ module _ (scopes : List Region) where
   declared_comes unit number (declaration.Constant k v) f = kind_comes k f
   declared_comes unit number (declaration.«Type» h) f = tt
   declared_comes unit number (declaration.Variable k) f = kind_comes k f
+  declared_comes unit number (declaration.Own k) f = kind_comes k f
   declared_comes unit number declaration.Procedure f = tt
 
   value_comes : (r : Required) → Comes (value_required r)

@@ -6,7 +6,7 @@ use Rattle.ep_typed.specs.Valid.{Declarations}
 use Rattle.ep_typed.specs.declared.value.Value.{Value}
 use Rattle.ep_typed.specs.declared.value.Value.TheVariants as value
 use Rattle.ep_typed.specs.Hosts as hosts
-use Rattle.ep_typed.specs.Trees.{Read, Variable}
+use Rattle.ep_typed.specs.Trees.{Place, Read, Variable, Own}
 use Rattle.ep_scope.specs.Required.{look_up, required_of}
 use Rattle.ep_scope.specs.Scopes.{Entries, Region, Meant, Declares, Requires, Nothing, meant, meant_in, look_up_in, look_up_if, as_thing, as_required, or_outside, unless_hidden}
 use Rattle.ep_scope.specs.Scopes as meaning
@@ -19,7 +19,7 @@ use Rattle.ep_scope.specs.declared.thing.Declaration.{Declaration}
 use Rattle.ep_scope.specs.declared.thing.Declaration.TheVariants as declaration
 use Rattle.ep_scope.specs.declared.thing.Thing.{Thing}
 use Rattle.ep_scope.specs.declared.thing.Thing.TheVariants as thing
-use Rattle.ep_check_expr.specs.Agreement.{IsConstantOf, IsVariableOf, IsDeclaration, IsThing, AreThings, AreInterfaces, Agrees, IsFormOf}
+use Rattle.ep_check_expr.specs.Agreement.{IsConstantOf, IsStoredIn, IsDeclaration, IsThing, AreThings, AreInterfaces, Agrees, IsFormOf}
 use Rattle.ep_check_expr.specs.Hosts.{typed_host}
 use Rattle.ep_check_expr.specs.Names.{value_form, value_declared, value_required, value_named}
 use Rattle.ep_check_expr.proofs.Sound.{Fits}
@@ -95,15 +95,17 @@ module _ (declared : Declarations) where
   constant-fits kind.Text (value.Text bytes) s = refl
   constant-fits kind.File v s = absurd s
 
-  variable-fits : (unit : List ℕ) (number : ℕ) (k : Kind) → IsVariableOf declared unit number k → IsFormOf declared k (Some (Read (Variable unit number)))
-  variable-fits unit number (kind.Ordinal h) s = (s.0, (typed_host h, refl, s.1))
-  variable-fits unit number kind.Text s = absurd s
-  variable-fits unit number kind.File s = tt
+  -- a variable that is declared is valid as a value
+  variable-fits : (place : Place) (k : Kind) → IsStoredIn declared place k → IsFormOf declared k (Some (Read place))
+  variable-fits place (kind.Ordinal h) s = (s.0, (typed_host h, refl, s.1))
+  variable-fits place kind.Text s = absurd s
+  variable-fits place kind.File s = tt
 
   value_declared-fits : (unit : List ℕ) (number : ℕ) (d : Declaration) → IsDeclaration declared unit number d → Fits declared (value_declared unit number d)
   value_declared-fits unit number (declaration.Constant k v) s = constant-fits k v s
   value_declared-fits unit number (declaration.«Type» host) s = tt
-  value_declared-fits unit number (declaration.Variable k) s = variable-fits unit number k s
+  value_declared-fits unit number (declaration.Variable k) s = variable-fits (Variable unit number) k s
+  value_declared-fits unit number (declaration.Own k) s = variable-fits (Own number) k s
   value_declared-fits unit number declaration.Procedure s = tt
 
   value_required-fits : (r : Required) → Fits declared (value_required r)

@@ -2,7 +2,7 @@
 use Rattle.std.specs.Prelude.{◌≡◌, ℕ, pos, List, [], ◌∷◌, Option, Some, None, IsTrue, int_le, slice_get, ⊤}
 use Rattle.ep_typed.specs.Hosts.{greatest, is_of_host}
 use Rattle.ep_typed.specs.Operations.{maxint}
-use Rattle.ep_typed.specs.Trees.{Expr, Constant, Text, Read, One, Two, Short, Step, Variable}
+use Rattle.ep_typed.specs.Trees.{Place, Variable, Own, Expr, Constant, Text, Read, One, Two, Short, Step}
 use Rattle.ep_typed.specs.Valid.{Declarations, IsPlace, IsExpr, IsProcedure}
 use Rattle.ep_typed.specs.Valid as valid
 use Rattle.ep_typed.specs.declared.interface.RoutineEntry.{RoutineEntry}
@@ -42,11 +42,11 @@ IsFile (Short operation x y) = ⊥
 IsFile (Step down low high x y) = ⊥
 
 module _ (declared : Declarations) where
-  -- the variable is declared, with a type of this host; there are no variables of string types so far
-  abbrev pub IsVariableOf : List ℕ → ℕ → Kind → Type 0
-  IsVariableOf unit number (kind.Ordinal h) = IsHost h × IsPlace declared (typed_host h) (Variable unit number)
-  IsVariableOf unit number kind.Text = ⊥
-  IsVariableOf unit number kind.File = ⊤
+  -- the place is that of a variable that is declared, with a type of this host; there are no variables of string types so far
+  abbrev pub IsStoredIn : Place → Kind → Type 0
+  IsStoredIn place (kind.Ordinal h) = IsHost h × IsPlace declared (typed_host h) place
+  IsStoredIn place kind.Text = ⊥
+  IsStoredIn place kind.File = ⊤
 
   -- the routine is declared, and a procedure without parameters
   abbrev pub IsProcedureOf : List ℕ → ℕ → Type 0
@@ -55,7 +55,8 @@ module _ (declared : Declarations) where
   abbrev pub IsDeclaration : List ℕ → ℕ → Declaration → Type 0
   IsDeclaration unit number (declaration.Constant kind value) = IsConstantOf kind value
   IsDeclaration unit number (declaration.«Type» host) = IsHost host
-  IsDeclaration unit number (declaration.Variable kind) = IsVariableOf unit number kind
+  IsDeclaration unit number (declaration.Variable kind) = IsStoredIn (Variable unit number) kind
+  IsDeclaration unit number (declaration.Own kind) = IsStoredIn (Own number) kind
   IsDeclaration unit number declaration.Procedure = IsProcedureOf unit number
 
   abbrev pub IsThing : Thing → Type 0

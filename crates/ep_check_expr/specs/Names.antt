@@ -3,7 +3,7 @@ use Rattle.std.specs.Prelude.{ℕ, pos, nat_eq, Bool, true, false, ◌||◌, Lis
 use Rattle.std.specs.List.{list_any}
 use Rattle.std.specs.Str.{bytes_eq}
 use Rattle.ep_typed.specs.Operations.{maxint, last_char}
-use Rattle.ep_typed.specs.Trees.{Expr, Constant, Text, Read, Variable, Standard}
+use Rattle.ep_typed.specs.Trees.{Expr, Constant, Text, Read, Variable, Own, Standard}
 use Rattle.ep_typed.specs.declared.value.Value.{Value}
 use Rattle.ep_typed.specs.declared.value.Value.TheVariants as value
 use Rattle.ep_scope.specs.Scopes.{Region, Meant, Declares, Requires, Nothing, meant, meant_in}
@@ -38,6 +38,7 @@ abbrev pub value_declared : List ℕ → ℕ → Declaration → Judged Typed
 value_declared unit number (declaration.Constant kind value) = leaf (value_form value) kind
 value_declared unit number (declaration.«Type» host) = Breaks (rule.OTHER_THING ∷ [])
 value_declared unit number (declaration.Variable kind) = reading (Read (Variable unit number)) kind
+value_declared unit number (declaration.Own kind) = reading (Read (Own number)) kind
 value_declared unit number declaration.Procedure = Breaks (rule.PROCEDURE ∷ rule.OTHER_THING ∷ [])
 
 -- the required constants (ISO 10206, 6.4.2.2)

@@ -28,6 +28,7 @@ abbrev pub DeclaresHost : Declaration → Host → Type 0
 DeclaresHost (declaration.Constant k v) h = HasHost k h
 DeclaresHost (declaration.«Type» g) h = g ≡ h
 DeclaresHost (declaration.Variable k) h = HasHost k h
+DeclaresHost (declaration.Own k) h = HasHost k h
 DeclaresHost declaration.Procedure h = ⊥
 
 abbrev pub ThingHasHost : Thing → Host → Type 0

@@ -46,6 +46,7 @@ fn declared_value(alloc: Global, d: &Declared) -> Result<Typed, Refusal>
             let unit = d.unit.copy(alloc)?;
             Typed::read(alloc, TypedPlace::Variable(unit, d.number), *kind)
         }
+        Declaration::Own(kind) => Typed::read(alloc, TypedPlace::Own(d.number), *kind),
         Declaration::Procedure => Err(Refusal::Rule(rule::PROCEDURE)),
     }
 }

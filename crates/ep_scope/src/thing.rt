@@ -25,7 +25,8 @@ impl Drop for Thing {
 pub struct Declared {
     /// The unit.
     pub unit: Name,
-    /// Its number among the unit's constants, types, variables or routines.
+    /// Its number among the unit's constants, types, variables or routines, or among the variables
+    /// of the routine.
     pub number: u32,
     /// What is declared.
     pub what: Declaration,
@@ -49,6 +50,8 @@ pub enum Declaration {
     Type(Host),
     /// A variable (ISO 10206, 6.5.1).
     Variable(Kind),
+    /// A variable of the routine whose block the scope is in (ISO 10206, 6.5.1).
+    Own(Kind),
     /// A procedure without parameters (ISO 10206, 6.7.1).
     Procedure,
 }
@@ -59,6 +62,7 @@ impl Drop for Declaration {
             Declaration::Constant(_, _) => {}
             Declaration::Type(_) => {}
             Declaration::Variable(_) => {}
+            Declaration::Own(_) => {}
             Declaration::Procedure => {}
         }
     }

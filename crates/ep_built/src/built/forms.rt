@@ -77,15 +77,13 @@ pub(super) fn part_is_built(p: &Part) -> bool
     }
 }
 
-/// A part of the block of a routine is one of constants or of types.
+/// A part of the block of a routine is no routine.
 pub(super) fn local_part_is_built(p: &Part) -> bool
     ensures { result ≡ built_local_part (out-Part p.now) }
 {
     match p {
-        Part::Constants(_) => true,
-        Part::Types(_) => true,
-        Part::Variables(_) => false,
         Part::Routine(_) => false,
+        _ => true,
     }
 }
 

@@ -66,7 +66,7 @@ fn local_part(p: &Part) -> Option<Line>
     match p {
         Part::Constants(c) => at_node(built, c.line, constants(c.definitions.items())),
         Part::Types(t) => at_node(built, t.line, types(t.definitions.items())),
-        Part::Variables(v) => at_node(built, v.line, None),
+        Part::Variables(v) => at_node(built, v.line, variables(v.declarations.items())),
         Part::Routine(r) => at_node(built, r.line, None),
     }
 }
