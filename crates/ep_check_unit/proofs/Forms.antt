@@ -5,6 +5,7 @@ use Rattle.std.specs.Prelude.{All, slice_set}
 use Rattle.ep_typed.specs.Trees as tree
 use Rattle.ep_typed.specs.Trees.{Stmt}
 use Rattle.ep_typed.specs.declared.unit.UnitRoutine.{UnitRoutine}
+use Rattle.ep_typed.specs.declared.unit.UnitVariable.{UnitVariable}
 use Rattle.ep_scope.specs.declared.thing.Declaration.TheVariants as declaration
 use Rattle.ep_scope.specs.declared.thing.Thing.{Thing}
 use Rattle.ep_check_expr.specs.Judgements.{Accepts, when_accepted}
@@ -38,12 +39,12 @@ forms_push rs new r form e f = ap (map routine_form) e ∙ (map_push routine_for
 pub forms_set : (rs new : List UnitRoutine) (n : ℕ) (r : UnitRoutine) (form : RoutineForm) → new ≡ slice_set rs n r → routine_form r ≡ form → map routine_form new ≡ slice_set (map routine_form rs) n form
 forms_set rs new n r form e f = ap (map routine_form) e ∙ (map_set routine_form rs n r ∙ ap (slice_set (map routine_form rs) n) f)
 
-pub block_set : (name : List ℕ) (line number : ℕ) (s : Stmt) (b : Block) (forms : List RoutineForm) → forms ≡ slice_set b.routines number (procedure_form name line s) → record b { routines = forms } ≡ with_block name line number s b
-block_set name line number s b forms e = ap (λ rs. record b { routines = rs }) e
+pub block_set : (name : List ℕ) (line number : ℕ) (s : Stmt) (b : Block) (forms : List RoutineForm) (left : List UnitVariable) → forms ≡ slice_set b.routines number (procedure_form name line b.own s) → left ≡ [] → record b { routines = forms; own = left } ≡ record (with_block name line number s b) { own = [] }
+block_set name line number s b forms left e is = ap (λ rs. record b { routines = rs; own = left }) e ∙ ap (λ vs. record (with_block name line number s b) { own = vs }) is
 
 -- the first declaration of a procedure, by the steps of its function
 pub first_headed : (name : List ℕ) (line : ℕ) (b : Block) (forms : List RoutineForm) (number : ℕ) (t : Thing) (new : Block)
-    → forms ≡ b.routines ++ procedure_form name line tree.Empty ∷ [] → number ≡ length b.routines → t ≡ own_thing b number declaration.Procedure → entered name t (record b { routines = forms }) ≡ Accepts new
+    → forms ≡ b.routines ++ procedure_form name line [] tree.Empty ∷ [] → number ≡ length b.routines → t ≡ own_thing b number declaration.Procedure → entered name t (record b { routines = forms }) ≡ Accepts new
     → headed_first name line b ≡ Accepts (record { number = number; block = new })
 first_headed name line b forms number t new e is thing h =
     let by_thing = subst (λ s. entered name s (record b { routines = forms }) ≡ Accepts new) thing h in

@@ -19,6 +19,7 @@ use Rattle.ep_typed.specs.Trees as tree
 use Rattle.ep_typed.specs.Trees.{Stmt, Stmts}
 use Rattle.ep_typed.specs.declared.denoter.Denoter.{Denoter}
 use Rattle.ep_typed.specs.declared.tree.StandardFile.{StandardFile}
+use Rattle.ep_typed.specs.declared.unit.UnitVariable.{UnitVariable}
 use Rattle.ep_typed.specs.declared.value.Value.{Value}
 use Rattle.ep_typed.specs.declared.value.Value.TheVariants as value
 use Rattle.ep_scope.specs.Required.{look_up}
@@ -39,20 +40,19 @@ use Rattle.ep_check_expr.specs.Names.{undeclared}
 use Rattle.ep_check_expr.specs.declared.constants.ConstantForm.{ConstantForm}
 use Rattle.ep_check_stmt.proofs.judged.Fits.{Any, Fits, fits_then, fits_both, fits_any}
 use Rattle.ep_check_stmt.specs.Statements.{Judgement, Passes, Waits, Fails, compound_judged}
-use Rattle.ep_check_unit.specs.Declarations.{Headed, block_declared, body_declared, body_ended, context_of, forwarded, has_body, headed_again, headed_first, headed_over, headed_then, heading_declared, local_part_declared, local_parts_declared, procedure_declared, procedure_form, procedure_headed, procedure_there, scope_opened, start_declared, with_procedure, all_variables_declared, and_then, at_line, common_host, constant_definition, constant_entered, constants_declared, core_of, core_written, declaration_ended, declared_type, entered, enumerated, enumeration, next_enumeration, noted, ordered, part_declared, parts_declared, range, scopes_of, settled, settled_type, Standing, Stands, Falls, subrange, type_definition, type_definitions, type_entered, type_meant, type_named, type_written, unused, variable_declaration, variable_entered, variables_declared, variables_entered, with_constant, with_name, with_type, with_variable, own_thing, Written}
+use Rattle.ep_check_unit.specs.Declarations.{Headed, block_declared, body_declared, body_ended, context_of, forwarded, has_body, headed_again, headed_first, headed_over, headed_then, heading_declared, local_part_declared, local_parts_declared, procedure_declared, procedure_form, procedure_headed, procedure_there, scope_opened, start_declared, with_procedure, all_variables_declared, and_then, at_line, common_host, constant_definition, constant_entered, constants_declared, core_of, core_written, declaration_ended, declared_type, entered, enumerated, enumeration, next_enumeration, noted, ordered, part_declared, parts_declared, range, scopes_of, settled, settled_type, Standing, Stands, Falls, subrange, type_definition, type_definitions, type_entered, type_meant, type_named, type_written, unused, variable_declaration, variable_entered, variables_declared, variables_entered, with_constant, with_name, with_type, is_outermost, with_own_variable, with_unit_variable, with_variable, own_thing, Written}
 use Rattle.ep_check_unit.specs.Units.{parameter_entered, parameters_entered, standard_file}
 use Rattle.ep_check_unit.specs.Blocks.{Block, RoutineForm}
 use Rattle.ep_check_unit.proofs.Forms.{all_set}
 
--- a routine without parameters and result, and without variables and routines of its own
+-- a routine without parameters and result, and without routines of its own
 pub record IsPlain (r : RoutineForm) : Type 0 where
   pub formals : r.formals ≡ []
   pub result : r.result ≡ None
-  pub variables : r.variables ≡ []
   pub routines : r.routines ≡ []
 
-procedure_plain : (name : List ℕ) (line : ℕ) (s : Stmt) → IsPlain (procedure_form name line s)
-procedure_plain name line s = record { formals = refl; result = refl; variables = refl; routines = refl }
+procedure_plain : (name : List ℕ) (line : ℕ) (variables : List UnitVariable) (s : Stmt) → IsPlain (procedure_form name line variables s)
+procedure_plain name line variables s = record { formals = refl; result = refl; routines = refl }
 
 module _ (n : List ℕ) where
   abbrev pub IsOf : Block → Type 0
@@ -82,6 +82,7 @@ module _ (n : List ℕ) where
   declared_type-kept d (declaration.«Type» h) b i = i
   declared_type-kept d (declaration.Constant k v) b i = tt
   declared_type-kept d (declaration.Variable k) b i = tt
+  declared_type-kept d (declaration.Own k) b i = tt
   declared_type-kept d declaration.Procedure b i = tt
 
   type_meant-kept : (missing : List ℕ) (m : Meant) (b : Block) → IsOf b → Fits IsIn (type_meant missing m b)
@@ -149,11 +150,15 @@ module _ (n : List ℕ) where
   settled-kept line (Core-F.Restricted at name) w i = i
   settled-kept line (Core-F.TypeOf at name) w i = i
 
+  placed-kept : (line : ℕ) (d : Denoter) (h : Host) (name : List ℕ) (b : Block) (outermost : Bool) → IsOf b → IsOf (if outermost then with_unit_variable line d h name b else with_own_variable line d h name b)
+  placed-kept line d h name b true i = i
+  placed-kept line d h name b false i = i
+
   variables_entered-kept : (line : ℕ) (d : Denoter) (h : Host) (names : List (List ℕ)) (b : Block) → IsOf b → Fits IsOf (variables_entered line d h names b)
   variables_entered-kept line d h [] b i = i
   variables_entered-kept line d h (name ∷ names) b i =
       fits_then IsOf IsOf (variables_entered line d h names) (variable_entered line d h name b)
-      (fits_then Any IsOf (λ _. Accepts (with_variable line d h name b)) (unused name b) (fits_any (unused name b)) (λ a j. i)) (λ c j. variables_entered-kept line d h names c j)
+      (fits_then Any IsOf (λ _. Accepts (with_variable line d h name b)) (unused name b) (fits_any (unused name b)) (λ a j. placed-kept line d h name b (is_outermost b.scopes.outer) i)) (λ c j. variables_entered-kept line d h names c j)
 
   variable_declaration-kept : (d : VariableDeclaration) (b : Block) → IsOf b → Fits IsOf (variable_declaration d b)
   variable_declaration-kept d b i =
@@ -192,7 +197,7 @@ module _ (n : List ℕ) where
   headed_first-kept name line b i =
       let t = own_thing b (length b.routines) declaration.Procedure in
       fits_then IsOf IsHeaded (λ c. Accepts (record { number = length b.routines; block = c })) (entered name t (with_procedure name line b))
-      (entered-kept name t (with_procedure name line b) (i.0, All-push IsPlain b.routines (procedure_form name line tree.Empty) i.1 (procedure_plain name line tree.Empty))) (λ c k. k)
+      (entered-kept name t (with_procedure name line b) (i.0, All-push IsPlain b.routines (procedure_form name line [] tree.Empty) i.1 (procedure_plain name line [] tree.Empty))) (λ c k. k)
 
   again_if-kept : (repeated : Bool) (b : Block) (number : ℕ) → IsOf b → Fits IsHeaded (if repeated then Breaks (rule.REPEATED_HEADING ∷ []) else Accepts (record { number = number; block = b }))
   again_if-kept true b number i = tt
@@ -207,15 +212,15 @@ module _ (n : List ℕ) where
   headed_then-kept line more (Accepts h) p g = g h p
   headed_then-kept line more (Breaks rules) p g = tt
 
-  body_ended-kept : (name : List ℕ) (line number : ℕ) (b : Block) (row : Judgement Stmts) → IsOf b → Remains (body_ended name line number b row)
-  body_ended-kept name line number b (Passes ss) i = (i.0, all_set IsPlain b.routines number (procedure_form name line (tree.Compound ss)) i.1 (procedure_plain name line (tree.Compound ss)))
-  body_ended-kept name line number b (Waits at) i = i
-  body_ended-kept name line number b (Fails at rules) i = tt
+  body_ended-kept : (name : List ℕ) (line number : ℕ) (before : List UnitVariable) (b : Block) (row : Judgement Stmts) → IsOf b → Remains (body_ended name line number before b row)
+  body_ended-kept name line number before b (Passes ss) i = (i.0, all_set IsPlain b.routines number (procedure_form name line b.own (tree.Compound ss)) i.1 (procedure_plain name line b.own (tree.Compound ss)))
+  body_ended-kept name line number before b (Waits at) i = i
+  body_ended-kept name line number before b (Fails at rules) i = tt
 
   local_part-kept : {A B C : Type 0} (p : Part-F A B C) (b : Block) → IsOf b → Remains (local_part_declared p b)
   local_part-kept (Part-F.Constants c) b i = constants-kept c.definitions b i
   local_part-kept (Part-F.Types t) b i = line-kept t.line (type_definitions t.line t.definitions b) (type_definitions-kept t.line t.definitions b i)
-  local_part-kept (Part-F.Variables v) b i = tt
+  local_part-kept (Part-F.Variables v) b i = variables-kept v.declarations b i
   local_part-kept (Part-F.Routine r) b i = tt
 
   local_parts-kept : (ps : List Part) (b : Block) → IsOf b → Remains (local_parts_declared ps b)
@@ -227,8 +232,8 @@ module _ (n : List ℕ) where
       headed_then-kept line (λ h. Stands (forwarded line h)) (procedure_headed true name line b) (headed_over-kept true name line (look_up b.scopes.inner.entries name) b i) (λ h j. j)
   procedure-kept line name (RoutineBody-F.Block at ps c) b i =
       headed_then-kept line (block_declared name line ps c) (procedure_headed false name line b) (headed_over-kept false name line (look_up b.scopes.inner.entries name) b i)
-      (λ h j. then-kept (body_declared name line h.number c) (local_parts_declared ps (scope_opened h.block)) (local_parts-kept ps (scope_opened h.block) j)
-      (λ d k. body_ended-kept name line h.number d (compound_judged (context_of d) c) k))
+      (λ h j. then-kept (body_declared name line h.number h.block.own c) (local_parts_declared ps (scope_opened h.block)) (local_parts-kept ps (scope_opened h.block) j)
+      (λ d k. body_ended-kept name line h.number h.block.own d (compound_judged (context_of d) c) k))
 
   heading-kept : {A C : Type 0} (line : ℕ) (h : RoutineHeading) (body : RoutineBody-F Part A C) (b : Block) → IsOf b → Remains (heading_declared line h body b)
   heading-kept line (heading.Procedure at name formals) body b i = procedure-kept line name body b i

@@ -47,8 +47,10 @@ pub record Block : Type 0 where
   pub types : List UnitType
   pub constants : List ConstantEntry
   pub variables : List UnitVariable
-  -- how many variable declarations there were
+  -- how many variable declarations there were, those of routines among them
   pub declarations : ℕ
+  -- the variables of the routine whose block is under way; of none outside of routines
+  pub own : List UnitVariable
   -- the routines in the order of their first declarations, by number; one whose body is still to come does nothing
   pub routines : List RoutineForm
   -- the `forward` declarations
@@ -68,6 +70,7 @@ block_of b =
       constants = b.constants;
       variables = b.variables;
       declarations = b.declarations;
+      own = b.own;
       routines = map routine_form b.routines;
       forwards = b.forwards;
       bodies = b.bodies;

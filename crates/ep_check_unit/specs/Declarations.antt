@@ -27,6 +27,7 @@ use Rattle.ep_typed.specs.declared.denoter.Denoter.{Denoter}
 use Rattle.ep_typed.specs.declared.denoter.Denoter.TheVariants as denoter
 use Rattle.ep_typed.specs.declared.denoter.RequiredType.{RequiredType}
 use Rattle.ep_typed.specs.declared.denoter.RequiredType.TheVariants as simple
+use Rattle.ep_typed.specs.declared.unit.UnitVariable.{UnitVariable}
 use Rattle.ep_typed.specs.declared.value.Value.{Value}
 use Rattle.ep_typed.specs.declared.value.Value.TheVariants as value
 use Rattle.ep_scope.specs.Kinds.{same_host}
@@ -247,16 +248,36 @@ abbrev pub settled_type : {A B C D E F G H : Type 0} → ℕ → Core-F A B C D 
 settled_type line core b = when_accepted (λ w. Accepts (settled line core w)) (core_written line core b)
 
 -- a variable of the declaration that is under way
-abbrev pub with_variable : ℕ → Denoter → Host → List ℕ → Block → Block
-with_variable line d h name b =
+abbrev pub new_variable : ℕ → Denoter → List ℕ → Block → UnitVariable
+new_variable line d name b = record { name = name; line = line; declaration = b.declarations; denoter = d; tuple = []; parameter = false }
+
+-- it is one of the unit
+abbrev pub with_unit_variable : ℕ → Denoter → Host → List ℕ → Block → Block
+with_unit_variable line d h name b =
     with_name name (own_thing b (length b.variables) (declaration.Variable (kind.Ordinal h)))
-    (record b {
-      variables =
-          b.variables ++ record { name = name; line = line; declaration = b.declarations; denoter = d; tuple = []; parameter = false } ∷ [];
-    })
+    (record b { variables = b.variables ++ new_variable line d name b ∷ [] })
+
+-- it is one of the routine whose block is under way
+abbrev pub with_own_variable : ℕ → Denoter → Host → List ℕ → Block → Block
+with_own_variable line d h name b =
+    with_name name (own_thing b (length b.own) (declaration.Own (kind.Ordinal h)))
+    (record b { own = b.own ++ new_variable line d name b ∷ [] })
+
+-- whether the scopes are those of the unit alone, and of no routine
+abbrev pub is_outermost : List Region → Bool
+is_outermost [] = true
+is_outermost (r ∷ rs) = false
+
+-- In the block of a routine a variable is one of the routine, and else one of the unit.
+abbrev pub with_variable : ℕ → Denoter → Host → List ℕ → Block → Block
+with_variable line d h name b = if is_outermost b.scopes.outer then with_unit_variable line d h name b else with_own_variable line d h name b
+
+-- the block with it, where its name is not there
+abbrev pub variable_placed : Block → List ℕ → Block → Judged Block
+variable_placed c name b = when_accepted (λ _. Accepts c) (unused name b)
 
 abbrev pub variable_entered : ℕ → Denoter → Host → List ℕ → Block → Judged Block
-variable_entered line d h name b = when_accepted (λ _. Accepts (with_variable line d h name b)) (unused name b)
+variable_entered line d h name b = variable_placed (with_variable line d h name b) name b
 
 abbrev pub variables_entered : ℕ → Denoter → Host → List (List ℕ) → Block → Judged Block
 variables_entered line d h [] b = Accepts b
@@ -304,13 +325,13 @@ all_variables_declared (d ∷ ds) b = and_then (all_variables_declared ds) (at_l
 
 -- ---- procedures (ISO 10206, 6.7.1)
 
--- a procedure without parameters, and without variables and routines of its own
-abbrev pub procedure_form : List ℕ → ℕ → Stmt → RoutineForm
-procedure_form name line s = record { name = name; line = line; formals = []; result = None; variables = []; routines = []; block = s }
+-- a procedure with these variables, without parameters and without routines of its own
+abbrev pub procedure_form : List ℕ → ℕ → List UnitVariable → Stmt → RoutineForm
+procedure_form name line variables s = record { name = name; line = line; formals = []; result = None; variables = variables; routines = []; block = s }
 
 -- one more, which does nothing so far
 abbrev pub with_procedure : List ℕ → ℕ → Block → Block
-with_procedure name line b = record b { routines = b.routines ++ procedure_form name line tree.Empty ∷ [] }
+with_procedure name line b = record b { routines = b.routines ++ procedure_form name line [] tree.Empty ∷ [] }
 
 -- a procedure that is declared: its number, and what has been declared with it
 pub record Headed : Type 0 where
@@ -329,6 +350,7 @@ declared_procedure number declaration.Procedure = Accepts number
 declared_procedure number (declaration.Constant k v) = Breaks (rule.TWICE ∷ [])
 declared_procedure number (declaration.«Type» h) = Breaks (rule.TWICE ∷ [])
 declared_procedure number (declaration.Variable k) = Breaks (rule.TWICE ∷ [])
+declared_procedure number (declaration.Own k) = Breaks (rule.TWICE ∷ [])
 
 abbrev pub procedure_there : Thing → Judged ℕ
 procedure_there (thing.Declared d) = declared_procedure d.number d.what
@@ -363,36 +385,37 @@ headed_then line more (Breaks rules) = Falls line rules
 abbrev pub forwarded : ℕ → Headed → Block
 forwarded line h = let b = h.block in record b { forwards = b.forwards ++ record { number = h.number; line = line } ∷ [] }
 
--- The block of a procedure is a scope of its own inside of that of the program (ISO 10206, 6.2.2).
+-- The block of a procedure is a scope of its own inside of that of the program (ISO 10206, 6.2.2), with variables of its own.
 abbrev pub scope_opened : Block → Block
-scope_opened b = record b { scopes = opened b.scopes }
+scope_opened b = record b { scopes = opened b.scopes; own = [] }
 
-abbrev pub scope_closed : Block → Block
-scope_closed b = record b { scopes = closed b.scopes }
+-- behind it those that were there before
+abbrev pub scope_closed : List UnitVariable → Block → Block
+scope_closed before b = record b { scopes = closed b.scopes; own = before }
 
 -- what the statements of a block know
 abbrev pub context_of : Block → Context
 context_of b = record { scopes = scopes_of b; output = b.output }
 
--- what a procedure does
+-- what a procedure does, with the variables that it has declared
 abbrev pub with_block : List ℕ → ℕ → ℕ → Stmt → Block → Block
-with_block name line number s b = record b { routines = slice_set b.routines number (procedure_form name line s) }
+with_block name line number s b = record b { routines = slice_set b.routines number (procedure_form name line b.own s) }
 
 -- it has its body
 abbrev pub with_body : ℕ → Block → Block
 with_body number b = record b { bodies = b.bodies ++ number ∷ [] }
 
--- the end of a body by its statements
-abbrev pub body_ended : List ℕ → ℕ → ℕ → Block → Judgement Stmts → Standing
-body_ended name line number b (Passes ss) = Stands (scope_closed (with_body number (with_block name line number (tree.Compound ss) b)))
-body_ended name line number b (Waits at) = Stands (scope_closed (with_body number (noted false at b)))
-body_ended name line number b (Fails at rules) = Falls at rules
+-- the end of a body by its statements, behind which these variables are those of the routine around it
+abbrev pub body_ended : List ℕ → ℕ → ℕ → List UnitVariable → Block → Judgement Stmts → Standing
+body_ended name line number before b (Passes ss) = Stands (scope_closed before (with_body number (with_block name line number (tree.Compound ss) b)))
+body_ended name line number before b (Waits at) = Stands (scope_closed before (with_body number (noted false at b)))
+body_ended name line number before b (Fails at rules) = Falls at rules
 
 -- a part of the block of a procedure; no other one is built
 abbrev pub local_part_declared : {A B C : Type 0} → Part-F A B C → Block → Standing
 local_part_declared (Part-F.Constants c) b = constants_declared c.definitions b
 local_part_declared (Part-F.Types t) b = at_line t.line (type_definitions t.line t.definitions b)
-local_part_declared (Part-F.Variables v) b = Falls 0 []
+local_part_declared (Part-F.Variables v) b = all_variables_declared v.declarations b
 local_part_declared (Part-F.Routine r) b = Falls 0 []
 
 abbrev pub local_parts_declared : List Part → Block → Standing
@@ -400,12 +423,12 @@ local_parts_declared [] b = Stands b
 local_parts_declared (p ∷ ps) b = and_then (local_parts_declared ps) (local_part_declared (out-Part p) b)
 
 -- the statements of the procedure of this number
-abbrev pub body_declared : List ℕ → ℕ → ℕ → Compound → Block → Standing
-body_declared name line number c b = body_ended name line number b (compound_judged (context_of b) c)
+abbrev pub body_declared : List ℕ → ℕ → ℕ → List UnitVariable → Compound → Block → Standing
+body_declared name line number before c b = body_ended name line number before b (compound_judged (context_of b) c)
 
 -- its block: its parts, and then its statements
 abbrev pub block_declared : List ℕ → ℕ → List Part → Compound → Headed → Standing
-block_declared name line ps c h = and_then (body_declared name line h.number c) (local_parts_declared ps (scope_opened h.block))
+block_declared name line ps c h = and_then (body_declared name line h.number h.block.own c) (local_parts_declared ps (scope_opened h.block))
 
 -- a procedure with its body
 abbrev pub procedure_declared : {A C : Type 0} → ℕ → List ℕ → RoutineBody-F Part A C → Block → Standing

@@ -32,8 +32,10 @@ pub(crate) struct Block {
     pub(crate) constants: ConstantEntries,
     /// The variables.
     pub(crate) variables: UnitVariables,
-    /// How many variable declarations there were.
+    /// How many variable declarations there were, those of routines among them.
     pub(crate) declarations: u32,
+    /// The variables of the routine whose block is under way; none outside of routines.
+    pub(crate) own: UnitVariables,
     /// The routines, by number. One whose body is still to come does nothing.
     pub(crate) routines: UnitRoutines,
     /// The procedures that are declared `forward`.
@@ -54,6 +56,7 @@ impl Drop for Block {
             constants: _,
             variables: _,
             declarations: _,
+            own: _,
             routines: _,
             forwards: _,
             bodies: _,
@@ -102,6 +105,7 @@ impl Block {
             constants: List::new(alloc),
             variables: List::new(alloc),
             declarations: 0,
+            own: List::new(alloc),
             routines: List::new(alloc),
             forwards: List::new(alloc),
             bodies: List::new(alloc),
@@ -121,6 +125,7 @@ impl Block {
             constants,
             variables,
             declarations: _,
+            own: _,
             routines,
             forwards: _,
             bodies: _,

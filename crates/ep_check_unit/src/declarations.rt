@@ -1,6 +1,6 @@
 //! Declarations, item by item.
 
-ghost use Rattle.std.specs.Prelude.{◌≡◌, None, map};
+ghost use Rattle.std.specs.Prelude.{◌≡◌, None, IfOk, map};
 ghost use Rattle.ep_built.specs.Built.{component_value_unbuilt, constant_unbuilt, core_unbuilt, first_in, part_unbuilt, type_denoter_unbuilt, type_unbuilt, variable_unbuilt};
 ghost use Rattle.ep_tree.specs.declared.routine.Part.{out-Part};
 ghost use Rattle.ep_tree.specs.declared.types.Core.{out-Core};
@@ -9,11 +9,11 @@ ghost use Rattle.ep_check_stmt.specs.Answers.{AnswersForm};
 ghost use Rattle.ep_check_unit.specs.Answers.{AnswersBlock, AnswersStanding, denoter_named, named_in};
 ghost use Rattle.ep_check_unit.specs.Blocks.{block_of};
 ghost use Rattle.ep_check_unit.specs.Declarations as spec;
-ghost use Rattle.ep_check_unit.specs.Declarations.{all_variables_declared, at_line, constant_definition, constants_declared, part_declared, parts_declared, settled_type, type_definition, type_definitions, variable_declaration, variable_entered, variables_entered};
+ghost use Rattle.ep_check_unit.specs.Declarations.{all_variables_declared, at_line, constant_definition, constants_declared, new_variable, part_declared, parts_declared, settled_type, type_definition, type_definitions, variable_declaration, variable_entered, variable_placed, variables_entered, with_own_variable, with_unit_variable};
 
 use crate::block::{Block, number};
 use crate::types::{NamedType, TypeName};
-use ep_base::{Line, List, Name};
+use ep_base::{Line, List, Name, NoMemory};
 use ep_check_expr::{Refusal, constant_value};
 use ep_check_stmt::{CheckRefusal, refused_at};
 use ep_scope::{Declaration, Kind};
@@ -131,7 +131,7 @@ impl Block {
     }
 
     /// Variable declarations, each an item.
-    fn declare_all(
+    pub(crate) fn declare_all(
         &mut self,
         alloc: Global,
         declarations: &[VariableDeclaration],
@@ -199,19 +199,73 @@ impl Block {
         ensures { AnswersBlock result (block_of self.new)
             (variable_entered line (denoter_named named.name) named.host name.now (block_of self.old)) }
     {
+        if self.scopes.in_view().len() == 1 {
+            self.declare_unit_variable(alloc, line, named, name)
+        } else {
+            self.declare_own_variable(alloc, line, named, name)
+        }
+    }
+
+    /// A variable of the unit.
+    fn declare_unit_variable(
+        &mut self,
+        alloc: Global,
+        line: Line,
+        named: NamedType,
+        name: &Name,
+    ) -> Result<(), Refusal>
+        ensures { AnswersBlock result (block_of self.new) (variable_placed
+            (with_unit_variable line (denoter_named named.name) named.host name.now (block_of self.old))
+            name.now (block_of self.old)) }
+    {
         let number = number(self.variables.items().len())?;
         let kind = Kind::Ordinal(named.host);
         let thing = self.own_thing(alloc, number, Declaration::Variable(kind))?;
         self.enter(alloc, name, thing)?;
-        let variable = UnitVariable {
+        let variable = self.new_variable(alloc, line, named, name)?;
+        self.variables.push(variable)?;
+        Ok(())
+    }
+
+    /// A variable of the routine whose block is under way.
+    fn declare_own_variable(
+        &mut self,
+        alloc: Global,
+        line: Line,
+        named: NamedType,
+        name: &Name,
+    ) -> Result<(), Refusal>
+        ensures { AnswersBlock result (block_of self.new) (variable_placed
+            (with_own_variable line (denoter_named named.name) named.host name.now (block_of self.old))
+            name.now (block_of self.old)) }
+    {
+        let number = number(self.own.items().len())?;
+        let kind = Kind::Ordinal(named.host);
+        let thing = self.own_thing(alloc, number, Declaration::Own(kind))?;
+        self.enter(alloc, name, thing)?;
+        let variable = self.new_variable(alloc, line, named, name)?;
+        self.own.push(variable)?;
+        Ok(())
+    }
+
+    /// A variable of the declaration that is under way.
+    fn new_variable(
+        &self,
+        alloc: Global,
+        line: Line,
+        named: NamedType,
+        name: &Name,
+    ) -> Result<UnitVariable, NoMemory>
+        ensures { IfOk result (λ v. v ≡ new_variable line (denoter_named named.name) name.now
+            (block_of self.now)) }
+    {
+        Ok(UnitVariable {
             name: name.copy(alloc)?,
             line,
             declaration: self.declarations,
             denoter: named.name.denoter(alloc),
             tuple: List::new(alloc),
             parameter: false,
-        };
-        self.variables.push(variable)?;
-        Ok(())
+        })
     }
 }

@@ -1,6 +1,6 @@
 //! Declarations of procedures.
 
-ghost use Rattle.std.specs.Prelude.{◌≡◌, None, true, false, OnOk, map};
+ghost use Rattle.std.specs.Prelude.{◌≡◌, None, [], true, false, OnOk, map};
 ghost use Rattle.ep_built.specs.Built.{body_unbuilt, built_start, compound_unbuilt, first_in, local_part_unbuilt};
 ghost use Rattle.ep_tree.specs.declared.routine.Part.{out-Part};
 ghost use Rattle.ep_tree.specs.declared.routine.Routine.{out-Routine};
@@ -18,19 +18,26 @@ use ep_check_expr::Refusal;
 use ep_check_stmt::{CheckRefusal, Context, Outcome, refused_at};
 use ep_scope::{Declaration, Thing, rule};
 use ep_tree::{Compound, Part, Routine, RoutineBody, RoutineHeading, RoutineStart};
-use ep_typed::{TypedStmt, TypedStmts, UnitRoutine};
+use ep_typed::{TypedStmt, TypedStmts, UnitRoutine, UnitVariables};
 use std::alloc::Global;
+use std::mem;
 
-/// A procedure without parameters, and without variables and routines of its own.
-fn procedure(alloc: Global, name: Name, line: Line, block: TypedStmt) -> UnitRoutine
-    ensures { routine_form result ≡ procedure_form name line (stmt_of block) }
+/// A procedure with these variables, without parameters and without routines of its own.
+fn procedure(
+    alloc: Global,
+    name: Name,
+    line: Line,
+    variables: UnitVariables,
+    block: TypedStmt,
+) -> UnitRoutine
+    ensures { routine_form result ≡ procedure_form name line variables (stmt_of block) }
 {
     UnitRoutine {
         name,
         line,
         formals: List::new(alloc),
         result: None,
-        variables: List::new(alloc),
+        variables,
         routines: List::new(alloc),
         block,
     }
@@ -56,7 +63,7 @@ impl Block {
             (headed_first name.now line (block_of self.old)) }
     {
         let number = number(self.routines.items().len())?;
-        let routine = procedure(alloc, name.copy(alloc)?, line, TypedStmt::Empty);
+        let routine = procedure(alloc, name.copy(alloc)?, line, List::new(alloc), TypedStmt::Empty);
         self.routines.push(routine)?;
         let thing = self.own_thing(alloc, number, Declaration::Procedure)?;
         self.enter(alloc, name, thing)?;
@@ -143,7 +150,8 @@ impl Block {
             Err(refusal) => Err(refused_at(line, refusal)),
             Ok(number) => {
                 self.scopes.open()?;
-                self.declare_block(alloc, line, name, number, parts, body)
+                let before = mem::replace(&mut self.own, List::new(alloc));
+                self.declare_block(alloc, line, name, number, before, parts, body)
             }
         }
     }
@@ -155,13 +163,14 @@ impl Block {
         line: Line,
         name: &Name,
         number: u32,
+        before: UnitVariables,
         parts: &[Part],
         body: &Compound,
     ) -> Result<(), CheckRefusal>
         requires parts { first_in (map local_part_unbuilt parts.now) ≡ None }
         requires body { compound_unbuilt body.now ≡ None }
         ensures { AnswersStanding result (block_of self.new) (and_then
-            (spec.body_declared name.now line number body.now)
+            (spec.body_declared name.now line number before body.now)
             (local_parts_declared parts.now (block_of self.old))) }
     {
         self.declare_local_parts(alloc, parts)?;
@@ -171,7 +180,7 @@ impl Block {
             output: self.output,
         };
         let found = context.compound(body)?;
-        self.end_body(alloc, line, name, number, found)
+        self.end_body(alloc, line, name, number, before, found)
     }
 
     /// The parts of the block of a procedure, in order.
@@ -194,22 +203,23 @@ impl Block {
         match part {
             Part::Constants(c) => self.define_constants(alloc, c.definitions.items()),
             Part::Types(t) => self.define_type_part(alloc, t),
-            Part::Variables(_) => unreachable!(),
+            Part::Variables(v) => self.declare_all(alloc, v.declarations.items()),
             Part::Routine(_) => unreachable!(),
         }
     }
 
-    /// The end of the body of the procedure of this number, and of its scope.
+    /// The end of the body of the procedure of this number, and of its scope. These variables were there before.
     fn end_body(
         &mut self,
         alloc: Global,
         line: Line,
         name: &Name,
         number: u32,
+        before: UnitVariables,
         found: Outcome<TypedStmts>,
     ) -> Result<(), CheckRefusal>
         ensures { AnswersStanding result (block_of self.new)
-            (body_ended name.now line number (block_of self.old) (passed stmts_of found)) }
+            (body_ended name.now line number before (block_of self.old) (passed stmts_of found)) }
     {
         match found {
             Outcome::Passes(statements) => self.set_block(alloc, line, name, number, statements)?,
@@ -217,6 +227,7 @@ impl Block {
         }
         self.bodies.push(number)?;
         self.scopes.close();
+        self.own = before;
         Ok(())
     }
 
@@ -230,10 +241,11 @@ impl Block {
         statements: TypedStmts,
     ) -> Result<(), NoMemory>
         ensures { OnOk result (block_of self.new
-            ≡ with_block name.now line number (tree.Compound (stmts_of statements)) (block_of self.old)) }
+            ≡ record (with_block name.now line number (tree.Compound (stmts_of statements)) (block_of self.old)) { own = [] }) }
     {
         let name = name.copy(alloc)?;
-        let routine = procedure(alloc, name, line, TypedStmt::Compound(statements));
+        let variables = mem::replace(&mut self.own, List::new(alloc));
+        let routine = procedure(alloc, name, line, variables, TypedStmt::Compound(statements));
         if (number as usize) < self.routines.items().len() {
             self.routines.set(number, routine);
         }

@@ -141,6 +141,13 @@ module _ (u : TypedUnit) where
     pub at : slice_get u.variables number ≡ Some variable
     pub denotes : HasHostHere i (denoter_of variable.denoter) h
 
+  -- so has that of a routine with these variables
+  pub record HoldsOwn (variables : List UnitVariable) (i number : ℕ) (h : Host) : Type 0 where
+    pub lists : Lists i h
+    pub variable : UnitVariable
+    pub at : slice_get variables number ≡ Some variable
+    pub denotes : HasHostHere i (denoter_of variable.denoter) h
+
   -- the routine of this number is a procedure without parameters
   pub record HoldsProcedure (number : ℕ) : Type 0 where
     pub routine : UnitRoutine
@@ -148,43 +155,9 @@ module _ (u : TypedUnit) where
     pub is_procedure : IsProcedure (heading_of routine)
     pub no_formals : (heading_of routine).formals ≡ []
 
-  abbrev pub HoldsDeclaration : ℕ → ℕ → Declaration → Type 0
-  HoldsDeclaration i number (declaration.Constant k v) = IsConstantOf k v × ListsKind i k
-  HoldsDeclaration i number (declaration.«Type» h) = HoldsType i number h
-  HoldsDeclaration i number (declaration.Variable (kind.Ordinal h)) = HoldsVariable i number h
-  HoldsDeclaration i number (declaration.Variable kind.Text) = ⊥
-  HoldsDeclaration i number (declaration.Variable kind.File) = ⊥
-  HoldsDeclaration i number declaration.Procedure = HoldsProcedure number
-
-  abbrev pub HoldsThing : ℕ → Thing → Type 0
-  HoldsThing i (thing.Declared d) = (d.unit ≡ u.name) × HoldsDeclaration i d.number d.what
-  HoldsThing i (thing.Standard file) = ⊤
-
-  abbrev pub HoldsThings : ℕ → Entries → Type 0
-  HoldsThings i [] = ⊤
-  HoldsThings i (e ∷ es) = HoldsThing i e.1 × HoldsThings i es
-
-  -- the names of scopes; a block has no interface
-  abbrev pub HoldsScopes : ℕ → List Region → Type 0
-  HoldsScopes i [] = ⊤
-  HoldsScopes i (r ∷ rs) = HoldsThings i r.entries × (r.qualified ≡ []) × HoldsScopes i rs
-
-  -- what a routine does is valid, which has no variables of its own
+  -- a routine's variables are valid, and so is what it does with them
   abbrev pub HoldsRoutine : RoutineForm → Type 0
-  HoldsRoutine r = IsStmt (in_routine [] u.types (own u)) r.block
-
-  -- the block's names and lists, where its types are the first i ones of the unit
-  pub record Holds (i : ℕ) (b : Block) : Type 0 where
-    pub unit : b.unit ≡ u.name
-    pub things : HoldsThings i b.scopes.inner.entries
-    pub plain : b.scopes.inner.qualified ≡ []
-    pub outer : HoldsScopes i b.scopes.outer
-    pub types : All (IsType u.types) b.types
-    pub constants : All (IsConstant u.types) b.constants
-    pub variables : All (IsVariable u.types) b.variables
-    pub routines : All HoldsRoutine b.routines
-
-  -- ---- among more types
+  HoldsRoutine r = All (IsVariable u.types) r.variables × IsStmt (in_routine r.variables u.types (own u)) r.block
 
   has_host_more : (i j : ℕ) (d : tree.Denoter) (h : Host) → i ≤ j → HasHostHere i d h → HasHostHere j d h
   has_host_more i j d h le x = (x.0, denotes_more u.types i j d (typed_host h) x.0 le x.1)
@@ -194,35 +167,7 @@ module _ (u : TypedUnit) where
   lists_kind_more i j kind.Text le l = tt
   lists_kind_more i j kind.File le l = tt
 
-  declaration_more : (i j number : ℕ) (d : Declaration) → i ≤ j → HoldsDeclaration i number d → HoldsDeclaration j number d
-  declaration_more i j number (declaration.Constant k v) le x = (x.0, lists_kind_more i j k le x.1)
-  declaration_more i j number (declaration.«Type» h) le x = record { lists = lists_more i j h le x.lists; before = omega (arith, le, x.before); denotes = has_host_more i j (tree.Named number []) h le x.denotes }
-  declaration_more i j number (declaration.Variable (kind.Ordinal h)) le x = record { lists = lists_more i j h le x.lists; variable = x.variable; at = x.at; denotes = has_host_more i j (denoter_of x.variable.denoter) h le x.denotes }
-  declaration_more i j number (declaration.Variable kind.Text) le x = x
-  declaration_more i j number (declaration.Variable kind.File) le x = x
-  declaration_more i j number declaration.Procedure le x = x
-
-  thing_more : (i j : ℕ) (t : Thing) → i ≤ j → HoldsThing i t → HoldsThing j t
-  thing_more i j (thing.Declared d) le x = (x.0, declaration_more i j d.number d.what le x.1)
-  thing_more i j (thing.Standard file) le x = tt
-
-  things_more : (i j : ℕ) (es : Entries) → i ≤ j → HoldsThings i es → HoldsThings j es
-  things_more i j [] le x = tt
-  things_more i j (e ∷ es) le x = (thing_more i j e.1 le x.0, things_more i j es le x.1)
-
-  scopes_more : (i j : ℕ) (rs : List Region) → i ≤ j → HoldsScopes i rs → HoldsScopes j rs
-  scopes_more i j [] le x = tt
-  scopes_more i j (r ∷ rs) le x = (things_more i j r.entries le x.0, x.1, scopes_more i j rs le x.2)
-
-  pub holds_more : (i j : ℕ) (b : Block) → i ≤ j → Holds i b → Holds j b
-  holds_more i j b le x = record { unit = x.unit; things = things_more i j b.scopes.inner.entries le x.things; plain = x.plain; outer = scopes_more i j b.scopes.outer le x.outer; routines = x.routines; types = x.types; constants = x.constants; variables = x.variables }
-
-  -- one thing more
-  pub things_push : (i : ℕ) (es : Entries) (name : List ℕ) (t : Thing) → HoldsThings i es → HoldsThing i t → HoldsThings i (es ++ (name, t) ∷ [])
-  things_push i [] name t x y = (y, tt)
-  things_push i (e ∷ es) name t x y = (x.0, things_push i es name t x.1 y)
-
-  -- ---- the declarations of the unit hold what the scope declares
+  -- ---- places
 
   types_own : (unit : List ℕ) → unit ≡ u.name → (own u).types unit ≡ u.types
   types_own unit e = ap (λ b. if b then u.types else []) (name_same u.name unit (sym e))
@@ -235,6 +180,9 @@ module _ (u : TypedUnit) where
   variable_place i number unit h le e x =
       (x.variable, variables_own unit number e ∙ x.at, ap (λ ts. host_of ts (denoter_of x.variable.denoter)) (types_own unit e) ∙ x.denotes.1.has_host (suc (length u.types)) (omega (arith, le)))
 
+  own_place : (o : List UnitVariable) (i number : ℕ) (h : Host) → i ≤ length u.types → HoldsOwn o i number h → IsPlace (in_routine o u.types (own u)) (typed_host h) (tree.Own number)
+  own_place o i number h le x = (x.variable, x.at, x.denotes.1.has_host (suc (length u.types)) (omega (arith, le)))
+
   routine_at : (rs : List UnitRoutine) (number : ℕ) (r : UnitRoutine) → slice_get rs number ≡ Some r → slice_get (map heading_of rs) number ≡ Some (heading_of r)
   routine_at [] number r h = cc
   routine_at (x ∷ xs) zero r h = cc
@@ -242,61 +190,6 @@ module _ (u : TypedUnit) where
 
   routines_own : (unit : List ℕ) → unit ≡ u.name → (own u).routines unit ≡ map heading_of u.routines
   routines_own unit e = ap (λ b. if b then map heading_of u.routines else []) (name_same u.name unit (sym e))
-
-  declared_holds : (i number : ℕ) (unit : List ℕ) (d : Declaration) → i ≤ length u.types → unit ≡ u.name → HoldsDeclaration i number d → IsDeclaration (own u) unit number d
-  declared_holds i number unit (declaration.Constant k v) le e x = x.0
-  declared_holds i number unit (declaration.«Type» h) le e x = lists_small i h x.lists
-  declared_holds i number unit (declaration.Variable (kind.Ordinal h)) le e x = (lists_small i h x.lists, variable_place i number unit h le e x)
-  declared_holds i number unit (declaration.Variable kind.Text) le e x = absurd x
-  declared_holds i number unit (declaration.Variable kind.File) le e x = absurd x
-  declared_holds i number unit declaration.Procedure le e x =
-      (heading_of x.routine, ap (λ rs. slice_get rs number) (routines_own unit e) ∙ routine_at u.routines number x.routine x.at, x.is_procedure, x.no_formals)
-
-  thing_holds : (i : ℕ) (t : Thing) → i ≤ length u.types → HoldsThing i t → IsThing (own u) t
-  thing_holds i (thing.Declared d) le x = declared_holds i d.number d.unit d.what le x.0 x.1
-  thing_holds i (thing.Standard file) le x = tt
-
-  things_hold : (i : ℕ) (es : Entries) → i ≤ length u.types → HoldsThings i es → AreThings (own u) es
-  things_hold i [] le x = tt
-  things_hold i (e ∷ es) le x = (thing_holds i e.1 le x.0, things_hold i es le x.1)
-
-  scopes_hold : (i : ℕ) (rs : List Region) → i ≤ length u.types → HoldsScopes i rs → Agrees (own u) rs
-  scopes_hold i [] le x = tt
-  scopes_hold i (r ∷ rs) le x = (things_hold i r.entries le x.0, subst (AreInterfaces (own u)) (sym x.1) tt, scopes_hold i rs le x.2)
-
-  -- the scopes in view
-  pub holds_scopes : (i : ℕ) (b : Block) → Holds i b → HoldsScopes i (scopes_of b)
-  holds_scopes i b x = (x.things, x.plain, x.outer)
-
-  -- so the scopes agree with them
-  pub holds_agrees : (i : ℕ) (b : Block) → i ≤ length u.types → Holds i b → Agrees (own u) (scopes_of b)
-  holds_agrees i b le x = scopes_hold i (scopes_of b) le (holds_scopes i b x)
-
-  -- ---- and in the block of a routine they do
-
-  thing_inside : (vs : List UnitVariable) (ts : List UnitType) (t : Thing) → IsThing (own u) t → IsThing (in_routine vs ts (own u)) t
-  thing_inside vs ts (thing.Declared d) x = declared_inside d.unit d.number d.what x
-    where
-      declared_inside : (unit : List ℕ) (number : ℕ) (what : Declaration) → IsDeclaration (own u) unit number what → IsDeclaration (in_routine vs ts (own u)) unit number what
-      declared_inside unit number (declaration.Constant k v) x = x
-      declared_inside unit number (declaration.«Type» h) x = x
-      declared_inside unit number (declaration.Variable (kind.Ordinal h)) x = x
-      declared_inside unit number (declaration.Variable kind.Text) x = x
-      declared_inside unit number (declaration.Variable kind.File) x = x
-      declared_inside unit number declaration.Procedure x = x
-  thing_inside vs ts (thing.Standard file) x = tt
-
-  things_inside : (vs : List UnitVariable) (ts : List UnitType) (es : Entries) → AreThings (own u) es → AreThings (in_routine vs ts (own u)) es
-  things_inside vs ts [] x = tt
-  things_inside vs ts (e ∷ es) x = (thing_inside vs ts e.1 x.0, things_inside vs ts es x.1)
-
-  interfaces_inside : (vs : List UnitVariable) (ts : List UnitType) (es : List (List ℕ × Entries)) → AreInterfaces (own u) es → AreInterfaces (in_routine vs ts (own u)) es
-  interfaces_inside vs ts [] x = tt
-  interfaces_inside vs ts (e ∷ es) x = (things_inside vs ts e.1 x.0, interfaces_inside vs ts es x.1)
-
-  pub agrees_inside : (vs : List UnitVariable) (ts : List UnitType) (rs : List Region) → Agrees (own u) rs → Agrees (in_routine vs ts (own u)) rs
-  agrees_inside vs ts [] x = tt
-  agrees_inside vs ts (r ∷ rs) x = (things_inside vs ts r.entries x.0, interfaces_inside vs ts r.qualified x.1, agrees_inside vs ts rs x.2)
 
   -- ---- hosts that are known are listed
 
@@ -311,35 +204,187 @@ module _ (u : TypedUnit) where
   kind_listed i kind.Text h l e = absurd e
   kind_listed i kind.File h l e = absurd e
 
-  declaration_listed : (i number : ℕ) (d : Declaration) (h : Host) → HoldsDeclaration i number d → DeclaresHost d h → Lists i h
-  declaration_listed i number (declaration.Constant k v) h x e = kind_listed i k h x.1 e
-  declaration_listed i number (declaration.«Type» g) h x e = subst (Lists i) e x.lists
-  declaration_listed i number (declaration.Variable (kind.Ordinal g)) h x e = subst (Lists i) e x.lists
+-- ---- what scopes declare, for a routine with these variables
+
+module _ (u : TypedUnit) (o : List UnitVariable) where
+  abbrev pub HoldsDeclaration : ℕ → ℕ → Declaration → Type 0
+  HoldsDeclaration i number (declaration.Constant k v) = IsConstantOf k v × ListsKind u i k
+  HoldsDeclaration i number (declaration.«Type» h) = HoldsType u i number h
+  HoldsDeclaration i number (declaration.Variable (kind.Ordinal h)) = HoldsVariable u i number h
+  HoldsDeclaration i number (declaration.Variable kind.Text) = ⊥
+  HoldsDeclaration i number (declaration.Variable kind.File) = ⊥
+  HoldsDeclaration i number (declaration.Own (kind.Ordinal h)) = HoldsOwn u o i number h
+  HoldsDeclaration i number (declaration.Own kind.Text) = ⊥
+  HoldsDeclaration i number (declaration.Own kind.File) = ⊥
+  HoldsDeclaration i number declaration.Procedure = HoldsProcedure u number
+
+  abbrev pub HoldsThing : ℕ → Thing → Type 0
+  HoldsThing i (thing.Declared d) = (d.unit ≡ u.name) × HoldsDeclaration i d.number d.what
+  HoldsThing i (thing.Standard file) = ⊤
+
+  abbrev pub HoldsThings : ℕ → Entries → Type 0
+  HoldsThings i [] = ⊤
+  HoldsThings i (e ∷ es) = HoldsThing i e.1 × HoldsThings i es
+
+  -- the names of scopes; a block has no interface
+  abbrev pub HoldsScopes : ℕ → List Region → Type 0
+  HoldsScopes i [] = ⊤
+  HoldsScopes i (r ∷ rs) = HoldsThings i r.entries × (r.qualified ≡ []) × HoldsScopes i rs
+
+  -- ---- among more types
+
+  declaration_more : (i j number : ℕ) (d : Declaration) → i ≤ j → HoldsDeclaration i number d → HoldsDeclaration j number d
+  declaration_more i j number (declaration.Constant k v) le x = (x.0, lists_kind_more u i j k le x.1)
+  declaration_more i j number (declaration.«Type» h) le x = record { lists = lists_more u i j h le x.lists; before = omega (arith, le, x.before); denotes = has_host_more u i j (tree.Named number []) h le x.denotes }
+  declaration_more i j number (declaration.Variable (kind.Ordinal h)) le x = record { lists = lists_more u i j h le x.lists; variable = x.variable; at = x.at; denotes = has_host_more u i j (denoter_of x.variable.denoter) h le x.denotes }
+  declaration_more i j number (declaration.Variable kind.Text) le x = x
+  declaration_more i j number (declaration.Variable kind.File) le x = x
+  declaration_more i j number (declaration.Own (kind.Ordinal h)) le x = record { lists = lists_more u i j h le x.lists; variable = x.variable; at = x.at; denotes = has_host_more u i j (denoter_of x.variable.denoter) h le x.denotes }
+  declaration_more i j number (declaration.Own kind.Text) le x = x
+  declaration_more i j number (declaration.Own kind.File) le x = x
+  declaration_more i j number declaration.Procedure le x = x
+
+  thing_more : (i j : ℕ) (t : Thing) → i ≤ j → HoldsThing i t → HoldsThing j t
+  thing_more i j (thing.Declared d) le x = (x.0, declaration_more i j d.number d.what le x.1)
+  thing_more i j (thing.Standard file) le x = tt
+
+  things_more : (i j : ℕ) (es : Entries) → i ≤ j → HoldsThings i es → HoldsThings j es
+  things_more i j [] le x = tt
+  things_more i j (e ∷ es) le x = (thing_more i j e.1 le x.0, things_more i j es le x.1)
+
+  scopes_more : (i j : ℕ) (rs : List Region) → i ≤ j → HoldsScopes i rs → HoldsScopes j rs
+  scopes_more i j [] le x = tt
+  scopes_more i j (r ∷ rs) le x = (things_more i j r.entries le x.0, x.1, scopes_more i j rs le x.2)
+
+  -- one thing more
+  pub things_push : (i : ℕ) (es : Entries) (name : List ℕ) (t : Thing) → HoldsThings i es → HoldsThing i t → HoldsThings i (es ++ (name, t) ∷ [])
+  things_push i [] name t x y = (y, tt)
+  things_push i (e ∷ es) name t x y = (x.0, things_push i es name t x.1 y)
+
+  -- ---- hosts that are known are listed
+
+  declaration_listed : (i number : ℕ) (d : Declaration) (h : Host) → HoldsDeclaration i number d → DeclaresHost d h → Lists u i h
+  declaration_listed i number (declaration.Constant k v) h x e = kind_listed u i k h x.1 e
+  declaration_listed i number (declaration.«Type» g) h x e = subst (Lists u i) e x.lists
+  declaration_listed i number (declaration.Variable (kind.Ordinal g)) h x e = subst (Lists u i) e x.lists
   declaration_listed i number (declaration.Variable kind.Text) h x e = absurd x
   declaration_listed i number (declaration.Variable kind.File) h x e = absurd x
+  declaration_listed i number (declaration.Own (kind.Ordinal g)) h x e = subst (Lists u i) e x.lists
+  declaration_listed i number (declaration.Own kind.Text) h x e = absurd x
+  declaration_listed i number (declaration.Own kind.File) h x e = absurd x
   declaration_listed i number declaration.Procedure h x e = absurd e
 
-  thing_listed : (i : ℕ) (t : Thing) (h : Host) → HoldsThing i t → ThingHasHost t h → Lists i h
+  thing_listed : (i : ℕ) (t : Thing) (h : Host) → HoldsThing i t → ThingHasHost t h → Lists u i h
   thing_listed i (thing.Declared d) h x e = declaration_listed i d.number d.what h x.1 e
   thing_listed i (thing.Standard file) h x e = absurd e
 
-  things_listed : (i : ℕ) (es : Entries) (h : Host) → HoldsThings i es → EntriesHaveHost es h → Lists i h
+  things_listed : (i : ℕ) (es : Entries) (h : Host) → HoldsThings i es → EntriesHaveHost es h → Lists u i h
   things_listed i [] h x e = absurd e
   things_listed i (f ∷ es) h x (inl e) = thing_listed i f.1 h x.0 e
   things_listed i (f ∷ es) h x (inr e) = things_listed i es h x.1 e
 
-  scopes_listed : (i : ℕ) (rs : List Region) (h : Host) → HoldsScopes i rs → ScopesHaveHost rs h → Lists i h
+  scopes_listed : (i : ℕ) (rs : List Region) (h : Host) → HoldsScopes i rs → ScopesHaveHost rs h → Lists u i h
   scopes_listed i [] h x e = absurd e
   scopes_listed i (r ∷ rs) h x (inl e) = things_listed i r.entries h x.0 e
   scopes_listed i (r ∷ rs) h x (inr (inl e)) = absurd (subst (λ q. InterfacesHaveHost q h) x.1 e)
   scopes_listed i (r ∷ rs) h x (inr (inr e)) = scopes_listed i rs h x.2 e
 
-  host_listed : (i : ℕ) (b : Block) (h : Host) → Holds i b → IsKnownHost (scopes_of b) h → Lists i h
-  host_listed i b h x (inl r) = required_listed i h r
-  host_listed i b h x (inr e) = scopes_listed i (scopes_of b) h (holds_scopes i b x) e
+-- ---- declarations hold what the scopes declare
+
+-- The types of the unit are those of the routine, where it has variables.
+module _ (u : TypedUnit) (o : List UnitVariable) (ts : List UnitType) (there : (k : ℕ) (v : UnitVariable) → slice_get o k ≡ Some v → ts ≡ u.types) where
+  declared_holds : (i number : ℕ) (unit : List ℕ) (d : Declaration) → i ≤ length u.types → unit ≡ u.name → HoldsDeclaration u o i number d → IsDeclaration (in_routine o ts (own u)) unit number d
+  declared_holds i number unit (declaration.Constant k v) le e x = x.0
+  declared_holds i number unit (declaration.«Type» h) le e x = lists_small u i h x.lists
+  declared_holds i number unit (declaration.Variable (kind.Ordinal h)) le e x = (lists_small u i h x.lists, variable_place u i number unit h le e x)
+  declared_holds i number unit (declaration.Variable kind.Text) le e x = absurd x
+  declared_holds i number unit (declaration.Variable kind.File) le e x = absurd x
+  declared_holds i number unit (declaration.Own (kind.Ordinal h)) le e x =
+      (lists_small u i h x.lists, subst (λ types. IsPlace (in_routine o types (own u)) (typed_host h) (tree.Own number)) (sym (there number x.variable x.at)) (own_place u o i number h le x))
+  declared_holds i number unit (declaration.Own kind.Text) le e x = absurd x
+  declared_holds i number unit (declaration.Own kind.File) le e x = absurd x
+  declared_holds i number unit declaration.Procedure le e x =
+      (heading_of x.routine, ap (λ rs. slice_get rs number) (routines_own u unit e) ∙ routine_at u u.routines number x.routine x.at, x.is_procedure, x.no_formals)
+
+  thing_holds : (i : ℕ) (t : Thing) → i ≤ length u.types → HoldsThing u o i t → IsThing (in_routine o ts (own u)) t
+  thing_holds i (thing.Declared d) le x = declared_holds i d.number d.unit d.what le x.0 x.1
+  thing_holds i (thing.Standard file) le x = tt
+
+  things_hold : (i : ℕ) (es : Entries) → i ≤ length u.types → HoldsThings u o i es → AreThings (in_routine o ts (own u)) es
+  things_hold i [] le x = tt
+  things_hold i (e ∷ es) le x = (thing_holds i e.1 le x.0, things_hold i es le x.1)
+
+  pub scopes_hold : (i : ℕ) (rs : List Region) → i ≤ length u.types → HoldsScopes u o i rs → Agrees (in_routine o ts (own u)) rs
+  scopes_hold i [] le x = tt
+  scopes_hold i (r ∷ rs) le x = (things_hold i r.entries le x.0, subst (AreInterfaces (in_routine o ts (own u))) (sym x.1) tt, scopes_hold i rs le x.2)
+
+-- ---- what holds outside of routines holds in them too
+
+module _ (u : TypedUnit) (o : List UnitVariable) where
+  -- no variable of a routine is there
+  none_own : (i number : ℕ) (h : Host) → HoldsOwn u [] i number h → ⊥
+  none_own i number h x = let e = x.at in cc
+
+  declaration_wider : (i number : ℕ) (d : Declaration) → HoldsDeclaration u [] i number d → HoldsDeclaration u o i number d
+  declaration_wider i number (declaration.Constant k v) x = x
+  declaration_wider i number (declaration.«Type» h) x = x
+  declaration_wider i number (declaration.Variable (kind.Ordinal h)) x = x
+  declaration_wider i number (declaration.Variable kind.Text) x = x
+  declaration_wider i number (declaration.Variable kind.File) x = x
+  declaration_wider i number (declaration.Own (kind.Ordinal h)) x = absurd (none_own i number h x)
+  declaration_wider i number (declaration.Own kind.Text) x = x
+  declaration_wider i number (declaration.Own kind.File) x = x
+  declaration_wider i number declaration.Procedure x = x
+
+  thing_wider : (i : ℕ) (t : Thing) → HoldsThing u [] i t → HoldsThing u o i t
+  thing_wider i (thing.Declared d) x = (x.0, declaration_wider i d.number d.what x.1)
+  thing_wider i (thing.Standard file) x = tt
+
+  things_wider : (i : ℕ) (es : Entries) → HoldsThings u [] i es → HoldsThings u o i es
+  things_wider i [] x = tt
+  things_wider i (e ∷ es) x = (thing_wider i e.1 x.0, things_wider i es x.1)
+
+  scopes_wider : (i : ℕ) (rs : List Region) → HoldsScopes u [] i rs → HoldsScopes u o i rs
+  scopes_wider i [] x = tt
+  scopes_wider i (r ∷ rs) x = (things_wider i r.entries x.0, x.1, scopes_wider i rs x.2)
+
+-- ---- blocks
+
+module _ (u : TypedUnit) (o : List UnitVariable) where
+  -- The block's names and lists, where its types are the first i ones of the unit, and its own variables the first ones of
+  -- the routine. Around the block of a routine there is none.
+  pub record Holds (i : ℕ) (b : Block) : Type 0 where
+    pub unit : b.unit ≡ u.name
+    pub things : HoldsThings u o i b.scopes.inner.entries
+    pub plain : b.scopes.inner.qualified ≡ []
+    pub outer : HoldsScopes u [] i b.scopes.outer
+    pub types : All (IsType u.types) b.types
+    pub constants : All (IsConstant u.types) b.constants
+    pub variables : All (IsVariable u.types) b.variables
+    pub owned : All (IsVariable u.types) b.own
+    pub routines : All (HoldsRoutine u) b.routines
+
+  pub holds_more : (i j : ℕ) (b : Block) → i ≤ j → Holds i b → Holds j b
+  holds_more i j b le x = record { unit = x.unit; things = things_more u o i j b.scopes.inner.entries le x.things; plain = x.plain; outer = scopes_more u [] i j b.scopes.outer le x.outer; routines = x.routines; types = x.types; constants = x.constants; variables = x.variables; owned = x.owned }
+
+  -- the scopes in view
+  pub holds_scopes : (i : ℕ) (b : Block) → Holds i b → HoldsScopes u o i (scopes_of b)
+  holds_scopes i b x = (x.things, x.plain, scopes_wider u o i b.scopes.outer x.outer)
+
+  -- so the declarations of the unit, in the block of the routine, hold what the scopes declare
+  pub holds_agrees : (i : ℕ) (b : Block) → i ≤ length u.types → Holds i b → Agrees (in_routine o u.types (own u)) (scopes_of b)
+  holds_agrees i b le x = scopes_hold u o u.types (λ k v e. refl) i (scopes_of b) le (holds_scopes i b x)
+
+  host_listed : (i : ℕ) (b : Block) (h : Host) → Holds i b → IsKnownHost (scopes_of b) h → Lists u i h
+  host_listed i b h x (inl r) = required_listed u i h r
+  host_listed i b h x (inr e) = scopes_listed u o i (scopes_of b) h (holds_scopes i b x) e
 
   -- the kind of an expression in the block
-  pub known_listed : (i : ℕ) (b : Block) (k : Kind) → Holds i b → IsKnownKind (scopes_of b) k → ListsKind i k
+  pub known_listed : (i : ℕ) (b : Block) (k : Kind) → Holds i b → IsKnownKind (scopes_of b) k → ListsKind u i k
   known_listed i b (kind.Ordinal h) x e = host_listed i b h x e
   known_listed i b kind.Text x e = tt
   known_listed i b kind.File x e = tt
+
+-- the declarations of the unit alone do so outside of routines
+pub holds_agrees_outside : (u : TypedUnit) (i : ℕ) (b : Block) → i ≤ length u.types → Holds u [] i b → Agrees (own u) (scopes_of b)
+holds_agrees_outside u i b le x = scopes_hold u [] [] (λ k v e. cc) i (scopes_of b) le (holds_scopes u [] i b x)

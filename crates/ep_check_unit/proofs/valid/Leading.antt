@@ -4,6 +4,7 @@ use Rattle.std.proofs.lemmas.List.{length-append}
 use Rattle.std.specs.Option.{option_or}
 use Rattle.ep_outside.specs.Known.{IsPrefix}
 use Rattle.ep_typed.specs.declared.unit.Unit.{Unit as TypedUnit}
+use Rattle.ep_typed.specs.declared.unit.UnitVariable.{UnitVariable}
 use Rattle.ep_scope.specs.declared.thing.Thing.{Thing}
 use Rattle.ep_check_expr.specs.Judgements.{Judged, Accepts, Breaks, when_accepted}
 use Rattle.ep_check_stmt.proofs.judged.Fits.{Any, Fits, fits_any, fits_then}
@@ -45,17 +46,25 @@ pub record Grows (b c : Block) : Type 0 where
   pub types : IsPrefix b.types c.types
   pub constants : IsPrefix b.constants c.constants
   pub variables : IsPrefix b.variables c.variables
+  pub own : IsPrefix b.own c.own
+  -- no scope around this one changes
+  pub outer : c.scopes.outer ≡ b.scopes.outer
+  -- outside of routines no variable of a routine is added
+  pub alone : b.scopes.outer ≡ [] → c.own ≡ b.own
   pub routines : length b.routines ≤ length c.routines
   pub waits : c.waits ≡ None → b.waits ≡ None
 
 pub grows_refl : (b : Block) → Grows b b
-grows_refl b = record { types = prefix_refl b.types; constants = prefix_refl b.constants; variables = prefix_refl b.variables; routines = omega arith; waits = λ w. w }
+grows_refl b = record { types = prefix_refl b.types; constants = prefix_refl b.constants; variables = prefix_refl b.variables; own = prefix_refl b.own; outer = refl; alone = λ e. refl; routines = omega arith; waits = λ w. w }
 
 pub grows_trans : (b c d : Block) → Grows b c → Grows c d → Grows b d
 grows_trans b c d p q = record {
   types = prefix_trans b.types c.types d.types p.types q.types;
   constants = prefix_trans b.constants c.constants d.constants p.constants q.constants;
   variables = prefix_trans b.variables c.variables d.variables p.variables q.variables;
+  own = prefix_trans b.own c.own d.own p.own q.own;
+  outer = q.outer ∙ p.outer;
+  alone = λ e. q.alone (p.outer ∙ e) ∙ p.alone e;
   routines = omega (arith, p.routines, q.routines);
   waits = λ w. p.waits (q.waits w);
 }
@@ -65,12 +74,13 @@ pub waits_some : (o : Option ℕ) (line : ℕ) → option_or o (Some line) ≡ N
 waits_some None line e = cc
 waits_some (Some other) line e = cc
 
-module _ (u : TypedUnit) where
-  -- the unit has what is in the block's lists
+module _ (u : TypedUnit) (o : List UnitVariable) where
+  -- the unit has what is in the block's lists, and the routine its variables
   pub record Extends (c : Block) : Type 0 where
     pub types : IsPrefix c.types u.types
     pub constants : IsPrefix c.constants u.constants
     pub variables : IsPrefix c.variables u.variables
+    pub own : IsPrefix c.own o
     pub routines : length c.routines ≤ length u.routines
 
   -- so it has what was in them before
@@ -79,6 +89,7 @@ module _ (u : TypedUnit) where
     types = prefix_trans b.types c.types u.types g.types e.types;
     constants = prefix_trans b.constants c.constants u.constants g.constants e.constants;
     variables = prefix_trans b.variables c.variables u.variables g.variables e.variables;
+    own = prefix_trans b.own c.own o g.own e.own;
     routines = omega (arith, g.routines, e.routines);
   }
 
@@ -86,7 +97,7 @@ module _ (u : TypedUnit) where
 
   pub record Leads (b c : Block) : Type 0 where
     pub grows : Grows b c
-    pub holds : Extends c → c.waits ≡ None → Holds u (length b.types) b → Holds u (length c.types) c
+    pub holds : Extends c → c.waits ≡ None → Holds u o (length b.types) b → Holds u o (length c.types) c
 
   pub leads_refl : (b : Block) → Leads b b
   leads_refl b = record { grows = grows_refl b; holds = λ e w h. h }
@@ -109,18 +120,18 @@ module _ (u : TypedUnit) where
   pub noted_leads : (built : Bool) (line : ℕ) (b c : Block) → (built ≡ true → Leads b c) → Grows b c → Leads b (noted built line c)
   noted_leads true line b c h g = h refl
   noted_leads false line b c h g = record {
-    grows = record { types = g.types; constants = g.constants; variables = g.variables; routines = g.routines; waits = λ w. absurd (waits_some c.waits line w) };
+    grows = record { types = g.types; constants = g.constants; variables = g.variables; own = g.own; outer = g.outer; alone = g.alone; routines = g.routines; waits = λ w. absurd (waits_some c.waits line w) };
     holds = λ e w x. absurd (waits_some c.waits line w);
   }
 
   named_grows : (name : List ℕ) (t : Thing) (b : Block) → Grows b (with_name name t b)
-  named_grows name t b = record { types = prefix_refl b.types; constants = prefix_refl b.constants; variables = prefix_refl b.variables; routines = omega arith; waits = λ w. w }
+  named_grows name t b = record { types = prefix_refl b.types; constants = prefix_refl b.constants; variables = prefix_refl b.variables; own = prefix_refl b.own; outer = refl; alone = λ e. refl; routines = omega arith; waits = λ w. w }
 
   -- a name for something that the unit holds
-  pub named_holds : (i : ℕ) (name : List ℕ) (t : Thing) (b : Block) → HoldsThing u i t → Holds u i b → Holds u i (with_name name t b)
-  named_holds i name t b h x = record { unit = x.unit; things = things_push u i b.scopes.inner.entries name t x.things h; plain = x.plain; outer = x.outer; routines = x.routines; types = x.types; constants = x.constants; variables = x.variables }
+  pub named_holds : (i : ℕ) (name : List ℕ) (t : Thing) (b : Block) → HoldsThing u o i t → Holds u o i b → Holds u o i (with_name name t b)
+  named_holds i name t b h x = record { unit = x.unit; things = things_push u o i b.scopes.inner.entries name t x.things h; plain = x.plain; outer = x.outer; routines = x.routines; types = x.types; constants = x.constants; variables = x.variables; owned = x.owned }
 
-  pub entered_leads : (name : List ℕ) (t : Thing) (b : Block) → (Extends b → Holds u (length b.types) b → HoldsThing u (length b.types) t) → Fits (Leads b) (entered name t b)
+  pub entered_leads : (name : List ℕ) (t : Thing) (b : Block) → (Extends b → Holds u o (length b.types) b → HoldsThing u o (length b.types) t) → Fits (Leads b) (entered name t b)
   entered_leads name t b h =
       fits_then Any (Leads b) (λ _. Accepts (with_name name t b)) (unused name b) (fits_any (unused name b))
       (λ a i. record { grows = named_grows name t b; holds = λ e w x. named_holds (length b.types) name t b (h (extends_before b (with_name name t b) (named_grows name t b) e) x) x })
@@ -131,7 +142,7 @@ module _ (u : TypedUnit) where
   pub record Enters (P : Type 0) (i : ℕ) (b c : Block) : Type 0 where
     pub grows : Grows b c
     pub same : c.types ≡ b.types
-    pub holds : P → Extends c → Holds u i b → Holds u i c
+    pub holds : P → Extends c → Holds u o i b → Holds u o i c
 
   pub enters_refl : (P : Type 0) (i : ℕ) (b : Block) → Enters P i b b
   enters_refl P i b = record { grows = grows_refl b; same = refl; holds = λ p e x. x }

@@ -10,13 +10,14 @@ use Rattle.ep_typed.specs.Hosts as typed
 use Rattle.ep_typed.specs.Hosts.{is_of_host}
 use Rattle.ep_typed.specs.Operations.{maxint}
 use Rattle.ep_typed.specs.Trees as tree
-use Rattle.ep_typed.specs.Valid.{own}
+use Rattle.ep_typed.specs.Valid.{in_routine, own}
 use Rattle.ep_typed.specs.Viewed.{denoter_of}
 use Rattle.ep_typed.specs.declared.denoter.Bound.TheVariants.{Constant as Fixed}
 use Rattle.ep_typed.specs.declared.denoter.Denoter.TheVariants as denoter
 use Rattle.ep_typed.specs.declared.denoter.RequiredType.{RequiredType}
 use Rattle.ep_typed.specs.declared.denoter.RequiredType.TheVariants as simple
 use Rattle.ep_typed.specs.declared.unit.Unit.{Unit as TypedUnit}
+use Rattle.ep_typed.specs.declared.unit.UnitVariable.{UnitVariable}
 use Rattle.ep_typed.specs.declared.unit.UnitType.{UnitType}
 use Rattle.ep_typed.specs.declared.value.TypeValue.TheVariants.{Ordinal as Range}
 use Rattle.ep_typed.specs.declared.value.Value.{Value}
@@ -50,13 +51,13 @@ use Rattle.ep_check_unit.proofs.valid.Holds.{HasHostHere, Holds, HoldsDeclaratio
 use Rattle.ep_check_unit.proofs.valid.Leading.{Extends, Enters, Grows, grows_refl, prefix_length, prefix_refl, waits_some}
 use Rattle.ep_check_unit.proofs.valid.Meant.{HoldsMeant, meant_holds, meant_in_holds}
 
-module _ (u : TypedUnit) where
+module _ (u : TypedUnit) (o : List UnitVariable) where
   -- ---- types by their names
 
   -- The type has a name that is there already, and nothing is declared with it.
   pub record Names (b : Block) (w : Written) : Type 0 where
     pub same : w.block ≡ b
-    pub holds : (i : ℕ) → Holds u i b → HasHostHere u i (denoter_of w.denoter) w.host × Lists u i w.host
+    pub holds : (i : ℕ) → Holds u o i b → HasHostHere u i (denoter_of w.denoter) w.host × Lists u i w.host
 
   required_names : (i : ℕ) (r : RequiredType) → HasHostHere u i (denoter_of (denoter.Required r)) (required_host r) × Lists u i (required_host r)
   required_names i simple.Integer = ((full_type typed.Integer, required_lists u i simple.Integer typed.Integer (denotes_required u.types simple.Integer)), tt)
@@ -65,9 +66,9 @@ module _ (u : TypedUnit) where
 
   -- what is meant is held wherever the block is
   abbrev HeldThroughout : Block → Meant → Type 0
-  HeldThroughout b m = (i : ℕ) → Holds u i b → HoldsMeant u i m
+  HeldThroughout b m = (i : ℕ) → Holds u o i b → HoldsMeant u o i m
 
-  declared_names : (d : Declared) (what : Declaration) (b : Block) → ((i : ℕ) → Holds u i b → HoldsDeclaration u i d.number what) → Fits (Names b) (declared_type d what b)
+  declared_names : (d : Declared) (what : Declaration) (b : Block) → ((i : ℕ) → Holds u o i b → HoldsDeclaration u o i d.number what) → Fits (Names b) (declared_type d what b)
   declared_names d (declaration.«Type» h) b held = record {
     same = refl;
     holds = λ i x.
@@ -76,6 +77,7 @@ module _ (u : TypedUnit) where
   }
   declared_names d (declaration.Constant k v) b held = tt
   declared_names d (declaration.Variable k) b held = tt
+  declared_names d (declaration.Own k) b held = tt
   declared_names d declaration.Procedure b held = tt
 
   meant_names : (missing : List ℕ) (m : Meant) (b : Block) → HeldThroughout b m → Fits (Names b) (type_meant missing m b)
@@ -88,8 +90,8 @@ module _ (u : TypedUnit) where
   meant_names missing Nothing b held = tt
 
   pub type_named-names : (name : List ℕ) (second : Option (List ℕ)) (b : Block) → Fits (Names b) (type_named name second b)
-  type_named-names name None b = meant_names (undeclared name) (meant (scopes_of b) name) b (λ i x. meant_holds u i b name x)
-  type_named-names interface (Some name) b = meant_names (rule.UNDECLARED ∷ []) (meant_in (scopes_of b) interface name) b (λ i x. meant_in_holds u i b interface name x)
+  type_named-names name None b = meant_names (undeclared name) (meant (scopes_of b) name) b (λ i x. meant_holds u o i b name x)
+  type_named-names interface (Some name) b = meant_names (rule.UNDECLARED ∷ []) (meant_in (scopes_of b) interface name) b (λ i x. meant_in_holds u o i b interface name x)
 
   -- ---- types that are written
 
@@ -101,7 +103,7 @@ module _ (u : TypedUnit) where
 
   -- what the unit holds then
   pub record Wrote (i : ℕ) (w : Written) : Type 0 where
-    pub block : Holds u (suc i) w.block
+    pub block : Holds u o (suc i) w.block
     pub denotes : HasHostHere u i (denoter_of w.denoter) w.host
     pub lists : Lists u (suc i) w.host
 
@@ -109,7 +111,7 @@ module _ (u : TypedUnit) where
   pub record Writes (b : Block) (w : Written) : Type 0 where
     pub grows : Grows b w.block
     pub same : w.block.types ≡ b.types
-    pub holds : Extends u w.block → w.block.waits ≡ None → IsNext b (denoter_of w.denoter) → Holds u (length b.types) b → Wrote (length b.types) w
+    pub holds : Extends u o w.block → w.block.waits ≡ None → IsNext b (denoter_of w.denoter) → Holds u o (length b.types) b → Wrote (length b.types) w
 
   named_writes : (b : Block) (w : Written) → Names b w → Writes b w
   named_writes b w n = record {
@@ -119,7 +121,7 @@ module _ (u : TypedUnit) where
         let i : ℕ = length b.types in
         let y = n.holds i x in
         record {
-          block = subst (Holds u (suc i)) (sym n.same) (holds_more u i (suc i) b (omega arith) x);
+          block = subst (Holds u o (suc i)) (sym n.same) (holds_more u o i (suc i) b (omega arith) x);
           denotes = y.0;
           lists = lists_more u i (suc i) w.host (omega arith) y.1;
         };
@@ -164,9 +166,9 @@ module _ (u : TypedUnit) where
   record AreBounds (b : Block) (h : Host) (low high : ConstantForm) : Type 0 where
     hosts : OneHost low.kind high.kind h
     order : (built : Bool) → (low.built && high.built) ≡ built → built ≡ true → IsTrue (int_le (number_in low.value) (number_in high.value))
-    lists : (i : ℕ) → Holds u i b → Lists u i h
-    low_is : (i : ℕ) → i ≤ length u.types → Holds u i b → IsTrue (is_of_host (typed_host h) (number_in low.value))
-    high_is : (i : ℕ) → i ≤ length u.types → Holds u i b → IsTrue (is_of_host (typed_host h) (number_in high.value))
+    lists : (i : ℕ) → Holds u o i b → Lists u i h
+    low_is : (i : ℕ) → i ≤ length u.types → Holds u o i b → IsTrue (is_of_host (typed_host h) (number_in low.value))
+    high_is : (i : ℕ) → i ≤ length u.types → Holds u o i b → IsTrue (is_of_host (typed_host h) (number_in high.value))
 
   range_denotes : (i : ℕ) (h : Host) (low high : ConstantForm) → Lists u i h → IsTrue (int_le (number_in low.value) (number_in high.value)) → IsTrue (is_of_host (typed_host h) (number_in low.value)) → IsTrue (is_of_host (typed_host h) (number_in high.value))
       → HasHostHere u i (denoter_of (subrange_denoter h low high)) h
@@ -184,13 +186,13 @@ module _ (u : TypedUnit) where
         let i : ℕ = length b.types in
         let le : i ≤ length u.types = prefix_length b.types u.types ext.types in
         record {
-          block = holds_more u i (suc i) b (omega arith) x;
+          block = holds_more u o i (suc i) b (omega arith) x;
           denotes = range_denotes i h low high (k.lists i x) (k.order true e refl) (k.low_is i le x) (k.high_is i le x);
           lists = lists_more u i (suc i) h (omega arith) (k.lists i x);
         };
   }
   subrange_writes false line h low high b e k = record {
-    grows = record { types = prefix_refl b.types; constants = prefix_refl b.constants; variables = prefix_refl b.variables; routines = omega arith; waits = λ w. absurd (waits_some b.waits line w) };
+    grows = record { types = prefix_refl b.types; constants = prefix_refl b.constants; variables = prefix_refl b.variables; own = prefix_refl b.own; outer = refl; alone = λ e. refl; routines = omega arith; waits = λ w. absurd (waits_some b.waits line w) };
     same = refl;
     holds = λ ext free next x. absurd (waits_some b.waits line free);
   }
@@ -200,16 +202,16 @@ module _ (u : TypedUnit) where
 
   range_bounds : BoundsAreSound → BoundsAreKnown → (b : Block) (first second : Expression) (low high : ConstantForm) (h : Host) (a : Unit {0}) → bound_judged (scopes_of b) first ≡ Accepts low → bound_judged (scopes_of b) second ≡ Accepts high
       → common_host low.kind high.kind ≡ Accepts h → ordered low high ≡ Accepts a → AreBounds b h low high
-  range_bounds sound known b first second low high h a e f c o =
+  range_bounds sound known b first second low high h a e f c ordering =
       let hosts = one_host low.kind high.kind h c in
       record {
         hosts = hosts;
-        order = λ built is yes. in_order built low high yes (subst (λ x. (if x then int_le (number_in low.value) (number_in high.value) else true) ≡ true) is (ordered_if _ a o));
-        lists = λ i x. subst (ListsKind u i) hosts.left (known_listed u i b low.kind x (known (scopes_of b) first low e));
-        low_is = λ i le x. bound_of_host h low.value (ordinal_constant low.kind h low.value hosts.left (sound (scopes_of b) first low e (own u) (holds_agrees u i b le x)));
+        order = λ built is yes. in_order built low high yes (subst (λ x. (if x then int_le (number_in low.value) (number_in high.value) else true) ≡ true) is (ordered_if _ a ordering));
+        lists = λ i x. subst (ListsKind u i) hosts.left (known_listed u o i b low.kind x (known (scopes_of b) first low e));
+        low_is = λ i le x. bound_of_host h low.value (ordinal_constant low.kind h low.value hosts.left (sound (scopes_of b) first low e (in_routine o u.types (own u)) (holds_agrees u o i b le x)));
         high_is = λ i le x.
             subst (λ g. IsTrue (is_of_host g (number_in high.value))) (host_same h hosts.other hosts.alike)
-            (bound_of_host hosts.other high.value (ordinal_constant high.kind hosts.other high.value hosts.right (sound (scopes_of b) second high f (own u) (holds_agrees u i b le x))));
+            (bound_of_host hosts.other high.value (ordinal_constant high.kind hosts.other high.value hosts.right (sound (scopes_of b) second high f (in_routine o u.types (own u)) (holds_agrees u o i b le x))));
       }
 
   range_writes : BoundsAreSound → BoundsAreKnown → (line : ℕ) (b : Block) (first second : Expression) (low high : ConstantForm) → bound_judged (scopes_of b) first ≡ Accepts low → bound_judged (scopes_of b) second ≡ Accepts high → Fits (Writes b) (range line b low high)
@@ -224,7 +226,7 @@ module _ (u : TypedUnit) where
   few_constants n m k last e le few = grind (arith, nat_tests)
 
   enumeration_writes : length u.constants ≤ maxint → (first : List ℕ) (others : List (List ℕ)) (b c : Block)
-      → Enters u (ListsWithin u (suc (length b.types)) (record { number = length b.types; last = length others })) (suc (length b.types)) b c → length c.constants ≡ length b.constants + suc (length others)
+      → Enters u o (ListsWithin u o (suc (length b.types)) (record { number = length b.types; last = length others })) (suc (length b.types)) b c → length c.constants ≡ length b.constants + suc (length others)
       → Writes b (record { denoter = denoter.Enumeration (first ∷ others); host = next_enumeration (length others) b; block = c })
   enumeration_writes few first others b c enters counts = record {
     grows = enters.grows;
@@ -236,7 +238,7 @@ module _ (u : TypedUnit) where
         let listed : ListsEnumeration u (suc i) (record { number = i; last = length others }) =
         record { before = omega arith; entry = next.entry; at = next.at; first = first; others = others; names = next.definition ∙ enumeration_is (first ∷ others); last = refl; small = small } in
         record {
-          block = enters.holds (le, listed) ext (holds_more u i (suc i) b (omega arith) x);
+          block = enters.holds (le, listed) ext (holds_more u o i (suc i) b (omega arith) x);
           denotes = (
             full_type (typed.Enumeration (length others)),
             subst (λ d. Denotes u.types i d (typed.Enumeration (length others)) (full_type (typed.Enumeration (length others)))) (sym (enumeration_is (first ∷ others)))
@@ -251,8 +253,8 @@ module _ (u : TypedUnit) where
   enumeration-writes few (first ∷ others) b =
       let e : Enumeration = record { number = length b.types; last = length others } in
       let entered = enumerated (host.Enumeration e) 0 (first ∷ others) b in
-      fits_then (λ c. Enters u (ListsWithin u (suc (length b.types)) e) (suc (length b.types)) b c × (length c.constants ≡ length b.constants + suc (length others))) (Writes b) _ entered
-      (fits_pair (Enters u (ListsWithin u (suc (length b.types)) e) (suc (length b.types)) b) (λ c. length c.constants ≡ length b.constants + suc (length others)) entered (enumerated_enters u (suc (length b.types)) e 0 (first ∷ others) b (omega arith)) (enumerated_counts e 0 (first ∷ others) b))
+      fits_then (λ c. Enters u o (ListsWithin u o (suc (length b.types)) e) (suc (length b.types)) b c × (length c.constants ≡ length b.constants + suc (length others))) (Writes b) _ entered
+      (fits_pair (Enters u o (ListsWithin u o (suc (length b.types)) e) (suc (length b.types)) b) (λ c. length c.constants ≡ length b.constants + suc (length others)) entered (enumerated_enters u o (suc (length b.types)) e 0 (first ∷ others) b (omega arith)) (enumerated_counts e 0 (first ∷ others) b))
       (λ c p. enumeration_writes few first others b c p.0 p.1)
 
   -- ---- denoters

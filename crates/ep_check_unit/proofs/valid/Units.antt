@@ -22,7 +22,7 @@ use Rattle.ep_check_unit.specs.Units.{IsTypedProgram, IsUnitOf, ProgramForm, bod
 use Rattle.ep_check_unit.specs.Blocks.{Block, routine_form}
 use Rattle.ep_check_unit.proofs.Forms.{length_forms}
 use Rattle.ep_check_unit.proofs.Kept.{IsPlain, parameters-remain, parts-remain}
-use Rattle.ep_check_unit.proofs.valid.Holds.{Holds, HoldsRoutine, holds_agrees}
+use Rattle.ep_check_unit.proofs.valid.Holds.{Holds, HoldsRoutine, holds_agrees_outside}
 use Rattle.ep_check_unit.proofs.valid.Items.{LeadsOn, parameters_lead}
 use Rattle.ep_check_unit.proofs.valid.Leading.{Leads, leads_trans, prefix_refl}
 use Rattle.ep_check_unit.proofs.valid.Procedures.{IsPlainHeading, parts_lead}
@@ -82,13 +82,14 @@ routines_valid : (u : TypedUnit) (rs : List UnitRoutine) → All IsPlain (map ro
 routines_valid u [] h g = All-nil (IsRoutine (own u) u.types)
 routines_valid u (r ∷ rs) h g =
     let p = All-head IsPlain (routine_form r) (map routine_form rs) h in
-    let none : variables_of r ≡ [] = ap (λ fs. map (formal_variable (out-UnitRoutine r).line) fs ++ (out-UnitRoutine r).variables) p.formals ∙ p.variables in
+    let held = All-head (HoldsRoutine u) (routine_form r) (map routine_form rs) g in
+    let all : variables_of r ≡ (out-UnitRoutine r).variables = ap (λ fs. map (formal_variable (out-UnitRoutine r).line) fs ++ (out-UnitRoutine r).variables) p.formals in
     All-cons (IsRoutine (own u) u.types) r rs (record {
       heading = p.result;
       formals = All-same (IsFormal u.types) (out-UnitRoutine r).formals [] p.formals (All-nil (IsFormal u.types));
-      variables = All-same (IsVariable u.types) (out-UnitRoutine r).variables [] p.variables (All-nil (IsVariable u.types));
+      variables = held.0;
       routines = p.routines;
-      block = subst (λ vs. IsStmt (in_routine vs u.types (own u)) (routine_form r).block) (sym none) (All-head (HoldsRoutine u) (routine_form r) (map routine_form rs) g);
+      block = subst (λ vs. IsStmt (in_routine vs u.types (own u)) (routine_form r).block) (sym all) held.1;
     })
     (routines_valid u rs (All-tail IsPlain (routine_form r) (map routine_form rs) h) (All-tail (HoldsRoutine u) (routine_form r) (map routine_form rs) g))
 
@@ -100,21 +101,22 @@ routines_plain p form made =
 
 module _ (statements : StatementsAreSound) (constants : ConstantsAreSound) (bounds : BoundsAreSound) (constant_hosts : ConstantsAreKnown) (bound_hosts : BoundsAreKnown) where
   -- the unit holds its block
-  block_held : (p : Program) (u : TypedUnit) (form : ProgramForm) → IsMade p form → length u.constants ≤ maxint → IsUnitOf p form u → Holds u (length form.block.types) form.block
+  block_held : (p : Program) (u : TypedUnit) (form : ProgramForm) → IsMade p form → length u.constants ≤ maxint → IsUnitOf p form u → Holds u [] (length form.block.types) form.block
   block_held p u form made few is =
       let plain : All IsPlain (map routine_form u.routines) = All-same IsPlain (map routine_form u.routines) form.block.routines is.routines (routines_plain p form made) in
-      let entered : Leads u (program_block p) made.first = subst (Fits (Leads u (program_block p))) made.entered (parameters_lead u p.parameters (program_block p)) in
-      let declared : Leads u made.first form.block = subst (LeadsOn u made.first) made.declared (parts_lead u few (plain_procedures u.routines plain) statements constants bounds constant_hosts bound_hosts p.parts made.first) in
-      let all = leads_trans u (program_block p) made.first form.block entered declared in
+      let entered : Leads u [] (program_block p) made.first = subst (Fits (Leads u [] (program_block p))) made.entered (parameters_lead u [] p.parameters (program_block p)) in
+      let declared : Leads u [] made.first form.block = subst (LeadsOn u [] made.first) made.declared (parts_lead u few (plain_procedures u.routines plain) statements constants bounds constant_hosts bound_hosts p.parts made.first) in
+      let all = leads_trans u [] (program_block p) made.first form.block entered declared in
       all.holds
       (record {
         types = subst (IsPrefix form.block.types) (sym is.types) (prefix_refl form.block.types);
         constants = subst (IsPrefix form.block.constants) (sym is.constants) (prefix_refl form.block.constants);
         variables = subst (IsPrefix form.block.variables) (sym is.variables) (prefix_refl form.block.variables);
+        own = subst (λ vs. IsPrefix vs []) (sym (all.grows.alone refl)) (prefix_refl []);
         routines = omega (arith, ap length is.routines, length_forms u.routines);
       })
       made.waits
-      (record { unit = sym is.name; things = tt; plain = refl; outer = tt; types = All-nil (IsType u.types); constants = All-nil (IsConstant u.types); variables = All-nil (IsVariable u.types); routines = All-nil (HoldsRoutine u) })
+      (record { unit = sym is.name; things = tt; plain = refl; outer = tt; types = All-nil (IsType u.types); constants = All-nil (IsConstant u.types); variables = All-nil (IsVariable u.types); owned = All-nil (IsVariable u.types); routines = All-nil (HoldsRoutine u) })
 
   program_valid : (p : Program) (u : TypedUnit) → IsTypedProgram p u → length u.constants ≤ maxint → IsValid u
   program_valid p u t few =
@@ -130,7 +132,7 @@ module _ (statements : StatementsAreSound) (constants : ConstantsAreSound) (boun
             (All-same IsPlain (map routine_form u.routines) t.form.block.routines t.unit.routines (routines_plain p t.form made))
             (All-same (HoldsRoutine u) (map routine_form u.routines) t.form.block.routines t.unit.routines held.routines);
         start = subst (IsStmt (own u)) (sym t.unit.start)
-            (statements (context_of t.form.block) p.body t.form.statements made.statements (own u) (holds_agrees u (length t.form.block.types) t.form.block le held));
+            (statements (context_of t.form.block) p.body t.form.statements made.statements (own u) (holds_agrees_outside u (length t.form.block.types) t.form.block le held));
         stop = t.unit.stop;
       }
 

@@ -1,4 +1,4 @@
-use Rattle.std.proofs.Common.{map}
+use Rattle.std.proofs.Common.{map, ◌∙◌}
 use Rattle.ep_typed.specs.Trees as tree
 use Rattle.ep_check_stmt.specs.Answers.{stmts_of}
 use Rattle.ep_check_unit.specs.Blocks.{block_of, routine_form}
@@ -9,6 +9,7 @@ use Rattle.ep_check_unit.proofs.block.Block.set_block.Goals as goal
 
 pub returns-then-number-items : goal.returns-then-number-items
 returns-then-number-items c =
-    block_set c.args.name.now c.args.line c.args.number (tree.Compound (stmts_of c.args.statements)) (block_of c.args.self.now) (map routine_form c.set.new.self)
-    (forms_set c.args.self.now.routines c.set.new.self c.args.number c.procedure-routine.result (procedure_form c.args.name.now c.args.line (tree.Compound (stmts_of c.args.statements))) c.set.ensures
-    (rw (c.in_ok-name.ensures, compound_is c.args.statements) at c.procedure-routine.ensures))
+    block_set c.args.name.now c.args.line c.args.number (tree.Compound (stmts_of c.args.statements)) (block_of c.args.self.now) (map routine_form c.set.new.self) c.replace-variables.new.dest
+    (forms_set c.args.self.now.routines c.set.new.self c.args.number c.procedure-routine.result (procedure_form c.args.name.now c.args.line c.args.self.now.own (tree.Compound (stmts_of c.args.statements))) c.set.ensures
+    (rw (c.in_ok-name.ensures, c.replace-variables.ensures.value, compound_is c.args.statements) at c.procedure-routine.ensures))
+    (c.replace-variables.ensures.after ∙ c.new.ensures)
