@@ -90,9 +90,10 @@ pub record Target : Type 0 where
   pub place : Place
   pub kind : Kind
 
--- a name of the unit that is assigned to
+-- a declared name that is assigned to
 abbrev pub declared_target : Declared → Declaration → Judged Target
 declared_target d (declaration.Variable k) = Accepts (record { place = tree.Variable d.unit d.number; kind = k })
+declared_target d (declaration.Own k) = Accepts (record { place = tree.Own d.number; kind = k })
 declared_target d (declaration.Constant k value) = Breaks (rule.CONSTANT_THREATENED ∷ rule.VARIABLE_NEEDED ∷ [])
 declared_target d (declaration.«Type» h) = Breaks (rule.OTHER_THING ∷ rule.VARIABLE_NEEDED ∷ [])
 declared_target d declaration.Procedure = Breaks (rule.OTHER_THING ∷ rule.VARIABLE_NEEDED ∷ [])
@@ -267,6 +268,7 @@ declared_called line d declaration.Procedure arguments = own_called line d argum
 declared_called line d (declaration.Constant k value) arguments = Breaks (rule.OTHER_THING ∷ [])
 declared_called line d (declaration.«Type» h) arguments = Breaks (rule.OTHER_THING ∷ [])
 declared_called line d (declaration.Variable k) arguments = Breaks (rule.OTHER_THING ∷ [])
+declared_called line d (declaration.Own k) arguments = Breaks (rule.OTHER_THING ∷ [])
 
 -- what a block knows: its scopes, the innermost first, and whether `output` is a parameter or imported
 pub record Context : Type 0 where

@@ -72,6 +72,10 @@ fn declared_target(alloc: Global, declared: &Declared) -> Result<Target, Refusal
             let place = TypedPlace::Variable(unit, declared.number);
             Ok(Target { place, kind: *kind })
         }
+        Declaration::Own(kind) => Ok(Target {
+            place: TypedPlace::Own(declared.number),
+            kind: *kind,
+        }),
         Declaration::Constant(_, _) => Err(Refusal::Rule(rule::CONSTANT_THREATENED)),
         Declaration::Type(_) => Err(Refusal::Rule(rule::OTHER_THING)),
         Declaration::Procedure => Err(Refusal::Rule(rule::OTHER_THING)),
@@ -415,6 +419,7 @@ impl Context<'_> {
             Declaration::Constant(_, _) => Err(Refusal::Rule(rule::OTHER_THING)),
             Declaration::Type(_) => Err(Refusal::Rule(rule::OTHER_THING)),
             Declaration::Variable(_) => Err(Refusal::Rule(rule::OTHER_THING)),
+            Declaration::Own(_) => Err(Refusal::Rule(rule::OTHER_THING)),
         }
     }
 

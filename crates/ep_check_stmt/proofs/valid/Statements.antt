@@ -38,7 +38,7 @@ use Rattle.ep_scope.specs.declared.rule.TheConstants as rule
 use Rattle.ep_scope.specs.declared.thing.Declaration.{Declaration}
 use Rattle.ep_scope.specs.declared.thing.Declaration.TheVariants as declaration
 use Rattle.ep_scope.specs.declared.thing.Declared.{Declared}
-use Rattle.ep_check_expr.specs.Agreement.{Agrees, IsDeclaration, IsFormOf}
+use Rattle.ep_check_expr.specs.Agreement.{Agrees, IsDeclaration, IsFormOf, IsStoredIn}
 use Rattle.ep_check_expr.specs.Expressions.{given, judged, judged_value}
 use Rattle.ep_check_expr.specs.Functions.{Given}
 use Rattle.ep_check_expr.specs.Hosts.{typed_host}
@@ -105,10 +105,15 @@ module _ (declared : Declarations) (expressions : ExpressionsAreSound) (values :
   IsTarget kind.Text place = ⊥
   IsTarget kind.File place = ⊤
 
+  -- a variable that is declared is such a place
+  variable_fits : (place : Place) (k : Kind) → IsStoredIn declared place k → IsTarget k place
+  variable_fits place (kind.Ordinal h) x = x.1
+  variable_fits place kind.Text x = absurd x
+  variable_fits place kind.File x = tt
+
   declared_fits : (d : Declared) (what : Declaration) → IsDeclaration declared d.unit d.number what → Fits (λ t. IsTarget t.kind t.place) (declared_target d what)
-  declared_fits d (declaration.Variable (kind.Ordinal h)) x = x.1
-  declared_fits d (declaration.Variable kind.Text) x = absurd x
-  declared_fits d (declaration.Variable kind.File) x = tt
+  declared_fits d (declaration.Variable k) x = variable_fits (tree.Variable d.unit d.number) k x
+  declared_fits d (declaration.Own k) x = variable_fits (tree.Own d.number) k x
   declared_fits d (declaration.Constant k v) x = tt
   declared_fits d (declaration.«Type» h) x = tt
   declared_fits d declaration.Procedure x = tt
@@ -337,6 +342,7 @@ module _ (declared : Declarations) (expressions : ExpressionsAreSound) (values :
   declared_call_fits line d (declaration.Constant k v) arguments x = tt
   declared_call_fits line d (declaration.«Type» h) arguments x = tt
   declared_call_fits line d (declaration.Variable k) arguments x = tt
+  declared_call_fits line d (declaration.Own k) arguments x = tt
 
   call_fits : (c : Context) → c.scopes ≡ scopes → (line : ℕ) (name : List ℕ) (m : Meant) (arguments : List Argument) → IsMeant declared m → Fits (IfForm (IsStmt declared)) (call_judged c line name m arguments)
   call_fits c is line name (Declares d) arguments x = declared_call_fits line d d.what arguments x
