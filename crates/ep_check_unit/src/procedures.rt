@@ -63,7 +63,13 @@ impl Block {
             (headed_first name.now line (block_of self.old)) }
     {
         let number = number(self.routines.items().len())?;
-        let routine = procedure(alloc, name.copy(alloc)?, line, List::new(alloc), TypedStmt::Empty);
+        let routine = procedure(
+            alloc,
+            name.copy(alloc)?,
+            line,
+            List::new(alloc),
+            TypedStmt::Empty,
+        );
         self.routines.push(routine)?;
         let thing = self.own_thing(alloc, number, Declaration::Procedure)?;
         self.enter(alloc, name, thing)?;
@@ -245,7 +251,13 @@ impl Block {
     {
         let name = name.copy(alloc)?;
         let variables = mem::replace(&mut self.own, List::new(alloc));
-        let routine = procedure(alloc, name, line, variables, TypedStmt::Compound(statements));
+        let routine = procedure(
+            alloc,
+            name,
+            line,
+            variables,
+            TypedStmt::Compound(statements),
+        );
         if (number as usize) < self.routines.items().len() {
             self.routines.set(number, routine);
         }

@@ -60,7 +60,10 @@ module _ (u : TypedUnit) (few : length u.constants ≤ maxint) (procedures : All
     grows = record {
       types = prefix_refl b.types;
       constants = prefix_refl b.constants;
-      variables = prefix_refl b.variables; own = prefix_refl b.own; outer = refl; alone = λ e. refl;
+      variables = prefix_refl b.variables;
+      own = prefix_refl b.own;
+      outer = refl;
+      alone = λ e. refl;
       routines = omega (arith, length_push b.routines (procedure_form name line [] tree.Empty));
       waits = λ w. w;
     };
