@@ -5,12 +5,13 @@
 -- - the component, for a module
 -- - the program, for a parameter that is neither `input` nor `output`
 -- - the import
--- - the part, for a function, for a procedure with formals, and in the block of a procedure for a routine
+-- - the part, for a function, and in the block of a procedure for a routine
+-- - the formal section, for `type of`, and for the name of a type that is not built
 -- - the type definition, for discriminants
 -- - the type denoter, for an initial state
 -- - the type denoter without its initial state, for `bindable`
 -- - the type itself, for what is no name, no subrange and no enumeration, for a name with a tuple, and for a name that is not built
--- - the statement, for an assignment to something else than a name that is built, for a call of `write`, `writeln` or `halt` with other selectors than one pair of parentheses, for a call of another name with selectors, for a call of a name that is not built, and for what is no assignment, call, compound, empty, `if`, `case`, `while` or `repeat` statement
+-- - the statement, for an assignment to something else than a name that is built, for a call with other selectors than one pair of parentheses, for a call of a name that is not built, and for what is no assignment, call, compound, empty, `if`, `case`, `while` or `repeat` statement
 -- - the structured value, with the name of its type or without
 -- - the expression, the simple expression or the term, for an operator that is not built
 -- - the factor, for `nil`, for a set, and for a character string of another length than one that is not the whole value of an argument of a `write` or `writeln` statement
@@ -48,6 +49,9 @@ use Rattle.ep_tree.specs.declared.types.Core.{Core, out-Core}
 use Rattle.ep_tree.specs.declared.types.Plain.{Plain, out-Plain}
 use Rattle.ep_tree.specs.declared.types.TypeDenoter.{TypeDenoter, out-TypeDenoter}
 use Rattle.ep_tree.specs.declared.declaration.ConstantDefinition.{ConstantDefinition}
+use Rattle.ep_tree.specs.declared.declaration.FormalSection.{FormalSection}
+use Rattle.ep_tree.specs.declared.declaration.FormalType.{FormalType}
+use Rattle.ep_tree.specs.declared.declaration.FormalType.TheVariants as formal_is
 use Rattle.ep_tree.specs.declared.declaration.RoutineHeading.{RoutineHeading}
 use Rattle.ep_tree.specs.declared.declaration.RoutineHeading.TheVariants as heading_is
 use Rattle.ep_tree.specs.declared.declaration.TypeDefinition.{TypeDefinition}
@@ -101,10 +105,6 @@ writing_procedures = codes "write" ∷ codes "writeln" ∷ []
 abbrev pub writes : List ℕ → Bool
 writes name = is_among writing_procedures name
 
--- whether the calls of a procedure are built
-abbrev pub built_procedure : List ℕ → Bool
-built_procedure name = writes name || bytes_eq name (codes "halt")
-
 -- the parameters that a program may have
 unfoldable pub program_parameters : List (List ℕ)
 program_parameters = codes "input" ∷ codes "output" ∷ []
@@ -124,16 +124,16 @@ built_program p = list_all (is_among program_parameters) p.parameters
 abbrev pub built_import : Import → Bool
 built_import i = false
 
--- a heading is one of a procedure without formals
+-- a heading is one of a procedure
 abbrev pub built_heading : RoutineHeading → Bool
-built_heading (heading_is.Procedure line name formals) = length formals == 0
+built_heading (heading_is.Procedure line name formals) = true
 built_heading _ = false
 
 abbrev pub built_start : RoutineStart → Bool
 built_start (start_is.Heading heading) = built_heading heading
 built_start _ = false
 
--- a routine is such a procedure
+-- a routine is a procedure
 abbrev pub built_part : {A B : Type 0} → Part-F A B Routine → Bool
 built_part (Part-F.Routine r) = built_start (out-Routine r).start
 built_part _ = true
@@ -159,6 +159,15 @@ built_plain p = not p.bindable
 abbrev pub built_type_name : QualifiedName → Bool
 built_type_name name = is_some name.second || not (is_later name.first)
 
+-- the type of a formal section is a name, and not that of a variable
+abbrev pub built_formal_type : FormalType → Bool
+built_formal_type (formal_is.Named name) = built_type_name name
+built_formal_type _ = false
+
+-- a formal section has such a type, with or without `protected` and `var`
+abbrev pub built_section : FormalSection → Bool
+built_section s = built_formal_type s.of
+
 -- a type is a name without a tuple, a subrange or an enumeration
 abbrev pub built_core : {A B C D E F G H : Type 0} → Core-F A B C D E F G H → Bool
 built_core (Core-F.Named line name tuple) = (length tuple == 0) && built_type_name name
@@ -181,9 +190,9 @@ built_call_selectors [] = true
 built_call_selectors (selector ∷ []) = built_selector (out-Selector selector)
 built_call_selectors _ = false
 
--- a call is one of such a procedure, with such selectors, or a name alone that is built
+-- a call is one of a name that is built, with such selectors
 abbrev pub built_call_of : List ℕ → List Selector → Bool
-built_call_of name selectors = if built_procedure name then built_call_selectors selectors else ((length selectors == 0) && not (is_later name))
+built_call_of name selectors = not (is_later name) && built_call_selectors selectors
 
 abbrev pub built_call : Access → Bool
 built_call a = built_call_of (out-Access a).name (out-Access a).selectors
@@ -604,12 +613,26 @@ in_body (RoutineBody-F.Block line parts statements) = option_or (first_in (map l
 abbrev pub body_unbuilt : RoutineBody → Found
 body_unbuilt b = in_body (out-RoutineBody b)
 
--- the first line inside a part, by its definitions or declarations
+-- the first line in a formal section
+abbrev pub section_unbuilt : FormalSection → Found
+section_unbuilt s = at_node (built_section s) s.line None
+
+-- the first line in the heading of a routine, by its formal sections; nothing inside the heading of a function is reached
+abbrev pub heading_unbuilt : RoutineHeading → Found
+heading_unbuilt (heading_is.Procedure line name formals) = first_in (map section_unbuilt formals)
+heading_unbuilt _ = None
+
+-- the first line in the start of a routine
+abbrev pub start_unbuilt : RoutineStart → Found
+start_unbuilt (start_is.Heading heading) = heading_unbuilt heading
+start_unbuilt _ = None
+
+-- the first line inside a part, by its definitions or declarations; of a routine by its start, then its body
 abbrev pub in_part : {A B : Type 0} → Part-F A B Routine → Found
 in_part (Part-F.Constants c) = first_in (map constant_unbuilt c.definitions)
 in_part (Part-F.Types t) = first_in (map type_unbuilt t.definitions)
 in_part (Part-F.Variables v) = first_in (map variable_unbuilt v.declarations)
-in_part (Part-F.Routine r) = body_unbuilt (out-Routine r).body
+in_part (Part-F.Routine r) = option_or (start_unbuilt (out-Routine r).start) (body_unbuilt (out-Routine r).body)
 
 -- the first line in a part
 abbrev pub part_unbuilt : Part → Found

@@ -249,7 +249,7 @@ fn element(e: &Element) -> Option<Line>
     ensures { result ≡ element_unbuilt e.now }
 {
     match e {
-        Element::Labelled(_, all, value) => { labels(all.items()).or(component_value(value)) }
+        Element::Labelled(_, all, value) => labels(all.items()).or(component_value(value)),
         Element::Variant(_, _, chosen, None) => expression(chosen.get()),
         Element::Variant(_, _, chosen, Some(inner)) => {
             expression(chosen.get()).or(values(inner.get()))

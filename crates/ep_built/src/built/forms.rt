@@ -3,7 +3,7 @@
 
 ghost use Rattle.std.specs.Prelude.{◌≡◌, map};
 ghost use Rattle.ep_tree.specs.Shapes.{bare};
-ghost use Rattle.ep_built.specs.Built.{built_component, built_program, built_import, built_heading, built_start, built_part, built_local_part, built_type_definition, built_type_denoter, built_plain, built_type_name, built_core, built_selector, built_target, built_call_selectors, built_call_of, built_call, built_statement, built_relation, built_adding, built_multiplying, is_character, built_factor, built_access, is_built, selector_belonging, brackets_are_built, is_bare_text};
+ghost use Rattle.ep_built.specs.Built.{built_component, built_program, built_import, built_heading, built_start, built_part, built_local_part, built_type_definition, built_type_denoter, built_plain, built_type_name, built_formal_type, built_section, built_core, built_selector, built_target, built_call_selectors, built_call_of, built_call, built_statement, built_relation, built_adding, built_multiplying, is_character, built_factor, built_access, is_built, selector_belonging, brackets_are_built, is_bare_text};
 ghost use Rattle.ep_tree.specs.declared.expression.Factor.{out-Factor};
 ghost use Rattle.ep_tree.specs.declared.expression.Selector.{out-Selector};
 ghost use Rattle.ep_tree.specs.declared.types.Core.{out-Core};
@@ -15,9 +15,9 @@ ghost use Rattle.ep_tree.specs.declared.routine.Part.{out-Part};
 use crate::built::names;
 use ep_base::Name;
 use ep_tree::{
-    Access, AddingOperator, Component, Core, Expression, Factor, Import, MultiplyingOperator, Part,
-    Plain, Program, QualifiedName, RelationalOperator, RoutineHeading, RoutineStart, Selector,
-    Statement, TypeDefinition, TypeDenoter,
+    Access, AddingOperator, Component, Core, Expression, Factor, FormalSection, FormalType, Import,
+    MultiplyingOperator, Part, Plain, Program, QualifiedName, RelationalOperator, RoutineHeading,
+    RoutineStart, Selector, Statement, TypeDefinition, TypeDenoter,
 };
 
 /// A component is a program.
@@ -48,12 +48,12 @@ pub(super) fn import_is_built(_import: &Import) -> bool
     false
 }
 
-/// A heading is one of a procedure without formals.
+/// A heading is one of a procedure.
 fn heading_is_built(h: &RoutineHeading) -> bool
     ensures { result ≡ built_heading h.now }
 {
     match h {
-        RoutineHeading::Procedure(_, _, formals) => formals.items().is_empty(),
+        RoutineHeading::Procedure(_, _, _) => true,
         _ => false,
     }
 }
@@ -67,7 +67,7 @@ fn start_is_built(s: &RoutineStart) -> bool
     }
 }
 
-/// A routine is a procedure without formals.
+/// A routine is a procedure.
 pub(super) fn part_is_built(p: &Part) -> bool
     ensures { result ≡ built_part (out-Part p.now) }
 {
@@ -115,6 +115,23 @@ fn type_name_is_built(name: &QualifiedName) -> bool
     name.second.is_some() || !names::is_later(&name.first)
 }
 
+/// The type of a formal section is a name, and not that of a variable.
+fn formal_type_is_built(of: &FormalType) -> bool
+    ensures { result ≡ built_formal_type of.now }
+{
+    match of {
+        FormalType::Named(name) => type_name_is_built(name),
+        _ => false,
+    }
+}
+
+/// A formal section has such a type, with or without `protected` and `var`.
+pub(super) fn section_is_built(s: &FormalSection) -> bool
+    ensures { result ≡ built_section s.now }
+{
+    formal_type_is_built(&s.of)
+}
+
 /// A type is a name without a tuple, a subrange or an enumeration.
 pub(super) fn core_is_built(c: &Core) -> bool
     ensures { result ≡ built_core (out-Core c.now) }
@@ -155,15 +172,11 @@ fn call_selectors_are_built(selectors: &[Selector]) -> bool
     }
 }
 
-/// A call is one of a procedure whose calls are built, or a name alone that is built.
+/// A call is one of a name that is built, with at most one pair of parentheses.
 fn call_of_is_built(name: &Name, selectors: &[Selector]) -> bool
     ensures { result ≡ built_call_of name.now selectors.now }
 {
-    if names::procedure_is_built(name) {
-        call_selectors_are_built(selectors)
-    } else {
-        selectors.is_empty() && !names::is_later(name)
-    }
+    !names::is_later(name) && call_selectors_are_built(selectors)
 }
 
 fn call_is_built(a: &Access) -> bool

@@ -1,7 +1,7 @@
 //! The names whose uses are built or are not, in the order of the lists of specs/Built.antt.
 
 ghost use Rattle.std.specs.Prelude.{◌≡◌, map};
-ghost use Rattle.ep_built.specs.Built.{is_among, is_later, called_functions, writes, built_procedure, program_parameters};
+ghost use Rattle.ep_built.specs.Built.{is_among, is_later, called_functions, writes, program_parameters};
 
 use ep_base::Name;
 
@@ -73,12 +73,6 @@ pub(super) fn writes(name: &Name) -> bool
     ensures { result ≡ writes name.now }
 {
     is_among(&WRITING_PROCEDURES, name)
-}
-
-pub(super) fn procedure_is_built(name: &Name) -> bool
-    ensures { result ≡ built_procedure name.now }
-{
-    writes(name) || name.bytes() == b"halt".as_slice()
 }
 
 #[tactic(auto, unfolding(crate::specs::Built::program_parameters))]

@@ -1,14 +1,17 @@
 //! The first node of the parts of a block before its statements that is not built.
 
 ghost use Rattle.std.specs.Prelude.{◌≡◌, map};
-ghost use Rattle.ep_built.specs.Built.{first_in, constant_unbuilt, type_unbuilt, variable_unbuilt, part_unbuilt, local_part_unbuilt, body_unbuilt};
+ghost use Rattle.ep_built.specs.Built.{first_in, constant_unbuilt, type_unbuilt, variable_unbuilt, part_unbuilt, local_part_unbuilt, body_unbuilt, section_unbuilt, heading_unbuilt, start_unbuilt};
 
 use crate::built::expressions::component_value;
 use crate::built::statements::compound;
 use crate::built::types::type_denoter;
 use crate::built::{at_node, forms};
 use ep_base::Line;
-use ep_tree::{ConstantDefinition, Part, RoutineBody, TypeDefinition, VariableDeclaration};
+use ep_tree::{
+    ConstantDefinition, FormalSection, Part, RoutineBody, RoutineHeading, RoutineStart,
+    TypeDefinition, VariableDeclaration,
+};
 
 pub(super) fn parts(all: &[Part]) -> Option<Line>
     ensures { result ≡ first_in (map part_unbuilt all.now) }
@@ -30,8 +33,40 @@ fn part(p: &Part) -> Option<Line>
         Part::Constants(c) => at_node(built, c.line, constants(c.definitions.items())),
         Part::Types(t) => at_node(built, t.line, types(t.definitions.items())),
         Part::Variables(v) => at_node(built, v.line, variables(v.declarations.items())),
-        Part::Routine(r) => at_node(built, r.line, body(&r.body)),
+        Part::Routine(r) => at_node(built, r.line, start(&r.start).or(body(&r.body))),
     }
+}
+
+/// The first line in the start of a routine.
+fn start(s: &RoutineStart) -> Option<Line>
+    ensures { result ≡ start_unbuilt s.now }
+{
+    match s {
+        RoutineStart::Heading(h) => heading(h),
+        RoutineStart::Function(_, _) => None,
+    }
+}
+
+/// The first line in the heading of a routine, by its formal sections.
+fn heading(h: &RoutineHeading) -> Option<Line>
+    ensures { result ≡ heading_unbuilt h.now }
+{
+    match h {
+        RoutineHeading::Procedure(_, _, formals) => sections(formals.items()),
+        RoutineHeading::Function(_, _, _, _, _) => None,
+    }
+}
+
+fn sections(all: &[FormalSection]) -> Option<Line>
+    ensures { result ≡ first_in (map section_unbuilt all.now) }
+{
+    for s in all {
+        let line = at_node(forms::section_is_built(s), s.line, None);
+        if line.is_some() {
+            return line;
+        }
+    }
+    None
 }
 
 /// The first line in the body of a routine.
