@@ -19,6 +19,8 @@ use Rattle.ep_scope.specs.declared.kind.Host.{Host}
 use Rattle.ep_scope.specs.declared.kind.Host.TheVariants as host
 use Rattle.ep_scope.specs.declared.kind.Kind.TheVariants as kind
 use Rattle.ep_scope.specs.declared.rule.TheConstants as rule
+use Rattle.ep_typed.specs.declared.denoter.RequiredType.TheVariants as simple
+use Rattle.ep_scope.specs.declared.parameter.TypeName.TheVariants as type_name
 use Rattle.ep_scope.specs.declared.thing.Declaration.{Declaration}
 use Rattle.ep_scope.specs.declared.thing.Declaration.TheVariants as declaration
 use Rattle.ep_scope.specs.declared.thing.Thing.{Thing}
@@ -79,7 +81,7 @@ declares number what = thing.Declared (record { unit = codes "p"; number = numbe
 
 -- red, of the colors, and the integer x
 abbrev scope : List Region
-scope = record { entries = (codes "red", declares 0 (declaration.Constant (kind.Ordinal color) (value.Word (pos 0)))) ∷ (codes "x", declares 0 (declaration.Variable integer)) ∷ []; qualified = [] } ∷ []
+scope = record { entries = (codes "red", declares 0 (declaration.Constant (kind.Ordinal color) (value.Word (pos 0)))) ∷ (codes "x", declares 0 (declaration.Variable (type_name.Required simple.Integer) integer)) ∷ []; qualified = [] } ∷ []
 
 -- 3
 three : judged scope (bare (number 3)) ≡ Accepts (record { form = Some (Constant (pos 3)); kind = integer; depth = 1 })

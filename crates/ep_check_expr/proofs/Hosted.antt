@@ -128,10 +128,10 @@ module _ (scopes : List Region) where
 
   declared_comes : (unit : List ℕ) (number : ℕ) (d : Declaration) → ((h : Host) → DeclaresHost d h → ScopesHaveHost scopes h) → Comes (value_declared unit number d)
   declared_comes unit number (declaration.Constant k v) f = kind_comes k f
-  declared_comes unit number (declaration.«Type» h) f = tt
-  declared_comes unit number (declaration.Variable k) f = kind_comes k f
-  declared_comes unit number (declaration.Own k) f = kind_comes k f
-  declared_comes unit number declaration.Procedure f = tt
+  declared_comes unit number (declaration.«Type» of h) f = tt
+  declared_comes unit number (declaration.Variable of k) f = kind_comes k f
+  declared_comes unit number (declaration.Own of k guarded) f = kind_comes k f
+  declared_comes unit number (declaration.Procedure parameters) f = tt
 
   value_comes : (r : Required) → Comes (value_required r)
   value_comes (required.Constant constant.MaxInt) = inl tt

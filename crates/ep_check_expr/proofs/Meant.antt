@@ -19,42 +19,42 @@ use Rattle.ep_scope.specs.declared.thing.Declaration.{Declaration}
 use Rattle.ep_scope.specs.declared.thing.Declaration.TheVariants as declaration
 use Rattle.ep_scope.specs.declared.thing.Thing.{Thing}
 use Rattle.ep_scope.specs.declared.thing.Thing.TheVariants as thing
-use Rattle.ep_check_expr.specs.Agreement.{IsConstantOf, IsStoredIn, IsDeclaration, IsThing, AreThings, AreInterfaces, Agrees, IsFormOf}
+use Rattle.ep_check_expr.specs.Agreement.{IsConstantOf, IsStoredIn, IsDeclaration, IsThing, AreThings, AreInterfaces, AgreesBy, TypeValues, IsFormOf}
 use Rattle.ep_check_expr.specs.Hosts.{typed_host}
 use Rattle.ep_check_expr.specs.Names.{value_form, value_declared, value_required, value_named}
 use Rattle.ep_check_expr.proofs.Sound.{Fits}
 
-module _ (declared : Declarations) where
+module _ (declared : Declarations) (types : TypeValues) where
   -- what is found is declared
   abbrev IsThingIf : Option Thing → Type 0
   IsThingIf None = ⊤
-  IsThingIf (Some t) = IsThing declared t
+  IsThingIf (Some t) = IsThing declared types t
 
   -- what is meant is declared
   abbrev pub IsMeant : Meant → Type 0
-  IsMeant (Declares d) = IsDeclaration declared d.unit d.number d.what
+  IsMeant (Declares d) = IsDeclaration declared types d.unit d.number d.what
   IsMeant (meaning.Standard file) = ⊤
   IsMeant (Requires r) = ⊤
   IsMeant Nothing = ⊤
 
-  found-thing : (b : Bool) (t : Thing) (o : Option Thing) → IsThing declared t → IsThingIf o → IsThingIf (if b then Some t else o)
+  found-thing : (b : Bool) (t : Thing) (o : Option Thing) → IsThing declared types t → IsThingIf o → IsThingIf (if b then Some t else o)
   found-thing true t o h g = h
   found-thing false t o h g = g
 
-  look_up-thing : (es : Entries) (name : List ℕ) → AreThings declared es → IsThingIf (look_up es name)
+  look_up-thing : (es : Entries) (name : List ℕ) → AreThings declared types es → IsThingIf (look_up es name)
   look_up-thing [] name h = tt
   look_up-thing (e ∷ es) name h = found-thing (bytes_eq name e.0) e.1 (look_up es name) h.0 (look_up-thing es name h.1)
 
   -- the names of an interface that is found
   abbrev AreThingsIf : Option Entries → Type 0
   AreThingsIf None = ⊤
-  AreThingsIf (Some es) = AreThings declared es
+  AreThingsIf (Some es) = AreThings declared types es
 
-  found-things : (b : Bool) (t : Entries) (o : Option Entries) → AreThings declared t → AreThingsIf o → AreThingsIf (if b then Some t else o)
+  found-things : (b : Bool) (t : Entries) (o : Option Entries) → AreThings declared types t → AreThingsIf o → AreThingsIf (if b then Some t else o)
   found-things true t o h g = h
   found-things false t o h g = g
 
-  look_up-things : (es : List (List ℕ × Entries)) (name : List ℕ) → AreInterfaces declared es → AreThingsIf (look_up es name)
+  look_up-things : (es : List (List ℕ × Entries)) (name : List ℕ) → AreInterfaces declared types es → AreThingsIf (look_up es name)
   look_up-things [] name h = tt
   look_up-things (e ∷ es) name h = found-things (bytes_eq name e.0) e.1 (look_up es name) h.0 (look_up-things es name h.1)
 
@@ -62,7 +62,7 @@ module _ (declared : Declarations) where
   look_up_if-thing None name h = tt
   look_up_if-thing (Some es) name h = look_up-thing es name h
 
-  as_thing-meant : (t : Thing) → IsThing declared t → IsMeant (as_thing t)
+  as_thing-meant : (t : Thing) → IsThing declared types t → IsMeant (as_thing t)
   as_thing-meant (thing.Declared d) h = h
   as_thing-meant (thing.Standard file) h = tt
 
@@ -78,11 +78,11 @@ module _ (declared : Declarations) where
   unless_hidden-meant None m h = h
   unless_hidden-meant (Some t) m h = tt
 
-  pub meant-declared : (scopes : List Region) (name : List ℕ) → Agrees declared scopes → IsMeant (meant scopes name)
+  pub meant-declared : (scopes : List Region) (name : List ℕ) → AgreesBy declared types scopes → IsMeant (meant scopes name)
   meant-declared [] name h = as_required-meant (required_of name)
   meant-declared (r ∷ rs) name h = or_outside-meant (look_up r.entries name) (meant rs name) (look_up-thing r.entries name h.0) (meant-declared rs name h.2)
 
-  pub meant_in-declared : (scopes : List Region) (interface name : List ℕ) → Agrees declared scopes → IsMeant (meant_in scopes interface name)
+  pub meant_in-declared : (scopes : List Region) (interface name : List ℕ) → AgreesBy declared types scopes → IsMeant (meant_in scopes interface name)
   meant_in-declared [] interface name h = tt
   meant_in-declared (r ∷ rs) interface name h =
       unless_hidden-meant (look_up r.entries interface) (or_outside (look_up_in r interface name) (meant_in rs interface name))
@@ -101,12 +101,12 @@ module _ (declared : Declarations) where
   variable-fits place kind.Text s = absurd s
   variable-fits place kind.File s = tt
 
-  value_declared-fits : (unit : List ℕ) (number : ℕ) (d : Declaration) → IsDeclaration declared unit number d → Fits declared (value_declared unit number d)
+  value_declared-fits : (unit : List ℕ) (number : ℕ) (d : Declaration) → IsDeclaration declared types unit number d → Fits declared (value_declared unit number d)
   value_declared-fits unit number (declaration.Constant k v) s = constant-fits k v s
-  value_declared-fits unit number (declaration.«Type» host) s = tt
-  value_declared-fits unit number (declaration.Variable k) s = variable-fits (Variable unit number) k s
-  value_declared-fits unit number (declaration.Own k) s = variable-fits (Own number) k s
-  value_declared-fits unit number declaration.Procedure s = tt
+  value_declared-fits unit number (declaration.«Type» of host) s = tt
+  value_declared-fits unit number (declaration.Variable of k) s = variable-fits (Variable unit number) k s.0
+  value_declared-fits unit number (declaration.Own of k guarded) s = variable-fits (Own number) k s.0
+  value_declared-fits unit number (declaration.Procedure parameters) s = tt
 
   value_required-fits : (r : Required) → Fits declared (value_required r)
   value_required-fits (required.Constant constant.MaxInt) = (refl, (hosts.Integer, refl, refl))

@@ -1,17 +1,24 @@
 -- Declarations that hold what scopes declare, under which typed forms are valid.
 use Rattle.std.specs.Prelude.{◌≡◌, ℕ, pos, List, [], ◌∷◌, Option, Some, None, IsTrue, int_le, slice_get, ⊤}
+use Rattle.ep_typed.specs.Denoters.{host_of, type_of}
 use Rattle.ep_typed.specs.Hosts.{greatest, is_of_host}
 use Rattle.ep_typed.specs.Operations.{maxint}
 use Rattle.ep_typed.specs.Trees.{Place, Variable, Own, Expr, Constant, Text, Read, One, Two, Short, Step}
-use Rattle.ep_typed.specs.Valid.{Declarations, IsPlace, IsExpr, IsProcedure}
+use Rattle.ep_typed.specs.Valid.{Declarations, IsPlace, IsExpr, IsProcedure, IsVariableOf}
 use Rattle.ep_typed.specs.Valid as valid
+use Rattle.ep_typed.specs.Viewed.{denoter_of}
+use Rattle.ep_typed.specs.declared.interface.Formal.{Formal}
 use Rattle.ep_typed.specs.declared.interface.RoutineEntry.{RoutineEntry}
+use Rattle.ep_typed.specs.declared.unit.UnitType.{UnitType}
+use Rattle.ep_typed.specs.declared.value.TypeValue.{TypeValue}
 use Rattle.ep_typed.specs.declared.value.Value.{Value}
 use Rattle.ep_typed.specs.declared.value.Value.TheVariants as value
 use Rattle.ep_scope.specs.Scopes.{Entries, Region}
 use Rattle.ep_scope.specs.declared.kind.Host.{Host}
 use Rattle.ep_scope.specs.declared.kind.Kind.{Kind}
 use Rattle.ep_scope.specs.declared.kind.Kind.TheVariants as kind
+use Rattle.ep_scope.specs.declared.parameter.FormalParameter.{FormalParameter}
+use Rattle.ep_scope.specs.declared.parameter.TypeName.{TypeName}
 use Rattle.ep_scope.specs.declared.thing.Declaration.{Declaration}
 use Rattle.ep_scope.specs.declared.thing.Declaration.TheVariants as declaration
 use Rattle.ep_scope.specs.declared.thing.Thing.{Thing}
@@ -41,6 +48,22 @@ IsFile (Two operation x y) = ⊥
 IsFile (Short operation x y) = ⊥
 IsFile (Step down low high x y) = ⊥
 
+-- the type value of each type, where it has one
+abbrev pub TypeValues : Type 0
+TypeValues = TypeName → Option TypeValue
+
+-- a formal parameter of a routine, of a unit with this list of types, as its scope says it
+pub record IsParameter (types : TypeValues) (list : List UnitType) (p : FormalParameter) (f : Formal) : Type 0 where
+  pub mode : f.mode ≡ p.mode
+  pub has_host : host_of list (denoter_of f.denoter) ≡ Some (typed_host p.host)
+  pub has_type : type_of list (denoter_of f.denoter) ≡ types p.of
+
+-- one for each, in order
+abbrev pub AreParameters : TypeValues → List UnitType → List FormalParameter → List Formal → Type 0
+AreParameters types list [] [] = ⊤
+AreParameters types list (p ∷ ps) (f ∷ fs) = IsParameter types list p f × AreParameters types list ps fs
+AreParameters types list ps fs = ⊥
+
 module _ (declared : Declarations) where
   -- the place is that of a variable that is declared, with a type of this host; there are no variables of string types so far
   abbrev pub IsStoredIn : Place → Kind → Type 0
@@ -48,16 +71,30 @@ module _ (declared : Declarations) where
   IsStoredIn place kind.Text = ⊥
   IsStoredIn place kind.File = ⊤
 
-  -- the routine is declared, and a procedure without parameters
-  abbrev pub IsProcedureOf : List ℕ → ℕ → Type 0
-  IsProcedureOf unit number = (r : RoutineEntry) × (slice_get (declared.routines unit) number ≡ Some r) × IsProcedure r × (r.formals ≡ [])
+  -- the form is a valid expression of the kind
+  abbrev pub IsFormOf : Kind → Option Expr → Type 0
+  IsFormOf (kind.Ordinal h) None = IsHost h
+  IsFormOf (kind.Ordinal h) (Some x) = IsHost h × IsExpr declared (valid.Ordinal (typed_host h)) x
+  IsFormOf kind.Text None = ⊤
+  IsFormOf kind.Text (Some x) = IsExpr declared valid.Bytes x
+  IsFormOf kind.File None = ⊥
+  IsFormOf kind.File (Some x) = IsFile x
+
+module _ (declared : Declarations) (types : TypeValues) where
+  -- the variable at the place has this type
+  abbrev pub IsOfType : Place → TypeName → Type 0
+  IsOfType place t = (v : TypeValue) × (types t ≡ Some v) × IsVariableOf declared v place
+
+  -- the routine is declared, and a procedure with these formal parameters
+  abbrev pub IsProcedureOf : List ℕ → ℕ → List FormalParameter → Type 0
+  IsProcedureOf unit number ps = (r : RoutineEntry) × (slice_get (declared.routines unit) number ≡ Some r) × IsProcedure r × AreParameters types (declared.types unit) ps r.formals
 
   abbrev pub IsDeclaration : List ℕ → ℕ → Declaration → Type 0
   IsDeclaration unit number (declaration.Constant kind value) = IsConstantOf kind value
-  IsDeclaration unit number (declaration.«Type» host) = IsHost host
-  IsDeclaration unit number (declaration.Variable kind) = IsStoredIn (Variable unit number) kind
-  IsDeclaration unit number (declaration.Own kind) = IsStoredIn (Own number) kind
-  IsDeclaration unit number declaration.Procedure = IsProcedureOf unit number
+  IsDeclaration unit number (declaration.«Type» of host) = IsHost host
+  IsDeclaration unit number (declaration.Variable of kind) = IsStoredIn declared (Variable unit number) kind × IsOfType (Variable unit number) of
+  IsDeclaration unit number (declaration.Own of kind guarded) = IsStoredIn declared (Own number) kind × IsOfType (Own number) of
+  IsDeclaration unit number (declaration.Procedure parameters) = IsProcedureOf unit number parameters
 
   abbrev pub IsThing : Thing → Type 0
   IsThing (thing.Declared d) = IsDeclaration d.unit d.number d.what
@@ -72,18 +109,13 @@ module _ (declared : Declarations) where
   AreInterfaces (e ∷ es) = AreThings e.1 × AreInterfaces es
 
   -- the declarations hold all that the scopes declare
-  abbrev pub Agrees : List Region → Type 0
-  Agrees [] = ⊤
-  Agrees (r ∷ rs) = AreThings r.entries × AreInterfaces r.qualified × Agrees rs
+  abbrev pub AgreesBy : List Region → Type 0
+  AgreesBy [] = ⊤
+  AgreesBy (r ∷ rs) = AreThings r.entries × AreInterfaces r.qualified × AgreesBy rs
 
-  -- the form is a valid expression of the kind
-  abbrev pub IsFormOf : Kind → Option Expr → Type 0
-  IsFormOf (kind.Ordinal h) None = IsHost h
-  IsFormOf (kind.Ordinal h) (Some x) = IsHost h × IsExpr declared (valid.Ordinal (typed_host h)) x
-  IsFormOf kind.Text None = ⊤
-  IsFormOf kind.Text (Some x) = IsExpr declared valid.Bytes x
-  IsFormOf kind.File None = ⊥
-  IsFormOf kind.File (Some x) = IsFile x
+-- alike, where each type has one type value wherever it is named
+abbrev pub Agrees : Declarations → List Region → Type 0
+Agrees declared scopes = (types : TypeValues) × AgreesBy declared types scopes
 
 -- under all declarations that hold what the scopes declare, the typed form is valid
 abbrev pub IsSound : List Region → Typed → Type 0

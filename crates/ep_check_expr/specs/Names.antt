@@ -36,10 +36,10 @@ reading form kind = Accepts (record { form = Some form; kind = kind; depth = 2 }
 
 abbrev pub value_declared : List ℕ → ℕ → Declaration → Judged Typed
 value_declared unit number (declaration.Constant kind value) = leaf (value_form value) kind
-value_declared unit number (declaration.«Type» host) = Breaks (rule.OTHER_THING ∷ [])
-value_declared unit number (declaration.Variable kind) = reading (Read (Variable unit number)) kind
-value_declared unit number (declaration.Own kind) = reading (Read (Own number)) kind
-value_declared unit number declaration.Procedure = Breaks (rule.PROCEDURE ∷ rule.OTHER_THING ∷ [])
+value_declared unit number (declaration.«Type» of host) = Breaks (rule.OTHER_THING ∷ [])
+value_declared unit number (declaration.Variable of kind) = reading (Read (Variable unit number)) kind
+value_declared unit number (declaration.Own of kind guarded) = reading (Read (Own number)) kind
+value_declared unit number (declaration.Procedure parameters) = Breaks (rule.PROCEDURE ∷ rule.OTHER_THING ∷ [])
 
 -- the required constants (ISO 10206, 6.4.2.2)
 abbrev pub constant_required : RequiredConstant → Judged Typed

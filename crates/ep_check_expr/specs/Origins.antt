@@ -26,10 +26,10 @@ HasHost kind.File h = ⊥
 -- a constant or variable of the host is declared, or a type with it
 abbrev pub DeclaresHost : Declaration → Host → Type 0
 DeclaresHost (declaration.Constant k v) h = HasHost k h
-DeclaresHost (declaration.«Type» g) h = g ≡ h
-DeclaresHost (declaration.Variable k) h = HasHost k h
-DeclaresHost (declaration.Own k) h = HasHost k h
-DeclaresHost declaration.Procedure h = ⊥
+DeclaresHost (declaration.«Type» of g) h = g ≡ h
+DeclaresHost (declaration.Variable of k) h = HasHost k h
+DeclaresHost (declaration.Own of k guarded) h = HasHost k h
+DeclaresHost (declaration.Procedure parameters) h = ⊥
 
 abbrev pub ThingHasHost : Thing → Host → Type 0
 ThingHasHost (thing.Declared d) h = DeclaresHost d.what h

@@ -41,13 +41,13 @@ fn declared_value(alloc: Global, d: &Declared) -> Result<Typed, Refusal>
 {
     match &d.what {
         Declaration::Constant(kind, value) => Typed::value(alloc, value, *kind),
-        Declaration::Type(_) => Err(Refusal::Rule(rule::OTHER_THING)),
-        Declaration::Variable(kind) => {
+        Declaration::Type(_, _) => Err(Refusal::Rule(rule::OTHER_THING)),
+        Declaration::Variable(_, kind) => {
             let unit = d.unit.copy(alloc)?;
             Typed::read(alloc, TypedPlace::Variable(unit, d.number), *kind)
         }
-        Declaration::Own(kind) => Typed::read(alloc, TypedPlace::Own(d.number), *kind),
-        Declaration::Procedure => Err(Refusal::Rule(rule::PROCEDURE)),
+        Declaration::Own(_, kind, _) => Typed::read(alloc, TypedPlace::Own(d.number), *kind),
+        Declaration::Procedure(_) => Err(Refusal::Rule(rule::PROCEDURE)),
     }
 }
 

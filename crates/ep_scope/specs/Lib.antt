@@ -2,5 +2,6 @@ pub mod Entering
 pub mod Keys
 pub mod Kinds
 pub mod Meanings
+pub mod Parameters
 pub mod Required
 pub mod Scopes

@@ -9,6 +9,7 @@
 mod entries;
 mod kind;
 mod meaning;
+mod parameter;
 mod required;
 pub mod rule;
 mod scope;
@@ -17,6 +18,10 @@ mod thing;
 
 pub use kind::{Enumeration, Host, Kind, same_host};
 pub use meaning::{Meaning, meaning_in, meaning_of};
+pub use parameter::{
+    FormalParameter, FormalParameters, Protection, TypeName, copied_parameters, protection_of,
+    same_parameters, same_type,
+};
 pub use required::{Function, Procedure, Required, RequiredConstant, required_identifier};
 pub use scope::{Scope, ScopeRefusal};
 pub use scopes::Scopes;

@@ -1,6 +1,7 @@
 //! What a name may stand for.
 
 use crate::kind::{Host, Kind};
+use crate::parameter::{FormalParameters, Protection, TypeName};
 use ep_base::Name;
 use ep_typed::{StandardFile, Value};
 
@@ -46,24 +47,24 @@ impl Drop for Declared {
 pub enum Declaration {
     /// A constant (ISO 10206, 6.3.1).
     Constant(Kind, Value),
-    /// A type with this host (ISO 10206, 6.4.1).
-    Type(Host),
-    /// A variable (ISO 10206, 6.5.1).
-    Variable(Kind),
-    /// A variable of the routine whose block the scope is in (ISO 10206, 6.5.1).
-    Own(Kind),
-    /// A procedure without parameters (ISO 10206, 6.7.1).
-    Procedure,
+    /// A name of this type, and its host (ISO 10206, 6.4.1).
+    Type(TypeName, Host),
+    /// A variable of this type (ISO 10206, 6.5.1).
+    Variable(TypeName, Kind),
+    /// A variable of the routine whose block the scope is in, or one of its formal parameters (ISO 10206, 6.5.1 and 6.7.3).
+    Own(TypeName, Kind, Protection),
+    /// A procedure with these formal parameters (ISO 10206, 6.7.1).
+    Procedure(FormalParameters),
 }
 
 impl Drop for Declaration {
     fn drop(self) {
         match self {
             Declaration::Constant(_, _) => {}
-            Declaration::Type(_) => {}
-            Declaration::Variable(_) => {}
-            Declaration::Own(_) => {}
-            Declaration::Procedure => {}
+            Declaration::Type(_, _) => {}
+            Declaration::Variable(_, _) => {}
+            Declaration::Own(_, _, _) => {}
+            Declaration::Procedure(_) => {}
         }
     }
 }
