@@ -1,4 +1,4 @@
-pub mod Meant
-pub mod Passing
+pub mod Arguments
 pub mod Cases
+pub mod Passing
 pub mod Statements

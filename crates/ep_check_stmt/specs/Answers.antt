@@ -3,10 +3,11 @@ use Rattle.std.specs.Prelude.{◌≡◌, ℕ, nat_eq, Bool, List, map, Option, R
 use Rattle.std.specs.List.{list_any}
 use Rattle.std.specs.Option.{option_map}
 use Rattle.ep_typed.specs.Trees.{Item, Stmts, stmts}
-use Rattle.ep_typed.specs.Viewed.{expr_of, item_of, place_of, stmt_of, arm_of}
+use Rattle.ep_typed.specs.Viewed.{actual_of, expr_of, item_of, place_of, stmt_of, arm_of}
 use Rattle.ep_tree.specs.declared.expression.Label.{Label}
 use Rattle.ep_tree.specs.declared.statement.Arm.{Arm, out-Arm}
 use Rattle.ep_typed.specs.Trees as tree
+use Rattle.ep_typed.specs.declared.tree.Actual.{Actual}
 use Rattle.ep_typed.specs.declared.tree.CaseArm.{CaseArm}
 use Rattle.ep_typed.specs.declared.operations.Print.{Print}
 use Rattle.ep_typed.specs.declared.tree.TypedExpr.{TypedExpr}
@@ -83,6 +84,9 @@ labels_of a = (out-Arm a).labels
 
 abbrev pub arms_of : List CaseArm → tree.Arms
 arms_of arms = tree.arms (map arm_of arms)
+
+abbrev pub actuals_of : List Actual → List tree.Actual
+actuals_of given = map actual_of given
 
 abbrev pub items_of : List WriteItem → List Item
 items_of is = map item_of is

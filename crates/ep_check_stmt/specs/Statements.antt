@@ -1,7 +1,7 @@
 -- What the static rules say of statements: their typed forms, or the first item that breaks a rule.
 --
 -- Items are taken in the order of the text: a statement without its inner statements is one, on the line of its first token. A form that is no form of a program that is built fails by no rule here.
-use Rattle.std.specs.Prelude.{ℕ, nat_eq, ◌==◌, ◌&&◌, Bool, true, false, List, [], ◌∷◌, ◌++◌, map, Option, Some, None, if◌then◌else◌}
+use Rattle.std.specs.Prelude.{ℕ, nat_eq, ◌==◌, ◌&&◌, Bool, true, false, List, [], ◌∷◌, map, Option, Some, None}
 use Rattle.std.specs.List.{list_any}
 use Rattle.std.specs.Option.{option_map}
 use Rattle.ep_tree.specs.declared.expression.Access.{out-Access}
@@ -22,12 +22,12 @@ use Rattle.ep_typed.specs.declared.operations.Print.{Print}
 use Rattle.ep_typed.specs.declared.operations.Print.TheVariants as print
 use Rattle.ep_typed.specs.declared.tree.StandardFile.{StandardFile}
 use Rattle.ep_typed.specs.declared.tree.StandardFile.TheVariants as file
-use Rattle.ep_scope.specs.Kinds.{same_host}
 use Rattle.ep_scope.specs.Scopes.{Region, Meant, Declares, Standard, Requires, Nothing, meant}
 use Rattle.ep_scope.specs.declared.kind.Host.{Host}
 use Rattle.ep_scope.specs.declared.kind.Host.TheVariants as host
 use Rattle.ep_scope.specs.declared.kind.Kind.{Kind}
 use Rattle.ep_scope.specs.declared.kind.Kind.TheVariants as kind
+use Rattle.ep_scope.specs.declared.parameter.FormalParameter.{FormalParameter}
 use Rattle.ep_scope.specs.declared.required.Procedure.{Procedure}
 use Rattle.ep_scope.specs.declared.required.Procedure.TheVariants as procedure
 use Rattle.ep_scope.specs.declared.required.Required.{Required}
@@ -40,6 +40,7 @@ use Rattle.ep_check_expr.specs.Judgements.{Judged, Accepts, Breaks, Typed, unbui
 use Rattle.ep_check_expr.specs.Functions.{Given}
 use Rattle.ep_check_expr.specs.Names.{undeclared}
 use Rattle.ep_check_expr.specs.Expressions.{given, judged, judged_value}
+use Rattle.ep_check_stmt.specs.Arguments.{arguments_judged, given_to, one_more, unless_protected}
 use Rattle.ep_check_stmt.specs.Cases.{CaseSelector, own_ranges, selector_judged}
 
 -- ---- rows of items
@@ -92,11 +93,11 @@ pub record Target : Type 0 where
 
 -- a declared name that is assigned to
 abbrev pub declared_target : Declared → Declaration → Judged Target
-declared_target d (declaration.Variable k) = Accepts (record { place = tree.Variable d.unit d.number; kind = k })
-declared_target d (declaration.Own k) = Accepts (record { place = tree.Own d.number; kind = k })
+declared_target d (declaration.Variable of k) = Accepts (record { place = tree.Variable d.unit d.number; kind = k })
+declared_target d (declaration.Own of k guarded) = when_accepted (λ done. Accepts (record { place = tree.Own d.number; kind = k })) (unless_protected guarded)
 declared_target d (declaration.Constant k value) = Breaks (rule.CONSTANT_THREATENED ∷ rule.VARIABLE_NEEDED ∷ [])
-declared_target d (declaration.«Type» h) = Breaks (rule.OTHER_THING ∷ rule.VARIABLE_NEEDED ∷ [])
-declared_target d declaration.Procedure = Breaks (rule.OTHER_THING ∷ rule.VARIABLE_NEEDED ∷ [])
+declared_target d (declaration.«Type» of h) = Breaks (rule.OTHER_THING ∷ rule.VARIABLE_NEEDED ∷ [])
+declared_target d (declaration.Procedure parameters) = Breaks (rule.OTHER_THING ∷ rule.VARIABLE_NEEDED ∷ [])
 
 -- the rules that fail where a required identifier is assigned to
 abbrev pub target_rules : Required → List ℕ
@@ -112,16 +113,8 @@ place_named name (Standard f) = Accepts (record { place = tree.Standard f; kind 
 place_named name (Requires r) = Breaks (target_rules r)
 place_named name Nothing = Breaks (undeclared name)
 
--- a value is given to a variable of the same host; a text that is given to a char is not built
-abbrev pub given_to : Kind → Kind → ℕ → Place → Option Expr → Judged (Option Stmt)
-given_to (kind.Ordinal h) (kind.Ordinal g) line place value = if same_host h g then Accepts (option_map (tree.Assign line place) value) else Breaks (rule.ASSIGNMENT ∷ [])
-given_to (kind.Ordinal host.Char) kind.Text line place value = Accepts None
-given_to kind.File from line place value = Breaks (rule.FILE_TYPE ∷ rule.ASSIGNMENT ∷ [])
-given_to to kind.File line place value = Breaks (rule.FILE_TYPE ∷ rule.ASSIGNMENT ∷ [])
-given_to to from line place value = Breaks (rule.ASSIGNMENT ∷ [])
-
 abbrev pub assigned : ℕ → Target → Typed → Judged (Option Stmt)
-assigned line target value = given_to target.kind value.kind line target.place value.form
+assigned line target value = given_to (tree.Assign line target.place) target.kind value.kind value.form
 
 -- ---- conditions (ISO 10206, 6.9.3)
 
@@ -168,16 +161,6 @@ item_form how (Some x) (Some width) = option_map (tree.Wide how x) width
 
 abbrev pub item_judged : Given → Judged (Option Item)
 item_judged g = both (λ value width. Accepts (item_form value.print value.form width)) (when_accepted shown g.value) (width_judged g.width)
-
-abbrev pub one_more : Option Item → Option (List Item) → Option (List Item)
-one_more None more = None
-one_more (Some i) more = option_map (λ is. i ∷ is) more
-
--- items with one more at the end, where all are built
-abbrev pub one_after : Option (List Item) → Option Item → Option (List Item)
-one_after items None = None
-one_after None (Some i) = None
-one_after (Some items) (Some i) = Some (items ++ i ∷ [])
 
 abbrev pub items_judged : List Given → Judged (Option (List Item))
 items_judged [] = Accepts (Some [])
@@ -257,19 +240,6 @@ abbrev pub halt_judged : ℕ → List Argument → Judged (Option Stmt)
 halt_judged line [] = Accepts (Some (tree.Halt line))
 halt_judged line (first ∷ more) = Breaks (rule.ARGUMENTS ∷ [])
 
--- a procedure of a unit is called, which has no parameters (ISO 10206, 6.9.2.3)
-abbrev pub own_called : ℕ → Declared → List Argument → Judged (Option Stmt)
-own_called line d [] = Accepts (Some (tree.Procedure line d.unit d.number []))
-own_called line d (first ∷ more) = Breaks (rule.ARGUMENTS ∷ [])
-
--- nothing else that is declared is a statement
-abbrev pub declared_called : ℕ → Declared → Declaration → List Argument → Judged (Option Stmt)
-declared_called line d declaration.Procedure arguments = own_called line d arguments
-declared_called line d (declaration.Constant k value) arguments = Breaks (rule.OTHER_THING ∷ [])
-declared_called line d (declaration.«Type» h) arguments = Breaks (rule.OTHER_THING ∷ [])
-declared_called line d (declaration.Variable k) arguments = Breaks (rule.OTHER_THING ∷ [])
-declared_called line d (declaration.Own k) arguments = Breaks (rule.OTHER_THING ∷ [])
-
 -- what a block knows: its scopes, the innermost first, and whether `output` is a parameter or imported
 pub record Context : Type 0 where
   pub scopes : List Region
@@ -321,6 +291,18 @@ module _ (context : Context) where
   required_called line (required.«Type» t) arguments = Breaks (rule.OTHER_THING ∷ [])
   required_called line (required.Function f) arguments = Breaks (rule.PROCEDURE ∷ [])
   required_called line (required.Procedure p) arguments = procedure_called line p arguments
+
+  -- a procedure of a unit is called (ISO 10206, 6.9.2.3)
+  abbrev pub own_called : ℕ → Declared → List FormalParameter → List Argument → Judged (Option Stmt)
+  own_called line d parameters arguments = when_accepted (λ given. Accepts (option_map (tree.Procedure line d.unit d.number) given)) (arguments_judged context.scopes parameters arguments)
+
+  -- nothing else that is declared is a statement
+  abbrev pub declared_called : ℕ → Declared → Declaration → List Argument → Judged (Option Stmt)
+  declared_called line d (declaration.Procedure parameters) arguments = own_called line d parameters arguments
+  declared_called line d (declaration.Constant k value) arguments = Breaks (rule.OTHER_THING ∷ [])
+  declared_called line d (declaration.«Type» of h) arguments = Breaks (rule.OTHER_THING ∷ [])
+  declared_called line d (declaration.Variable of k) arguments = Breaks (rule.OTHER_THING ∷ [])
+  declared_called line d (declaration.Own of k guarded) arguments = Breaks (rule.OTHER_THING ∷ [])
 
   -- a statement of a name that means this, with these arguments
   abbrev pub call_judged : ℕ → List ℕ → Meant → List Argument → Judged (Option Stmt)

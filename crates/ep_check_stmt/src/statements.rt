@@ -15,13 +15,14 @@ ghost use Rattle.ep_check_stmt.specs.Answers.{AnswersForm, AnswersRow, arms_of, 
 ghost use Rattle.ep_check_stmt.specs.Statements as spec;
 ghost use Rattle.ep_check_stmt.specs.Statements.{Judgement, after, arm_judged, arm_row, arms_in_order, assigned, compound_judged, condition_judged, declared_called, declared_target, formed, if_judged, in_order, name_called, own_called, repeat_judged, place_named, required_called, statement_judged, target_judged, target_rules, tested};
 
+use crate::arguments::{given_value, unless_protected};
 use crate::cases::{arm_form, case_form, no_otherwise, otherwise_form};
 use crate::outcome::{CheckRefusal, Outcome, item_at, refused_at};
 use ep_base::{Boxed, Line, List, Name};
 use ep_check_expr::{Refusal, Typed, typed_expression, typed_value, undeclared};
 use ep_scope::{
-    Declaration, Declared, Host, Kind, Meaning, Procedure, Required, Scope, meaning_of, rule,
-    same_host,
+    Declaration, Declared, FormalParameter, Host, Kind, Meaning, Procedure, Required, Scope,
+    meaning_of, rule,
 };
 use ep_tree::{Access, Argument, Arm, ComponentValue, Compound, Expression, Selector, Statement};
 use ep_typed::{CaseArm, CaseArms, TypedExpr, TypedPlace, TypedStmt, TypedStmts};
@@ -67,18 +68,19 @@ fn declared_target(alloc: Global, declared: &Declared) -> Result<Target, Refusal
     ensures { AnswersForm target_of result (declared_target declared.now declared.now.what) }
 {
     match &declared.what {
-        Declaration::Variable(kind) => {
+        Declaration::Variable(_, kind) => {
             let unit = declared.unit.copy(alloc)?;
             let place = TypedPlace::Variable(unit, declared.number);
             Ok(Target { place, kind: *kind })
         }
-        Declaration::Own(kind) => Ok(Target {
-            place: TypedPlace::Own(declared.number),
-            kind: *kind,
-        }),
+        Declaration::Own(_, kind, protection) => {
+            unless_protected(*protection)?;
+            let place = TypedPlace::Own(declared.number);
+            Ok(Target { place, kind: *kind })
+        }
         Declaration::Constant(_, _) => Err(Refusal::Rule(rule::CONSTANT_THREATENED)),
-        Declaration::Type(_) => Err(Refusal::Rule(rule::OTHER_THING)),
-        Declaration::Procedure => Err(Refusal::Rule(rule::OTHER_THING)),
+        Declaration::Type(_, _) => Err(Refusal::Rule(rule::OTHER_THING)),
+        Declaration::Procedure(_) => Err(Refusal::Rule(rule::OTHER_THING)),
     }
 }
 
@@ -103,17 +105,11 @@ fn assigned(
 ) -> Result<Option<Boxed<TypedStmt>>, Refusal>
     ensures { AnswersForm (option_map stmt_of) result (assigned line (target_of target) (typed_of value)) }
 {
-    match (target.kind, value.kind) {
-        (Kind::Ordinal(left), Kind::Ordinal(right)) if same_host(left, right) => {
-            let Some(form) = value.into_form() else {
-                return Ok(None);
-            };
-            let assignment = TypedStmt::Assign(line, target.into_place(), form);
-            Ok(Some(Boxed::new(alloc, assignment)?))
-        }
-        (Kind::Ordinal(Host::Char), Kind::Text) => Ok(None),
-        _ => Err(Refusal::Rule(rule::ASSIGNMENT)),
-    }
+    let Some(form) = given_value(target.kind, value)? else {
+        return Ok(None);
+    };
+    let assignment = TypedStmt::Assign(line, target.into_place(), form);
+    Ok(Some(Boxed::new(alloc, assignment)?))
 }
 
 /// The form of a condition.
@@ -411,32 +407,38 @@ impl Context<'_> {
         declared: &Declared,
         arguments: &[Argument],
     ) -> Result<Option<Boxed<TypedStmt>>, Refusal>
+        requires { first_in (map written_unbuilt arguments.now) ≡ None }
         ensures { AnswersForm (option_map stmt_of) result
-            (declared_called line declared.now declared.now.what arguments.now) }
+            (declared_called (context_of self.now) line declared.now declared.now.what arguments.now) }
     {
         match &declared.what {
-            Declaration::Procedure => self.call_own(line, declared, arguments),
+            Declaration::Procedure(parameters) => {
+                self.call_own(line, declared, parameters.items(), arguments)
+            }
             Declaration::Constant(_, _) => Err(Refusal::Rule(rule::OTHER_THING)),
-            Declaration::Type(_) => Err(Refusal::Rule(rule::OTHER_THING)),
-            Declaration::Variable(_) => Err(Refusal::Rule(rule::OTHER_THING)),
-            Declaration::Own(_) => Err(Refusal::Rule(rule::OTHER_THING)),
+            Declaration::Type(_, _) => Err(Refusal::Rule(rule::OTHER_THING)),
+            Declaration::Variable(_, _) => Err(Refusal::Rule(rule::OTHER_THING)),
+            Declaration::Own(_, _, _) => Err(Refusal::Rule(rule::OTHER_THING)),
         }
     }
 
-    /// A call of a procedure of a unit, which has no parameters.
+    /// A call of a procedure of a unit, which has these formal parameters.
     fn call_own(
         &self,
         line: Line,
         declared: &Declared,
+        parameters: &[FormalParameter],
         arguments: &[Argument],
     ) -> Result<Option<Boxed<TypedStmt>>, Refusal>
-        ensures { AnswersForm (option_map stmt_of) result (own_called line declared.now arguments.now) }
+        requires { first_in (map written_unbuilt arguments.now) ≡ None }
+        ensures { AnswersForm (option_map stmt_of) result
+            (own_called (context_of self.now) line declared.now parameters.now arguments.now) }
     {
-        if !arguments.is_empty() {
-            return Err(Refusal::Rule(rule::ARGUMENTS));
-        }
+        let Some(actuals) = self.arguments(parameters, arguments)? else {
+            return Ok(None);
+        };
         let unit = declared.unit.copy(self.alloc)?;
-        let call = TypedStmt::Procedure(line, unit, declared.number, List::new(self.alloc));
+        let call = TypedStmt::Procedure(line, unit, declared.number, actuals);
         Ok(Some(Boxed::new(self.alloc, call)?))
     }
 

@@ -10,8 +10,9 @@ ghost use Rattle.ep_check_expr.specs.Answers.{typed_of};
 ghost use Rattle.ep_check_expr.specs.Expressions.{given, judged};
 ghost use Rattle.ep_check_expr.specs.Judgements.{Accepts, when_accepted};
 ghost use Rattle.ep_check_stmt.specs.Answers.{AnswersForm, context_of, items_of, shown_of};
+ghost use Rattle.ep_check_stmt.specs.Arguments.{one_after};
 ghost use Rattle.ep_check_stmt.specs.Statements as spec;
-ghost use Rattle.ep_check_stmt.specs.Statements.{file_given, item_form, item_judged, items_judged, one_after, printed, shown, width_judged, write_judged, written};
+ghost use Rattle.ep_check_stmt.specs.Statements.{file_given, item_form, item_judged, items_judged, printed, shown, width_judged, write_judged, written};
 
 use crate::statements::Context;
 use ep_base::{Boxed, Line, List, Name, NoMemory};
@@ -57,23 +58,25 @@ fn item_form(
     })
 }
 
-/// The items with one more at the end, where all are built.
-fn added(items: Option<WriteItems>, item: Option<WriteItem>) -> Result<Option<WriteItems>, NoMemory>
-    ensures { IfOk result (λ now. option_map items_of now
-        ≡ one_after (option_map items_of items) (option_map item_of item)) }
+/// The list with one more at the end, where all are built.
+pub(crate) fn added<T: Drop>(
+    list: Option<List<T>>,
+    one: Option<T>,
+) -> Result<Option<List<T>>, NoMemory>
+    ensures { IfOk result (λ now. now ≡ one_after list one) }
 {
-    let Some(mut items) = items else {
+    let Some(mut list) = list else {
         return Ok(None);
     };
-    let Some(item) = item else {
+    let Some(one) = one else {
         return Ok(None);
     };
-    items.push(item)?;
-    Ok(Some(items))
+    list.push(one)?;
+    Ok(Some(list))
 }
 
 /// The name that an expression is, where it is nothing more.
-fn identifier(e: &Expression) -> Option<&Name>
+pub(crate) fn identifier(e: &Expression) -> Option<&Name>
     ensures { option_copied result ≡ as_identifier e.now }
 {
     if e.right.is_some() || e.left.sign.is_some() {

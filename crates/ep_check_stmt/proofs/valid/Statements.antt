@@ -1,6 +1,6 @@
 -- Statements that the rules accept are valid under declarations that hold what the scopes declare.
 use Rattle.std.proofs.Common.{◌≡◌, ℕ, Bool, true, false, List, [], ◌∷◌, map, Option, Some, None, refl, sym, ap, ◌∙◌, subst}
-use Rattle.std.specs.Prelude.{⊤, if◌then◌else◌}
+use Rattle.std.specs.Prelude.{⊤}
 use Rattle.std.specs.Option.{option_map}
 use Rattle.ep_tree.specs.Nodes.{argument_node}
 use Rattle.ep_tree.specs.declared.expression.Access.{out-Access}
@@ -18,38 +18,38 @@ use Rattle.ep_tree.specs.declared.statement.Statement.TheFolds.{fold-roll-Arm, f
 use Rattle.ep_tree.specs.declared.statement.Statement.TheOpen.{Statement-F, Arm-F, Compound-F, Otherwise-F}
 use Rattle.ep_typed.specs.Hosts as typed
 use Rattle.ep_typed.specs.Trees as tree
-use Rattle.ep_typed.specs.Trees.{Place, Expr, Item, Other, Stmt, Stmts}
+use Rattle.ep_typed.specs.Trees.{Actual, Place, Expr, Item, Other, Stmt, Stmts}
 use Rattle.ep_typed.specs.Valid as valid
 use Rattle.ep_typed.specs.Valid.{AreGiven, AreItems, AreStmts, Declarations, IsExpr, IsItem, IsOther, IsPlace, IsStmt, WritesSomething, printed_kind}
 use Rattle.ep_typed.specs.declared.operations.Print.{Print}
 use Rattle.ep_typed.specs.declared.tree.StandardFile.{StandardFile}
 use Rattle.ep_typed.specs.declared.tree.StandardFile.TheVariants as file
-use Rattle.ep_scope.specs.Kinds.{same_host}
 use Rattle.ep_scope.specs.Scopes.{Region, Meant, Declares, Standard, Requires, Nothing, meant}
 use Rattle.ep_scope.specs.declared.kind.Host.{Host}
 use Rattle.ep_scope.specs.declared.kind.Host.TheVariants as host
 use Rattle.ep_scope.specs.declared.kind.Kind.{Kind}
 use Rattle.ep_scope.specs.declared.kind.Kind.TheVariants as kind
+use Rattle.ep_scope.specs.declared.parameter.FormalParameter.{FormalParameter}
 use Rattle.ep_scope.specs.declared.required.Procedure.{Procedure}
 use Rattle.ep_scope.specs.declared.required.Procedure.TheVariants as procedure
 use Rattle.ep_scope.specs.declared.required.Required.{Required}
 use Rattle.ep_scope.specs.declared.required.Required.TheVariants as required
-use Rattle.ep_scope.specs.declared.rule.TheConstants as rule
 use Rattle.ep_scope.specs.declared.thing.Declaration.{Declaration}
 use Rattle.ep_scope.specs.declared.thing.Declaration.TheVariants as declaration
 use Rattle.ep_scope.specs.declared.thing.Declared.{Declared}
-use Rattle.ep_check_expr.specs.Agreement.{Agrees, IsDeclaration, IsFormOf, IsStoredIn}
+use Rattle.ep_check_expr.specs.Agreement.{Agrees, IsDeclaration, IsFormOf, IsProcedureOf, IsStoredIn}
 use Rattle.ep_check_expr.specs.Expressions.{given, judged, judged_value}
 use Rattle.ep_check_expr.specs.Functions.{Given}
 use Rattle.ep_check_expr.specs.Hosts.{typed_host}
 use Rattle.ep_check_expr.specs.Judgements.{Judged, Accepts, Breaks, Typed, both, when_accepted}
 use Rattle.ep_check_expr.specs.Laws.{ExpressionsAreSound, LabelsAreSound, ValuesAreSound}
+use Rattle.ep_check_expr.proofs.Meant.{IsMeant, meant-declared}
+use Rattle.ep_check_stmt.specs.Arguments.{arguments_judged, given_to, one_more, unless_protected}
 use Rattle.ep_check_stmt.specs.Cases.{CaseSelector, labelled, selecting, selector_judged}
 use Rattle.ep_check_stmt.specs.Laws.{StatementsAreSound}
-use Rattle.ep_check_stmt.specs.Statements.{ArmJudged, Context, Judgement, Passes, Shown, after, arm_judged, arm_row, arms_in_order, assigned, at_arm, at_compound, at_item, at_otherwise, at_statement, available, call_arguments, call_judged, case_judged, compound_judged, condition, condition_judged, declared_called, declared_target, file_given, formed, given_to, if_judged, in_order, item_form, item_judged, items_judged, measured, name_called, one_more, own_called, otherwise_judged, place_named, procedure_called, required_called, shown, something, statement_judged, target_judged, tested, to_file, usually_written, width_judged, write_judged, written, written_or}
+use Rattle.ep_check_stmt.specs.Statements.{ArmJudged, Context, Judgement, Passes, Shown, after, arm_judged, arm_row, arms_in_order, assigned, at_arm, at_compound, at_item, at_otherwise, at_statement, available, call_arguments, call_judged, case_judged, compound_judged, condition, condition_judged, declared_called, declared_target, file_given, formed, if_judged, in_order, item_form, item_judged, items_judged, measured, name_called, own_called, otherwise_judged, place_named, procedure_called, required_called, shown, something, statement_judged, target_judged, tested, to_file, usually_written, width_judged, write_judged, written, written_or}
 use Rattle.ep_check_stmt.proofs.judged.Fits.{Any, Fits, fits_any, fits_both, fits_is, fits_then, fits_weaker}
-use Rattle.ep_check_stmt.proofs.judged.SameHost.{host_same}
-use Rattle.ep_check_stmt.proofs.valid.Meant.{IsMeant, meant_declared}
+use Rattle.ep_check_stmt.proofs.valid.Arguments.{arguments_fit, given_fits}
 use Rattle.ep_check_stmt.proofs.valid.Passing.{FitsRow, IfForm, after_fits, formed_fits, item_fits}
 use Rattle.ep_check_stmt.proofs.valid.Cases.{BodiesFit, IsSelected, labelled_fits, row_fits as arms_row_fits}
 
@@ -111,54 +111,37 @@ module _ (declared : Declarations) (expressions : ExpressionsAreSound) (values :
   variable_fits place kind.Text x = absurd x
   variable_fits place kind.File x = tt
 
-  declared_fits : (d : Declared) (what : Declaration) → IsDeclaration declared d.unit d.number what → Fits (λ t. IsTarget t.kind t.place) (declared_target d what)
-  declared_fits d (declaration.Variable k) x = variable_fits (tree.Variable d.unit d.number) k x
-  declared_fits d (declaration.Own k) x = variable_fits (tree.Own d.number) k x
+  declared_fits : (d : Declared) (what : Declaration) → IsDeclaration declared agrees.0 d.unit d.number what → Fits (λ t. IsTarget t.kind t.place) (declared_target d what)
+  declared_fits d (declaration.Variable of k) x = variable_fits (tree.Variable d.unit d.number) k x.0
+  declared_fits d (declaration.Own of k guarded) x =
+      fits_then Any (λ t. IsTarget t.kind t.place) (λ done. Accepts (record { place = tree.Own d.number; kind = k })) (unless_protected guarded) (fits_any (unless_protected guarded)) (λ a i. variable_fits (tree.Own d.number) k x.0)
   declared_fits d (declaration.Constant k v) x = tt
-  declared_fits d (declaration.«Type» h) x = tt
-  declared_fits d declaration.Procedure x = tt
+  declared_fits d (declaration.«Type» of h) x = tt
+  declared_fits d (declaration.Procedure parameters) x = tt
 
-  place_fits : (name : List ℕ) (m : Meant) → IsMeant declared m → Fits (λ t. IsTarget t.kind t.place) (place_named name m)
+  place_fits : (name : List ℕ) (m : Meant) → IsMeant declared agrees.0 m → Fits (λ t. IsTarget t.kind t.place) (place_named name m)
   place_fits name (Declares d) x = declared_fits d d.what x
   place_fits name (Standard f) x = tt
   place_fits name (Requires r) x = tt
   place_fits name Nothing x = tt
 
   target_fits : (c : Context) → c.scopes ≡ scopes → (name : List ℕ) (selectors : List Selector) → Fits (λ t. IsTarget t.kind t.place) (target_judged c name selectors)
-  target_fits c is name [] = subst (λ s. Fits (λ t. IsTarget t.kind t.place) (place_named name (meant s name))) (sym is) (place_fits name (meant scopes name) (meant_declared declared scopes name agrees))
+  target_fits c is name [] = subst (λ s. Fits (λ t. IsTarget t.kind t.place) (place_named name (meant s name))) (sym is) (place_fits name (meant scopes name) (meant-declared declared agrees.0 scopes name agrees.1))
   target_fits c is name (s ∷ ss) = tt
 
-  assign_form : (h g : Host) (line : ℕ) (place : Place) (form : Option Expr) → same_host h g ≡ true → IsPlace declared (typed_host h) place → IsFormOf declared (kind.Ordinal g) form
-      → IfForm (IsStmt declared) (option_map (tree.Assign line place) form)
-  assign_form h g line place None s p f = tt
-  assign_form h g line place (Some x) s p f = (typed_host h, p, subst (λ k. IsExpr declared (valid.Ordinal k) x) (host_same h g s) f.1)
-
-  given_if : (same : Bool) (h g : Host) (line : ℕ) (place : Place) (form : Option Expr) → same_host h g ≡ same → IsPlace declared (typed_host h) place → IsFormOf declared (kind.Ordinal g) form
-      → Fits (IfForm (IsStmt declared)) (if same then Accepts (option_map (tree.Assign line place) form) else Breaks (rule.ASSIGNMENT ∷ []))
-  given_if true h g line place form s p f = assign_form h g line place form s p f
-  given_if false h g line place form s p f = tt
-
-  given_fits : (to from : Kind) (line : ℕ) (place : Place) (form : Option Expr) → IsTarget to place → IsFormOf declared from form → Fits (IfForm (IsStmt declared)) (given_to to from line place form)
-  given_fits (kind.Ordinal h) (kind.Ordinal g) line place form p f = given_if (same_host h g) h g line place form refl p f
-  given_fits (kind.Ordinal host.Char) kind.Text line place form p f = tt
-  given_fits (kind.Ordinal host.Integer) kind.Text line place form p f = tt
-  given_fits (kind.Ordinal host.Boolean) kind.Text line place form p f = tt
-  given_fits (kind.Ordinal (host.Enumeration e)) kind.Text line place form p f = tt
-  given_fits (kind.Ordinal host.Char) kind.File line place form p f = tt
-  given_fits (kind.Ordinal host.Integer) kind.File line place form p f = tt
-  given_fits (kind.Ordinal host.Boolean) kind.File line place form p f = tt
-  given_fits (kind.Ordinal (host.Enumeration e)) kind.File line place form p f = tt
-  given_fits kind.Text from line place form p f = absurd p
-  given_fits kind.File (kind.Ordinal g) line place form p f = tt
-  given_fits kind.File kind.Text line place form p f = tt
-  given_fits kind.File kind.File line place form p f = tt
+  assign_fits : (to from : Kind) (line : ℕ) (place : Place) (form : Option Expr) → IsTarget to place → IsFormOf declared from form → Fits (IfForm (IsStmt declared)) (given_to (tree.Assign line place) to from form)
+  assign_fits (kind.Ordinal h) from line place form p f = given_fits declared (IsStmt declared) (tree.Assign line place) h (λ x q. (typed_host h, p, q)) from form f
+  assign_fits kind.Text from line place form p f = absurd p
+  assign_fits kind.File (kind.Ordinal g) line place form p f = tt
+  assign_fits kind.File kind.Text line place form p f = tt
+  assign_fits kind.File kind.File line place form p f = tt
 
   assignment_fits : (c : Context) → c.scopes ≡ scopes → (line : ℕ) (name : List ℕ) (selectors : List Selector) (v : ComponentValue)
       → FitsRow (IsStmt declared) (at_item line (both (assigned line) (target_judged c name selectors) (judged_value c.scopes v)))
   assignment_fits c is line name selectors v =
       item_fits (IsStmt declared) line _
       (fits_both (λ t. IsTarget t.kind t.place) IsSoundForm (IfForm (IsStmt declared)) (assigned line) (target_judged c name selectors) (judged_value c.scopes v) (target_fits c is name selectors)
-      (subst (λ s. Fits IsSoundForm (judged_value s v)) (sym is) (value_fits v)) (λ t x p f. given_fits t.kind x.kind line t.place x.form p f))
+      (subst (λ s. Fits IsSoundForm (judged_value s v)) (sym is) (value_fits v)) (λ t x p f. assign_fits t.kind x.kind line t.place x.form p f))
 
   -- ---- `write` and `writeln`
 
@@ -333,26 +316,35 @@ module _ (declared : Declarations) (expressions : ExpressionsAreSound) (values :
   required_fits c is line (required.Function f) arguments = tt
   required_fits c is line (required.Procedure p) arguments = procedure_fits c is line p arguments
 
-  own_fits : (line : ℕ) (d : Declared) (arguments : List Argument) → IsDeclaration declared d.unit d.number declaration.Procedure → Fits (IfForm (IsStmt declared)) (own_called line d arguments)
-  own_fits line d [] x = (x.0, x.1, x.2, subst (λ fs. AreGiven declared (declared.types d.unit) fs []) (sym x.3) tt)
-  own_fits line d (first ∷ more) x = tt
+  -- a call of a procedure with arguments that are valid for its formal parameters
+  call_form : (line : ℕ) (d : Declared) (parameters : List FormalParameter) (x : IsProcedureOf declared agrees.0 d.unit d.number parameters) (given : Option (List Actual))
+      → IfForm (AreGiven declared (declared.types d.unit) x.0.formals) given → IfForm (IsStmt declared) (option_map (tree.Procedure line d.unit d.number) given)
+  call_form line d parameters x None h = tt
+  call_form line d parameters x (Some given) h = (x.0, x.1, x.2, h)
 
-  declared_call_fits : (line : ℕ) (d : Declared) (what : Declaration) (arguments : List Argument) → IsDeclaration declared d.unit d.number what → Fits (IfForm (IsStmt declared)) (declared_called line d what arguments)
-  declared_call_fits line d declaration.Procedure arguments x = own_fits line d arguments x
-  declared_call_fits line d (declaration.Constant k v) arguments x = tt
-  declared_call_fits line d (declaration.«Type» h) arguments x = tt
-  declared_call_fits line d (declaration.Variable k) arguments x = tt
-  declared_call_fits line d (declaration.Own k) arguments x = tt
+  own_fits : (c : Context) → c.scopes ≡ scopes → (line : ℕ) (d : Declared) (parameters : List FormalParameter) (arguments : List Argument) → IsProcedureOf declared agrees.0 d.unit d.number parameters
+      → Fits (IfForm (IsStmt declared)) (own_called c line d parameters arguments)
+  own_fits c is line d parameters arguments x =
+      subst (λ s. Fits (IfForm (IsStmt declared)) (when_accepted (λ given. Accepts (option_map (tree.Procedure line d.unit d.number) given)) (arguments_judged s parameters arguments))) (sym is)
+      (fits_then (IfForm (AreGiven declared (declared.types d.unit) x.0.formals)) (IfForm (IsStmt declared)) (λ given. Accepts (option_map (tree.Procedure line d.unit d.number) given)) (arguments_judged scopes parameters arguments)
+      (arguments_fit declared agrees.0 scopes agrees.1 expression_fits (declared.types d.unit) parameters x.0.formals arguments x.3) (λ given h. call_form line d parameters x given h))
 
-  call_fits : (c : Context) → c.scopes ≡ scopes → (line : ℕ) (name : List ℕ) (m : Meant) (arguments : List Argument) → IsMeant declared m → Fits (IfForm (IsStmt declared)) (call_judged c line name m arguments)
-  call_fits c is line name (Declares d) arguments x = declared_call_fits line d d.what arguments x
+  declared_call_fits : (c : Context) → c.scopes ≡ scopes → (line : ℕ) (d : Declared) (what : Declaration) (arguments : List Argument) → IsDeclaration declared agrees.0 d.unit d.number what → Fits (IfForm (IsStmt declared)) (declared_called c line d what arguments)
+  declared_call_fits c is line d (declaration.Procedure parameters) arguments x = own_fits c is line d parameters arguments x
+  declared_call_fits c is line d (declaration.Constant k v) arguments x = tt
+  declared_call_fits c is line d (declaration.«Type» of h) arguments x = tt
+  declared_call_fits c is line d (declaration.Variable of k) arguments x = tt
+  declared_call_fits c is line d (declaration.Own of k guarded) arguments x = tt
+
+  call_fits : (c : Context) → c.scopes ≡ scopes → (line : ℕ) (name : List ℕ) (m : Meant) (arguments : List Argument) → IsMeant declared agrees.0 m → Fits (IfForm (IsStmt declared)) (call_judged c line name m arguments)
+  call_fits c is line name (Declares d) arguments x = declared_call_fits c is line d d.what arguments x
   call_fits c is line name (Standard f) arguments x = tt
   call_fits c is line name (Requires r) arguments x = required_fits c is line r arguments
   call_fits c is line name Nothing arguments x = tt
 
   called_fits : (c : Context) → c.scopes ≡ scopes → (line : ℕ) (name : List ℕ) (arguments : Option (List Argument)) → Fits (IfForm (IsStmt declared)) (name_called c line name arguments)
   called_fits c is line name None = tt
-  called_fits c is line name (Some arguments) = call_fits c is line name (meant c.scopes name) arguments (subst (λ s. IsMeant declared (meant s name)) (sym is) (meant_declared declared scopes name agrees))
+  called_fits c is line name (Some arguments) = call_fits c is line name (meant c.scopes name) arguments (subst (λ s. IsMeant declared agrees.0 (meant s name)) (sym is) (meant-declared declared agrees.0 scopes name agrees.1))
 
   -- ---- statements
 

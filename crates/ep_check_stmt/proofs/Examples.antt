@@ -1,0 +1,83 @@
+-- What the rules say of small calls.
+use Rattle.std.proofs.Common.{◌≡◌, ℕ, pos, false, List, [], ◌∷◌, Option, Some, None, refl, sym, ap, ◌∙◌, codes}
+use Rattle.ep_tree.specs.Nodes.{expression_node, simple_node, term_node, access_node, argument_node}
+use Rattle.ep_tree.specs.declared.expression.Access.{Access}
+use Rattle.ep_tree.specs.declared.expression.Argument.{Argument, out-roll-Argument}
+use Rattle.ep_tree.specs.declared.expression.ComponentValue.TheOpen.{Factor-F}
+use Rattle.ep_tree.specs.declared.expression.Expression.{out-roll-Expression}
+use Rattle.ep_tree.specs.declared.expression.Factor.{Factor, out-Factor, out-roll-Factor}
+use Rattle.ep_tree.specs.declared.expression.Factor.TheVariants as factor
+use Rattle.ep_tree.specs.declared.expression.Simple.{out-roll-Simple}
+use Rattle.ep_tree.specs.declared.expression.Term.{out-roll-Term}
+use Rattle.ep_typed.specs.Trees.{Stmt, Accessed, Constant, Evaluated, Procedure, Variable}
+use Rattle.ep_typed.specs.declared.denoter.RequiredType.{RequiredType}
+use Rattle.ep_typed.specs.declared.denoter.RequiredType.TheVariants as simple
+use Rattle.ep_typed.specs.declared.interface.FormalMode.{FormalMode}
+use Rattle.ep_typed.specs.declared.interface.FormalMode.TheVariants as mode
+use Rattle.ep_scope.specs.declared.kind.Host.{Host}
+use Rattle.ep_scope.specs.declared.kind.Host.TheVariants as host
+use Rattle.ep_scope.specs.declared.kind.Kind.TheVariants as kind
+use Rattle.ep_scope.specs.declared.parameter.FormalParameter.{FormalParameter}
+use Rattle.ep_scope.specs.declared.parameter.TypeName.TheVariants as type_name
+use Rattle.ep_scope.specs.declared.rule.TheConstants as rule
+use Rattle.ep_scope.specs.declared.thing.Declaration.{Declaration}
+use Rattle.ep_scope.specs.declared.thing.Declaration.TheVariants as declaration
+use Rattle.ep_scope.specs.declared.thing.Declared.{Declared}
+use Rattle.ep_scope.specs.declared.thing.Thing.TheVariants as thing
+use Rattle.ep_check_expr.proofs.Nodes.{expression-judged, simple-judged, term-judged, number-judged}
+use Rattle.ep_check_expr.specs.Judgements.{Judged, Accepts, Breaks}
+use Rattle.ep_check_stmt.specs.Statements.{Context, declared_called}
+
+-- arguments of one factor
+abbrev argument : Factor → Argument
+argument f = argument_node 1 (expression_node 1 (simple_node 1 None (term_node 1 f []) []) None) None
+
+abbrev name : List ℕ → Argument
+name n = argument (factor.Access (access_node 1 n []))
+
+abbrev number : ℕ → Argument
+number n = argument (factor.Number 1 (pos n))
+
+-- a parameter, of a section of its own
+abbrev parameter : List ℕ → FormalMode → ℕ → RequiredType → Host → FormalParameter
+parameter n mode section type h = record { name = n; mode = mode; section = section; of = type_name.Required type; host = h }
+
+-- procedure p(a: integer; var b: integer)
+abbrev parameters : List FormalParameter
+parameters = parameter (codes "a") mode.Value 0 simple.Integer host.Integer ∷ parameter (codes "b") mode.Variable 1 simple.Integer host.Integer ∷ []
+
+abbrev declares : ℕ → Declaration → Declared
+declares number what = record { unit = codes "u"; number = number; what = what }
+
+-- the integer x and the char c
+abbrev context : Context
+context =
+    record {
+      scopes =
+          record {
+            entries =
+                (codes "x", thing.Declared (declares 0 (declaration.Variable (type_name.Required simple.Integer) (kind.Ordinal host.Integer))))
+                ∷ (codes "c", thing.Declared (declares 1 (declaration.Variable (type_name.Required simple.Char) (kind.Ordinal host.Char)))) ∷ [];
+            qualified = [];
+          } ∷ [];
+      output = false;
+    }
+
+-- a call of p
+abbrev called : List Argument → Judged (Option Stmt)
+called arguments = declared_called context 1 (declares 0 (declaration.Procedure parameters)) (declaration.Procedure parameters) arguments
+
+factor-out : (a : Access) → out-Factor (factor.Access a) ≡ Factor-F.Access a
+factor-out a = ap out-Factor (sym (factor.rolls-Access a)) ∙ out-roll-Factor (Factor-F.Access a)
+
+-- p(3, x)
+value_and_variable : called (number 3 ∷ name (codes "x") ∷ []) ≡ Accepts (Some (Procedure 1 (codes "u") 0 (Evaluated (Constant (pos 3)) ∷ Accessed (Variable (codes "u") 0) ∷ [])))
+value_and_variable = simp (out-roll-Argument, out-roll-Expression, out-roll-Simple, out-roll-Term, factor-out, expression-judged, simple-judged, term-judged, number-judged) refl
+
+-- p(3)
+one_argument : called (number 3 ∷ []) ≡ Breaks (rule.ARGUMENTS ∷ [])
+one_argument = simp (out-roll-Argument, expression-judged, simple-judged, term-judged, number-judged) refl
+
+-- p(3, c)
+other_type : called (number 3 ∷ name (codes "c") ∷ []) ≡ Breaks (rule.VARIABLE_ARGUMENT ∷ [])
+other_type = simp (out-roll-Argument, out-roll-Expression, out-roll-Simple, out-roll-Term, factor-out, expression-judged, simple-judged, term-judged, number-judged) refl
