@@ -1,10 +1,10 @@
--- A block stays that of its unit, and its routines stay plain.
-use Rattle.std.proofs.Common.{◌≡◌, ℕ, pos, suc, Bool, true, false, ◌&&◌, ◌||◌, List, [], ◌∷◌, length, Option, Some, None, refl, subst}
-use Rattle.std.proofs.lemmas.List.Elements.{All-push}
-use Rattle.std.specs.Prelude.{All, ⊤, if◌then◌else◌}
+-- A block stays that of its unit.
+use Rattle.std.proofs.Common.{◌≡◌, ℕ, pos, suc, Bool, true, false, not, ◌&&◌, ◌||◌, List, [], ◌∷◌, length, Option, Some, None, subst}
+use Rattle.std.specs.Prelude.{⊤, if◌then◌else◌}
 use Rattle.ep_tree.specs.declared.declaration.ConstantDefinition.{ConstantDefinition}
 use Rattle.ep_tree.specs.declared.declaration.TypeDefinition.{TypeDefinition}
 use Rattle.ep_tree.specs.declared.declaration.VariableDeclaration.{VariableDeclaration}
+use Rattle.ep_tree.specs.declared.declaration.FormalSection.{FormalSection}
 use Rattle.ep_tree.specs.declared.declaration.RoutineHeading.{RoutineHeading}
 use Rattle.ep_tree.specs.declared.declaration.RoutineHeading.TheVariants as heading
 use Rattle.ep_tree.specs.declared.routine.Part.TheOpen.{Part-F, RoutineBody-F}
@@ -13,20 +13,22 @@ use Rattle.ep_tree.specs.declared.routine.Routine.{Routine, out-Routine}
 use Rattle.ep_tree.specs.declared.routine.RoutineBody.{out-RoutineBody}
 use Rattle.ep_tree.specs.declared.routine.RoutineStart.{RoutineStart}
 use Rattle.ep_tree.specs.declared.routine.RoutineStart.TheVariants as start
+use Rattle.ep_tree.specs.declared.statement.Compound.{Compound}
 use Rattle.ep_tree.specs.declared.types.Core.TheOpen.{Core-F}
 use Rattle.ep_tree.specs.declared.types.Core.{out-Core}
-use Rattle.ep_typed.specs.Trees as tree
-use Rattle.ep_typed.specs.Trees.{Stmt, Stmts}
+use Rattle.ep_typed.specs.Trees.{Stmts}
 use Rattle.ep_typed.specs.declared.denoter.Denoter.{Denoter}
 use Rattle.ep_typed.specs.declared.tree.StandardFile.{StandardFile}
-use Rattle.ep_typed.specs.declared.unit.UnitVariable.{UnitVariable}
 use Rattle.ep_typed.specs.declared.value.Value.{Value}
 use Rattle.ep_typed.specs.declared.value.Value.TheVariants as value
+use Rattle.ep_scope.specs.Parameters.{protection_of}
 use Rattle.ep_scope.specs.Required.{look_up}
 use Rattle.ep_scope.specs.Scopes.{Meant, Declares, Standard, Requires, Nothing, meant, meant_in}
 use Rattle.ep_scope.specs.declared.kind.Host.{Host}
 use Rattle.ep_scope.specs.declared.kind.Kind.{Kind}
 use Rattle.ep_scope.specs.declared.kind.Kind.TheVariants as kind
+use Rattle.ep_scope.specs.declared.parameter.FormalParameter.{FormalParameter}
+use Rattle.ep_scope.specs.declared.parameter.TypeName.{TypeName}
 use Rattle.ep_scope.specs.declared.required.Required.TheVariants as required
 use Rattle.ep_scope.specs.declared.rule.TheConstants as rule
 use Rattle.ep_scope.specs.declared.thing.Declaration.{Declaration}
@@ -40,23 +42,14 @@ use Rattle.ep_check_expr.specs.Names.{undeclared}
 use Rattle.ep_check_expr.specs.declared.constants.ConstantForm.{ConstantForm}
 use Rattle.ep_check_stmt.proofs.judged.Fits.{Any, Fits, fits_then, fits_both, fits_any}
 use Rattle.ep_check_stmt.specs.Statements.{Judgement, Passes, Waits, Fails, compound_judged}
-use Rattle.ep_check_unit.specs.Declarations.{Headed, block_declared, body_declared, body_ended, context_of, forwarded, has_body, headed_again, headed_first, headed_over, headed_then, heading_declared, local_part_declared, local_parts_declared, procedure_declared, procedure_form, procedure_headed, procedure_there, scope_opened, start_declared, with_procedure, all_variables_declared, and_then, at_line, common_host, constant_definition, constant_entered, constants_declared, core_of, core_written, declaration_ended, declared_type, entered, enumerated, enumeration, next_enumeration, noted, ordered, part_declared, parts_declared, range, scopes_of, settled, settled_type, Standing, Stands, Falls, subrange, type_definition, type_definitions, type_entered, type_meant, type_named, type_written, unused, variable_declaration, variable_entered, variables_declared, variables_entered, with_constant, with_name, with_type, is_outermost, with_own_variable, with_unit_variable, with_variable, own_thing, Written}
+use Rattle.ep_check_unit.specs.Declarations.{Headed, block_declared, body_declared, body_ended, context_of, declared_procedure, formals_entered, forwarded, has_body, inside_declared, is_repeated, headed_again, headed_first, headed_over, headed_then, heading_declared, local_part_declared, local_parts_declared, procedure_declared, procedure_headed, sections_judged, procedure_there, scope_opened, start_declared, with_procedure, all_variables_declared, and_then, at_line, common_host, constant_definition, constant_entered, constants_declared, core_of, core_written, declaration_ended, declared_type, entered, enumerated, enumeration, next_enumeration, noted, ordered, part_declared, parts_declared, range, scopes_of, settled, settled_type, Standing, Stands, Falls, subrange, type_definition, type_definitions, type_entered, type_meant, type_named, type_written, unused, variable_declaration, variable_entered, variables_declared, variables_entered, with_constant, with_name, with_type, is_outermost, with_own_variable, with_unit_variable, with_variable, own_thing, Written}
 use Rattle.ep_check_unit.specs.Units.{parameter_entered, parameters_entered, standard_file}
-use Rattle.ep_check_unit.specs.Blocks.{Block, RoutineForm}
-use Rattle.ep_check_unit.proofs.Forms.{all_set}
-
--- a routine without parameters and result, and without routines of its own
-pub record IsPlain (r : RoutineForm) : Type 0 where
-  pub formals : r.formals ≡ []
-  pub result : r.result ≡ None
-  pub routines : r.routines ≡ []
-
-procedure_plain : (name : List ℕ) (line : ℕ) (variables : List UnitVariable) (s : Stmt) → IsPlain (procedure_form name line variables s)
-procedure_plain name line variables s = record { formals = refl; result = refl; routines = refl }
+use Rattle.ep_check_unit.specs.Blocks.{Block}
+use Rattle.ep_check_unit.specs.declared.block.OwnVariables.{OwnVariables}
 
 module _ (n : List ℕ) where
   abbrev pub IsOf : Block → Type 0
-  IsOf b = (b.unit ≡ n) × All IsPlain b.routines
+  IsOf b = b.unit ≡ n
 
   abbrev IsIn : Written → Type 0
   IsIn w = IsOf w.block
@@ -79,11 +72,11 @@ module _ (n : List ℕ) where
   -- ---- types
 
   declared_type-kept : (d : Declared) (what : Declaration) (b : Block) → IsOf b → Fits IsIn (declared_type d what b)
-  declared_type-kept d (declaration.«Type» h) b i = i
+  declared_type-kept d (declaration.«Type» of h) b i = i
   declared_type-kept d (declaration.Constant k v) b i = tt
-  declared_type-kept d (declaration.Variable k) b i = tt
-  declared_type-kept d (declaration.Own k) b i = tt
-  declared_type-kept d declaration.Procedure b i = tt
+  declared_type-kept d (declaration.Variable of k) b i = tt
+  declared_type-kept d (declaration.Own of k guarded) b i = tt
+  declared_type-kept d (declaration.Procedure ps) b i = tt
 
   type_meant-kept : (missing : List ℕ) (m : Meant) (b : Block) → IsOf b → Fits IsIn (type_meant missing m b)
   type_meant-kept missing (Declares d) b h = declared_type-kept d d.what b h
@@ -135,7 +128,7 @@ module _ (n : List ℕ) where
   type_definition-kept : (line : ℕ) (d : TypeDefinition) (b : Block) → IsOf b → Fits IsOf (type_definition line d b)
   type_definition-kept line d b i =
       fits_then IsIn IsOf (type_entered d) (type_written line d.of b) (core_written-kept line (out-Core (core_of d.of)) b i)
-      (λ w j. entered-kept d.name (own_thing w.block (length w.block.types) (declaration.«Type» w.host)) (with_type (Some d.name) d.line w.denoter w.block) j)
+      (λ w j. entered-kept d.name (own_thing w.block (length w.block.types) (declaration.«Type» w.of w.host)) (with_type (Some d.name) d.line w.denoter w.block) j)
 
   type_definitions-kept : (line : ℕ) (ds : List TypeDefinition) (b : Block) → IsOf b → Fits IsOf (type_definitions line ds b)
   type_definitions-kept line [] b i = i
@@ -150,21 +143,21 @@ module _ (n : List ℕ) where
   settled-kept line (Core-F.Restricted at name) w i = i
   settled-kept line (Core-F.TypeOf at name) w i = i
 
-  placed-kept : (line : ℕ) (d : Denoter) (h : Host) (name : List ℕ) (b : Block) (outermost : Bool) → IsOf b → IsOf (if outermost then with_unit_variable line d h name b else with_own_variable line d h name b)
-  placed-kept line d h name b true i = i
-  placed-kept line d h name b false i = i
+  placed-kept : (line : ℕ) (d : Denoter) (of : TypeName) (h : Host) (name : List ℕ) (b : Block) (outermost : Bool) → IsOf b → IsOf (if outermost then with_unit_variable line d of h name b else with_own_variable line d of h name b)
+  placed-kept line d of h name b true i = i
+  placed-kept line d of h name b false i = i
 
-  variables_entered-kept : (line : ℕ) (d : Denoter) (h : Host) (names : List (List ℕ)) (b : Block) → IsOf b → Fits IsOf (variables_entered line d h names b)
-  variables_entered-kept line d h [] b i = i
-  variables_entered-kept line d h (name ∷ names) b i =
-      fits_then IsOf IsOf (variables_entered line d h names) (variable_entered line d h name b)
-      (fits_then Any IsOf (λ _. Accepts (with_variable line d h name b)) (unused name b) (fits_any (unused name b)) (λ a j. placed-kept line d h name b (is_outermost b.scopes.outer) i)) (λ c j. variables_entered-kept line d h names c j)
+  variables_entered-kept : (line : ℕ) (d : Denoter) (of : TypeName) (h : Host) (names : List (List ℕ)) (b : Block) → IsOf b → Fits IsOf (variables_entered line d of h names b)
+  variables_entered-kept line d of h [] b i = i
+  variables_entered-kept line d of h (name ∷ names) b i =
+      fits_then IsOf IsOf (variables_entered line d of h names) (variable_entered line d of h name b)
+      (fits_then Any IsOf (λ _. Accepts (with_variable line d of h name b)) (unused name b) (fits_any (unused name b)) (λ a j. placed-kept line d of h name b (is_outermost b.scopes.outer) i)) (λ c j. variables_entered-kept line d of h names c j)
 
   variable_declaration-kept : (d : VariableDeclaration) (b : Block) → IsOf b → Fits IsOf (variable_declaration d b)
   variable_declaration-kept d b i =
       fits_then IsIn IsOf (variables_declared d) (settled_type d.line (out-Core (core_of d.of)) b)
       (fits_then IsIn IsIn (λ w. Accepts (settled d.line (out-Core (core_of d.of)) w)) (core_written d.line (out-Core (core_of d.of)) b) (core_written-kept d.line (out-Core (core_of d.of)) b i) (λ w j. settled-kept d.line (out-Core (core_of d.of)) w j))
-      (λ w j. fits_then IsOf IsOf (λ c. Accepts (declaration_ended c)) (variables_entered d.line w.denoter w.host d.names w.block) (variables_entered-kept d.line w.denoter w.host d.names w.block j) (λ c k. k))
+      (λ w j. fits_then IsOf IsOf (λ c. Accepts (declaration_ended c)) (variables_entered d.line w.denoter w.of w.host d.names w.block) (variables_entered-kept d.line w.denoter w.of w.host d.names w.block j) (λ c k. k))
 
   -- ---- parts
 
@@ -193,29 +186,50 @@ module _ (n : List ℕ) where
   abbrev IsHeaded : Headed → Type 0
   IsHeaded h = IsOf h.block
 
-  headed_first-kept : (name : List ℕ) (line : ℕ) (b : Block) → IsOf b → Fits IsHeaded (headed_first name line b)
-  headed_first-kept name line b i =
-      let t = own_thing b (length b.routines) declaration.Procedure in
-      fits_then IsOf IsHeaded (λ c. Accepts (record { number = length b.routines; block = c })) (entered name t (with_procedure name line b))
-      (entered-kept name t (with_procedure name line b) (i.0, All-push IsPlain b.routines (procedure_form name line [] tree.Empty) i.1 (procedure_plain name line [] tree.Empty))) (λ c k. k)
+  headed_first-kept : (name : List ℕ) (line : ℕ) (ps : List FormalParameter) (b : Block) → IsOf b → Fits IsHeaded (headed_first name line ps b)
+  headed_first-kept name line ps b i =
+      let t = own_thing b (length b.routines) (declaration.Procedure ps) in
+      fits_then IsOf IsHeaded (λ c. Accepts (record { number = length b.routines; parameters = ps; block = c })) (entered name t (with_procedure name line ps b)) (entered-kept name t (with_procedure name line ps b) i) (λ c k. k)
 
-  again_if-kept : (repeated : Bool) (b : Block) (number : ℕ) → IsOf b → Fits IsHeaded (if repeated then Breaks (rule.REPEATED_HEADING ∷ []) else Accepts (record { number = number; block = b }))
-  again_if-kept true b number i = tt
-  again_if-kept false b number i = i
+  declared_procedure-kept : (number : ℕ) (d : Declaration) (b : Block) → IsOf b → Fits IsHeaded (declared_procedure number d b)
+  declared_procedure-kept number (declaration.Procedure ps) b i = i
+  declared_procedure-kept number (declaration.Constant k v) b i = tt
+  declared_procedure-kept number (declaration.«Type» of h) b i = tt
+  declared_procedure-kept number (declaration.Variable of k) b i = tt
+  declared_procedure-kept number (declaration.Own of k guarded) b i = tt
 
-  headed_over-kept : (is_forward : Bool) (name : List ℕ) (line : ℕ) (o : Option Thing) (b : Block) → IsOf b → Fits IsHeaded (headed_over is_forward name line o b)
-  headed_over-kept is_forward name line None b i = headed_first-kept name line b i
-  headed_over-kept is_forward name line (Some t) b i =
-      fits_then Any IsHeaded (headed_again is_forward b) (procedure_there t) (fits_any (procedure_there t)) (λ m k. again_if-kept (is_forward || has_body m b) b m i)
+  procedure_there-kept : (t : Thing) (b : Block) → IsOf b → Fits IsHeaded (procedure_there t b)
+  procedure_there-kept (thing.Declared d) b i = declared_procedure-kept d.number d.what b i
+  procedure_there-kept (thing.Standard file) b i = tt
+
+  again_if-kept : (repeated : Bool) (h : Headed) → IsHeaded h → Fits IsHeaded (if repeated then Breaks (rule.REPEATED_HEADING ∷ []) else Accepts h)
+  again_if-kept true h i = tt
+  again_if-kept false h i = i
+
+  headed_over-kept : (is_forward : Bool) (name : List ℕ) (line : ℕ) (o : Option Thing) (b : Block) (ps : List FormalParameter) → IsOf b → Fits IsHeaded (headed_over is_forward name line o b ps)
+  headed_over-kept is_forward name line None b ps i = headed_first-kept name line ps b i
+  headed_over-kept is_forward name line (Some t) b ps i =
+      fits_then IsHeaded IsHeaded (headed_again is_forward ps) (procedure_there t b) (procedure_there-kept t b i) (λ h k. again_if-kept (is_forward || has_body h.number h.block || not (is_repeated ps h.parameters)) h k)
+
+  headed-kept : (is_forward : Bool) (name : List ℕ) (line : ℕ) (sections : List FormalSection) (b : Block) → IsOf b → Fits IsHeaded (procedure_headed is_forward name line sections b)
+  headed-kept is_forward name line sections b i =
+      fits_then Any IsHeaded (headed_over is_forward name line (look_up b.scopes.inner.entries name) b) (sections_judged name 0 sections b []) (fits_any (sections_judged name 0 sections b []))
+      (λ ps k. headed_over-kept is_forward name line (look_up b.scopes.inner.entries name) b ps i)
 
   headed_then-kept : (line : ℕ) (more : Headed → Standing) (j : Judged Headed) → Fits IsHeaded j → ((h : Headed) → IsHeaded h → Remains (more h)) → Remains (headed_then line more j)
   headed_then-kept line more (Accepts h) p g = g h p
   headed_then-kept line more (Breaks rules) p g = tt
 
-  body_ended-kept : (name : List ℕ) (line number : ℕ) (before : List UnitVariable) (b : Block) (row : Judgement Stmts) → IsOf b → Remains (body_ended name line number before b row)
-  body_ended-kept name line number before b (Passes ss) i = (i.0, all_set IsPlain b.routines number (procedure_form name line b.own (tree.Compound ss)) i.1 (procedure_plain name line b.own (tree.Compound ss)))
-  body_ended-kept name line number before b (Waits at) i = i
-  body_ended-kept name line number before b (Fails at rules) i = tt
+  body_ended-kept : (line number : ℕ) (before : OwnVariables) (b : Block) (row : Judgement Stmts) → IsOf b → Remains (body_ended line number before b row)
+  body_ended-kept line number before b (Passes ss) i = i
+  body_ended-kept line number before b (Waits at) i = i
+  body_ended-kept line number before b (Fails at rules) i = tt
+
+  formals-kept : (number : ℕ) (ps : List FormalParameter) (b : Block) → IsOf b → Fits IsOf (formals_entered number ps b)
+  formals-kept number [] b i = i
+  formals-kept number (p ∷ ps) b i =
+      let t = own_thing b number (declaration.Own p.of (kind.Ordinal p.host) (protection_of p.mode)) in
+      fits_then IsOf IsOf (formals_entered (suc number) ps) (entered p.name t b) (entered-kept p.name t b i) (λ c j. formals-kept (suc number) ps c j)
 
   local_part-kept : {A B C : Type 0} (p : Part-F A B C) (b : Block) → IsOf b → Remains (local_part_declared p b)
   local_part-kept (Part-F.Constants c) b i = constants-kept c.definitions b i
@@ -227,16 +241,24 @@ module _ (n : List ℕ) where
   local_parts-kept [] b i = i
   local_parts-kept (p ∷ ps) b i = then-kept (local_parts_declared ps) (local_part_declared (out-Part p) b) (local_part-kept (out-Part p) b i) (λ c j. local_parts-kept ps c j)
 
-  procedure-kept : {A C : Type 0} (line : ℕ) (name : List ℕ) (body : RoutineBody-F Part A C) (b : Block) → IsOf b → Remains (procedure_declared line name body b)
-  procedure-kept line name (RoutineBody-F.Forward at) b i =
-      headed_then-kept line (λ h. Stands (forwarded line h)) (procedure_headed true name line b) (headed_over-kept true name line (look_up b.scopes.inner.entries name) b i) (λ h j. j)
-  procedure-kept line name (RoutineBody-F.Block at ps c) b i =
-      headed_then-kept line (block_declared name line ps c) (procedure_headed false name line b) (headed_over-kept false name line (look_up b.scopes.inner.entries name) b i)
-      (λ h j. then-kept (body_declared name line h.number h.block.own c) (local_parts_declared ps (scope_opened h.block)) (local_parts-kept ps (scope_opened h.block) j)
-      (λ d k. body_ended-kept name line h.number h.block.own d (compound_judged (context_of d) c) k))
+  inside-kept : (line number : ℕ) (before : OwnVariables) (ps : List Part) (c : Compound) (b : Block) → IsOf b → Remains (inside_declared line number before ps c b)
+  inside-kept line number before ps c b i =
+      then-kept (body_declared line number before c) (local_parts_declared ps b) (local_parts-kept ps b i) (λ d k. body_ended-kept line number before d (compound_judged (context_of d) c) k)
+
+  block-kept : (line : ℕ) (ps : List Part) (c : Compound) (h : Headed) → IsHeaded h → Remains (block_declared line ps c h)
+  block-kept line ps c h i =
+      let b : Block = scope_opened h.parameters h.block in
+      then-kept (inside_declared line h.number h.block.own ps c) (at_line line (formals_entered 0 h.parameters b)) (line-kept line (formals_entered 0 h.parameters b) (formals-kept 0 h.parameters b i))
+      (λ d k. inside-kept line h.number h.block.own ps c d k)
+
+  procedure-kept : {A C : Type 0} (line : ℕ) (name : List ℕ) (sections : List FormalSection) (body : RoutineBody-F Part A C) (b : Block) → IsOf b → Remains (procedure_declared line name sections body b)
+  procedure-kept line name sections (RoutineBody-F.Forward at) b i =
+      headed_then-kept line (λ h. Stands (forwarded line h)) (procedure_headed true name line sections b) (headed-kept true name line sections b i) (λ h j. j)
+  procedure-kept line name sections (RoutineBody-F.Block at ps c) b i =
+      headed_then-kept line (block_declared line ps c) (procedure_headed false name line sections b) (headed-kept false name line sections b i) (λ h j. block-kept line ps c h j)
 
   heading-kept : {A C : Type 0} (line : ℕ) (h : RoutineHeading) (body : RoutineBody-F Part A C) (b : Block) → IsOf b → Remains (heading_declared line h body b)
-  heading-kept line (heading.Procedure at name formals) body b i = procedure-kept line name body b i
+  heading-kept line (heading.Procedure at name sections) body b i = procedure-kept line name sections body b i
   heading-kept line (heading.Function at name formals result type) body b i = tt
 
   start-kept : {A C : Type 0} (line : ℕ) (s : RoutineStart) (body : RoutineBody-F Part A C) (b : Block) → IsOf b → Remains (start_declared line s body b)

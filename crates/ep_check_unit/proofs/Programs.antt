@@ -1,6 +1,5 @@
 -- Programs by their parts.
-use Rattle.std.proofs.Common.{◌≡◌, ℕ, List, map, Option, Some, None, Ok, Err, refl, sym, ap, ◌∙◌}
-use Rattle.std.proofs.lemmas.List.Elements.{All-nil}
+use Rattle.std.proofs.Common.{◌≡◌, ℕ, List, map, Option, Some, None, Ok, Err, refl, sym, ap, ◌∙◌, subst}
 use Rattle.ep_tree.specs.declared.component.Program.{Program}
 use Rattle.ep_scope.specs.declared.rule.TheConstants as rule
 use Rattle.ep_typed.specs.Trees.{Stmt, Stmts, Compound, Empty, Arm, stmts}
@@ -10,24 +9,41 @@ use Rattle.ep_typed.specs.declared.tree.TypedStmt.TheVariants as typed
 use Rattle.ep_typed.specs.declared.tree.TypedStmt.TheOpen as layer
 use Rattle.ep_typed.specs.declared.tree.TypedStmt.TheFolds.{fold-roll-TypedStmt}
 use Rattle.ep_typed.specs.declared.unit.Unit.{Unit as TypedUnit}
-use Rattle.ep_check_expr.specs.Judgements.{Accepts}
-use Rattle.ep_check_stmt.specs.Answers.{RefusesRow, passed, stmts_of}
+use Rattle.ep_check_expr.specs.Judgements.{Judged, Accepts}
+use Rattle.ep_check_expr.specs.declared.forms.Refusal.{Refusal}
+use Rattle.ep_check_stmt.specs.Answers.{Refuses, RefusesRow, passed, stmts_of}
+use Rattle.ep_check_stmt.specs.Outcomes.{refused_at}
 use Rattle.ep_check_stmt.specs.Statements.{Judgement, Passes, Waits, Fails, after, compound_judged}
 use Rattle.ep_check_stmt.specs.declared.outcome.CheckRefusal.{CheckRefusal}
 use Rattle.ep_check_stmt.specs.declared.outcome.CheckRefusal.TheVariants as refusal
 use Rattle.ep_check_stmt.specs.declared.outcome.Outcome.{Outcome}
 use Rattle.ep_check_stmt.specs.declared.outcome.Outcome.TheVariants as outcome
+use Rattle.ep_check_unit.specs.Answers.{RefusesItems}
 use Rattle.ep_check_unit.specs.Checks.{AnswersBuilt, AnswersMissing, IsRefusalOf, IsUnitWith}
-use Rattle.ep_check_unit.specs.Declarations.{Stands, at_line, context_of, parts_declared}
+use Rattle.ep_check_unit.specs.Declarations.{Standing, Stands, Falls, and_then, at_line, context_of, parts_declared}
 use Rattle.ep_check_unit.specs.Units.{IsTypedProgram, ProgramForm, body_judged, declarations_wait, first_missing, imports_of, parameters_entered, program_block, program_form, program_judged, unless_missing}
 use Rattle.ep_check_unit.specs.Blocks.{Block}
-use Rattle.ep_check_unit.proofs.Kept.{IsPlain, parameters-remain, parts-remain}
-use Rattle.ep_check_unit.proofs.Refusing.{there, then_stands}
+use Rattle.ep_check_unit.proofs.Kept.{parameters-remain, parts-remain}
+use Rattle.ep_check_unit.proofs.Refusing.{line_refused, then_refused, then_stands, there}
 
 -- a program by the block that its declarations make
 pub program_is : (p : Program) (first second : Block) → parameters_entered p.parameters (program_block p) ≡ Accepts first → parts_declared p.parts first ≡ Stands second → program_judged p ≡ body_judged p (Stands second)
 program_is p first second e f =
     ap (body_judged p) (then_stands (parts_declared p.parts) (at_line p.line (parameters_entered p.parameters (program_block p))) first (ap (at_line p.line) e) ∙ f)
+
+-- declarations that are refused
+declarations_refused : (p : Program) (s : Standing) (r : CheckRefusal) → RefusesItems r s → IsRefusalOf (body_judged p s) r
+declarations_refused p s refusal.NoMemory h = tt
+declarations_refused p s (refusal.NotBuilt line) h = absurd h
+declarations_refused p (Stands b) (refusal.Broken x) h = cc
+declarations_refused p (Falls line rules) (refusal.Broken x) h = h
+
+-- and parameters that are
+pub parameters_refused : (p : Program) (first : Block) (e : Refusal) → first ≡ program_block p → Refuses e (parameters_entered p.parameters first) → IsRefusalOf (program_judged p) (refused_at p.line e)
+parameters_refused p first e is h =
+    let j : Judged Block = parameters_entered p.parameters (program_block p) in
+    declarations_refused p (and_then (parts_declared p.parts) (at_line p.line j)) (refused_at p.line e)
+    (then_refused (parts_declared p.parts) (refused_at p.line e) (at_line p.line j) (line_refused p.line e j (subst (λ b. Refuses e (parameters_entered p.parameters b)) is h)))
 
 -- statements that are refused
 row_refused : (b : Block) (missing waits : Option ℕ) (row : Judgement Stmts) (r : CheckRefusal) → RefusesRow r row → IsRefusalOf (unless_missing missing (after program_form (declarations_wait b waits) row)) r
@@ -104,7 +120,7 @@ program_typed p first second found ss u e f g m h w = record {
   form = program_form second (stmts_of ss);
   passes = program_passes p first second found ss e f g m h;
   unit = record {
-    name = w.name ∙ (parts-remain p.name p.parts first second f (parameters-remain p.name p.parameters (program_block p) first e (refl, All-nil IsPlain))).0;
+    name = w.name ∙ parts-remain p.name p.parts first second f (parameters-remain p.name p.parameters (program_block p) first e refl);
     program = w.program;
     interface = w.interface;
     imports = w.imports_are;

@@ -17,6 +17,10 @@ use Rattle.ep_check_unit.specs.Blocks.{Block}
 abbrev pub ranged : ℕ → Block → Expression → Expression → Judged Written
 ranged line b low high = both (range line b) (bound_judged (scopes_of b) low) (bound_judged (scopes_of b) high)
 
+-- what is accepted is one thing
+pub accepted_same : {A : Type 0} (x y : A) → Accepts x ≡ Accepts y → y ≡ x
+accepted_same x y e = cc
+
 -- a bound with the scopes of the block
 at_scopes : (scopes : List Region) (b : Block) (e : Expression) (form : ConstantForm) → scopes ≡ scopes_of b → bound_judged scopes e ≡ Accepts form → bound_judged (scopes_of b) e ≡ Accepts form
 at_scopes scopes b e form is h = ap (λ s. bound_judged s e) (sym is) ∙ h

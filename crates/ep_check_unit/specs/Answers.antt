@@ -1,7 +1,6 @@
 -- What the functions answer of what is judged: the form, or a rule that fails first; want of memory is free.
 use Rattle.std.specs.Prelude.{◌≡◌, ℕ, List, [], ◌∷◌, ◌++◌, length, Option, Result, Ok, Err, IsTrue, ⊤}
 use Rattle.ep_typed.specs.declared.denoter.Denoter.{Denoter}
-use Rattle.ep_typed.specs.declared.denoter.Denoter.TheVariants as denoter
 use Rattle.ep_typed.specs.declared.value.Value.{Value}
 use Rattle.ep_scope.specs.declared.kind.Host.{Host}
 use Rattle.ep_check_expr.specs.Judgements.{Judged, Accepts}
@@ -13,9 +12,8 @@ use Rattle.ep_check_stmt.specs.declared.outcome.CheckRefusal.TheVariants as refu
 use Rattle.ep_check_unit.specs.Declarations as spec
 use Rattle.ep_check_unit.specs.Declarations.{Standing, Stands, falls_at}
 use Rattle.ep_check_unit.specs.Blocks.{Block}
+use Rattle.ep_check_unit.specs.declared.procedures.Heading.{Heading}
 use Rattle.ep_check_unit.specs.declared.types.NamedType.{NamedType}
-use Rattle.ep_check_unit.specs.declared.types.TypeName.{TypeName}
-use Rattle.ep_check_unit.specs.declared.types.TypeName.TheVariants as type_name
 use Rattle.ep_check_unit.specs.declared.types.Written.{Written}
 
 -- a count as a number of 32 bits, where it is one
@@ -40,21 +38,16 @@ abbrev pub AnswersStanding : Result (Unit {0}) CheckRefusal → Block → Standi
 AnswersStanding (Ok done) new standing = standing ≡ Stands new
 AnswersStanding (Err r) new standing = RefusesItems r standing
 
--- the name of a type as a denoter
-abbrev pub denoter_named : TypeName → Denoter
-denoter_named (type_name.Required r) = denoter.Required r
-denoter_named (type_name.Entry number) = denoter.Named number []
-
 -- types that are written, in a block
 abbrev pub named_in : Block → NamedType → spec.Written
-named_in b t = record { denoter = denoter_named t.name; host = t.host; block = b }
+named_in b t = record { denoter = spec.type_denoter t.name; of = t.of; host = t.host; block = b }
 
 abbrev pub written_in : Block → Written → spec.Written
-written_in b w = record { denoter = w.denoter; host = w.host; block = b }
+written_in b w = record { denoter = w.denoter; of = w.of; host = w.host; block = b }
 
 -- a procedure that is declared, in a block
-abbrev pub headed_in : Block → ℕ → spec.Headed
-headed_in b number = record { number = number; block = b }
+abbrev pub headed_in : Block → Heading → spec.Headed
+headed_in b h = record { number = h.number; parameters = h.parameters; block = b }
 
 -- a constant's entry more
 abbrev pub with_constant_entry : List ℕ → Host → Value → Block → Block

@@ -12,6 +12,7 @@ use Rattle.ep_typed.specs.declared.unit.UnitVariable.{UnitVariable}
 use Rattle.ep_scope.specs.Scopes.{Row}
 use Rattle.ep_check_unit.specs.declared.block.Block as declared
 use Rattle.ep_check_unit.specs.declared.block.Forward.{Forward}
+use Rattle.ep_check_unit.specs.declared.block.OwnVariables.{OwnVariables}
 
 -- a routine, whose block is a statement as plain data
 pub record RoutineForm : Type 0 where
@@ -50,7 +51,7 @@ pub record Block : Type 0 where
   -- how many variable declarations there were, those of routines among them
   pub declarations : ℕ
   -- the variables of the routine whose block is under way; of none outside of routines
-  pub own : List UnitVariable
+  pub own : OwnVariables
   -- the routines in the order of their first declarations, by number; one whose body is still to come does nothing
   pub routines : List RoutineForm
   -- the `forward` declarations
@@ -71,7 +72,7 @@ block_of b =
       variables = b.variables;
       declarations = b.declarations;
       own = b.own;
-      routines = map routine_form b.routines;
+      routines = map routine_form b.routines.items;
       forwards = b.forwards;
       bodies = b.bodies;
       waits = b.waits;

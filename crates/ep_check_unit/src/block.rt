@@ -1,6 +1,6 @@
 //! What has been declared in a block.
 
-ghost use Rattle.std.specs.Prelude.{◌≡◌, IfOk, OnOk};
+ghost use Rattle.std.specs.Prelude.{◌≡◌, ◌+◌, [], IfOk, OnOk, length};
 ghost use Rattle.std.specs.Option.{option_map};
 ghost use Rattle.ep_check_unit.specs.Answers.{AnswersBlock, AnswersNumber, AnswersType, with_constant_entry};
 ghost use Rattle.ep_check_unit.specs.Blocks.{block_of};
@@ -8,13 +8,15 @@ ghost use Rattle.ep_check_unit.specs.Declarations.{constant_entered, entered, ha
 ghost use Rattle.ep_check_unit.specs.Checks.{IsUnitWith};
 ghost use Rattle.ep_check_unit.specs.Units.{first_block};
 
-use crate::types::host_type;
+use crate::types::{host_type, type_denoter};
 use ep_base::{Line, List, Name, NoMemory};
 use ep_check_expr::Refusal;
-use ep_scope::{Declaration, Declared, Host, Kind, ScopeRefusal, Scopes, Thing, rule};
+use ep_scope::{
+    Declaration, Declared, FormalParameters, Host, Kind, ScopeRefusal, Scopes, Thing, rule,
+};
 use ep_typed::{
     ConstantEntries, ConstantEntry, Denoter, ImportSpecs, TypeEntry, TypedStmt, TypedStmts, Unit,
-    UnitRoutines, UnitType, UnitTypes, UnitVariables, Value,
+    UnitRoutine, UnitType, UnitTypes, UnitVariables, Value,
 };
 use std::alloc::Global;
 
@@ -35,9 +37,9 @@ pub(crate) struct Block {
     /// How many variable declarations there were, those of routines among them.
     pub(crate) declarations: u32,
     /// The variables of the routine whose block is under way; none outside of routines.
-    pub(crate) own: UnitVariables,
+    pub(crate) own: OwnVariables,
     /// The routines, by number. One whose body is still to come does nothing.
-    pub(crate) routines: UnitRoutines,
+    pub(crate) routines: Vec<UnitRoutine>,
     /// The procedures that are declared `forward`.
     pub(crate) forwards: List<Forward>,
     /// The numbers of the routines that have a body.
@@ -62,6 +64,57 @@ impl Drop for Block {
             bodies: _,
             waits: _,
         } = self;
+    }
+}
+
+/// The variables of the routine whose block is under way.
+pub(crate) struct OwnVariables {
+    /// Its formal parameters, which come first.
+    pub(crate) parameters: FormalParameters,
+    /// Those that it has declared so far.
+    pub(crate) variables: UnitVariables,
+}
+
+impl Drop for OwnVariables {
+    fn drop(self) {
+        let OwnVariables {
+            parameters: _,
+            variables: _,
+        } = self;
+    }
+}
+
+impl OwnVariables {
+    /// Those of a routine with these formal parameters, which has declared none yet. It takes no memory.
+    pub(crate) fn new(alloc: Global, parameters: FormalParameters) -> OwnVariables
+        ensures { result ≡ record { parameters = parameters; variables = [] } }
+    {
+        OwnVariables {
+            parameters,
+            variables: List::new(alloc),
+        }
+    }
+
+    /// Their number, which the next one has.
+    pub(crate) fn count(&self) -> Result<u32, Refusal>
+        ensures { AnswersNumber (length self.now.parameters + length self.now.variables) result }
+    {
+        let parameters = self.parameters.items().len();
+        match parameters.checked_add(self.variables.items().len()) {
+            None => Err(Refusal::NoMemory),
+            Some(count) => number(count),
+        }
+    }
+
+    /// The declared ones alone.
+    pub(crate) fn into_variables(self) -> UnitVariables
+        ensures { result ≡ self.variables }
+    {
+        let OwnVariables {
+            parameters: _,
+            variables,
+        } = self;
+        variables
     }
 }
 
@@ -105,8 +158,8 @@ impl Block {
             constants: List::new(alloc),
             variables: List::new(alloc),
             declarations: 0,
-            own: List::new(alloc),
-            routines: List::new(alloc),
+            own: OwnVariables::new(alloc, List::new(alloc)),
+            routines: Vec::new(alloc),
             forwards: List::new(alloc),
             bodies: List::new(alloc),
             waits: None,
@@ -139,7 +192,7 @@ impl Block {
             types,
             constants,
             variables,
-            routines,
+            routines: List::from_vec(routines),
             start: TypedStmt::Compound(statements),
             stop: TypedStmt::Empty,
         }
@@ -215,7 +268,7 @@ impl Block {
     {
         let entry = ConstantEntry {
             name: name.copy(alloc)?,
-            denoter: host_type(host).denoter(alloc),
+            denoter: type_denoter(alloc, host_type(host)),
             value: copied(alloc, value)?,
         };
         self.constants.push(entry)

@@ -6,17 +6,17 @@ ghost use Rattle.ep_tree.specs.declared.routine.Part.{out-Part};
 ghost use Rattle.ep_tree.specs.declared.types.Core.{out-Core};
 ghost use Rattle.ep_check_expr.specs.Judgements.{when_accepted};
 ghost use Rattle.ep_check_stmt.specs.Answers.{AnswersForm};
-ghost use Rattle.ep_check_unit.specs.Answers.{AnswersBlock, AnswersStanding, denoter_named, named_in};
+ghost use Rattle.ep_check_unit.specs.Answers.{AnswersBlock, AnswersStanding, named_in};
 ghost use Rattle.ep_check_unit.specs.Blocks.{block_of};
 ghost use Rattle.ep_check_unit.specs.Declarations as spec;
-ghost use Rattle.ep_check_unit.specs.Declarations.{all_variables_declared, at_line, constant_definition, constants_declared, new_variable, part_declared, parts_declared, settled_type, type_definition, type_definitions, variable_declaration, variable_entered, variable_placed, variables_entered, with_own_variable, with_unit_variable};
+ghost use Rattle.ep_check_unit.specs.Declarations.{all_variables_declared, at_line, constant_definition, constants_declared, new_variable, part_declared, parts_declared, settled_type, type_definition, type_definitions, type_denoter, variable_declaration, variable_entered, variable_placed, variables_entered, with_own_variable, with_unit_variable};
 
 use crate::block::{Block, number};
-use crate::types::{NamedType, TypeName};
+use crate::types::{NamedType, type_denoter};
 use ep_base::{Line, List, Name, NoMemory};
 use ep_check_expr::{Refusal, constant_value};
 use ep_check_stmt::{CheckRefusal, refused_at};
-use ep_scope::{Declaration, Kind};
+use ep_scope::{Declaration, Kind, Protection, TypeName};
 use ep_tree::{ConstantDefinition, Core, Part, TypeDefinition, Types, VariableDeclaration};
 use ep_typed::UnitVariable;
 use std::alloc::Global;
@@ -123,10 +123,10 @@ impl Block {
     {
         let core = &definition.of.plain.get().core;
         let written = self.written_type(alloc, line, core)?;
-        let host = written.host;
+        let what = Declaration::Type(written.of, written.host);
         let denoter = written.into_denoter();
         let number = self.add_type(alloc, Some(&definition.name), definition.line, denoter)?;
-        let thing = self.own_thing(alloc, number, Declaration::Type(host))?;
+        let thing = self.own_thing(alloc, number, what)?;
         self.enter(alloc, &definition.name, thing)
     }
 
@@ -182,10 +182,11 @@ impl Block {
             return self.named_type(name);
         }
         let written = self.written_type(alloc, line, core)?;
+        let of = written.of;
         let host = written.host;
         let number = self.add_type(alloc, None, line, written.into_denoter())?;
         let name = TypeName::Entry(number);
-        Ok(NamedType { name, host })
+        Ok(NamedType { name, of, host })
     }
 
     /// A variable of a declaration on this line.
@@ -197,7 +198,7 @@ impl Block {
         name: &Name,
     ) -> Result<(), Refusal>
         ensures { AnswersBlock result (block_of self.new)
-            (variable_entered line (denoter_named named.name) named.host name.now (block_of self.old)) }
+            (variable_entered line (type_denoter named.name) named.of named.host name.now (block_of self.old)) }
     {
         if self.scopes.in_view().len() == 1 {
             self.declare_unit_variable(alloc, line, named, name)
@@ -215,12 +216,12 @@ impl Block {
         name: &Name,
     ) -> Result<(), Refusal>
         ensures { AnswersBlock result (block_of self.new) (variable_placed
-            (with_unit_variable line (denoter_named named.name) named.host name.now (block_of self.old))
+            (with_unit_variable line (type_denoter named.name) named.of named.host name.now (block_of self.old))
             name.now (block_of self.old)) }
     {
         let number = number(self.variables.items().len())?;
         let kind = Kind::Ordinal(named.host);
-        let thing = self.own_thing(alloc, number, Declaration::Variable(kind))?;
+        let thing = self.own_thing(alloc, number, Declaration::Variable(named.of, kind))?;
         self.enter(alloc, name, thing)?;
         let variable = self.new_variable(alloc, line, named, name)?;
         self.variables.push(variable)?;
@@ -236,15 +237,16 @@ impl Block {
         name: &Name,
     ) -> Result<(), Refusal>
         ensures { AnswersBlock result (block_of self.new) (variable_placed
-            (with_own_variable line (denoter_named named.name) named.host name.now (block_of self.old))
+            (with_own_variable line (type_denoter named.name) named.of named.host name.now (block_of self.old))
             name.now (block_of self.old)) }
     {
-        let number = number(self.own.items().len())?;
+        let number = self.own.count()?;
         let kind = Kind::Ordinal(named.host);
-        let thing = self.own_thing(alloc, number, Declaration::Own(kind))?;
+        let what = Declaration::Own(named.of, kind, Protection::Unprotected);
+        let thing = self.own_thing(alloc, number, what)?;
         self.enter(alloc, name, thing)?;
         let variable = self.new_variable(alloc, line, named, name)?;
-        self.own.push(variable)?;
+        self.own.variables.push(variable)?;
         Ok(())
     }
 
@@ -256,14 +258,14 @@ impl Block {
         named: NamedType,
         name: &Name,
     ) -> Result<UnitVariable, NoMemory>
-        ensures { IfOk result (λ v. v ≡ new_variable line (denoter_named named.name) name.now
+        ensures { IfOk result (λ v. v ≡ new_variable line (type_denoter named.name) name.now
             (block_of self.now)) }
     {
         Ok(UnitVariable {
             name: name.copy(alloc)?,
             line,
             declaration: self.declarations,
-            denoter: named.name.denoter(alloc),
+            denoter: type_denoter(alloc, named.name),
             tuple: List::new(alloc),
             parameter: false,
         })

@@ -9,6 +9,7 @@
 mod block;
 mod component;
 mod declarations;
+mod formals;
 mod laws;
 mod procedures;
 mod types;

@@ -5,19 +5,19 @@ ghost use Rattle.ep_built.specs.Built.{core_unbuilt, expression_unbuilt};
 ghost use Rattle.ep_scope.specs.Meanings.{meant_by};
 ghost use Rattle.ep_tree.specs.declared.types.Core.{out-Core};
 ghost use Rattle.ep_check_expr.specs.Constants.{bound_judged};
-ghost use Rattle.ep_check_expr.specs.Judgements.{both};
+ghost use Rattle.ep_check_expr.specs.Judgements.{Accepts, both};
 ghost use Rattle.ep_check_stmt.specs.Answers.{AnswersForm, fails_among};
-ghost use Rattle.ep_check_unit.specs.Answers.{AnswersBlock, denoter_named, named_in, written_in};
+ghost use Rattle.ep_check_unit.specs.Answers.{AnswersBlock, named_in, written_in};
 ghost use Rattle.ep_check_unit.specs.Declarations as spec;
 ghost use Rattle.ep_check_unit.specs.Blocks.{Block as BlockNow, block_of};
-ghost use Rattle.ep_check_unit.specs.Declarations.{common_host, core_written, enumerated, enumeration, host_denoter, number_in, ordered, range, required_host, scopes_of, subrange_denoter, type_meant};
+ghost use Rattle.ep_check_unit.specs.Declarations.{common_host, core_written, enumerated, enumeration, host_denoter, next_type, number_in, ordered, range, required_host, scopes_of, subrange_denoter, type_denoter, type_meant};
 
 use crate::block::{Block, number};
 use ep_base::{Boxed, Line, List, Name, Names, NoMemory};
 use ep_check_expr::{ConstantForm, Refusal, bound_value, undeclared};
 use ep_scope::{
-    Declaration, Enumeration, Host, Kind, Meaning, Required, meaning_in, meaning_of, rule,
-    same_host,
+    Declaration, Enumeration, Host, Kind, Meaning, Required, TypeName, meaning_in, meaning_of,
+    rule, same_host,
 };
 use ep_tree::{Core, Expression, QualifiedName};
 use ep_typed::{Bound, Denoter, RequiredType, Value};
@@ -25,26 +25,21 @@ use std::alloc::Global;
 
 /// A type by its name.
 #[derive(Clone, Copy, Drop)]
-pub(crate) enum TypeName {
-    /// A required type.
-    Required(RequiredType),
-    /// The type of this number of the unit.
-    Entry(u32),
-}
-
-/// A type by its name, and its host.
-#[derive(Clone, Copy, Drop)]
 pub(crate) struct NamedType {
     /// The name.
     pub(crate) name: TypeName,
+    /// Which type it is, whatever its name.
+    pub(crate) of: TypeName,
     /// The host.
     pub(crate) host: Host,
 }
 
-/// A type that is written, and its host.
+/// A type that is written.
 pub(crate) struct Written {
     /// The denoter.
     pub(crate) denoter: Denoter,
+    /// Which type it is.
+    pub(crate) of: TypeName,
     /// The host.
     pub(crate) host: Host,
 }
@@ -53,6 +48,7 @@ impl Drop for Written {
     fn drop(self) {
         let Written {
             denoter: _,
+            of: _,
             host: _,
         } = self;
     }
@@ -63,26 +59,28 @@ impl Written {
     pub(crate) fn into_denoter(self) -> Denoter
         ensures { result ≡ self.denoter }
     {
-        let Written { denoter, host: _ } = self;
+        let Written {
+            denoter,
+            of: _,
+            host: _,
+        } = self;
         denoter
     }
 }
 
-impl TypeName {
-    /// The name as a denoter. It takes no memory.
-    pub(crate) fn denoter(self, alloc: Global) -> Denoter
-        ensures { result ≡ denoter_named self }
-    {
-        match self {
-            TypeName::Required(required) => Denoter::Required(required),
-            TypeName::Entry(number) => Denoter::Named(number, List::new(alloc)),
-        }
+/// A type as a denoter. It takes no memory.
+pub(crate) fn type_denoter(alloc: Global, name: TypeName) -> Denoter
+    ensures { result ≡ type_denoter name }
+{
+    match name {
+        TypeName::Required(required) => Denoter::Required(required),
+        TypeName::Entry(number) => Denoter::Named(number, List::new(alloc)),
     }
 }
 
 /// The type that is a host.
 pub(crate) fn host_type(host: Host) -> TypeName
-    ensures { denoter_named result ≡ host_denoter host }
+    ensures { type_denoter result ≡ host_denoter host }
 {
     match host {
         Host::Integer => TypeName::Required(RequiredType::Integer),
@@ -110,14 +108,16 @@ fn type_meant(meaning: &Meaning<'_>, missing: u32) -> Result<NamedType, Refusal>
 {
     match meaning {
         Meaning::Declared(declared) => match &declared.what {
-            Declaration::Type(host) => Ok(NamedType {
+            Declaration::Type(of, host) => Ok(NamedType {
                 name: TypeName::Entry(declared.number),
+                of: *of,
                 host: *host,
             }),
             _ => Err(Refusal::Rule(rule::OTHER_THING)),
         },
         Meaning::Required(Required::Type(required)) => Ok(NamedType {
             name: TypeName::Required(*required),
+            of: TypeName::Required(*required),
             host: required_host(*required),
         }),
         Meaning::Nothing => Err(Refusal::Rule(missing)),
@@ -172,7 +172,7 @@ fn subrange(
 ) -> Result<Denoter, NoMemory>
     ensures { IfOk result (λ d. d ≡ subrange_denoter host low.now high.now) }
 {
-    let of = Boxed::new(alloc, host_type(host).denoter(alloc))?;
+    let of = Boxed::new(alloc, type_denoter(alloc, host_type(host)))?;
     let least = Bound::Constant(number_in(&low.value));
     let greatest = Bound::Constant(number_in(&high.value));
     Ok(Denoter::Subrange(of, least, greatest))
@@ -208,6 +208,13 @@ impl Block {
         }
     }
 
+    /// A type that is not there yet, which is the next one of the unit.
+    fn next_type(&self) -> Result<TypeName, Refusal>
+        ensures { AnswersForm (λ t. t) result (Accepts (next_type (block_of self.now))) }
+    {
+        Ok(TypeName::Entry(number(self.types.items().len())?))
+    }
+
     /// `expr ".." expr` in an item on this line.
     fn range(
         &mut self,
@@ -226,9 +233,10 @@ impl Block {
         let greatest = bound_value(alloc, high, self.scopes.in_view())?;
         let host = common_host(least.kind, greatest.kind)?;
         ordered(&least, &greatest)?;
+        let of = self.next_type()?;
         self.note(are_built(&least, &greatest), line);
         let denoter = subrange(alloc, host, &least, &greatest)?;
-        Ok(Written { denoter, host })
+        Ok(Written { denoter, of, host })
     }
 
     /// The constants of an enumeration are entered, in order.
@@ -255,9 +263,10 @@ impl Block {
             number: number(self.types.items().len())?,
             last: number(others.len())?,
         });
+        let of = self.next_type()?;
         self.enumerate(alloc, host, names)?;
         let denoter = Denoter::Enumeration(copied(alloc, names)?);
-        Ok(Written { denoter, host })
+        Ok(Written { denoter, of, host })
     }
 
     /// `core` in an item on this line.
@@ -275,7 +284,8 @@ impl Block {
             Core::Named(_, name, _) => {
                 let named = self.named_type(name)?;
                 Ok(Written {
-                    denoter: named.name.denoter(alloc),
+                    denoter: type_denoter(alloc, named.name),
+                    of: named.of,
                     host: named.host,
                 })
             }

@@ -3,9 +3,9 @@
 use crate::texts::parsed;
 use ep_base::Name;
 use ep_check_expr::{ExpressionRefusal, constant, expression};
-use ep_scope::{Declaration, Declared, Host, Kind, Scope, Thing};
+use ep_scope::{Declaration, Declared, Host, Kind, Scope, Thing, TypeName};
 use ep_tree::{Component, ComponentValue, Expression, Statement};
-use ep_typed::Value;
+use ep_typed::{RequiredType, Value};
 use std::alloc::{AllocError, Global};
 use std::test::Fail;
 
@@ -39,7 +39,8 @@ fn declared(alloc: Global, what: Declaration) -> Option<Thing> {
 
 /// The scope of the variable.
 fn variable(alloc: Global) -> Option<Scope> {
-    let what = Declaration::Variable(Kind::Ordinal(Host::Integer));
+    let integer = TypeName::Required(RequiredType::Integer);
+    let what = Declaration::Variable(integer, Kind::Ordinal(Host::Integer));
     let x = declared(alloc, what)?;
     let name = Name::from_bytes(alloc, b"x").ok()?;
     let mut scope = Scope::new(alloc);

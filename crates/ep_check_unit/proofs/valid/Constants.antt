@@ -1,5 +1,5 @@
 -- Constants of a block are held by the unit that has its lists.
-use Rattle.std.proofs.Common.{◌≡◌, ℕ, pos, suc, ◌≤◌, ◌+◌, List, [], ◌∷◌, length, IsTrue, refl, sym, subst, arith}
+use Rattle.std.proofs.Common.{◌≡◌, ℕ, pos, suc, ◌≤◌, ◌+◌, List, [], ◌∷◌, map, length, IsTrue, refl, sym, subst, arith}
 use Rattle.std.proofs.lemmas.Bool.Decides.{nat_tests}
 use Rattle.std.proofs.lemmas.List.Elements.{All-push}
 use Rattle.ep_outside.specs.Known.{IsPrefix}
@@ -25,12 +25,12 @@ use Rattle.ep_check_stmt.proofs.judged.Fits.{Any, Fits, fits_any, fits_both, fit
 use Rattle.ep_check_unit.specs.Declarations.{constant_definition, constant_entered, enumerated, host_denoter, own_thing, scopes_of, unused, with_constant}
 use Rattle.ep_check_unit.specs.Blocks.{Block}
 use Rattle.ep_check_unit.proofs.valid.Holds.{Holds, Lists, ListsKind, constant_valid, holds_agrees, known_listed, lists_small, things_push}
-use Rattle.ep_check_unit.proofs.valid.Leading.{Grows, Leads, Enters, enters_refl, enters_then, length_push, noted_leads, prefix_length, prefix_more, prefix_refl}
+use Rattle.ep_check_unit.proofs.valid.Leading.{Grows, Leads, Enters, enters_refl, enters_then, heading_in, length_push, noted_leads, prefix_length, prefix_more, prefix_refl}
 
 constant_grows : (name : List ℕ) (k : Kind) (v : Value) (b : Block) → Grows b (with_constant name k v b)
-constant_grows name (kind.Ordinal h) v b = record { types = prefix_refl b.types; constants = prefix_more b.constants _; variables = prefix_refl b.variables; own = prefix_refl b.own; outer = refl; alone = λ e. refl; routines = omega arith; waits = λ w. w }
-constant_grows name kind.Text v b = record { types = prefix_refl b.types; constants = prefix_refl b.constants; variables = prefix_refl b.variables; own = prefix_refl b.own; outer = refl; alone = λ e. refl; routines = omega arith; waits = λ w. w }
-constant_grows name kind.File v b = record { types = prefix_refl b.types; constants = prefix_refl b.constants; variables = prefix_refl b.variables; own = prefix_refl b.own; outer = refl; alone = λ e. refl; routines = omega arith; waits = λ w. w }
+constant_grows name (kind.Ordinal h) v b = record { types = prefix_refl b.types; constants = prefix_more b.constants _; variables = prefix_refl b.variables; own = prefix_refl b.own.variables; parameters = refl; outer = refl; alone = λ e. refl; headings = prefix_refl (map heading_in b.routines); waits = λ w. w }
+constant_grows name kind.Text v b = record { types = prefix_refl b.types; constants = prefix_refl b.constants; variables = prefix_refl b.variables; own = prefix_refl b.own.variables; parameters = refl; outer = refl; alone = λ e. refl; headings = prefix_refl (map heading_in b.routines); waits = λ w. w }
+constant_grows name kind.File v b = record { types = prefix_refl b.types; constants = prefix_refl b.constants; variables = prefix_refl b.variables; own = prefix_refl b.own.variables; parameters = refl; outer = refl; alone = λ e. refl; headings = prefix_refl (map heading_in b.routines); waits = λ w. w }
 
 constant_types : (name : List ℕ) (k : Kind) (v : Value) (b : Block) → (with_constant name k v b).types ≡ b.types
 constant_types name (kind.Ordinal h) v b = refl
@@ -49,6 +49,7 @@ module _ (u : TypedUnit) (o : List UnitVariable) where
     types = x.types;
     constants = All-push (IsConstant u.types) b.constants (record { name = name; denoter = host_denoter h; value = value.Word z }) x.constants (constant_valid u i name h z le l s.1);
     variables = x.variables;
+    parameters = x.parameters;
     owned = x.owned;
   }
   constant_holds i name (kind.Ordinal h) (value.Text bytes) b le s l x = absurd s
@@ -62,6 +63,7 @@ module _ (u : TypedUnit) (o : List UnitVariable) where
     types = x.types;
     constants = x.constants;
     variables = x.variables;
+    parameters = x.parameters;
     owned = x.owned;
   }
   constant_holds i name kind.File v b le s l x = absurd s

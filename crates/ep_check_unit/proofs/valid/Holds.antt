@@ -1,12 +1,13 @@
 -- What a unit holds of the declarations of a block: each name stands for what the unit has under its number, and what stands in the block's lists is valid in the unit.
-use Rattle.std.proofs.Common.{◌≡◌, ℕ, ℤ, zero, suc, ◌<◌, ◌≤◌, true, List, [], ◌∷◌, ◌++◌, map, length, Some, None, slice_get, bytes_eq, IsTrue, inl, inr, refl, sym, ap, ◌∙◌, subst, arith}
+use Rattle.std.proofs.Common.{◌≡◌, ℕ, ℤ, suc, ◌<◌, ◌≤◌, true, List, [], ◌∷◌, ◌++◌, map, length, Some, None, slice_get, bytes_eq, IsTrue, inl, inr, refl, sym, ap, ◌∙◌, subst, arith}
+use Rattle.std.proofs.lemmas.List.Elements.{All-cons, All-head, All-nil, All-tail}
 use Rattle.std.proofs.lemmas.Slice.Eq.{bytes_eq-Decides}
 use Rattle.std.specs.Prelude.{All, ⊤, if◌then◌else◌}
-use Rattle.ep_typed.specs.Denoters.{definition_of, host_of}
+use Rattle.ep_typed.specs.Denoters.{definition_of, host_of, type_of}
 use Rattle.ep_typed.specs.Hosts as typed
 use Rattle.ep_typed.specs.Hosts.{is_of_host}
 use Rattle.ep_typed.specs.Trees as tree
-use Rattle.ep_typed.specs.Valid.{IsType, IsConstant, IsVariable, IsPlace, IsProcedure, IsStmt, heading_of, in_routine, own}
+use Rattle.ep_typed.specs.Valid.{IsConstant, IsDenoter, IsFormal, IsPlace, IsProcedure, IsStmt, IsType, IsVariable, formal_variable, heading_of, in_routine, own}
 use Rattle.ep_typed.specs.Viewed.{bound_of, denoter_of, denoter_step}
 use Rattle.ep_typed.specs.declared.denoter.Bound.{Bound}
 use Rattle.ep_typed.specs.declared.denoter.Denoter.{Denoter}
@@ -15,8 +16,8 @@ use Rattle.ep_typed.specs.declared.denoter.Denoter.TheOpen as layer
 use Rattle.ep_typed.specs.declared.denoter.Denoter.TheFolds.{fold-roll-Denoter}
 use Rattle.ep_typed.specs.declared.denoter.RequiredType.{RequiredType}
 use Rattle.ep_typed.specs.declared.denoter.RequiredType.TheVariants as simple
+use Rattle.ep_typed.specs.declared.interface.RoutineEntry.{RoutineEntry}
 use Rattle.ep_typed.specs.declared.unit.Unit.{Unit as TypedUnit}
-use Rattle.ep_typed.specs.declared.unit.UnitRoutine.{UnitRoutine}
 use Rattle.ep_typed.specs.declared.unit.UnitType.{UnitType}
 use Rattle.ep_typed.specs.declared.unit.UnitVariable.{UnitVariable}
 use Rattle.ep_typed.specs.declared.value.TypeValue.{TypeValue}
@@ -27,14 +28,17 @@ use Rattle.ep_scope.specs.declared.kind.Host.{Host}
 use Rattle.ep_scope.specs.declared.kind.Host.TheVariants as host
 use Rattle.ep_scope.specs.declared.kind.Kind.{Kind}
 use Rattle.ep_scope.specs.declared.kind.Kind.TheVariants as kind
+use Rattle.ep_scope.specs.declared.parameter.FormalParameter.{FormalParameter}
+use Rattle.ep_scope.specs.declared.parameter.TypeName.{TypeName}
+use Rattle.ep_scope.specs.declared.parameter.TypeName.TheVariants as type_name
 use Rattle.ep_scope.specs.declared.thing.Declaration.{Declaration}
 use Rattle.ep_scope.specs.declared.thing.Declaration.TheVariants as declaration
 use Rattle.ep_scope.specs.declared.thing.Thing.{Thing}
 use Rattle.ep_scope.specs.declared.thing.Thing.TheVariants as thing
-use Rattle.ep_check_expr.specs.Agreement.{IsHost, IsConstantOf, IsDeclaration, IsThing, AreThings, AreInterfaces, Agrees}
+use Rattle.ep_check_expr.specs.Agreement.{Agrees, AgreesBy, AreInterfaces, AreParameters, AreThings, IsConstantOf, IsDeclaration, IsHost, IsOfType, IsThing, TypeValues}
 use Rattle.ep_check_expr.specs.Hosts.{typed_host}
 use Rattle.ep_check_expr.specs.Origins.{IsKnownHost, IsKnownKind, IsRequiredHost, HasHost, DeclaresHost, ThingHasHost, EntriesHaveHost, InterfacesHaveHost, ScopesHaveHost}
-use Rattle.ep_check_unit.specs.Declarations.{host_denoter, scopes_of}
+use Rattle.ep_check_unit.specs.Declarations.{formal_of, host_denoter, scopes_of, type_denoter}
 use Rattle.ep_check_unit.specs.Blocks.{Block, RoutineForm}
 use Rattle.ep_check_unit.proofs.valid.Denoting.{Denotes, IsSmall, full_type, denotes_more, denotes_required, denotes_named, denotes_enumeration, denotes_valid}
 
@@ -51,6 +55,15 @@ subrange_is of low high = ap denoter_of (sym (denoter.rolls-Subrange of low high
 
 pub enumeration_is : (names : List (List ℕ)) → denoter_of (denoter.Enumeration names) ≡ tree.Enumeration names
 enumeration_is names = ap denoter_of (sym (denoter.rolls-Enumeration names)) ∙ fold-roll-Denoter tree.Denoter denoter_step (layer.Enumeration names)
+
+-- a type by its name, as plain data
+abbrev pub named_tree : TypeName → tree.Denoter
+named_tree (type_name.Required r) = tree.Required r
+named_tree (type_name.Entry number) = tree.Named number []
+
+pub name_denotes : (t : TypeName) → denoter_of (type_denoter t) ≡ named_tree t
+name_denotes (type_name.Required r) = required_is r
+name_denotes (type_name.Entry number) = named_is number []
 
 name_same : (a b : List ℕ) → a ≡ b → bytes_eq a b ≡ true
 name_same a b h = grind (arith, bytes_eq-Decides)
@@ -94,6 +107,10 @@ module _ (u : TypedUnit) where
   abbrev pub HasHostHere : ℕ → tree.Denoter → Host → Type 0
   HasHostHere i d h = (v : TypeValue) × Denotes u.types i d (typed_host h) v
 
+  -- so has the type of this name, and it has the type value of the denoter
+  abbrev pub HasTypeHere : ℕ → tree.Denoter → TypeName → Host → Type 0
+  HasTypeHere i d of h = (v : TypeValue) × Denotes u.types i d (typed_host h) v × Denotes u.types i (named_tree of) (typed_host h) v
+
   pub required_lists : (i : ℕ) (r : RequiredType) (h : typed.Host) → Denotes u.types 0 (tree.Required r) h (full_type h) → Denotes u.types i (denoter_of (denoter.Required r)) h (full_type h)
   required_lists i r h d = subst (λ x. Denotes u.types i x h (full_type h)) (sym (required_is r)) (denotes_more u.types 0 i (tree.Required r) h (full_type h) (omega arith) d)
 
@@ -128,39 +145,88 @@ module _ (u : TypedUnit) where
   ListsKind i kind.Text = ⊤
   ListsKind i kind.File = ⊤
 
-  -- the type of this number has the host
-  pub record HoldsType (i number : ℕ) (h : Host) : Type 0 where
+  -- the type of this number has the host, and is this type
+  pub record HoldsType (i number : ℕ) (of : TypeName) (h : Host) : Type 0 where
     pub lists : Lists i h
     pub before : number < i
-    pub denotes : HasHostHere i (tree.Named number []) h
+    pub denotes : HasTypeHere i (tree.Named number []) of h
 
-  -- so has the variable of this number
-  pub record HoldsVariable (i number : ℕ) (h : Host) : Type 0 where
+  -- the variable of this number has this type
+  pub record HoldsVariable (i number : ℕ) (of : TypeName) (h : Host) : Type 0 where
     pub lists : Lists i h
     pub variable : UnitVariable
     pub at : slice_get u.variables number ≡ Some variable
-    pub denotes : HasHostHere i (denoter_of variable.denoter) h
+    pub denotes : HasTypeHere i (denoter_of variable.denoter) of h
 
   -- so has that of a routine with these variables
-  pub record HoldsOwn (variables : List UnitVariable) (i number : ℕ) (h : Host) : Type 0 where
+  pub record HoldsOwn (variables : List UnitVariable) (i number : ℕ) (of : TypeName) (h : Host) : Type 0 where
     pub lists : Lists i h
     pub variable : UnitVariable
     pub at : slice_get variables number ≡ Some variable
-    pub denotes : HasHostHere i (denoter_of variable.denoter) h
+    pub denotes : HasTypeHere i (denoter_of variable.denoter) of h
 
-  -- the routine of this number is a procedure without parameters
-  pub record HoldsProcedure (number : ℕ) : Type 0 where
-    pub routine : UnitRoutine
-    pub at : slice_get u.routines number ≡ Some routine
-    pub is_procedure : IsProcedure (heading_of routine)
-    pub no_formals : (heading_of routine).formals ≡ []
+  -- a formal parameter has a type
+  pub record HoldsParameter (i : ℕ) (p : FormalParameter) : Type 0 where
+    pub lists : Lists i p.host
+    pub denotes : HasHostHere i (named_tree p.of) p.host
 
-  -- a routine's variables are valid, and so is what it does with them
-  abbrev pub HoldsRoutine : RoutineForm → Type 0
-  HoldsRoutine r = All (IsVariable u.types) r.variables × IsStmt (in_routine r.variables u.types (own u)) r.block
+  -- the routine of this number is a procedure with these formal parameters
+  pub record HoldsProcedure (i number : ℕ) (ps : List FormalParameter) : Type 0 where
+    pub heading : RoutineEntry
+    pub at : slice_get (map heading_of u.routines) number ≡ Some heading
+    pub is_procedure : IsProcedure heading
+    pub formals : heading.formals ≡ map formal_of ps
+    pub parameters : All (HoldsParameter i) ps
 
-  has_host_more : (i j : ℕ) (d : tree.Denoter) (h : Host) → i ≤ j → HasHostHere i d h → HasHostHere j d h
-  has_host_more i j d h le x = (x.0, denotes_more u.types i j d (typed_host h) x.0 le x.1)
+  -- The routine is a procedure without routines of its own. Its formal parameters and variables are valid, and so is what it does with them.
+  pub record HoldsRoutine (r : RoutineForm) : Type 0 where
+    pub procedure : r.result ≡ None
+    pub alone : r.routines ≡ []
+    pub formals : All (IsFormal u.types) r.formals
+    pub variables : All (IsVariable u.types) r.variables
+    pub block : IsStmt (in_routine (map (formal_variable r.line) r.formals ++ r.variables) u.types (own u)) r.block
+
+  has_type_more : (i j : ℕ) (d : tree.Denoter) (of : TypeName) (h : Host) → i ≤ j → HasTypeHere i d of h → HasTypeHere j d of h
+  has_type_more i j d of h le x = (x.0, denotes_more u.types i j d (typed_host h) x.0 le x.1, denotes_more u.types i j (named_tree of) (typed_host h) x.0 le x.2)
+
+  parameter_more : (i j : ℕ) (p : FormalParameter) → i ≤ j → HoldsParameter i p → HoldsParameter j p
+  parameter_more i j p le x = record { lists = lists_more i j p.host le x.lists; denotes = (x.denotes.0, denotes_more u.types i j (named_tree p.of) (typed_host p.host) x.denotes.0 le x.denotes.1) }
+
+  pub parameters_more : (i j : ℕ) (ps : List FormalParameter) → i ≤ j → All (HoldsParameter i) ps → All (HoldsParameter j) ps
+  parameters_more i j [] le x = All-nil (HoldsParameter j)
+  parameters_more i j (p ∷ ps) le x = All-cons (HoldsParameter j) p ps (parameter_more i j p le (All-head (HoldsParameter i) p ps x)) (parameters_more i j ps le (All-tail (HoldsParameter i) p ps x))
+
+  pub procedure_more : (i j number : ℕ) (ps : List FormalParameter) → i ≤ j → HoldsProcedure i number ps → HoldsProcedure j number ps
+  procedure_more i j number ps le x = record { heading = x.heading; at = x.at; is_procedure = x.is_procedure; formals = x.formals; parameters = parameters_more i j ps le x.parameters }
+
+  -- a formal parameter that has a type is valid
+  formal_valid : (i : ℕ) (p : FormalParameter) → i ≤ length u.types → HoldsParameter i p → IsFormal u.types (formal_of p)
+  formal_valid i p le x = record {
+    denoter = subst (IsDenoter u.types) (sym (name_denotes p.of)) (denotes_valid u.types i (named_tree p.of) (typed_host p.host) x.denotes.0 le x.denotes.1);
+  }
+
+  pub formals_valid : (i : ℕ) (ps : List FormalParameter) → i ≤ length u.types → All (HoldsParameter i) ps → All (IsFormal u.types) (map formal_of ps)
+  formals_valid i [] le x = All-nil (IsFormal u.types)
+  formals_valid i (p ∷ ps) le x =
+      All-cons (IsFormal u.types) (formal_of p) (map formal_of ps) (formal_valid i p le (All-head (HoldsParameter i) p ps x)) (formals_valid i ps le (All-tail (HoldsParameter i) p ps x))
+
+  -- ---- type values
+
+  -- the type value of each type
+  abbrev pub type_values : TypeValues
+  type_values t = type_of u.types (named_tree t)
+
+  parameters_hold : (i : ℕ) (ps : List FormalParameter) → i ≤ length u.types → All (HoldsParameter i) ps → AreParameters type_values u.types ps (map formal_of ps)
+  parameters_hold i [] le x = tt
+  parameters_hold i (p ∷ ps) le x =
+      let y = All-head (HoldsParameter i) p ps x in (
+        record {
+          mode = refl;
+          has_host = ap (host_of u.types) (name_denotes p.of) ∙ y.denotes.1.has_host (suc (length u.types)) (omega (arith, le));
+          has_type = ap (type_of u.types) (name_denotes p.of);
+        },
+        parameters_hold i ps le (All-tail (HoldsParameter i) p ps x),
+      )
 
   lists_kind_more : (i j : ℕ) (k : Kind) → i ≤ j → ListsKind i k → ListsKind j k
   lists_kind_more i j (kind.Ordinal h) le l = lists_more i j h le l
@@ -176,17 +242,27 @@ module _ (u : TypedUnit) where
   variables_own unit number e = ap (λ b. if b then slice_get u.variables number else None) (name_same u.name unit (sym e))
 
   -- a variable that is held is a place
-  pub variable_place : (i number : ℕ) (unit : List ℕ) (h : Host) → i ≤ length u.types → unit ≡ u.name → HoldsVariable i number h → IsPlace (own u) (typed_host h) (tree.Variable unit number)
-  variable_place i number unit h le e x =
+  variable_place : (i number : ℕ) (unit : List ℕ) (of : TypeName) (h : Host) → i ≤ length u.types → unit ≡ u.name → HoldsVariable i number of h → IsPlace (own u) (typed_host h) (tree.Variable unit number)
+  variable_place i number unit of h le e x =
       (x.variable, variables_own unit number e ∙ x.at, ap (λ ts. host_of ts (denoter_of x.variable.denoter)) (types_own unit e) ∙ x.denotes.1.has_host (suc (length u.types)) (omega (arith, le)))
 
-  own_place : (o : List UnitVariable) (i number : ℕ) (h : Host) → i ≤ length u.types → HoldsOwn o i number h → IsPlace (in_routine o u.types (own u)) (typed_host h) (tree.Own number)
-  own_place o i number h le x = (x.variable, x.at, x.denotes.1.has_host (suc (length u.types)) (omega (arith, le)))
+  own_place : (o : List UnitVariable) (i number : ℕ) (of : TypeName) (h : Host) → i ≤ length u.types → HoldsOwn o i number of h → IsPlace (in_routine o u.types (own u)) (typed_host h) (tree.Own number)
+  own_place o i number of h le x = (x.variable, x.at, x.denotes.1.has_host (suc (length u.types)) (omega (arith, le)))
 
-  routine_at : (rs : List UnitRoutine) (number : ℕ) (r : UnitRoutine) → slice_get rs number ≡ Some r → slice_get (map heading_of rs) number ≡ Some (heading_of r)
-  routine_at [] number r h = cc
-  routine_at (x ∷ xs) zero r h = cc
-  routine_at (x ∷ xs) (suc n) r h = routine_at xs n r h
+  -- it has its type
+  variable_typed : (i number : ℕ) (unit : List ℕ) (of : TypeName) (h : Host) → i ≤ length u.types → unit ≡ u.name → HoldsVariable i number of h → IsOfType (own u) type_values (tree.Variable unit number) of
+  variable_typed i number unit of h le e x = (
+    x.denotes.0,
+    x.denotes.2.has_type (suc (length u.types)) (omega (arith, le)),
+    (x.variable, variables_own unit number e ∙ x.at, ap (λ ts. type_of ts (denoter_of x.variable.denoter)) (types_own unit e) ∙ x.denotes.1.has_type (suc (length u.types)) (omega (arith, le))),
+  )
+
+  own_typed : (o : List UnitVariable) (i number : ℕ) (of : TypeName) (h : Host) → i ≤ length u.types → HoldsOwn o i number of h → IsOfType (in_routine o u.types (own u)) type_values (tree.Own number) of
+  own_typed o i number of h le x = (
+    x.denotes.0,
+    x.denotes.2.has_type (suc (length u.types)) (omega (arith, le)),
+    (x.variable, x.at, x.denotes.1.has_type (suc (length u.types)) (omega (arith, le))),
+  )
 
   routines_own : (unit : List ℕ) → unit ≡ u.name → (own u).routines unit ≡ map heading_of u.routines
   routines_own unit e = ap (λ b. if b then map heading_of u.routines else []) (name_same u.name unit (sym e))
@@ -209,14 +285,14 @@ module _ (u : TypedUnit) where
 module _ (u : TypedUnit) (o : List UnitVariable) where
   abbrev pub HoldsDeclaration : ℕ → ℕ → Declaration → Type 0
   HoldsDeclaration i number (declaration.Constant k v) = IsConstantOf k v × ListsKind u i k
-  HoldsDeclaration i number (declaration.«Type» h) = HoldsType u i number h
-  HoldsDeclaration i number (declaration.Variable (kind.Ordinal h)) = HoldsVariable u i number h
-  HoldsDeclaration i number (declaration.Variable kind.Text) = ⊥
-  HoldsDeclaration i number (declaration.Variable kind.File) = ⊥
-  HoldsDeclaration i number (declaration.Own (kind.Ordinal h)) = HoldsOwn u o i number h
-  HoldsDeclaration i number (declaration.Own kind.Text) = ⊥
-  HoldsDeclaration i number (declaration.Own kind.File) = ⊥
-  HoldsDeclaration i number declaration.Procedure = HoldsProcedure u number
+  HoldsDeclaration i number (declaration.«Type» of h) = HoldsType u i number of h
+  HoldsDeclaration i number (declaration.Variable of (kind.Ordinal h)) = HoldsVariable u i number of h
+  HoldsDeclaration i number (declaration.Variable of kind.Text) = ⊥
+  HoldsDeclaration i number (declaration.Variable of kind.File) = ⊥
+  HoldsDeclaration i number (declaration.Own of (kind.Ordinal h) guarded) = HoldsOwn u o i number of h
+  HoldsDeclaration i number (declaration.Own of kind.Text guarded) = ⊥
+  HoldsDeclaration i number (declaration.Own of kind.File guarded) = ⊥
+  HoldsDeclaration i number (declaration.Procedure ps) = HoldsProcedure u i number ps
 
   abbrev pub HoldsThing : ℕ → Thing → Type 0
   HoldsThing i (thing.Declared d) = (d.unit ≡ u.name) × HoldsDeclaration i d.number d.what
@@ -235,14 +311,14 @@ module _ (u : TypedUnit) (o : List UnitVariable) where
 
   declaration_more : (i j number : ℕ) (d : Declaration) → i ≤ j → HoldsDeclaration i number d → HoldsDeclaration j number d
   declaration_more i j number (declaration.Constant k v) le x = (x.0, lists_kind_more u i j k le x.1)
-  declaration_more i j number (declaration.«Type» h) le x = record { lists = lists_more u i j h le x.lists; before = omega (arith, le, x.before); denotes = has_host_more u i j (tree.Named number []) h le x.denotes }
-  declaration_more i j number (declaration.Variable (kind.Ordinal h)) le x = record { lists = lists_more u i j h le x.lists; variable = x.variable; at = x.at; denotes = has_host_more u i j (denoter_of x.variable.denoter) h le x.denotes }
-  declaration_more i j number (declaration.Variable kind.Text) le x = x
-  declaration_more i j number (declaration.Variable kind.File) le x = x
-  declaration_more i j number (declaration.Own (kind.Ordinal h)) le x = record { lists = lists_more u i j h le x.lists; variable = x.variable; at = x.at; denotes = has_host_more u i j (denoter_of x.variable.denoter) h le x.denotes }
-  declaration_more i j number (declaration.Own kind.Text) le x = x
-  declaration_more i j number (declaration.Own kind.File) le x = x
-  declaration_more i j number declaration.Procedure le x = x
+  declaration_more i j number (declaration.«Type» of h) le x = record { lists = lists_more u i j h le x.lists; before = omega (arith, le, x.before); denotes = has_type_more u i j (tree.Named number []) of h le x.denotes }
+  declaration_more i j number (declaration.Variable of (kind.Ordinal h)) le x = record { lists = lists_more u i j h le x.lists; variable = x.variable; at = x.at; denotes = has_type_more u i j (denoter_of x.variable.denoter) of h le x.denotes }
+  declaration_more i j number (declaration.Variable of kind.Text) le x = x
+  declaration_more i j number (declaration.Variable of kind.File) le x = x
+  declaration_more i j number (declaration.Own of (kind.Ordinal h) guarded) le x = record { lists = lists_more u i j h le x.lists; variable = x.variable; at = x.at; denotes = has_type_more u i j (denoter_of x.variable.denoter) of h le x.denotes }
+  declaration_more i j number (declaration.Own of kind.Text guarded) le x = x
+  declaration_more i j number (declaration.Own of kind.File guarded) le x = x
+  declaration_more i j number (declaration.Procedure ps) le x = procedure_more u i j number ps le x
 
   thing_more : (i j : ℕ) (t : Thing) → i ≤ j → HoldsThing i t → HoldsThing j t
   thing_more i j (thing.Declared d) le x = (x.0, declaration_more i j d.number d.what le x.1)
@@ -265,14 +341,14 @@ module _ (u : TypedUnit) (o : List UnitVariable) where
 
   declaration_listed : (i number : ℕ) (d : Declaration) (h : Host) → HoldsDeclaration i number d → DeclaresHost d h → Lists u i h
   declaration_listed i number (declaration.Constant k v) h x e = kind_listed u i k h x.1 e
-  declaration_listed i number (declaration.«Type» g) h x e = subst (Lists u i) e x.lists
-  declaration_listed i number (declaration.Variable (kind.Ordinal g)) h x e = subst (Lists u i) e x.lists
-  declaration_listed i number (declaration.Variable kind.Text) h x e = absurd x
-  declaration_listed i number (declaration.Variable kind.File) h x e = absurd x
-  declaration_listed i number (declaration.Own (kind.Ordinal g)) h x e = subst (Lists u i) e x.lists
-  declaration_listed i number (declaration.Own kind.Text) h x e = absurd x
-  declaration_listed i number (declaration.Own kind.File) h x e = absurd x
-  declaration_listed i number declaration.Procedure h x e = absurd e
+  declaration_listed i number (declaration.«Type» of g) h x e = subst (Lists u i) e x.lists
+  declaration_listed i number (declaration.Variable of (kind.Ordinal g)) h x e = subst (Lists u i) e x.lists
+  declaration_listed i number (declaration.Variable of kind.Text) h x e = absurd x
+  declaration_listed i number (declaration.Variable of kind.File) h x e = absurd x
+  declaration_listed i number (declaration.Own of (kind.Ordinal g) guarded) h x e = subst (Lists u i) e x.lists
+  declaration_listed i number (declaration.Own of kind.Text guarded) h x e = absurd x
+  declaration_listed i number (declaration.Own of kind.File guarded) h x e = absurd x
+  declaration_listed i number (declaration.Procedure ps) h x e = absurd e
 
   thing_listed : (i : ℕ) (t : Thing) (h : Host) → HoldsThing i t → ThingHasHost t h → Lists u i h
   thing_listed i (thing.Declared d) h x e = declaration_listed i d.number d.what h x.1 e
@@ -293,48 +369,55 @@ module _ (u : TypedUnit) (o : List UnitVariable) where
 
 -- The types of the unit are those of the routine, where it has variables.
 module _ (u : TypedUnit) (o : List UnitVariable) (ts : List UnitType) (there : (k : ℕ) (v : UnitVariable) → slice_get o k ≡ Some v → ts ≡ u.types) where
-  declared_holds : (i number : ℕ) (unit : List ℕ) (d : Declaration) → i ≤ length u.types → unit ≡ u.name → HoldsDeclaration u o i number d → IsDeclaration (in_routine o ts (own u)) unit number d
+  declared_holds : (i number : ℕ) (unit : List ℕ) (d : Declaration) → i ≤ length u.types → unit ≡ u.name → HoldsDeclaration u o i number d → IsDeclaration (in_routine o ts (own u)) (type_values u) unit number d
   declared_holds i number unit (declaration.Constant k v) le e x = x.0
-  declared_holds i number unit (declaration.«Type» h) le e x = lists_small u i h x.lists
-  declared_holds i number unit (declaration.Variable (kind.Ordinal h)) le e x = (lists_small u i h x.lists, variable_place u i number unit h le e x)
-  declared_holds i number unit (declaration.Variable kind.Text) le e x = absurd x
-  declared_holds i number unit (declaration.Variable kind.File) le e x = absurd x
-  declared_holds i number unit (declaration.Own (kind.Ordinal h)) le e x =
-      (lists_small u i h x.lists, subst (λ types. IsPlace (in_routine o types (own u)) (typed_host h) (tree.Own number)) (sym (there number x.variable x.at)) (own_place u o i number h le x))
-  declared_holds i number unit (declaration.Own kind.Text) le e x = absurd x
-  declared_holds i number unit (declaration.Own kind.File) le e x = absurd x
-  declared_holds i number unit declaration.Procedure le e x =
-      (heading_of x.routine, ap (λ rs. slice_get rs number) (routines_own u unit e) ∙ routine_at u u.routines number x.routine x.at, x.is_procedure, x.no_formals)
+  declared_holds i number unit (declaration.«Type» of h) le e x = lists_small u i h x.lists
+  declared_holds i number unit (declaration.Variable of (kind.Ordinal h)) le e x = ((lists_small u i h x.lists, variable_place u i number unit of h le e x), variable_typed u i number unit of h le e x)
+  declared_holds i number unit (declaration.Variable of kind.Text) le e x = absurd x
+  declared_holds i number unit (declaration.Variable of kind.File) le e x = absurd x
+  declared_holds i number unit (declaration.Own of (kind.Ordinal h) guarded) le e x =
+      let here : u.types ≡ ts = sym (there number x.variable x.at) in (
+        (lists_small u i h x.lists, subst (λ types. IsPlace (in_routine o types (own u)) (typed_host h) (tree.Own number)) here (own_place u o i number of h le x)),
+        subst (λ types. IsOfType (in_routine o types (own u)) (type_values u) (tree.Own number) of) here (own_typed u o i number of h le x),
+      )
+  declared_holds i number unit (declaration.Own of kind.Text guarded) le e x = absurd x
+  declared_holds i number unit (declaration.Own of kind.File guarded) le e x = absurd x
+  declared_holds i number unit (declaration.Procedure ps) le e x = (
+    x.heading,
+    ap (λ rs. slice_get rs number) (routines_own u unit e) ∙ x.at,
+    x.is_procedure,
+    subst (λ types. AreParameters (type_values u) types ps x.heading.formals) (sym (types_own u unit e)) (subst (AreParameters (type_values u) u.types ps) (sym x.formals) (parameters_hold u i ps le x.parameters)),
+  )
 
-  thing_holds : (i : ℕ) (t : Thing) → i ≤ length u.types → HoldsThing u o i t → IsThing (in_routine o ts (own u)) t
+  thing_holds : (i : ℕ) (t : Thing) → i ≤ length u.types → HoldsThing u o i t → IsThing (in_routine o ts (own u)) (type_values u) t
   thing_holds i (thing.Declared d) le x = declared_holds i d.number d.unit d.what le x.0 x.1
   thing_holds i (thing.Standard file) le x = tt
 
-  things_hold : (i : ℕ) (es : Entries) → i ≤ length u.types → HoldsThings u o i es → AreThings (in_routine o ts (own u)) es
+  things_hold : (i : ℕ) (es : Entries) → i ≤ length u.types → HoldsThings u o i es → AreThings (in_routine o ts (own u)) (type_values u) es
   things_hold i [] le x = tt
   things_hold i (e ∷ es) le x = (thing_holds i e.1 le x.0, things_hold i es le x.1)
 
-  pub scopes_hold : (i : ℕ) (rs : List Region) → i ≤ length u.types → HoldsScopes u o i rs → Agrees (in_routine o ts (own u)) rs
+  pub scopes_hold : (i : ℕ) (rs : List Region) → i ≤ length u.types → HoldsScopes u o i rs → AgreesBy (in_routine o ts (own u)) (type_values u) rs
   scopes_hold i [] le x = tt
-  scopes_hold i (r ∷ rs) le x = (things_hold i r.entries le x.0, subst (AreInterfaces (in_routine o ts (own u))) (sym x.1) tt, scopes_hold i rs le x.2)
+  scopes_hold i (r ∷ rs) le x = (things_hold i r.entries le x.0, subst (AreInterfaces (in_routine o ts (own u)) (type_values u)) (sym x.1) tt, scopes_hold i rs le x.2)
 
 -- ---- what holds outside of routines holds in them too
 
 module _ (u : TypedUnit) (o : List UnitVariable) where
   -- no variable of a routine is there
-  none_own : (i number : ℕ) (h : Host) → HoldsOwn u [] i number h → ⊥
-  none_own i number h x = let e = x.at in cc
+  none_own : (i number : ℕ) (of : TypeName) (h : Host) → HoldsOwn u [] i number of h → ⊥
+  none_own i number of h x = let e = x.at in cc
 
   declaration_wider : (i number : ℕ) (d : Declaration) → HoldsDeclaration u [] i number d → HoldsDeclaration u o i number d
   declaration_wider i number (declaration.Constant k v) x = x
-  declaration_wider i number (declaration.«Type» h) x = x
-  declaration_wider i number (declaration.Variable (kind.Ordinal h)) x = x
-  declaration_wider i number (declaration.Variable kind.Text) x = x
-  declaration_wider i number (declaration.Variable kind.File) x = x
-  declaration_wider i number (declaration.Own (kind.Ordinal h)) x = absurd (none_own i number h x)
-  declaration_wider i number (declaration.Own kind.Text) x = x
-  declaration_wider i number (declaration.Own kind.File) x = x
-  declaration_wider i number declaration.Procedure x = x
+  declaration_wider i number (declaration.«Type» of h) x = x
+  declaration_wider i number (declaration.Variable of (kind.Ordinal h)) x = x
+  declaration_wider i number (declaration.Variable of kind.Text) x = x
+  declaration_wider i number (declaration.Variable of kind.File) x = x
+  declaration_wider i number (declaration.Own of (kind.Ordinal h) guarded) x = absurd (none_own i number of h x)
+  declaration_wider i number (declaration.Own of kind.Text guarded) x = x
+  declaration_wider i number (declaration.Own of kind.File guarded) x = x
+  declaration_wider i number (declaration.Procedure ps) x = x
 
   thing_wider : (i : ℕ) (t : Thing) → HoldsThing u [] i t → HoldsThing u o i t
   thing_wider i (thing.Declared d) x = (x.0, declaration_wider i d.number d.what x.1)
@@ -361,11 +444,12 @@ module _ (u : TypedUnit) (o : List UnitVariable) where
     pub types : All (IsType u.types) b.types
     pub constants : All (IsConstant u.types) b.constants
     pub variables : All (IsVariable u.types) b.variables
-    pub owned : All (IsVariable u.types) b.own
+    pub parameters : All (HoldsParameter u i) b.own.parameters
+    pub owned : All (IsVariable u.types) b.own.variables
     pub routines : All (HoldsRoutine u) b.routines
 
   pub holds_more : (i j : ℕ) (b : Block) → i ≤ j → Holds i b → Holds j b
-  holds_more i j b le x = record { unit = x.unit; things = things_more u o i j b.scopes.inner.entries le x.things; plain = x.plain; outer = scopes_more u [] i j b.scopes.outer le x.outer; routines = x.routines; types = x.types; constants = x.constants; variables = x.variables; owned = x.owned }
+  holds_more i j b le x = record { unit = x.unit; things = things_more u o i j b.scopes.inner.entries le x.things; plain = x.plain; outer = scopes_more u [] i j b.scopes.outer le x.outer; routines = x.routines; types = x.types; constants = x.constants; variables = x.variables; parameters = parameters_more u i j b.own.parameters le x.parameters; owned = x.owned }
 
   -- the scopes in view
   pub holds_scopes : (i : ℕ) (b : Block) → Holds i b → HoldsScopes u o i (scopes_of b)
@@ -373,7 +457,7 @@ module _ (u : TypedUnit) (o : List UnitVariable) where
 
   -- so the declarations of the unit, in the block of the routine, hold what the scopes declare
   pub holds_agrees : (i : ℕ) (b : Block) → i ≤ length u.types → Holds i b → Agrees (in_routine o u.types (own u)) (scopes_of b)
-  holds_agrees i b le x = scopes_hold u o u.types (λ k v e. refl) i (scopes_of b) le (holds_scopes i b x)
+  holds_agrees i b le x = (type_values u, scopes_hold u o u.types (λ k v e. refl) i (scopes_of b) le (holds_scopes i b x))
 
   host_listed : (i : ℕ) (b : Block) (h : Host) → Holds i b → IsKnownHost (scopes_of b) h → Lists u i h
   host_listed i b h x (inl r) = required_listed u i h r
@@ -387,4 +471,4 @@ module _ (u : TypedUnit) (o : List UnitVariable) where
 
 -- the declarations of the unit alone do so outside of routines
 pub holds_agrees_outside : (u : TypedUnit) (i : ℕ) (b : Block) → i ≤ length u.types → Holds u [] i b → Agrees (own u) (scopes_of b)
-holds_agrees_outside u i b le x = scopes_hold u [] [] (λ k v e. cc) i (scopes_of b) le (holds_scopes u [] i b x)
+holds_agrees_outside u i b le x = (type_values u, scopes_hold u [] [] (λ k v e. cc) i (scopes_of b) le (holds_scopes u [] i b x))

@@ -1,5 +1,5 @@
 -- Items lead from one block to the next: definitions, variable declarations and program parameters.
-use Rattle.std.proofs.Common.{◌≡◌, ℕ, suc, ◌≤◌, Bool, true, false, List, [], ◌∷◌, ◌++◌, length, Option, Some, None, slice_get, refl, sym, ap, ◌∙◌, subst, arith}
+use Rattle.std.proofs.Common.{◌≡◌, ℕ, suc, ◌≤◌, ◌+◌, Bool, true, false, List, [], ◌∷◌, ◌++◌, map, length, Option, Some, None, slice_get, refl, sym, ap, ◌∙◌, subst, arith, append_assoc}
 use Rattle.std.proofs.lemmas.List.Elements.{All-push}
 use Rattle.std.specs.Prelude.{⊤, if◌then◌else◌}
 use Rattle.ep_tree.specs.declared.declaration.ConstantDefinition.{ConstantDefinition}
@@ -8,7 +8,8 @@ use Rattle.ep_tree.specs.declared.declaration.VariableDeclaration.{VariableDecla
 use Rattle.ep_tree.specs.declared.types.Core.TheOpen.{Core-F}
 use Rattle.ep_tree.specs.declared.types.Core.{out-Core}
 use Rattle.ep_typed.specs.Operations.{maxint}
-use Rattle.ep_typed.specs.Valid.{IsType, IsVariable}
+use Rattle.ep_outside.specs.Known.{IsPrefix}
+use Rattle.ep_typed.specs.Valid.{IsType, IsVariable, formal_variable}
 use Rattle.ep_typed.specs.Viewed.{denoter_of}
 use Rattle.ep_typed.specs.declared.denoter.Denoter.{Denoter}
 use Rattle.ep_typed.specs.declared.denoter.Denoter.TheVariants as denoter
@@ -19,24 +20,40 @@ use Rattle.ep_typed.specs.declared.unit.UnitVariable.{UnitVariable}
 use Rattle.ep_scope.specs.Scopes.{Region}
 use Rattle.ep_scope.specs.declared.kind.Host.{Host}
 use Rattle.ep_scope.specs.declared.kind.Kind.TheVariants as kind
+use Rattle.ep_scope.specs.declared.parameter.FormalParameter.{FormalParameter}
+use Rattle.ep_scope.specs.declared.parameter.Protection.TheVariants as protection
+use Rattle.ep_scope.specs.declared.parameter.TypeName.{TypeName}
 use Rattle.ep_scope.specs.declared.thing.Declaration.TheVariants as declaration
 use Rattle.ep_scope.specs.declared.thing.Thing.TheVariants as thing
 use Rattle.ep_check_expr.specs.Hosts.{typed_host}
 use Rattle.ep_check_expr.specs.Judgements.{Judged, Accepts, Breaks}
 use Rattle.ep_check_expr.specs.Laws.{BoundsAreKnown, BoundsAreSound, ConstantsAreKnown, ConstantsAreSound}
 use Rattle.ep_check_stmt.proofs.judged.Fits.{Any, Fits, fits_any, fits_then}
-use Rattle.ep_check_unit.specs.Declarations.{Standing, Stands, Falls, Written, all_variables_declared, and_then, at_line, constant_definition, constants_declared, core_of, core_written, declaration_ended, is_outermost, new_variable, own_thing, settled, settled_type, type_definition, type_definitions, type_entered, type_written, unused, variable_declaration, variable_entered, variables_declared, variables_entered, with_name, with_own_variable, with_type, with_unit_variable, with_variable}
+use Rattle.ep_check_unit.specs.Declarations.{Standing, Stands, Falls, Written, all_variables_declared, and_then, at_line, constant_definition, constants_declared, core_of, core_written, declaration_ended, formal_of, is_outermost, new_variable, own_thing, settled, settled_type, type_definition, type_definitions, type_entered, type_written, unused, variable_declaration, variable_entered, variables_declared, variables_entered, with_name, with_own_variable, with_type, with_unit_variable, with_variable}
 use Rattle.ep_check_unit.specs.Units.{parameter_entered, parameters_entered, standard_file}
 use Rattle.ep_check_unit.specs.Blocks.{Block}
+use Rattle.ep_check_unit.specs.declared.block.OwnVariables.{OwnVariables}
 use Rattle.ep_check_unit.proofs.valid.Constants.{constant_definition-leads}
 use Rattle.ep_check_unit.proofs.valid.Denoting.{Denotes, denotes_named, denotes_valid}
-use Rattle.ep_check_unit.proofs.valid.Holds.{HasHostHere, Holds, Lists, named_is, things_push}
-use Rattle.ep_check_unit.proofs.valid.Leading.{Enters, Extends, Grows, Leads, enters_refl, enters_then, entered_leads, extends_before, grows_refl, grows_trans, leads_refl, leads_then, leads_trans, length_push, named_holds, prefix_last, prefix_length, prefix_more, prefix_refl}
+use Rattle.ep_check_unit.proofs.valid.Holds.{HasTypeHere, Holds, Lists, named_is, things_push}
+use Rattle.ep_check_unit.proofs.valid.Leading.{Enters, Extends, Grows, Leads, enters_refl, enters_then, entered_leads, extends_before, grows_refl, grows_trans, heading_in, leads_refl, leads_then, leads_trans, length_push, named_holds, prefix_last, prefix_length, prefix_more, prefix_refl, variables_in}
 use Rattle.ep_check_unit.proofs.valid.Types.{IsNext, Names, Writes, core_written-writes, type_named-names}
 
 -- the entry of a type that is added
 abbrev new_entry : Option (List ℕ) → ℕ → Denoter → Block → UnitType
 new_entry name line d b = record { entry = record { «module» = b.unit; number = length b.types; name = name; formals = []; denoter = d }; line = Some line }
+
+own_length : (line : ℕ) (ps : List FormalParameter) (vs : List UnitVariable) → length (map (formal_variable line) (map formal_of ps) ++ vs) ≡ length ps + length vs
+own_length line [] vs = omega arith
+own_length line (p ∷ ps) vs = omega (arith, own_length line ps vs)
+
+-- the variable of a routine that was added last, by its number
+own_last : (own : OwnVariables) (v : UnitVariable) (line : ℕ) (o : List UnitVariable) → IsPrefix (variables_in line (record { parameters = own.parameters; variables = own.variables ++ v ∷ [] })) o
+    → slice_get o (length own.parameters + length own.variables) ≡ Some v
+own_last own v line o p =
+    let front : List UnitVariable = map (formal_variable line) (map formal_of own.parameters) in
+    subst (λ n. slice_get o n ≡ Some v) (own_length line own.parameters own.variables)
+    (prefix_last (front ++ own.variables) v o (subst (λ l. IsPrefix l o) (sym (append_assoc front own.variables (v ∷ []))) p))
 
 -- in a routine there are scopes around the innermost one
 inner_has_outer : (rs : List Region) → is_outermost rs ≡ false → rs ≡ [] → ⊥
@@ -49,7 +66,7 @@ module _ (u : TypedUnit) (o : List UnitVariable) where
   -- what the unit holds of a type that stands
   pub record Stood (w : Written) : Type 0 where
     pub block : Holds u o (length w.block.types) w.block
-    pub denotes : HasHostHere u (length w.block.types) (denoter_of w.denoter) w.host
+    pub denotes : HasTypeHere u (length w.block.types) (denoter_of w.denoter) w.of w.host
     pub lists : Lists u (length w.block.types) w.host
 
   -- The type stands, with an entry where it needed one.
@@ -64,17 +81,17 @@ module _ (u : TypedUnit) (o : List UnitVariable) where
         let y = n.holds (length b.types) x in
         record {
           block = subst (λ c. Holds u o (length c.types) c) (sym n.same) x;
-          denotes = subst (λ c. HasHostHere u (length c.types) (denoter_of w.denoter) w.host) (sym n.same) y.0;
+          denotes = subst (λ c. HasTypeHere u (length c.types) (denoter_of w.denoter) w.of w.host) (sym n.same) y.0;
           lists = subst (λ c. Lists u (length c.types) w.host) (sym n.same) y.1;
         };
   }
 
   -- the type that was written, with its entry
   abbrev with_entry_of : Option (List ℕ) → ℕ → Written → Written
-  with_entry_of name line w = record { denoter = denoter.Named (length w.block.types) []; host = w.host; block = with_type name line w.denoter w.block }
+  with_entry_of name line w = record { denoter = denoter.Named (length w.block.types) []; of = w.of; host = w.host; block = with_type name line w.denoter w.block }
 
   type_grows : (name : Option (List ℕ)) (line : ℕ) (d : Denoter) (b : Block) → Grows b (with_type name line d b)
-  type_grows name line d b = record { types = prefix_more b.types _; constants = prefix_refl b.constants; variables = prefix_refl b.variables; own = prefix_refl b.own; outer = refl; alone = λ e. refl; routines = omega arith; waits = λ w. w }
+  type_grows name line d b = record { types = prefix_more b.types _; constants = prefix_refl b.constants; variables = prefix_refl b.variables; own = prefix_refl b.own.variables; parameters = refl; outer = refl; alone = λ e. refl; headings = prefix_refl (map heading_in b.routines); waits = λ w. w }
 
   pub written_settles : (name : Option (List ℕ)) (line : ℕ) (b : Block) (w : Written) → Writes u o b w → Settles b (with_entry_of name line w)
   written_settles name line b w wr = record {
@@ -97,6 +114,7 @@ module _ (u : TypedUnit) (o : List UnitVariable) where
           types = All-push (IsType u.types) w.block.types entry y.block.types (record { formals = refl; denoter = denotes_valid u.types i (denoter_of w.denoter) (typed_host w.host) y.denotes.0 (omega (arith, le)) y.denotes.1 });
           constants = y.block.constants;
           variables = y.block.variables;
+          parameters = y.block.parameters;
           owned = y.block.owned;
         } in
         let named : Denotes u.types (suc i) (denoter_of (denoter.Named (length w.block.types) [])) (typed_host w.host) y.denotes.0 =
@@ -104,7 +122,7 @@ module _ (u : TypedUnit) (o : List UnitVariable) where
         (denotes_named u.types (length w.block.types) i entry (typed_host w.host) y.denotes.0 at y.denotes.1) in
         record {
           block = subst (λ n. Holds u o n (with_type name line w.denoter w.block)) (sym total) held;
-          denotes = subst (λ n. HasHostHere u n (denoter_of (denoter.Named (length w.block.types) [])) w.host) (sym total) (y.denotes.0, named);
+          denotes = subst (λ n. HasTypeHere u n (denoter_of (denoter.Named (length w.block.types) [])) w.of w.host) (sym total) (y.denotes.0, named, y.of);
           lists = subst (λ n. Lists u n w.host) (sym total) y.lists;
         };
   }
@@ -115,18 +133,18 @@ module _ (u : TypedUnit) (o : List UnitVariable) where
   definition_leads d b w wr =
       let c : Block = with_type (Some d.name) d.line w.denoter w.block in
       let s = written_settles (Some d.name) d.line b w wr in
-      let t = own_thing w.block (length w.block.types) (declaration.«Type» w.host) in
+      let t = own_thing w.block (length w.block.types) (declaration.«Type» w.of w.host) in
       fits_then Any (Leads u o b) (λ _. Accepts (with_name d.name t c)) (unused d.name c) (fits_any (unused d.name c))
       (λ a k. record {
-        grows = grows_trans b c (with_name d.name t c) s.grows (record { types = prefix_refl c.types; constants = prefix_refl c.constants; variables = prefix_refl c.variables; own = prefix_refl c.own; outer = refl; alone = λ e. refl; routines = omega arith; waits = λ free. free });
+        grows = grows_trans b c (with_name d.name t c) s.grows (record { types = prefix_refl c.types; constants = prefix_refl c.constants; variables = prefix_refl c.variables; own = prefix_refl c.own.variables; parameters = refl; outer = refl; alone = λ e. refl; headings = prefix_refl (map heading_in c.routines); waits = λ free. free });
         holds = λ ext free x.
-            let y = s.holds (record { types = ext.types; constants = ext.constants; variables = ext.variables; own = ext.own; routines = ext.routines }) free x in
+            let y = s.holds (record { types = ext.types; constants = ext.constants; variables = ext.variables; line = ext.line; own = ext.own; headings = ext.headings }) free x in
             named_holds u o (length c.types) d.name t c (
               y.block.unit,
               record {
                 lists = y.lists;
                 before = let total : length c.types ≡ suc (length w.block.types) = length_push w.block.types (new_entry (Some d.name) d.line w.denoter w.block) in omega (arith, total);
-                denotes = (y.denotes.0, subst (λ n. Denotes u.types (length c.types) n (typed_host w.host) y.denotes.0) (named_is (length w.block.types) []) y.denotes.1);
+                denotes = (y.denotes.0, subst (λ n. Denotes u.types (length c.types) n (typed_host w.host) y.denotes.0) (named_is (length w.block.types) []) y.denotes.1, y.denotes.2);
               },
             ) y.block;
       })
@@ -190,16 +208,16 @@ module _ (u : TypedUnit) (o : List UnitVariable) where
     settled_type-settles line core b = fits_then (WrittenAs core b) (Settles b) (λ w. Accepts (settled line core w)) (core_written line core b) (written_as line core b) (λ w h. settles_as line core b w h)
 
     -- the type of the variables stands
-    abbrev IsStanding : ℕ → Denoter → Host → Type 0
-    IsStanding i d h = (i ≤ length u.types) × HasHostHere u i (denoter_of d) h × Lists u i h
+    abbrev IsStanding : ℕ → Denoter → TypeName → Host → Type 0
+    IsStanding i d of h = (i ≤ length u.types) × HasTypeHere u i (denoter_of d) of h × Lists u i h
 
     -- a variable of the unit
-    unit_variable_enters : (i line : ℕ) (d : Denoter) (h : Host) (name : List ℕ) (b : Block) → Enters u o (IsStanding i d h) i b (with_unit_variable line d h name b)
-    unit_variable_enters i line d h name b =
-        let t = own_thing b (length b.variables) (declaration.Variable (kind.Ordinal h)) in
+    unit_variable_enters : (i line : ℕ) (d : Denoter) (of : TypeName) (h : Host) (name : List ℕ) (b : Block) → Enters u o (IsStanding i d of h) i b (with_unit_variable line d of h name b)
+    unit_variable_enters i line d of h name b =
+        let t = own_thing b (length b.variables) (declaration.Variable of (kind.Ordinal h)) in
         let v = new_variable line d name b in
         record {
-          grows = record { types = prefix_refl b.types; constants = prefix_refl b.constants; variables = prefix_more b.variables (v ∷ []); own = prefix_refl b.own; outer = refl; alone = λ e. refl; routines = omega arith; waits = λ free. free };
+          grows = record { types = prefix_refl b.types; constants = prefix_refl b.constants; variables = prefix_more b.variables (v ∷ []); own = prefix_refl b.own.variables; parameters = refl; outer = refl; alone = λ e. refl; headings = prefix_refl (map heading_in b.routines); waits = λ free. free };
           same = refl;
           holds = λ p ext x. record {
             unit = x.unit;
@@ -210,63 +228,65 @@ module _ (u : TypedUnit) (o : List UnitVariable) where
             types = x.types;
             constants = x.constants;
             variables = All-push (IsVariable u.types) b.variables v x.variables (record { denoter = denotes_valid u.types i (denoter_of d) (typed_host h) p.1.0 p.0 p.1.1; tuple = refl });
+            parameters = x.parameters;
             owned = x.owned;
           };
         }
 
     -- a variable of the routine
-    own_variable_enters : (i line : ℕ) (d : Denoter) (h : Host) (name : List ℕ) (b : Block) → is_outermost b.scopes.outer ≡ false → Enters u o (IsStanding i d h) i b (with_own_variable line d h name b)
-    own_variable_enters i line d h name b inside =
-        let t = own_thing b (length b.own) (declaration.Own (kind.Ordinal h)) in
+    own_variable_enters : (i line : ℕ) (d : Denoter) (of : TypeName) (h : Host) (name : List ℕ) (b : Block) → is_outermost b.scopes.outer ≡ false → Enters u o (IsStanding i d of h) i b (with_own_variable line d of h name b)
+    own_variable_enters i line d of h name b inside =
+        let t = own_thing b (length b.own.parameters + length b.own.variables) (declaration.Own of (kind.Ordinal h) protection.Unprotected) in
         let v = new_variable line d name b in
         record {
-          grows = record { types = prefix_refl b.types; constants = prefix_refl b.constants; variables = prefix_refl b.variables; own = prefix_more b.own (v ∷ []); outer = refl; alone = λ e. absurd (inner_has_outer b.scopes.outer inside e); routines = omega arith; waits = λ free. free };
+          grows = record { types = prefix_refl b.types; constants = prefix_refl b.constants; variables = prefix_refl b.variables; own = prefix_more b.own.variables (v ∷ []); parameters = refl; outer = refl; alone = λ e. absurd (inner_has_outer b.scopes.outer inside e); headings = prefix_refl (map heading_in b.routines); waits = λ free. free };
           same = refl;
           holds = λ p ext x. record {
             unit = x.unit;
-            things = things_push u o i b.scopes.inner.entries name t x.things (x.unit, record { lists = p.2; variable = v; at = prefix_last b.own v o ext.own; denotes = p.1 });
+            things = things_push u o i b.scopes.inner.entries name t x.things (x.unit, record { lists = p.2; variable = v; at = own_last b.own v ext.line o ext.own; denotes = p.1 });
             plain = x.plain;
             outer = x.outer;
             routines = x.routines;
             types = x.types;
             constants = x.constants;
             variables = x.variables;
-            owned = All-push (IsVariable u.types) b.own v x.owned (record { denoter = denotes_valid u.types i (denoter_of d) (typed_host h) p.1.0 p.0 p.1.1; tuple = refl });
+            parameters = x.parameters;
+            owned = All-push (IsVariable u.types) b.own.variables v x.owned (record { denoter = denotes_valid u.types i (denoter_of d) (typed_host h) p.1.0 p.0 p.1.1; tuple = refl });
           };
         }
 
     -- whichever it is
-    placed_enters : (i line : ℕ) (d : Denoter) (h : Host) (name : List ℕ) (b : Block) (outermost : Bool) → is_outermost b.scopes.outer ≡ outermost → Enters u o (IsStanding i d h) i b (if outermost then with_unit_variable line d h name b else with_own_variable line d h name b)
-    placed_enters i line d h name b true e = unit_variable_enters i line d h name b
-    placed_enters i line d h name b false e = own_variable_enters i line d h name b e
+    placed_enters : (i line : ℕ) (d : Denoter) (of : TypeName) (h : Host) (name : List ℕ) (b : Block) (outermost : Bool) → is_outermost b.scopes.outer ≡ outermost → Enters u o (IsStanding i d of h) i b (if outermost then with_unit_variable line d of h name b else with_own_variable line d of h name b)
+    placed_enters i line d of h name b true e = unit_variable_enters i line d of h name b
+    placed_enters i line d of h name b false e = own_variable_enters i line d of h name b e
 
-    variable_enters : (i line : ℕ) (d : Denoter) (h : Host) (name : List ℕ) (b : Block) → Fits (Enters u o (IsStanding i d h) i b) (variable_entered line d h name b)
-    variable_enters i line d h name b =
-        fits_then Any (Enters u o (IsStanding i d h) i b) (λ _. Accepts (with_variable line d h name b)) (unused name b) (fits_any (unused name b))
-        (λ a k. placed_enters i line d h name b (is_outermost b.scopes.outer) refl)
+    variable_enters : (i line : ℕ) (d : Denoter) (of : TypeName) (h : Host) (name : List ℕ) (b : Block) → Fits (Enters u o (IsStanding i d of h) i b) (variable_entered line d of h name b)
+    variable_enters i line d of h name b =
+        fits_then Any (Enters u o (IsStanding i d of h) i b) (λ _. Accepts (with_variable line d of h name b)) (unused name b) (fits_any (unused name b))
+        (λ a k. placed_enters i line d of h name b (is_outermost b.scopes.outer) refl)
 
-    variables_enter : (i line : ℕ) (d : Denoter) (h : Host) (names : List (List ℕ)) (b : Block) → Fits (Enters u o (IsStanding i d h) i b) (variables_entered line d h names b)
-    variables_enter i line d h [] b = enters_refl u o (IsStanding i d h) i b
-    variables_enter i line d h (name ∷ names) b =
-        enters_then u o (IsStanding i d h) i b (variables_entered line d h names) (variable_entered line d h name b) (variable_enters i line d h name b) (λ c. variables_enter i line d h names c)
+    variables_enter : (i line : ℕ) (d : Denoter) (of : TypeName) (h : Host) (names : List (List ℕ)) (b : Block) → Fits (Enters u o (IsStanding i d of h) i b) (variables_entered line d of h names b)
+    variables_enter i line d of h [] b = enters_refl u o (IsStanding i d of h) i b
+    variables_enter i line d of h (name ∷ names) b =
+        enters_then u o (IsStanding i d of h) i b (variables_entered line d of h names) (variable_entered line d of h name b) (variable_enters i line d of h name b) (λ c. variables_enter i line d of h names c)
 
-    ended_leads : (b c : Block) (w : Written) → Settles b w → Enters u o (IsStanding (length w.block.types) w.denoter w.host) (length w.block.types) w.block c → Leads u o b (declaration_ended c)
+    ended_leads : (b c : Block) (w : Written) → Settles b w → Enters u o (IsStanding (length w.block.types) w.denoter w.of w.host) (length w.block.types) w.block c → Leads u o b (declaration_ended c)
     ended_leads b c w s e = record {
-      grows = grows_trans b w.block (declaration_ended c) s.grows (record { types = e.grows.types; constants = e.grows.constants; variables = e.grows.variables; own = e.grows.own; outer = e.grows.outer; alone = e.grows.alone; routines = e.grows.routines; waits = e.grows.waits });
+      grows = grows_trans b w.block (declaration_ended c) s.grows (record { types = e.grows.types; constants = e.grows.constants; variables = e.grows.variables; own = e.grows.own; parameters = e.grows.parameters; outer = e.grows.outer; alone = e.grows.alone; headings = e.grows.headings; waits = e.grows.waits });
       holds = λ ext free x.
-          let there : Extends u o c = record { types = ext.types; constants = ext.constants; variables = ext.variables; own = ext.own; routines = ext.routines } in
+          let there : Extends u o c = record { types = ext.types; constants = ext.constants; variables = ext.variables; line = ext.line; own = ext.own; headings = ext.headings } in
           let before : Extends u o w.block = extends_before u o w.block c e.grows there in
           let y = s.holds before (e.grows.waits free) x in
           let z : Holds u o (length w.block.types) c = e.holds (prefix_length w.block.types u.types before.types, y.denotes, y.lists) there y.block in
           let count : length c.types ≡ length w.block.types = ap length e.same in
-          subst (λ n. Holds u o n (declaration_ended c)) (sym count) (record { unit = z.unit; things = z.things; plain = z.plain; outer = z.outer; routines = z.routines; types = z.types; constants = z.constants; variables = z.variables; owned = z.owned });
+          subst (λ n. Holds u o n (declaration_ended c)) (sym count) (record { unit = z.unit; things = z.things; plain = z.plain; outer = z.outer; routines = z.routines; types = z.types; constants = z.constants; variables = z.variables; parameters = z.parameters; owned = z.owned });
     }
 
     variable_declaration-leads : (d : VariableDeclaration) (b : Block) → Fits (Leads u o b) (variable_declaration d b)
     variable_declaration-leads d b =
         fits_then (Settles b) (Leads u o b) (variables_declared d) (settled_type d.line (out-Core (core_of d.of)) b) (settled_type-settles d.line (out-Core (core_of d.of)) b)
-        (λ w s. fits_then (Enters u o (IsStanding (length w.block.types) w.denoter w.host) (length w.block.types) w.block) (Leads u o b) (λ c. Accepts (declaration_ended c)) (variables_entered d.line w.denoter w.host d.names w.block)
-        (variables_enter (length w.block.types) d.line w.denoter w.host d.names w.block) (λ c e. ended_leads b c w s e))
+        (λ w s. fits_then (Enters u o (IsStanding (length w.block.types) w.denoter w.of w.host) (length w.block.types) w.block) (Leads u o b) (λ c. Accepts (declaration_ended c)) (variables_entered d.line w.denoter w.of w.host d.names w.block)
+        (variables_enter (length w.block.types) d.line w.denoter w.of w.host d.names w.block) (λ c e. ended_leads b c w s e))
 
     -- ---- parts of a block
 

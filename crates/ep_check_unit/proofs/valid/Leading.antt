@@ -1,15 +1,18 @@
 -- How a declaration leads from one block to the next: the lists grow, and where the unit has what is in the later block, it holds the later block if it holds the earlier one.
-use Rattle.std.proofs.Common.{◌≡◌, ℕ, suc, ◌≤◌, Bool, true, false, List, [], ◌∷◌, ◌++◌, length, Option, Some, None, slice_get, refl, sym, ap, ◌∙◌, arith, append_assoc}
+use Rattle.std.proofs.Common.{◌≡◌, ℕ, suc, ◌≤◌, Bool, true, false, List, [], ◌∷◌, ◌++◌, map, length, Option, Some, None, slice_get, refl, sym, ap, ◌∙◌, subst, arith, append_assoc}
 use Rattle.std.proofs.lemmas.List.{length-append}
 use Rattle.std.specs.Option.{option_or}
 use Rattle.ep_outside.specs.Known.{IsPrefix}
+use Rattle.ep_typed.specs.Valid.{formal_variable, heading_of}
+use Rattle.ep_typed.specs.declared.interface.RoutineEntry.{RoutineEntry}
 use Rattle.ep_typed.specs.declared.unit.Unit.{Unit as TypedUnit}
 use Rattle.ep_typed.specs.declared.unit.UnitVariable.{UnitVariable}
 use Rattle.ep_scope.specs.declared.thing.Thing.{Thing}
 use Rattle.ep_check_expr.specs.Judgements.{Judged, Accepts, Breaks, when_accepted}
 use Rattle.ep_check_stmt.proofs.judged.Fits.{Any, Fits, fits_any, fits_then}
-use Rattle.ep_check_unit.specs.Declarations.{entered, noted, unused, with_name}
-use Rattle.ep_check_unit.specs.Blocks.{Block}
+use Rattle.ep_check_unit.specs.Declarations.{entered, formal_of, noted, unused, with_name}
+use Rattle.ep_check_unit.specs.Blocks.{Block, RoutineForm}
+use Rattle.ep_check_unit.specs.declared.block.OwnVariables.{OwnVariables}
 use Rattle.ep_check_unit.proofs.valid.Holds.{Holds, HoldsThing, things_push}
 
 -- ---- lists that grow
@@ -41,31 +44,50 @@ prefix_last xs y zs p = ap (λ l. slice_get l (length xs)) p.is ∙ seam xs y p.
 pub length_push : {A : Type 0} (xs : List A) (y : A) → length (xs ++ y ∷ []) ≡ suc (length xs)
 length_push xs y = omega (arith, length-append xs (y ∷ []))
 
+prefix_front : {A : Type 0} (front xs ys : List A) → IsPrefix xs ys → IsPrefix (front ++ xs) (front ++ ys)
+prefix_front front xs ys p = record { rest = p.rest; is = ap (λ l. front ++ l) p.is ∙ sym (append_assoc front xs p.rest) }
+
+-- the heading of a routine
+abbrev pub heading_in : RoutineForm → RoutineEntry
+heading_in r = record { name = r.name; formals = r.formals; result = r.result }
+
+-- the variables of a routine that is declared on this line
+abbrev pub variables_in : ℕ → OwnVariables → List UnitVariable
+variables_in line own = map (formal_variable line) (map formal_of own.parameters) ++ own.variables
+
+own_prefix : (line : ℕ) (a b : OwnVariables) → b.parameters ≡ a.parameters → IsPrefix a.variables b.variables → IsPrefix (variables_in line a) (variables_in line b)
+own_prefix line a b same p =
+    subst (λ ps. IsPrefix (variables_in line a) (map (formal_variable line) (map formal_of ps) ++ b.variables)) (sym same)
+    (prefix_front (map (formal_variable line) (map formal_of a.parameters)) a.variables b.variables p)
+
 -- the block's lists have grown, and an item that waited waits
 pub record Grows (b c : Block) : Type 0 where
   pub types : IsPrefix b.types c.types
   pub constants : IsPrefix b.constants c.constants
   pub variables : IsPrefix b.variables c.variables
-  pub own : IsPrefix b.own c.own
+  pub own : IsPrefix b.own.variables c.own.variables
+  pub parameters : c.own.parameters ≡ b.own.parameters
   -- no scope around this one changes
   pub outer : c.scopes.outer ≡ b.scopes.outer
   -- outside of routines no variable of a routine is added
   pub alone : b.scopes.outer ≡ [] → c.own ≡ b.own
-  pub routines : length b.routines ≤ length c.routines
+  -- a heading stays as it is
+  pub headings : IsPrefix (map heading_in b.routines) (map heading_in c.routines)
   pub waits : c.waits ≡ None → b.waits ≡ None
 
 pub grows_refl : (b : Block) → Grows b b
-grows_refl b = record { types = prefix_refl b.types; constants = prefix_refl b.constants; variables = prefix_refl b.variables; own = prefix_refl b.own; outer = refl; alone = λ e. refl; routines = omega arith; waits = λ w. w }
+grows_refl b = record { types = prefix_refl b.types; constants = prefix_refl b.constants; variables = prefix_refl b.variables; own = prefix_refl b.own.variables; parameters = refl; outer = refl; alone = λ e. refl; headings = prefix_refl (map heading_in b.routines); waits = λ w. w }
 
 pub grows_trans : (b c d : Block) → Grows b c → Grows c d → Grows b d
 grows_trans b c d p q = record {
   types = prefix_trans b.types c.types d.types p.types q.types;
   constants = prefix_trans b.constants c.constants d.constants p.constants q.constants;
   variables = prefix_trans b.variables c.variables d.variables p.variables q.variables;
-  own = prefix_trans b.own c.own d.own p.own q.own;
+  own = prefix_trans b.own.variables c.own.variables d.own.variables p.own q.own;
+  parameters = q.parameters ∙ p.parameters;
   outer = q.outer ∙ p.outer;
   alone = λ e. q.alone (p.outer ∙ e) ∙ p.alone e;
-  routines = omega (arith, p.routines, q.routines);
+  headings = prefix_trans (map heading_in b.routines) (map heading_in c.routines) (map heading_in d.routines) p.headings q.headings;
   waits = λ w. p.waits (q.waits w);
 }
 
@@ -80,8 +102,10 @@ module _ (u : TypedUnit) (o : List UnitVariable) where
     pub types : IsPrefix c.types u.types
     pub constants : IsPrefix c.constants u.constants
     pub variables : IsPrefix c.variables u.variables
-    pub own : IsPrefix c.own o
-    pub routines : length c.routines ≤ length u.routines
+    -- the line of the routine's declaration
+    pub line : ℕ
+    pub own : IsPrefix (variables_in line c.own) o
+    pub headings : IsPrefix (map heading_in c.routines) (map heading_of u.routines)
 
   -- so it has what was in them before
   pub extends_before : (b c : Block) → Grows b c → Extends c → Extends b
@@ -89,8 +113,9 @@ module _ (u : TypedUnit) (o : List UnitVariable) where
     types = prefix_trans b.types c.types u.types g.types e.types;
     constants = prefix_trans b.constants c.constants u.constants g.constants e.constants;
     variables = prefix_trans b.variables c.variables u.variables g.variables e.variables;
-    own = prefix_trans b.own c.own o g.own e.own;
-    routines = omega (arith, g.routines, e.routines);
+    line = e.line;
+    own = prefix_trans (variables_in e.line b.own) (variables_in e.line c.own) o (own_prefix e.line b.own c.own g.parameters g.own) e.own;
+    headings = prefix_trans (map heading_in b.routines) (map heading_in c.routines) (map heading_of u.routines) g.headings e.headings;
   }
 
   -- ---- whole declarations
@@ -120,16 +145,16 @@ module _ (u : TypedUnit) (o : List UnitVariable) where
   pub noted_leads : (built : Bool) (line : ℕ) (b c : Block) → (built ≡ true → Leads b c) → Grows b c → Leads b (noted built line c)
   noted_leads true line b c h g = h refl
   noted_leads false line b c h g = record {
-    grows = record { types = g.types; constants = g.constants; variables = g.variables; own = g.own; outer = g.outer; alone = g.alone; routines = g.routines; waits = λ w. absurd (waits_some c.waits line w) };
+    grows = record { types = g.types; constants = g.constants; variables = g.variables; own = g.own; parameters = g.parameters; outer = g.outer; alone = g.alone; headings = g.headings; waits = λ w. absurd (waits_some c.waits line w) };
     holds = λ e w x. absurd (waits_some c.waits line w);
   }
 
   named_grows : (name : List ℕ) (t : Thing) (b : Block) → Grows b (with_name name t b)
-  named_grows name t b = record { types = prefix_refl b.types; constants = prefix_refl b.constants; variables = prefix_refl b.variables; own = prefix_refl b.own; outer = refl; alone = λ e. refl; routines = omega arith; waits = λ w. w }
+  named_grows name t b = record { types = prefix_refl b.types; constants = prefix_refl b.constants; variables = prefix_refl b.variables; own = prefix_refl b.own.variables; parameters = refl; outer = refl; alone = λ e. refl; headings = prefix_refl (map heading_in b.routines); waits = λ w. w }
 
   -- a name for something that the unit holds
   pub named_holds : (i : ℕ) (name : List ℕ) (t : Thing) (b : Block) → HoldsThing u o i t → Holds u o i b → Holds u o i (with_name name t b)
-  named_holds i name t b h x = record { unit = x.unit; things = things_push u o i b.scopes.inner.entries name t x.things h; plain = x.plain; outer = x.outer; routines = x.routines; types = x.types; constants = x.constants; variables = x.variables; owned = x.owned }
+  named_holds i name t b h x = record { unit = x.unit; things = things_push u o i b.scopes.inner.entries name t x.things h; plain = x.plain; outer = x.outer; routines = x.routines; types = x.types; constants = x.constants; variables = x.variables; parameters = x.parameters; owned = x.owned }
 
   pub entered_leads : (name : List ℕ) (t : Thing) (b : Block) → (Extends b → Holds u o (length b.types) b → HoldsThing u o (length b.types) t) → Fits (Leads b) (entered name t b)
   entered_leads name t b h =

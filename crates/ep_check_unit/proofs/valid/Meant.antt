@@ -21,7 +21,7 @@ module _ (u : TypedUnit) (o : List UnitVariable) (i : ℕ) where
   HoldsMeant (Requires r) = ⊤
   HoldsMeant Nothing = ⊤
 
-  abbrev HoldsIf : Option Thing → Type 0
+  abbrev pub HoldsIf : Option Thing → Type 0
   HoldsIf None = ⊤
   HoldsIf (Some t) = HoldsThing u o i t
 
@@ -29,7 +29,7 @@ module _ (u : TypedUnit) (o : List UnitVariable) (i : ℕ) where
   found_holds true t other h g = h
   found_holds false t other h g = g
 
-  look_up_holds : (es : Entries) (name : List ℕ) → HoldsThings u o i es → HoldsIf (look_up es name)
+  pub look_up_holds : (es : Entries) (name : List ℕ) → HoldsThings u o i es → HoldsIf (look_up es name)
   look_up_holds [] name h = tt
   look_up_holds (e ∷ es) name h = found_holds (bytes_eq name e.0) e.1 (look_up es name) h.0 (look_up_holds es name h.1)
 

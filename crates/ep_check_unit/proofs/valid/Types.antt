@@ -1,5 +1,5 @@
 -- Types that are written in a block have denoters that are valid in the unit that has its lists.
-use Rattle.std.proofs.Common.{◌≡◌, ℕ, suc, ◌≤◌, ◌+◌, Bool, true, false, ◌&&◌, List, [], ◌∷◌, length, Option, Some, None, slice_get, IsTrue, refl, sym, ap, ◌∙◌, subst, arith}
+use Rattle.std.proofs.Common.{◌≡◌, ℕ, suc, ◌≤◌, ◌+◌, Bool, true, false, ◌&&◌, List, [], ◌∷◌, map, length, Option, Some, None, slice_get, IsTrue, refl, sym, ap, ◌∙◌, subst, arith}
 use Rattle.std.proofs.lemmas.Bool.Decides.{nat_tests}
 use Rattle.std.proofs.lemmas.Option.{slice_get_within}
 use Rattle.std.specs.Prelude.{int_le, if◌then◌else◌}
@@ -19,6 +19,7 @@ use Rattle.ep_typed.specs.declared.denoter.RequiredType.TheVariants as simple
 use Rattle.ep_typed.specs.declared.unit.Unit.{Unit as TypedUnit}
 use Rattle.ep_typed.specs.declared.unit.UnitVariable.{UnitVariable}
 use Rattle.ep_typed.specs.declared.unit.UnitType.{UnitType}
+use Rattle.ep_typed.specs.declared.value.TypeValue.{TypeValue}
 use Rattle.ep_typed.specs.declared.value.TypeValue.TheVariants.{Ordinal as Range}
 use Rattle.ep_typed.specs.declared.value.Value.{Value}
 use Rattle.ep_typed.specs.declared.value.Value.TheVariants as value
@@ -27,6 +28,7 @@ use Rattle.ep_scope.specs.Scopes.{Meant, Declares, Standard, Requires, Nothing, 
 use Rattle.ep_scope.specs.declared.kind.Enumeration.{Enumeration}
 use Rattle.ep_scope.specs.declared.kind.Host.{Host}
 use Rattle.ep_scope.specs.declared.kind.Host.TheVariants as host
+use Rattle.ep_scope.specs.declared.parameter.TypeName.TheVariants as type_name
 use Rattle.ep_scope.specs.declared.kind.Kind.{Kind}
 use Rattle.ep_scope.specs.declared.kind.Kind.TheVariants as kind
 use Rattle.ep_scope.specs.declared.required.Required.TheVariants as required
@@ -43,12 +45,12 @@ use Rattle.ep_check_expr.specs.Names.{undeclared}
 use Rattle.ep_check_expr.specs.declared.constants.ConstantForm.{ConstantForm}
 use Rattle.ep_check_stmt.proofs.judged.SameHost.{host_same}
 use Rattle.ep_check_stmt.proofs.judged.Fits.{Fits, fits_both, fits_is, fits_pair, fits_then, fits_weaker}
-use Rattle.ep_check_unit.specs.Declarations.{Written, common_host, core_written, declared_type, enumerated, enumeration, host_denoter, next_enumeration, noted, number_in, ordered, range, required_host, scopes_of, subrange, subrange_denoter, type_meant, type_named}
+use Rattle.ep_check_unit.specs.Declarations.{Written, common_host, core_written, declared_type, enumerated, enumeration, host_denoter, next_enumeration, next_type, noted, number_in, ordered, range, required_host, scopes_of, subrange, subrange_denoter, type_meant, type_named}
 use Rattle.ep_check_unit.specs.Blocks.{Block}
 use Rattle.ep_check_unit.proofs.valid.Constants.{ListsWithin, enumerated_counts, enumerated_enters}
-use Rattle.ep_check_unit.proofs.valid.Denoting.{Denotes, IsSmall, denotes_enumeration, denotes_more, denotes_required, denotes_subrange, full_type}
-use Rattle.ep_check_unit.proofs.valid.Holds.{HasHostHere, Holds, HoldsDeclaration, Lists, ListsEnumeration, ListsKind, enumeration_is, holds_agrees, holds_more, host_denotes, known_listed, lists_more, lists_small, named_is, required_lists, subrange_is}
-use Rattle.ep_check_unit.proofs.valid.Leading.{Extends, Enters, Grows, grows_refl, prefix_length, prefix_refl, waits_some}
+use Rattle.ep_check_unit.proofs.valid.Denoting.{Denotes, IsSmall, denotes_enumeration, denotes_more, denotes_named, denotes_required, denotes_subrange, full_type}
+use Rattle.ep_check_unit.proofs.valid.Holds.{HasHostHere, HasTypeHere, Holds, HoldsDeclaration, Lists, ListsEnumeration, ListsKind, enumeration_is, holds_agrees, holds_more, host_denotes, known_listed, lists_more, lists_small, named_is, named_tree, required_lists, subrange_is}
+use Rattle.ep_check_unit.proofs.valid.Leading.{Extends, Enters, Grows, grows_refl, heading_in, prefix_length, prefix_refl, waits_some}
 use Rattle.ep_check_unit.proofs.valid.Meant.{HoldsMeant, meant_holds, meant_in_holds}
 
 module _ (u : TypedUnit) (o : List UnitVariable) where
@@ -57,28 +59,31 @@ module _ (u : TypedUnit) (o : List UnitVariable) where
   -- The type has a name that is there already, and nothing is declared with it.
   pub record Names (b : Block) (w : Written) : Type 0 where
     pub same : w.block ≡ b
-    pub holds : (i : ℕ) → Holds u o i b → HasHostHere u i (denoter_of w.denoter) w.host × Lists u i w.host
+    pub holds : (i : ℕ) → Holds u o i b → HasTypeHere u i (denoter_of w.denoter) w.of w.host × Lists u i w.host
 
-  required_names : (i : ℕ) (r : RequiredType) → HasHostHere u i (denoter_of (denoter.Required r)) (required_host r) × Lists u i (required_host r)
-  required_names i simple.Integer = ((full_type typed.Integer, required_lists u i simple.Integer typed.Integer (denotes_required u.types simple.Integer)), tt)
-  required_names i simple.Char = ((full_type typed.Char, required_lists u i simple.Char typed.Char (denotes_required u.types simple.Char)), tt)
-  required_names i simple.Boolean = ((full_type typed.Boolean, required_lists u i simple.Boolean typed.Boolean (denotes_required u.types simple.Boolean)), tt)
+  required_typed : (i : ℕ) (r : RequiredType) (h : Host) → Denotes u.types 0 (tree.Required r) (typed_host h) (full_type (typed_host h)) → HasTypeHere u i (denoter_of (denoter.Required r)) (type_name.Required r) h
+  required_typed i r h d = (full_type (typed_host h), required_lists u i r (typed_host h) d, denotes_more u.types 0 i (tree.Required r) (typed_host h) (full_type (typed_host h)) (omega arith) d)
+
+  required_names : (i : ℕ) (r : RequiredType) → HasTypeHere u i (denoter_of (denoter.Required r)) (type_name.Required r) (required_host r) × Lists u i (required_host r)
+  required_names i simple.Integer = (required_typed i simple.Integer host.Integer (denotes_required u.types simple.Integer), tt)
+  required_names i simple.Char = (required_typed i simple.Char host.Char (denotes_required u.types simple.Char), tt)
+  required_names i simple.Boolean = (required_typed i simple.Boolean host.Boolean (denotes_required u.types simple.Boolean), tt)
 
   -- what is meant is held wherever the block is
   abbrev HeldThroughout : Block → Meant → Type 0
   HeldThroughout b m = (i : ℕ) → Holds u o i b → HoldsMeant u o i m
 
   declared_names : (d : Declared) (what : Declaration) (b : Block) → ((i : ℕ) → Holds u o i b → HoldsDeclaration u o i d.number what) → Fits (Names b) (declared_type d what b)
-  declared_names d (declaration.«Type» h) b held = record {
+  declared_names d (declaration.«Type» of h) b held = record {
     same = refl;
     holds = λ i x.
         let t = held i x in
-        ((t.denotes.0, subst (λ n. Denotes u.types i n (typed_host h) t.denotes.0) (sym (named_is d.number [])) t.denotes.1), t.lists);
+        ((t.denotes.0, subst (λ n. Denotes u.types i n (typed_host h) t.denotes.0) (sym (named_is d.number [])) t.denotes.1, t.denotes.2), t.lists);
   }
   declared_names d (declaration.Constant k v) b held = tt
-  declared_names d (declaration.Variable k) b held = tt
-  declared_names d (declaration.Own k) b held = tt
-  declared_names d declaration.Procedure b held = tt
+  declared_names d (declaration.Variable of k) b held = tt
+  declared_names d (declaration.Own of k guarded) b held = tt
+  declared_names d (declaration.Procedure ps) b held = tt
 
   meant_names : (missing : List ℕ) (m : Meant) (b : Block) → HeldThroughout b m → Fits (Names b) (type_meant missing m b)
   meant_names missing (Declares d) b held = declared_names d d.what b (λ i x. (held i x).1)
@@ -105,6 +110,8 @@ module _ (u : TypedUnit) (o : List UnitVariable) where
   pub record Wrote (i : ℕ) (w : Written) : Type 0 where
     pub block : Holds u o (suc i) w.block
     pub denotes : HasHostHere u i (denoter_of w.denoter) w.host
+    -- the type has the type value of the denoter
+    pub of : Denotes u.types (suc i) (named_tree w.of) (typed_host w.host) denotes.0
     pub lists : Lists u (suc i) w.host
 
   -- The type is written, and becomes an entry.
@@ -122,10 +129,15 @@ module _ (u : TypedUnit) (o : List UnitVariable) where
         let y = n.holds i x in
         record {
           block = subst (Holds u o (suc i)) (sym n.same) (holds_more u o i (suc i) b (omega arith) x);
-          denotes = y.0;
+          denotes = (y.0.0, y.0.1);
+          of = denotes_more u.types i (suc i) (named_tree w.of) (typed_host w.host) y.0.0 (omega arith) y.0.2;
           lists = lists_more u i (suc i) w.host (omega arith) y.1;
         };
   }
+
+  -- the next type has the type value of the denoter that becomes its entry
+  next_denotes : (b : Block) (d : tree.Denoter) (h : Host) (v : TypeValue) → IsNext b d → Denotes u.types (length b.types) d (typed_host h) v → Denotes u.types (suc (length b.types)) (named_tree (next_type b)) (typed_host h) v
+  next_denotes b d h v next x = denotes_named u.types (length b.types) (length b.types) next.entry (typed_host h) v next.at (subst (λ e. Denotes u.types (length b.types) e (typed_host h) v) (sym next.definition) x)
 
   -- ---- subranges
 
@@ -178,21 +190,23 @@ module _ (u : TypedUnit) (o : List UnitVariable) where
         (denotes_subrange u.types i (denoter_of (host_denoter h)) (typed_host h) (full_type (typed_host h)) (number_in low.value) (number_in high.value) (host_denotes u i h l) (lists_small u i h l) order lo hi),
   )
 
-  subrange_writes : (built : Bool) (line : ℕ) (h : Host) (low high : ConstantForm) (b : Block) → (low.built && high.built) ≡ built → AreBounds b h low high → Writes b (record { denoter = subrange_denoter h low high; host = h; block = noted built line b })
+  subrange_writes : (built : Bool) (line : ℕ) (h : Host) (low high : ConstantForm) (b : Block) → (low.built && high.built) ≡ built → AreBounds b h low high → Writes b (record { denoter = subrange_denoter h low high; of = next_type b; host = h; block = noted built line b })
   subrange_writes true line h low high b e k = record {
     grows = grows_refl b;
     same = refl;
     holds = λ ext free next x.
         let i : ℕ = length b.types in
         let le : i ≤ length u.types = prefix_length b.types u.types ext.types in
+        let range = range_denotes i h low high (k.lists i x) (k.order true e refl) (k.low_is i le x) (k.high_is i le x) in
         record {
           block = holds_more u o i (suc i) b (omega arith) x;
-          denotes = range_denotes i h low high (k.lists i x) (k.order true e refl) (k.low_is i le x) (k.high_is i le x);
+          denotes = range;
+          of = next_denotes b (denoter_of (subrange_denoter h low high)) h range.0 next range.1;
           lists = lists_more u i (suc i) h (omega arith) (k.lists i x);
         };
   }
   subrange_writes false line h low high b e k = record {
-    grows = record { types = prefix_refl b.types; constants = prefix_refl b.constants; variables = prefix_refl b.variables; own = prefix_refl b.own; outer = refl; alone = λ e. refl; routines = omega arith; waits = λ w. absurd (waits_some b.waits line w) };
+    grows = record { types = prefix_refl b.types; constants = prefix_refl b.constants; variables = prefix_refl b.variables; own = prefix_refl b.own.variables; parameters = refl; outer = refl; alone = λ e. refl; headings = prefix_refl (map heading_in b.routines); waits = λ w. absurd (waits_some b.waits line w) };
     same = refl;
     holds = λ ext free next x. absurd (waits_some b.waits line free);
   }
@@ -227,7 +241,7 @@ module _ (u : TypedUnit) (o : List UnitVariable) where
 
   enumeration_writes : length u.constants ≤ maxint → (first : List ℕ) (others : List (List ℕ)) (b c : Block)
       → Enters u o (ListsWithin u o (suc (length b.types)) (record { number = length b.types; last = length others })) (suc (length b.types)) b c → length c.constants ≡ length b.constants + suc (length others)
-      → Writes b (record { denoter = denoter.Enumeration (first ∷ others); host = next_enumeration (length others) b; block = c })
+      → Writes b (record { denoter = denoter.Enumeration (first ∷ others); of = next_type b; host = next_enumeration (length others) b; block = c })
   enumeration_writes few first others b c enters counts = record {
     grows = enters.grows;
     same = enters.same;
@@ -237,13 +251,13 @@ module _ (u : TypedUnit) (o : List UnitVariable) where
         let le : suc i ≤ length u.types = omega (arith, slice_get_within u.types i next.entry next.at) in
         let listed : ListsEnumeration u (suc i) (record { number = i; last = length others }) =
         record { before = omega arith; entry = next.entry; at = next.at; first = first; others = others; names = next.definition ∙ enumeration_is (first ∷ others); last = refl; small = small } in
+        let denotes : Denotes u.types i (denoter_of (denoter.Enumeration (first ∷ others))) (typed.Enumeration (length others)) (full_type (typed.Enumeration (length others))) =
+        subst (λ d. Denotes u.types i d (typed.Enumeration (length others)) (full_type (typed.Enumeration (length others)))) (sym (enumeration_is (first ∷ others)))
+        (denotes_more u.types 0 i (tree.Enumeration (first ∷ others)) (typed.Enumeration (length others)) (full_type (typed.Enumeration (length others))) (omega arith) (denotes_enumeration u.types first others small)) in
         record {
           block = enters.holds (le, listed) ext (holds_more u o i (suc i) b (omega arith) x);
-          denotes = (
-            full_type (typed.Enumeration (length others)),
-            subst (λ d. Denotes u.types i d (typed.Enumeration (length others)) (full_type (typed.Enumeration (length others)))) (sym (enumeration_is (first ∷ others)))
-                (denotes_more u.types 0 i (tree.Enumeration (first ∷ others)) (typed.Enumeration (length others)) (full_type (typed.Enumeration (length others))) (omega arith) (denotes_enumeration u.types first others small)),
-          );
+          denotes = (full_type (typed.Enumeration (length others)), denotes);
+          of = next_denotes b (denoter_of (denoter.Enumeration (first ∷ others))) (next_enumeration (length others) b) (full_type (typed.Enumeration (length others))) next denotes;
           lists = listed;
         };
   }

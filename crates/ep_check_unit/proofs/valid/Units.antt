@@ -1,5 +1,5 @@
 -- A typed unit that the rules give is valid.
-use Rattle.std.proofs.Common.{◌≡◌, ◌∙◌, ℕ, ◌≤◌, List, [], ◌∷◌, ◌++◌, map, length, Option, Some, None, refl, sym, ap, subst, arith}
+use Rattle.std.proofs.Common.{◌≡◌, ◌∙◌, ℕ, ◌≤◌, List, [], ◌∷◌, map, length, Option, Some, None, refl, sym, ap, subst, arith}
 use Rattle.std.proofs.lemmas.List.Elements.{All-cons, All-head, All-nil, All-same, All-tail}
 use Rattle.std.specs.Prelude.{All}
 use Rattle.ep_outside.specs.Known.{IsPrefix}
@@ -7,10 +7,9 @@ use Rattle.ep_tree.specs.declared.component.Component.TheVariants as component_i
 use Rattle.ep_tree.specs.declared.component.Program.{Program}
 use Rattle.ep_typed.specs.Operations.{maxint}
 use Rattle.ep_typed.specs.Trees.{Stmts}
-use Rattle.ep_typed.specs.Valid.{IsConstant, IsFormal, IsRoutine, IsStmt, IsType, IsValid, IsVariable, formal_variable, in_routine, variables_of, own}
+use Rattle.ep_typed.specs.Valid.{IsConstant, IsRoutine, IsStmt, IsType, IsValid, IsVariable, heading_of, own}
 use Rattle.ep_typed.specs.declared.unit.Unit.{Unit as TypedUnit}
 use Rattle.ep_typed.specs.declared.unit.UnitRoutine.{UnitRoutine}
-use Rattle.ep_typed.specs.declared.unit.UnitRoutine.TheViews.{out-UnitRoutine}
 use Rattle.ep_check_expr.specs.Judgements.{Judged, Accepts, Breaks}
 use Rattle.ep_check_expr.specs.Laws.{BoundsAreKnown, BoundsAreSound, ConstantsAreKnown, ConstantsAreSound}
 use Rattle.ep_check_stmt.specs.Laws.{StatementsAreSound}
@@ -20,12 +19,10 @@ use Rattle.ep_check_unit.specs.Declarations.{Standing, Stands, Falls, and_then, 
 use Rattle.ep_check_unit.specs.Laws.{UnitsAreValid}
 use Rattle.ep_check_unit.specs.Units.{IsTypedProgram, IsUnitOf, ProgramForm, body_judged, declarations_wait, first_missing, parameters_entered, program_block, program_form, program_judged, unless_missing}
 use Rattle.ep_check_unit.specs.Blocks.{Block, routine_form}
-use Rattle.ep_check_unit.proofs.Forms.{length_forms}
-use Rattle.ep_check_unit.proofs.Kept.{IsPlain, parameters-remain, parts-remain}
-use Rattle.ep_check_unit.proofs.valid.Holds.{Holds, HoldsRoutine, holds_agrees_outside}
+use Rattle.ep_check_unit.proofs.valid.Holds.{Holds, HoldsParameter, HoldsRoutine, holds_agrees_outside}
 use Rattle.ep_check_unit.proofs.valid.Items.{LeadsOn, parameters_lead}
-use Rattle.ep_check_unit.proofs.valid.Leading.{Leads, leads_trans, prefix_refl}
-use Rattle.ep_check_unit.proofs.valid.Procedures.{IsPlainHeading, parts_lead}
+use Rattle.ep_check_unit.proofs.valid.Leading.{Leads, heading_in, leads_trans, prefix_refl, variables_in}
+use Rattle.ep_check_unit.proofs.valid.Procedures.{parts_lead}
 
 -- a program that passes, by its parts
 record IsMade (p : Program) (form : ProgramForm) : Type 0 where
@@ -72,51 +69,36 @@ program_made p form e =
 
 -- ---- the routines of the unit, by those of the block
 
-plain_procedures : (rs : List UnitRoutine) → All IsPlain (map routine_form rs) → All IsPlainHeading rs
-plain_procedures [] h = All-nil IsPlainHeading
-plain_procedures (r ∷ rs) h =
-    let p = All-head IsPlain (routine_form r) (map routine_form rs) h in
-    All-cons IsPlainHeading r rs (p.result, p.formals) (plain_procedures rs (All-tail IsPlain (routine_form r) (map routine_form rs) h))
+-- their headings are those of the unit
+forms_headings : (rs : List UnitRoutine) → map heading_in (map routine_form rs) ≡ map heading_of rs
+forms_headings [] = refl
+forms_headings (r ∷ rs) = ap (λ hs. heading_of r ∷ hs) (forms_headings rs)
 
-routines_valid : (u : TypedUnit) (rs : List UnitRoutine) → All IsPlain (map routine_form rs) → All (HoldsRoutine u) (map routine_form rs) → All (IsRoutine (own u) u.types) rs
-routines_valid u [] h g = All-nil (IsRoutine (own u) u.types)
-routines_valid u (r ∷ rs) h g =
-    let p = All-head IsPlain (routine_form r) (map routine_form rs) h in
+routines_valid : (u : TypedUnit) (rs : List UnitRoutine) → All (HoldsRoutine u) (map routine_form rs) → All (IsRoutine (own u) u.types) rs
+routines_valid u [] g = All-nil (IsRoutine (own u) u.types)
+routines_valid u (r ∷ rs) g =
     let held = All-head (HoldsRoutine u) (routine_form r) (map routine_form rs) g in
-    let all : variables_of r ≡ (out-UnitRoutine r).variables = ap (λ fs. map (formal_variable (out-UnitRoutine r).line) fs ++ (out-UnitRoutine r).variables) p.formals in
-    All-cons (IsRoutine (own u) u.types) r rs (record {
-      heading = p.result;
-      formals = All-same (IsFormal u.types) (out-UnitRoutine r).formals [] p.formals (All-nil (IsFormal u.types));
-      variables = held.0;
-      routines = p.routines;
-      block = subst (λ vs. IsStmt (in_routine vs u.types (own u)) (routine_form r).block) (sym all) held.1;
-    })
-    (routines_valid u rs (All-tail IsPlain (routine_form r) (map routine_form rs) h) (All-tail (HoldsRoutine u) (routine_form r) (map routine_form rs) g))
-
--- no routine of a program has parameters, variables or routines of its own
-routines_plain : (p : Program) (form : ProgramForm) → IsMade p form → All IsPlain form.block.routines
-routines_plain p form made =
-    (parts-remain p.name p.parts made.first form.block made.declared
-    (parameters-remain p.name p.parameters (program_block p) made.first made.entered (refl, All-nil IsPlain))).1
+    All-cons (IsRoutine (own u) u.types) r rs (record { heading = held.procedure; formals = held.formals; variables = held.variables; routines = held.alone; block = held.block })
+    (routines_valid u rs (All-tail (HoldsRoutine u) (routine_form r) (map routine_form rs) g))
 
 module _ (statements : StatementsAreSound) (constants : ConstantsAreSound) (bounds : BoundsAreSound) (constant_hosts : ConstantsAreKnown) (bound_hosts : BoundsAreKnown) where
   -- the unit holds its block
   block_held : (p : Program) (u : TypedUnit) (form : ProgramForm) → IsMade p form → length u.constants ≤ maxint → IsUnitOf p form u → Holds u [] (length form.block.types) form.block
   block_held p u form made few is =
-      let plain : All IsPlain (map routine_form u.routines) = All-same IsPlain (map routine_form u.routines) form.block.routines is.routines (routines_plain p form made) in
       let entered : Leads u [] (program_block p) made.first = subst (Fits (Leads u [] (program_block p))) made.entered (parameters_lead u [] p.parameters (program_block p)) in
-      let declared : Leads u [] made.first form.block = subst (LeadsOn u [] made.first) made.declared (parts_lead u few (plain_procedures u.routines plain) statements constants bounds constant_hosts bound_hosts p.parts made.first) in
+      let declared : Leads u [] made.first form.block = subst (LeadsOn u [] made.first) made.declared (parts_lead u few statements constants bounds constant_hosts bound_hosts p.parts made.first) in
       let all = leads_trans u [] (program_block p) made.first form.block entered declared in
       all.holds
       (record {
         types = subst (IsPrefix form.block.types) (sym is.types) (prefix_refl form.block.types);
         constants = subst (IsPrefix form.block.constants) (sym is.constants) (prefix_refl form.block.constants);
         variables = subst (IsPrefix form.block.variables) (sym is.variables) (prefix_refl form.block.variables);
-        own = subst (λ vs. IsPrefix vs []) (sym (all.grows.alone refl)) (prefix_refl []);
-        routines = omega (arith, ap length is.routines, length_forms u.routines);
+        line = 0;
+        own = subst (λ vs. IsPrefix (variables_in 0 vs) []) (sym (all.grows.alone refl)) (prefix_refl []);
+        headings = subst (IsPrefix (map heading_in form.block.routines)) (ap (map heading_in) (sym is.routines) ∙ forms_headings u.routines) (prefix_refl (map heading_in form.block.routines));
       })
       made.waits
-      (record { unit = sym is.name; things = tt; plain = refl; outer = tt; types = All-nil (IsType u.types); constants = All-nil (IsConstant u.types); variables = All-nil (IsVariable u.types); owned = All-nil (IsVariable u.types); routines = All-nil (HoldsRoutine u) })
+      (record { unit = sym is.name; things = tt; plain = refl; outer = tt; types = All-nil (IsType u.types); constants = All-nil (IsConstant u.types); variables = All-nil (IsVariable u.types); parameters = All-nil (HoldsParameter u 0); owned = All-nil (IsVariable u.types); routines = All-nil (HoldsRoutine u) })
 
   program_valid : (p : Program) (u : TypedUnit) → IsTypedProgram p u → length u.constants ≤ maxint → IsValid u
   program_valid p u t few =
@@ -128,9 +110,7 @@ module _ (statements : StatementsAreSound) (constants : ConstantsAreSound) (boun
         types = All-same (IsType u.types) u.types t.form.block.types t.unit.types held.types;
         constants = All-same (IsConstant u.types) u.constants t.form.block.constants t.unit.constants held.constants;
         variables = All-same (IsVariable u.types) u.variables t.form.block.variables t.unit.variables held.variables;
-        routines = routines_valid u u.routines
-            (All-same IsPlain (map routine_form u.routines) t.form.block.routines t.unit.routines (routines_plain p t.form made))
-            (All-same (HoldsRoutine u) (map routine_form u.routines) t.form.block.routines t.unit.routines held.routines);
+        routines = routines_valid u u.routines (All-same (HoldsRoutine u) (map routine_form u.routines) t.form.block.routines t.unit.routines held.routines);
         start = subst (IsStmt (own u)) (sym t.unit.start)
             (statements (context_of t.form.block) p.body t.form.statements made.statements (own u) (holds_agrees_outside u (length t.form.block.types) t.form.block le held));
         stop = t.unit.stop;

@@ -1,7 +1,12 @@
 use Rattle.std.proofs.lemmas.Result.{err_from_is_err_and}
 use Rattle.ep_check_unit.specs.Blocks.{block_of}
-use Rattle.ep_check_unit.proofs.Programs.{missing_refused, program_typed, statements_refused, waits_refused}
+use Rattle.ep_check_unit.proofs.Programs.{missing_refused, parameters_refused, program_typed, statements_refused, waits_refused}
 use Rattle.ep_check_unit.proofs.component.check_program.Goals as goal
+
+pub returns-in-Err-clause-refused : goal.returns-in-Err-clause-refused
+returns-in-Err-clause-refused c =
+    rw c.refused_at.ensures
+    (parameters_refused c.args.p.now (block_of c.in_ok-block.block) c.in-Err.refusal (rw (c.in_ok-copy.ensures, c.has_name-output.ensures, c.items.ensures) at c.in_ok-block.ensures) (rw c.items-2.ensures at c.in-Err.ensures))
 
 pub returns-in_err-found-clause-refused : goal.returns-in_err-found-clause-refused
 returns-in_err-found-clause-refused c =

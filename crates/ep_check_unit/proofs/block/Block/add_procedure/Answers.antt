@@ -1,15 +1,15 @@
-use Rattle.std.proofs.Common.{[], map, length, sym, ap, ◌∙◌}
-use Rattle.ep_typed.specs.Trees as tree
-use Rattle.ep_check_unit.specs.Blocks.{block_of, routine_form}
-use Rattle.ep_check_unit.specs.Declarations.{procedure_form}
-use Rattle.ep_check_unit.proofs.Forms.{first_headed, forms_push, length_forms}
+use Rattle.std.proofs.Common.{rules, ◌≡◌, length, sym, ◌∙◌}
+use Rattle.ep_check_unit.specs.Blocks.{block_of}
+use Rattle.ep_check_unit.proofs.Forms.{first_headed, length_forms}
 use Rattle.ep_check_unit.proofs.Programs.{empty_is}
 use Rattle.ep_check_unit.proofs.block.Block.add_procedure.Goals as goal
 
 pub returns : goal.returns
 returns c =
-    first_headed c.args.name.now c.args.line (block_of c.args.self.now) (map routine_form c.push.new.self) c.in_ok-number.number c.in_ok-thing.thing (block_of c.enter.new.self)
-    (forms_push c.args.self.now.routines c.push.new.self c.procedure-routine.result (procedure_form c.args.name.now c.args.line [] tree.Empty) c.in_ok-push.ensures.ok
-    (rw (c.in_ok-copy.ensures, c.new.ensures, empty_is) at c.procedure-routine.ensures))
-    (c.in_ok-number.ensures ∙ (ap length c.items.ensures ∙ sym (length_forms c.args.self.now.routines)))
-    c.in_ok-thing.ensures c.in_ok-enter.ensures
+    let count : c.in_ok-number.number ≡ length c.args.self.now.routines.items = grind (rules, c.in_ok-number.ensures, c.len.ensures) in
+    first_headed c.args.name.now c.args.line c.args.parameters (block_of c.args.self.now) (block_of c.add_routine.new.self) _ c.in_ok-number.number c.in_ok-thing.thing (block_of c.enter.new.self)
+    c.in_ok-add_routine.ensures
+    (rw (c.in_ok-copy.ensures, c.in_ok-formals.ensures, c.items.ensures, empty_is) at c.procedure-routine.ensures)
+    (count ∙ sym (length_forms c.args.self.now.routines.items))
+    (rw (c.in_ok-copy-2.ensures, c.items-2.ensures) at c.in_ok-thing.ensures)
+    c.in_ok-enter.ensures

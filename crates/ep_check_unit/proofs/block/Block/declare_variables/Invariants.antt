@@ -1,9 +1,8 @@
 use Rattle.std.proofs.Common.{◌≡◌, drop}
-use Rattle.ep_check_unit.specs.Answers.{denoter_named}
-use Rattle.ep_check_unit.specs.Declarations.{variables_entered}
+use Rattle.ep_check_unit.specs.Declarations.{type_denoter, variables_entered}
 use Rattle.ep_check_unit.specs.Blocks.{block_of}
 use Rattle.ep_check_unit.proofs.block.Block.declare_variables.Given as goal
 
 abbrev pub invariant-loop-name : goal.invariant-loop-name
 invariant-loop-name l =
-    variables_entered l.declaration.line (denoter_named l.named.name) l.named.host (drop l.name-index l.name-items) (block_of l.self) ≡ variables_entered l.declaration.line (denoter_named l.named.name) l.named.host l.name-items (block_of l.initial.self)
+    variables_entered l.declaration.line (type_denoter l.named.name) l.named.of l.named.host (drop l.name-index l.name-items) (block_of l.self) ≡ variables_entered l.declaration.line (type_denoter l.named.name) l.named.of l.named.host l.name-items (block_of l.initial.self)

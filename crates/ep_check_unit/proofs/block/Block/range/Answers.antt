@@ -1,7 +1,8 @@
 use Rattle.std.proofs.Common.{◌∙◌}
 use Rattle.std.proofs.lemmas.Result.{err_from_is_err_and}
-use Rattle.ep_check_unit.proofs.Subranges.{low_refused, high_refused, host_refused, order_refused, range_accepted}
+use Rattle.ep_check_unit.proofs.Subranges.{accepted_same, low_refused, high_refused, host_refused, order_refused, range_accepted}
 use Rattle.ep_check_unit.specs.Blocks.{block_of}
+use Rattle.ep_check_unit.specs.Declarations.{next_type}
 use Rattle.ep_check_unit.proofs.block.Block.range.Goals as goal
 
 pub returns-in_err-least : goal.returns-in_err-least
@@ -30,4 +31,4 @@ returns-in_err-ordered c =
 pub returns : goal.returns
 returns c =
     range_accepted c.args.line (block_of c.args.self.now) c.args.low.now c.args.high.now c.in_view.result.now c.in_view-2.result.now c.in_view.ensures c.in_view-2.ensures c.in_ok-least.least c.in_ok-least.ensures.form c.in_ok-greatest.greatest c.in_ok-greatest.ensures.form c.in_ok-host.host c.in_ok-host.ensures c.in_ok-ordered.field-0 c.in_ok-ordered.ensures
-    ∙ rw (c.note.ensures, c.are_built.ensures, c.in_ok-denoter.ensures)
+    ∙ rw (c.note.ensures, c.are_built.ensures, c.in_ok-denoter.ensures, accepted_same (next_type (block_of c.args.self.now)) c.in_ok-of.of c.in_ok-of.ensures)

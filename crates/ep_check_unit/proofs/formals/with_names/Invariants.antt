@@ -1,0 +1,6 @@
+use Rattle.std.proofs.Common.{◌≡◌, drop}
+use Rattle.ep_check_unit.specs.Declarations.{parameters_added}
+use Rattle.ep_check_unit.proofs.formals.with_names.Given as goal
+
+abbrev pub invariant-loop-name : goal.invariant-loop-name
+invariant-loop-name l = parameters_added l.mode l.section l.named.of l.named.host (drop l.name-index l.names) l.all ≡ parameters_added l.mode l.section l.named.of l.named.host l.names l.fn.before
