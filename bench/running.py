@@ -1,0 +1,194 @@
+#!/usr/bin/env python3
+"""How long programs run under `epc go`, beside the same programs in Python and under `fpc -O2`, as a table for docs/BENCHMARKS.md.
+
+    python3 bench/running.py [PROGRAM]
+
+PROGRAM is crates/epc/out/epc where none is given (`rt run` in crates/epc builds it). Each program runs three times, and the
+least time counts; those of `epc` and of Python have the start of the process and the reading of the text in them. All three
+have to write the same, or the script stops. Without `fpc` its column stays empty.
+"""
+import os
+import shutil
+import subprocess
+import sys
+import tempfile
+import time
+
+RUNS = 3
+# a program: its name, its text in Pascal, and in Python; `fpc` gets 64-bit integers by a type of that name
+PROGRAMS = (
+    (
+        "a counting loop",
+        """program p(output);
+var i, s: integer;
+begin
+  i := 0; s := 0;
+  while i < 5000000 do begin s := s + i mod 7; i := i + 1 end;
+  writeln(s: 1)
+end.""",
+        """def main():
+    i = 0
+    s = 0
+    while i < 5000000:
+        s = s + i % 7
+        i = i + 1
+    print(s)
+main()
+""",
+    ),
+    (
+        "nested loops",
+        """program p(output);
+var i, j, s: integer;
+begin
+  i := 0; s := 0;
+  while i < 2000 do begin
+    j := 0;
+    repeat if i > j then s := s + 1; j := j + 1 until j = 1000;
+    i := i + 1
+  end;
+  writeln(s: 1)
+end.""",
+        """def main():
+    i = 0
+    s = 0
+    while i < 2000:
+        j = 0
+        while True:
+            if i > j:
+                s = s + 1
+            j = j + 1
+            if j == 1000:
+                break
+        i = i + 1
+    print(s)
+main()
+""",
+    ),
+    (
+        "primes by trial division",
+        """program p(output);
+var n, found: integer;
+procedure try(n: integer; var found: integer);
+var d: integer;
+begin
+  d := 2;
+  while (d * d <= n) and_then (n mod d <> 0) do d := d + 1;
+  if d * d > n then found := found + 1
+end;
+begin
+  n := 2; found := 0;
+  while n < 60000 do begin try(n, found); n := n + 1 end;
+  writeln(found: 1)
+end.""",
+        """def prime(n):
+    d = 2
+    while d * d <= n and n % d != 0:
+        d = d + 1
+    return d * d > n
+def main():
+    n = 2
+    found = 0
+    while n < 60000:
+        if prime(n):
+            found = found + 1
+        n = n + 1
+    print(found)
+main()
+""",
+    ),
+    (
+        "Fibonacci numbers, 24 by recursion",
+        """program p(output);
+var r: integer;
+procedure fib(n: integer; var r: integer);
+var a, b: integer;
+begin
+  if n < 2 then r := n
+  else begin fib(n - 1, a); fib(n - 2, b); r := a + b end
+end;
+begin fib(24, r); writeln(r: 1) end.""",
+        """def fib(n):
+    if n < 2:
+        return n
+    a = fib(n - 1)
+    b = fib(n - 2)
+    return a + b
+print(fib(24))
+""",
+    ),
+    (
+        "Ackermann(2, 150)",
+        """program p(output);
+var r: integer;
+procedure ackermann(m, n: integer; var r: integer);
+begin
+  if m = 0 then r := n + 1
+  else if n = 0 then ackermann(m - 1, 1, r)
+  else begin ackermann(m, n - 1, r); ackermann(m - 1, r, r) end
+end;
+begin ackermann(2, 150, r); writeln(r: 1) end.""",
+        """import sys
+sys.setrecursionlimit(100000)
+def ackermann(m, n):
+    if m == 0:
+        return n + 1
+    if n == 0:
+        return ackermann(m - 1, 1)
+    return ackermann(m - 1, ackermann(m, n - 1))
+print(ackermann(2, 150))
+""",
+    ),
+)
+
+
+def timed(command, folder):
+    """The least time of some runs, and what was written."""
+    best, text = None, None
+    for _ in range(RUNS):
+        began = time.perf_counter()
+        done = subprocess.run(command, cwd=folder, stdout=subprocess.PIPE, check=True)
+        took = time.perf_counter() - began
+        best = took if best is None else min(best, took)
+        text = done.stdout
+    return best, text
+
+
+def compiled(folder, text):
+    """The program as fpc makes it, or nothing without fpc."""
+    if shutil.which("fpc") is None:
+        return None
+    source = text.replace("program p(output);", "program p(output); type integer = int64;").replace("and_then", "and")
+    with open(os.path.join(folder, "f.pas"), "w") as file:
+        file.write(source)
+    subprocess.run(["fpc", "-O2", "-Miso", "f.pas"], cwd=folder, stdout=subprocess.DEVNULL, stderr=subprocess.DEVNULL, check=True)
+    return timed([os.path.join(folder, "f")], folder)
+
+
+def row(program, folder, name, pascal, python):
+    for file_name, text in (("x.pas", pascal), ("x.py", python)):
+        with open(os.path.join(folder, file_name), "w") as file:
+            file.write(text)
+    ours, wrote = timed([program, "go", "x.pas"], folder)
+    theirs, expected = timed([sys.executable, "x.py"], folder)
+    native = compiled(folder, pascal)
+    if wrote != expected or (native and native[1].strip() != expected.strip()):
+        sys.exit(f"{name}: the answers differ")
+    last = f"{native[0]:.2f} s | {ours / native[0]:.0f}" if native else " | "
+    return f"| {name} | {ours:.2f} s | {theirs:.2f} s | {ours / theirs:.2f} | {last} |"
+
+
+def main():
+    root = os.path.dirname(os.path.dirname(os.path.abspath(__file__)))
+    program = os.path.abspath(sys.argv[1]) if len(sys.argv) > 1 else os.path.join(root, "crates/epc/out/epc")
+    if not os.path.exists(program):
+        sys.exit(f"{program} is not there: build it first")
+    print("| Program | epc | Python | epc to Python | fpc -O2 | epc to fpc |")
+    print("|---|---|---|---|---|---|")
+    with tempfile.TemporaryDirectory() as folder:
+        for name, pascal, python in PROGRAMS:
+            print(row(program, folder, name, pascal, python))
+
+
+if __name__ == "__main__":
+    main()
