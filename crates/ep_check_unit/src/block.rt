@@ -38,7 +38,7 @@ pub(crate) struct Block {
     pub(crate) declarations: u32,
     /// The variables of the routine whose block is under way; none outside of routines.
     pub(crate) own: OwnVariables,
-    /// The routines, by number. One whose body is still to come does nothing.
+    /// The routines, by number, each of which gets its block in place. One whose body is still to come does nothing.
     pub(crate) routines: Vec<UnitRoutine>,
     /// The procedures that are declared `forward`.
     pub(crate) forwards: List<Forward>,

@@ -90,10 +90,8 @@ fn take_block(routine: &mut UnitRoutine, line: Line, variables: UnitVariables, b
         ≡ with_its_block line variables (stmt_of block) (routine_form routine.old) }
 {
     // What was there goes by a call each, since the walk over all forms of a statement takes longer to check.
-    let nothing = mem::replace(&mut routine.block, block);
-    drop(nothing);
-    let none = mem::replace(&mut routine.variables, variables);
-    drop(none);
+    drop(mem::replace(&mut routine.block, block));
+    drop(mem::replace(&mut routine.variables, variables));
     routine.line = line;
 }
 
