@@ -9,9 +9,10 @@ too, so that a wrong answer is seen.
 """
 import os
 import subprocess
-import sys
 import tempfile
 import time
+
+import program
 
 KIB = 1024
 SIZES = (64 * KIB, 256 * KIB, 1024 * KIB)
@@ -40,31 +41,28 @@ def source(before, piece, after, size):
     return text + " " * (size - len(text) - len(after)) + after
 
 
-def run(program, folder):
+def run(command, folder):
     """One call: seconds, MB and exit status."""
     began = time.perf_counter()
-    child = subprocess.Popen([program, "go", "x.pas"], cwd=folder, stdout=subprocess.DEVNULL, stderr=subprocess.DEVNULL)
+    child = subprocess.Popen([command, "go", "x.pas"], cwd=folder, stdout=subprocess.DEVNULL, stderr=subprocess.DEVNULL)
     _, status, used = os.wait4(child.pid, 0)
     return time.perf_counter() - began, used.ru_maxrss / KIB, os.waitstatus_to_exitcode(status)
 
 
-def cell(program, folder, text):
+def cell(command, folder, text):
     with open(os.path.join(folder, "x.pas"), "w") as file:
         file.write(text)
-    runs = [run(program, folder) for _ in range(RUNS)]
+    runs = [run(command, folder) for _ in range(RUNS)]
     return f"{min(r[0] for r in runs):.2f} s, {max(r[1] for r in runs):.0f} MB", runs[0][2]
 
 
 def main():
-    root = os.path.dirname(os.path.dirname(os.path.abspath(__file__)))
-    program = os.path.abspath(sys.argv[1]) if len(sys.argv) > 1 else os.path.join(root, "crates/epc/out/epc")
-    if not os.path.exists(program):
-        sys.exit(f"{program} is not there: build it first")
+    found = program.path()
     print("| Source | 64 KiB | 256 KiB | 1 MiB | Status |")
     print("|---|---|---|---|---|")
     with tempfile.TemporaryDirectory() as folder:
         for name, before, piece, after in SHAPES:
-            cells = [cell(program, folder, source(before, piece, after, size)) for size in SIZES]
+            cells = [cell(found, folder, source(before, piece, after, size)) for size in SIZES]
             print(f"| {name} | {' | '.join(c[0] for c in cells)} | {cells[-1][1]} |")
 
 

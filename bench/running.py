@@ -14,6 +14,8 @@ import sys
 import tempfile
 import time
 
+import program
+
 RUNS = 3
 # a program: its name, its text in Pascal, and in Python; `fpc` gets 64-bit integers by a type of that name
 PROGRAMS = (
@@ -165,29 +167,26 @@ def compiled(folder, text):
     return timed([os.path.join(folder, "f")], folder)
 
 
-def row(program, folder, name, pascal, python):
+def row(command, folder, name, pascal, python):
     for file_name, text in (("x.pas", pascal), ("x.py", python)):
         with open(os.path.join(folder, file_name), "w") as file:
             file.write(text)
-    ours, wrote = timed([program, "go", "x.pas"], folder)
+    ours, wrote = timed([command, "go", "x.pas"], folder)
     theirs, expected = timed([sys.executable, "x.py"], folder)
     native = compiled(folder, pascal)
     if wrote != expected or (native and native[1].strip() != expected.strip()):
         sys.exit(f"{name}: the answers differ")
-    last = f"{native[0]:.2f} s | {ours / native[0]:.0f}" if native else " | "
+    last = f"{native[0]:.3f} s | {ours / native[0]:.0f}" if native else " | "
     return f"| {name} | {ours:.2f} s | {theirs:.2f} s | {ours / theirs:.2f} | {last} |"
 
 
 def main():
-    root = os.path.dirname(os.path.dirname(os.path.abspath(__file__)))
-    program = os.path.abspath(sys.argv[1]) if len(sys.argv) > 1 else os.path.join(root, "crates/epc/out/epc")
-    if not os.path.exists(program):
-        sys.exit(f"{program} is not there: build it first")
+    found = program.path()
     print("| Program | epc | Python | epc to Python | fpc -O2 | epc to fpc |")
     print("|---|---|---|---|---|---|")
     with tempfile.TemporaryDirectory() as folder:
         for name, pascal, python in PROGRAMS:
-            print(row(program, folder, name, pascal, python))
+            print(row(found, folder, name, pascal, python))
 
 
 if __name__ == "__main__":
