@@ -1,10 +1,12 @@
 -- The meaning computes the answers of small programs.
 use Rattle.std.proofs.Common.{◌≡◌, ℕ, ℤ, pos, negsuc, true, false, [], ◌∷◌, refl, codes}
 use Rattle.ep_typed.specs.Events.{Trace, Write}
-use Rattle.ep_typed.specs.Trees.{Variable, Expr, Constant, Read, One, Two, Plain, Wide, Stmt, Compound, Assign, While, Repeat, Case, Short, Write, stmts, none, next, Other, no_other, otherwise_do, arms}
+use Rattle.ep_typed.specs.Trees.{Variable, Expr, Constant, Function, Evaluated, no_actual, next_actual, Read, One, Two, Plain, Wide, Stmt, Compound, Assign, While, Repeat, Case, Short, Write, stmts, none, next, Other, no_other, otherwise_do, arms}
 use Rattle.ep_typed.specs.Trees as tree
-use Rattle.ep_typed.specs.Steps.{End, Normal, Error, Outcome, Gives, Ends, Cut, state_of, made, first_state}
-use Rattle.ep_typed.specs.Meaning.{exec, routine_of}
+use Rattle.ep_typed.specs.Steps.{End, Normal, Error, Outcome, Gives, Ends, Cut, give, spend, state_of, made, first_state}
+use Rattle.ep_typed.specs.Calls.{Handler}
+use Rattle.ep_typed.specs.Meaning.{eval, exec, routine_of}
+use Rattle.ep_typed.specs.Printing.{Result, Number}
 use Rattle.ep_typed.specs.declared.operations.Unary.TheVariants as unary
 use Rattle.ep_typed.specs.declared.operations.Binary.TheVariants as binary
 use Rattle.ep_typed.specs.declared.operations.ShortOperation.TheVariants as short
@@ -82,3 +84,14 @@ no_range = refl
 
 otherwise : trace_of (run (chosen 5 (otherwise_do (next (shows 122) none))) 9) ≡ Write (codes "z") ∷ []
 otherwise = refl
+
+-- what every call gives after three steps
+abbrev gives_five : Handler
+gives_five from line unit number arguments = spend 3 (give (Number (pos 5) ∷ []))
+
+-- a function designator spends the steps of its arguments and of the call, and one of its own
+abbrev designator : Outcome Result
+designator = eval gives_five 0 (codes "p") 3 (Function (codes "p") 0 (next_actual (Evaluated (Constant (pos 1))) no_actual)) 5 first_state
+
+given : designator ≡ Gives 0 (Number (pos 5)) first_state
+given = refl

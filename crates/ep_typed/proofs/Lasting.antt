@@ -2,19 +2,21 @@
 use Rattle.std.proofs.Common.{◌≡◌, ℕ, ℤ, pos, negsuc, zero, suc, ◌+◌, List, [], ◌∷◌, Option, Some, None, Bool, true, false, length, refl, ap, arith}
 use Rattle.std.specs.Prelude.{if◌then◌else◌}
 use Rattle.ep_typed.specs.Denoters.{type_of}
-use Rattle.ep_typed.specs.Meaning.{argument, arguments, initialized, takes_by, takes_all, elaborate, answered, place, eval, write_piece, write_wide, write_item, write_items, assign, turns, turns_until, exec, exec_all, elaborated, make, make_all, make_own, make_all_own, start_of, starts_of, Found, routine_in, runs_routine, routine_does, routine_of, read, assign_living, tried, exec_arms, exec_other}
+use Rattle.ep_typed.specs.Meaning.{argument, arguments, one_result, weight_of, results_given, initialized, takes_by, takes_all, elaborate, answered, place, eval, write_piece, write_wide, write_item, write_items, assign, turns, turns_until, exec, exec_all, elaborated, make, make_all, make_own, make_all_own, start_of, starts_of, Found, routine_in, runs_routine, routine_does, routine_of, read, assign_living, tried, exec_arms, exec_other}
 use Rattle.ep_typed.specs.Operations.{Answer, Number, Fault, is_true, decides, is_in}
 use Rattle.ep_typed.specs.Printing.{Result, number_of, plain_text, wide_text, piece_events}
 use Rattle.ep_typed.specs.Printing as result
 use Rattle.ep_typed.specs.Calls.{Argument, Value, Handler, entered, given_back, in_call}
 use Rattle.ep_typed.specs.Calls as argument_is
 use Rattle.ep_typed.specs.Steady.{Grows, Steady, IsSteadyHandler}
-use Rattle.ep_typed.specs.Steps.{Call, End, Normal, Halted, Error, Word, State, Outcome, Gives, Ends, Cut, state_of, Computation, give, cut, stop, go_on, bind, spend, change, found, fetch, assigned, type_at, is_within, size_of, with_type, counted, made, made_own, allocate, allocate_own, newest_assigned, with_own_bound, standard_file, first_state, using, has_ended}
-use Rattle.ep_typed.specs.Trees.{Place, Variable, Own, Standard, Expr, Constant, Text, Read, One, Two, Short, Step, Actual, Evaluated, Accessed, Item, Plain, Wide, Stmt, Stmts, Empty, Compound, Assign, If, While, Repeat, Procedure, Halt, Write, none, next, Case, Arms, no_arm, next_arm, Other, no_other, otherwise_do}
+use Rattle.ep_typed.specs.Steps.{Call, End, Normal, Halted, Error, Word, State, Outcome, Gives, Ends, Cut, state_of, Computation, give, cut, stop, go_on, bind, spend, change, found, fetch, assigned, type_at, is_within, size_of, with_type, counted, made, made_own, allocate, allocate_own, newest_assigned, with_own_bound, standard_file, first_state, using, has_ended, own_variable, word_at}
+use Rattle.ep_typed.specs.Trees.{Place, Variable, Own, Standard, Expr, Constant, Text, Read, One, Two, Short, Step, Function, Actual, Evaluated, Accessed, Actuals, no_actual, next_actual, Item, Plain, Wide, Stmt, Stmts, Empty, Compound, Assign, If, While, Repeat, Procedure, Halt, Write, none, next, Case, Arms, no_arm, next_arm, Other, no_other, otherwise_do}
+use Rattle.ep_typed.specs.Routines.{made_variables}
 use Rattle.ep_typed.specs.Viewed.{denoter_of, stmt_of}
 use Rattle.ep_typed.specs.declared.interface.Formal.{Formal}
 use Rattle.ep_typed.specs.declared.interface.FormalMode.{FormalMode}
 use Rattle.ep_typed.specs.declared.interface.FormalMode.TheVariants as mode
+use Rattle.ep_typed.specs.declared.interface.RoutineResult.{RoutineResult}
 use Rattle.ep_typed.specs.declared.operations.Print.{Print}
 use Rattle.ep_typed.specs.declared.unit.Unit.{Unit as TypedUnit}
 use Rattle.ep_typed.specs.declared.unit.UnitRoutine.TheViews.{out-UnitRoutine}
@@ -151,28 +153,37 @@ module _ (call other : Handler) (lasts : IsLastingHandler call other) (g j : ℕ
   lasting_read : (line n : ℕ) → Lasting (read call g unit line n) (read other (g + j) unit line n)
   lasting_read line n = lasting_using _ n (lasting_bind (lasting_fetch _ _) (λ w. lasting_spend 1 (lasting_give (result.Number w))))
 
-  -- an expression
-  lasting_eval : (line : ℕ) (x : Expr) → Lasting (eval call g unit line x) (eval other (g + j) unit line x)
-  lasting_eval line (Constant z) = lasting_spend 1 (lasting_give (result.Number z))
-  lasting_eval line (Text bytes) = lasting_spend (suc (length bytes)) (lasting_give (result.Bytes bytes))
-  lasting_eval line (Read p) = lasting_bind (lasting_place line p) (lasting_read line)
-  lasting_eval line (One operation x) =
-      lasting_bind (lasting_eval line x) (λ a. lasting_bind (lasting_answered line _) (λ z. lasting_spend 1 (lasting_give (result.Number z))))
-  lasting_eval line (Two operation x y) =
-      lasting_bind (lasting_eval line x) (λ a. lasting_bind (lasting_eval line y) (λ b. lasting_bind (lasting_answered line _) (λ z. lasting_spend 1 (lasting_give (result.Number z)))))
-  lasting_eval line (Short operation x y) =
-      lasting_bind (lasting_eval line x) (λ a. lasting_if (decides operation (number_of a)) (lasting_spend 1 (lasting_give a)) (lasting_bind (lasting_eval line y) (λ b. lasting_spend 1 (lasting_give b))))
-  lasting_eval line (Step down low high x y) =
-      lasting_bind (lasting_eval line x) (λ a. lasting_bind (lasting_eval line y) (λ b. lasting_bind (lasting_answered line _) (λ z. lasting_spend 1 (lasting_give (result.Number z)))))
+  -- what a function gives
+  lasting_one_result : (rs : List Result) → Lasting (one_result call g unit rs) (one_result other (g + j) unit rs)
+  lasting_one_result [] = lasting_cut
+  lasting_one_result (r ∷ []) = lasting_spend (suc (weight_of r)) (lasting_give r)
+  lasting_one_result (r ∷ s ∷ more) = lasting_cut
 
-  -- arguments
-  lasting_argument : (line : ℕ) (a : Actual) → Lasting (argument call g unit line a) (argument other (g + j) unit line a)
-  lasting_argument line (Evaluated x) = lasting_bind (lasting_eval line x) (λ r. lasting_give (Value r))
-  lasting_argument line (Accessed p) = lasting_bind (lasting_place line p) (λ n. lasting_give (argument_is.Variable n))
+  mutual
+    -- an expression
+    lasting_eval : (line : ℕ) (x : Expr) → Lasting (eval call g unit line x) (eval other (g + j) unit line x)
+    lasting_eval line (Constant z) = lasting_spend 1 (lasting_give (result.Number z))
+    lasting_eval line (Text bytes) = lasting_spend (suc (length bytes)) (lasting_give (result.Bytes bytes))
+    lasting_eval line (Read p) = lasting_bind (lasting_place line p) (lasting_read line)
+    lasting_eval line (One operation x) =
+        lasting_bind (lasting_eval line x) (λ a. lasting_bind (lasting_answered line _) (λ z. lasting_spend 1 (lasting_give (result.Number z))))
+    lasting_eval line (Two operation x y) =
+        lasting_bind (lasting_eval line x) (λ a. lasting_bind (lasting_eval line y) (λ b. lasting_bind (lasting_answered line _) (λ z. lasting_spend 1 (lasting_give (result.Number z)))))
+    lasting_eval line (Short operation x y) =
+        lasting_bind (lasting_eval line x) (λ a. lasting_if (decides operation (number_of a)) (lasting_spend 1 (lasting_give a)) (lasting_bind (lasting_eval line y) (λ b. lasting_spend 1 (lasting_give b))))
+    lasting_eval line (Step down low high x y) =
+        lasting_bind (lasting_eval line x) (λ a. lasting_bind (lasting_eval line y) (λ b. lasting_bind (lasting_answered line _) (λ z. lasting_spend 1 (lasting_give (result.Number z)))))
+    lasting_eval line (Function of_unit number given) =
+        lasting_bind (lasting_arguments line given) (λ xs. lasting_bind (lasts.by unit line of_unit number xs) lasting_one_result)
 
-  lasting_arguments : (line : ℕ) (given : List Actual) → Lasting (arguments call g unit line given) (arguments other (g + j) unit line given)
-  lasting_arguments line [] = lasting_give []
-  lasting_arguments line (a ∷ more) = lasting_bind (lasting_argument line a) (λ x. lasting_bind (lasting_arguments line more) (λ xs. lasting_give (x ∷ xs)))
+    -- arguments
+    lasting_argument : (line : ℕ) (a : Actual) → Lasting (argument call g unit line a) (argument other (g + j) unit line a)
+    lasting_argument line (Evaluated x) = lasting_bind (lasting_eval line x) (λ r. lasting_give (Value r))
+    lasting_argument line (Accessed p) = lasting_bind (lasting_place line p) (λ n. lasting_give (argument_is.Variable n))
+
+    lasting_arguments : (line : ℕ) (given : Actuals) → Lasting (arguments call g unit line given) (arguments other (g + j) unit line given)
+    lasting_arguments line no_actual = lasting_give []
+    lasting_arguments line (next_actual a more) = lasting_bind (lasting_argument line a) (λ x. lasting_bind (lasting_arguments line more) (λ xs. lasting_give (x ∷ xs)))
 
   -- one piece that is written
   lasting_write_piece : (bytes : List ℕ) → Lasting (write_piece call g unit bytes) (write_piece other (g + j) unit bytes)
@@ -325,18 +336,26 @@ module _ (call other : Handler) (lasts : IsLastingHandler call other) (g j : ℕ
   lasting_takes_all line number (f ∷ fs) [] = lasting_cut
   lasting_takes_all line number (f ∷ fs) (x ∷ xs) = lasting_bind (lasting_takes_by f.mode line number f x) (λ _. lasting_takes_all line (suc number) fs xs)
 
+-- what a routine gives
+lasting_results_given : (unit : List ℕ) (line number : ℕ) (r : Option RoutineResult) → Lasting (results_given unit line number r) (results_given unit line number r)
+lasting_results_given unit line number None = lasting_give []
+lasting_results_given unit line number (Some r) =
+    lasting_bind (lasting_fetch (Error run_error.UNDEFINED_VALUE unit line) (own_variable number)) (λ n.
+    lasting_using (Error run_error.DISPOSED unit line) n (lasting_bind (lasting_fetch (Error run_error.RESULT_UNDEFINED unit line) (word_at n)) (λ w. lasting_give (result.Number w ∷ []))))
+
 -- a routine
 lasting_runs_routine : (call other : Handler) → IsLastingHandler call other → (g j : ℕ) (unit : List ℕ) (f : Found) (xs : List Argument) → Lasting (runs_routine call g unit f xs) (runs_routine other (g + j) unit f xs)
 lasting_runs_routine call other lasts g j unit f xs =
     let r = out-UnitRoutine f.routine in
     lasting_bind (lasting_takes_all call other lasts g j unit f.types r.line 0 r.formals xs)
-    (λ _. lasting_bind (lasting_make_all_own call other lasts g j unit f.types (length r.formals) r.variables) (λ _. lasting_exec call other lasts g j unit (stmt_of r.block)))
+    (λ _. lasting_bind (lasting_make_all_own call other lasts g j unit f.types (length r.formals) (made_variables f.routine))
+    (λ _. lasting_bind (lasting_exec call other lasts g j unit (stmt_of r.block)) (λ _. lasting_results_given unit r.line (length r.formals) r.result)))
 
 lasting_routine_does : (call other : Handler) → IsLastingHandler call other → (g j : ℕ) (from : List ℕ) (line : ℕ) (unit : List ℕ) (o : Option Found) (xs : List Argument)
     → Lasting (routine_does call g from line unit o xs) (routine_does other (g + j) from line unit o xs)
 lasting_routine_does call other lasts g j from line unit None xs = lasting_cut
 lasting_routine_does call other lasts g j from line unit (Some f) xs =
-    lasting_in_call _ (lasting_spend 1 (lasting_bind (lasting_runs_routine call other lasts g j unit f xs) (λ a. lasting_give [])))
+    lasting_in_call _ (lasting_spend 1 (lasting_runs_routine call other lasts g j unit f xs))
 
 -- where calls may nest deeper
 lasting_routine_of : (units : List TypedUnit) (depth more : ℕ) → IsLastingHandler (routine_of units depth) (routine_of units (depth + more))

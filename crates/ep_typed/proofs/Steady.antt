@@ -5,19 +5,21 @@ use Rattle.std.specs.List.{list_any}
 use Rattle.ep_outside.specs.Known.{IsPrefix}
 use Rattle.ep_typed.specs.Denoters.{type_of}
 use Rattle.ep_typed.specs.Events.{Trace}
-use Rattle.ep_typed.specs.Meaning.{argument, arguments, initialized, takes_by, takes_all, elaborate, answered, place, eval, write_piece, write_wide, write_item, write_items, assign, turns, turns_until, exec, exec_all, elaborated, make, make_all, make_own, make_all_own, start_of, starts_of, Found, routine_in, runs_routine, routine_does, routine_of, read, assign_living, tried, exec_arms, exec_other}
+use Rattle.ep_typed.specs.Meaning.{argument, arguments, one_result, weight_of, result_at, results_given, initialized, takes_by, takes_all, elaborate, answered, place, eval, write_piece, write_wide, write_item, write_items, assign, turns, turns_until, exec, exec_all, elaborated, make, make_all, make_own, make_all_own, start_of, starts_of, Found, routine_in, runs_routine, routine_does, routine_of, read, assign_living, tried, exec_arms, exec_other}
 use Rattle.ep_typed.specs.Operations.{Answer, Number, Fault, is_true, decides, is_in}
 use Rattle.ep_typed.specs.Printing.{Result, number_of, plain_text, wide_text, piece_events}
 use Rattle.ep_typed.specs.Printing as result
 use Rattle.ep_typed.specs.Calls.{Argument, Value, Handler, entered, given_back, in_call}
 use Rattle.ep_typed.specs.Calls as argument_is
 use Rattle.ep_typed.specs.Steady.{Grows, Steady, IsSteadyHandler}
-use Rattle.ep_typed.specs.Steps.{Call, End, Normal, Halted, Error, Word, State, Outcome, Gives, Ends, Cut, state_of, Computation, give, cut, stop, go_on, bind, spend, change, found, fetch, with_events, assigned, type_at, is_within, size_of, same_type, Resources, watched, words_of_type, met, with_type, counted, made, made_own, allocate, allocate_own, newest_assigned, with_own_bound, standard_file, using, has_ended}
-use Rattle.ep_typed.specs.Trees.{Place, Variable, Own, Standard, Expr, Constant, Text, Read, One, Two, Short, Step, Actual, Evaluated, Accessed, Item, Plain, Wide, Stmt, Stmts, Empty, Compound, Assign, If, While, Repeat, Procedure, Halt, Write, none, next, Case, Arms, no_arm, next_arm, Other, no_other, otherwise_do}
+use Rattle.ep_typed.specs.Steps.{Call, End, Normal, Halted, Error, Word, State, Outcome, Gives, Ends, Cut, state_of, Computation, give, cut, stop, go_on, bind, spend, change, found, fetch, with_events, assigned, type_at, is_within, size_of, same_type, Resources, watched, words_of_type, met, with_type, counted, made, made_own, allocate, allocate_own, newest_assigned, with_own_bound, standard_file, using, has_ended, own_variable, word_at}
+use Rattle.ep_typed.specs.Trees.{Place, Variable, Own, Standard, Expr, Constant, Text, Read, One, Two, Short, Step, Function, Actual, Evaluated, Accessed, Actuals, no_actual, next_actual, Item, Plain, Wide, Stmt, Stmts, Empty, Compound, Assign, If, While, Repeat, Procedure, Halt, Write, none, next, Case, Arms, no_arm, next_arm, Other, no_other, otherwise_do}
+use Rattle.ep_typed.specs.Routines.{made_variables}
 use Rattle.ep_typed.specs.Viewed.{denoter_of, stmt_of}
 use Rattle.ep_typed.specs.declared.interface.Formal.{Formal}
 use Rattle.ep_typed.specs.declared.interface.FormalMode.{FormalMode}
 use Rattle.ep_typed.specs.declared.interface.FormalMode.TheVariants as mode
+use Rattle.ep_typed.specs.declared.interface.RoutineResult.{RoutineResult}
 use Rattle.ep_typed.specs.declared.operations.Print.{Print}
 use Rattle.ep_typed.specs.declared.tree.CaseRange.{CaseRange}
 use Rattle.ep_typed.specs.declared.value.TypeValue.{TypeValue}
@@ -182,28 +184,36 @@ module _ (call : Handler) (steady : IsSteadyHandler call) (g : ℕ) (unit : List
   pub steady_read : (line n : ℕ) → Steady (read call g unit line n)
   steady_read line n = steady_using _ n (steady_bind (steady_fetch _ _) (λ w. steady_spend 1 (steady_give (result.Number w))))
 
-  -- an expression
-  pub steady_eval : (line : ℕ) (x : Expr) → Steady (eval call g unit line x)
-  steady_eval line (Constant z) = steady_spend 1 (steady_give (result.Number z))
-  steady_eval line (Text bytes) = steady_spend (suc (length bytes)) (steady_give (result.Bytes bytes))
-  steady_eval line (Read p) = steady_bind (steady_place line p) (steady_read line)
-  steady_eval line (One operation x) =
-      steady_bind (steady_eval line x) (λ a. steady_bind (steady_answered line _) (λ z. steady_spend 1 (steady_give (result.Number z))))
-  steady_eval line (Two operation x y) =
-      steady_bind (steady_eval line x) (λ a. steady_bind (steady_eval line y) (λ b. steady_bind (steady_answered line _) (λ z. steady_spend 1 (steady_give (result.Number z)))))
-  steady_eval line (Short operation x y) =
-      steady_bind (steady_eval line x) (λ a. steady_if (decides operation (number_of a)) (steady_spend 1 (steady_give a)) (steady_bind (steady_eval line y) (λ b. steady_spend 1 (steady_give b))))
-  steady_eval line (Step down low high x y) =
-      steady_bind (steady_eval line x) (λ a. steady_bind (steady_eval line y) (λ b. steady_bind (steady_answered line _) (λ z. steady_spend 1 (steady_give (result.Number z)))))
+  -- what a function gives
+  steady_one_result : (rs : List Result) → Steady (one_result call g unit rs)
+  steady_one_result [] = steady_cut
+  steady_one_result (r ∷ []) = steady_spend (suc (weight_of r)) (steady_give r)
+  steady_one_result (r ∷ s ∷ more) = steady_cut
 
-  -- arguments
-  steady_argument : (line : ℕ) (a : Actual) → Steady (argument call g unit line a)
-  steady_argument line (Evaluated x) = steady_bind (steady_eval line x) (λ r. steady_give (Value r))
-  steady_argument line (Accessed p) = steady_bind (steady_place line p) (λ n. steady_give (argument_is.Variable n))
+  mutual
+    -- an expression
+    pub steady_eval : (line : ℕ) (x : Expr) → Steady (eval call g unit line x)
+    steady_eval line (Constant z) = steady_spend 1 (steady_give (result.Number z))
+    steady_eval line (Text bytes) = steady_spend (suc (length bytes)) (steady_give (result.Bytes bytes))
+    steady_eval line (Read p) = steady_bind (steady_place line p) (steady_read line)
+    steady_eval line (One operation x) =
+        steady_bind (steady_eval line x) (λ a. steady_bind (steady_answered line _) (λ z. steady_spend 1 (steady_give (result.Number z))))
+    steady_eval line (Two operation x y) =
+        steady_bind (steady_eval line x) (λ a. steady_bind (steady_eval line y) (λ b. steady_bind (steady_answered line _) (λ z. steady_spend 1 (steady_give (result.Number z)))))
+    steady_eval line (Short operation x y) =
+        steady_bind (steady_eval line x) (λ a. steady_if (decides operation (number_of a)) (steady_spend 1 (steady_give a)) (steady_bind (steady_eval line y) (λ b. steady_spend 1 (steady_give b))))
+    steady_eval line (Step down low high x y) =
+        steady_bind (steady_eval line x) (λ a. steady_bind (steady_eval line y) (λ b. steady_bind (steady_answered line _) (λ z. steady_spend 1 (steady_give (result.Number z)))))
+    steady_eval line (Function of_unit number given) = steady_bind (steady_arguments line given) (λ xs. steady_bind (steady unit line of_unit number xs) steady_one_result)
 
-  pub steady_arguments : (line : ℕ) (given : List Actual) → Steady (arguments call g unit line given)
-  steady_arguments line [] = steady_give []
-  steady_arguments line (a ∷ more) = steady_bind (steady_argument line a) (λ x. steady_bind (steady_arguments line more) (λ xs. steady_give (x ∷ xs)))
+    -- arguments
+    steady_argument : (line : ℕ) (a : Actual) → Steady (argument call g unit line a)
+    steady_argument line (Evaluated x) = steady_bind (steady_eval line x) (λ r. steady_give (Value r))
+    steady_argument line (Accessed p) = steady_bind (steady_place line p) (λ n. steady_give (argument_is.Variable n))
+
+    pub steady_arguments : (line : ℕ) (given : Actuals) → Steady (arguments call g unit line given)
+    steady_arguments line no_actual = steady_give []
+    steady_arguments line (next_actual a more) = steady_bind (steady_argument line a) (λ x. steady_bind (steady_arguments line more) (λ xs. steady_give (x ∷ xs)))
 
   -- one piece that is written
   pub steady_write_piece : (bytes : List ℕ) → Steady (write_piece call g unit bytes)
@@ -345,18 +355,30 @@ module _ (call : Handler) (steady : IsSteadyHandler call) (g : ℕ) (unit : List
   steady_takes_all line number (f ∷ fs) [] = steady_cut
   steady_takes_all line number (f ∷ fs) (x ∷ xs) = steady_bind (steady_takes_by f.mode line number f x) (λ _. steady_takes_all line (suc number) fs xs)
 
+-- the result of a function
+pub steady_result_at : (unit : List ℕ) (line number : ℕ) → Steady (result_at unit line number)
+steady_result_at unit line number =
+    steady_bind (steady_fetch (Error run_error.UNDEFINED_VALUE unit line) (own_variable number)) (λ n.
+    steady_using (Error run_error.DISPOSED unit line) n (steady_bind (steady_fetch (Error run_error.RESULT_UNDEFINED unit line) (word_at n)) (λ w. steady_give (result.Number w ∷ []))))
+
+-- what a routine gives
+pub steady_results_given : (unit : List ℕ) (line number : ℕ) (r : Option RoutineResult) → Steady (results_given unit line number r)
+steady_results_given unit line number None = steady_give []
+steady_results_given unit line number (Some r) = steady_result_at unit line number
+
 -- a routine
 pub steady_runs_routine : (call : Handler) → IsSteadyHandler call → (g : ℕ) (unit : List ℕ) (f : Found) (xs : List Argument) → Steady (runs_routine call g unit f xs)
 steady_runs_routine call steady g unit f xs =
     let r = out-UnitRoutine f.routine in
     steady_bind (steady_takes_all call steady g unit f.types r.line 0 r.formals xs)
-    (λ _. steady_bind (steady_make_all_own call steady g unit f.types (length r.formals) r.variables) (λ _. steady_exec call steady g unit (stmt_of r.block)))
+    (λ _. steady_bind (steady_make_all_own call steady g unit f.types (length r.formals) (made_variables f.routine))
+    (λ _. steady_bind (steady_exec call steady g unit (stmt_of r.block)) (λ _. steady_results_given unit r.line (length r.formals) r.result)))
 
 steady_routine_does : (call : Handler) → IsSteadyHandler call → (g : ℕ) (from : List ℕ) (line : ℕ) (unit : List ℕ) (o : Option Found) (xs : List Argument)
     → Steady (routine_does call g from line unit o xs)
 steady_routine_does call steady g from line unit None xs = steady_cut
 steady_routine_does call steady g from line unit (Some f) xs =
-    steady_in_call _ (steady_spend 1 (steady_bind (steady_runs_routine call steady g unit f xs) (λ a. steady_give [])))
+    steady_in_call _ (steady_spend 1 (steady_runs_routine call steady g unit f xs))
 
 -- however deep calls nest
 pub steady_routine_of : (units : List TypedUnit) (depth : ℕ) → IsSteadyHandler (routine_of units depth)

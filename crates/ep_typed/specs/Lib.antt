@@ -7,6 +7,7 @@ pub mod Meaning
 pub mod Nodes
 pub mod Operations
 pub mod Printing
+pub mod Routines
 pub mod Steady
 pub mod Steps
 pub mod Trees

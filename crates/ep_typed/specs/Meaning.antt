@@ -4,7 +4,8 @@ use Rattle.std.specs.Prelude.{ℕ, ℤ, pos, negsuc, zero, suc, Bool, true, fals
 use Rattle.ep_typed.specs.Calls.{Argument, Value, Handler, in_call}
 use Rattle.ep_typed.specs.Calls as argument_is
 use Rattle.ep_typed.specs.Denoters.{type_of}
-use Rattle.ep_typed.specs.Trees.{Denoter, Place, Variable, Own, Standard, Expr, Constant, Text, Read, One, Two, Short, Step, Actual, Evaluated, Accessed, Item, Plain, Wide, Stmt, Stmts, Empty, Compound, Assign, If, While, Repeat, Procedure, Halt, Write, none, next, Case, Arms, no_arm, next_arm, Other, no_other, otherwise_do}
+use Rattle.ep_typed.specs.Trees.{Denoter, Place, Variable, Own, Standard, Expr, Constant, Text, Read, One, Two, Short, Step, Function, Actual, Evaluated, Accessed, Actuals, no_actual, next_actual, Item, Plain, Wide, Stmt, Stmts, Empty, Compound, Assign, If, While, Repeat, Procedure, Halt, Write, none, next, Case, Arms, no_arm, next_arm, Other, no_other, otherwise_do}
+use Rattle.ep_typed.specs.Routines.{made_variables}
 use Rattle.ep_typed.specs.Viewed.{denoter_of, stmt_of}
 use Rattle.ep_typed.specs.Steps.{Call, Normal, Halted, Error, Word, Outcome, Computation, give, cut, stop, bind, spend, change, fetch, with_events, word_at, assigned, type_at, is_within, with_type, allocate, allocate_own, own_variable, newest_assigned, with_own_bound, standard_file, first_state, using}
 use Rattle.ep_typed.specs.Operations.{Answer, Number, Fault, unary_answer, binary_answer, step_answer, is_true, decides, is_in}
@@ -13,6 +14,7 @@ use Rattle.ep_typed.specs.Printing as result
 use Rattle.ep_typed.specs.declared.interface.Formal.{Formal}
 use Rattle.ep_typed.specs.declared.interface.FormalMode.{FormalMode}
 use Rattle.ep_typed.specs.declared.interface.FormalMode.TheVariants as mode
+use Rattle.ep_typed.specs.declared.interface.RoutineResult.{RoutineResult}
 use Rattle.ep_typed.specs.declared.operations.Print.{Print}
 use Rattle.ep_typed.specs.declared.run_error.TheConstants as run_error
 use Rattle.ep_typed.specs.declared.unit.UnitRoutine.{UnitRoutine}
@@ -44,28 +46,36 @@ module _ (call : Handler) (g : ℕ) (unit : List ℕ) where
   abbrev pub read : ℕ → ℕ → Computation Result
   read line n = using (Error run_error.DISPOSED unit line) n (bind (fetch (Error run_error.UNDEFINED_VALUE unit line) (word_at n)) (λ w. spend 1 (give (result.Number w))))
 
-  -- an expression spends a step and its weight when it is done
-  abbrev pub eval : ℕ → Expr → Computation Result
-  eval line (Constant z) = spend 1 (give (result.Number z))
-  eval line (Text bytes) = spend (suc (length bytes)) (give (Bytes bytes))
-  eval line (Read p) = bind (place line p) (read line)
-  eval line (One operation x) = bind (eval line x) (λ a. bind (answered line (unary_answer operation (number_of a))) (λ z. spend 1 (give (result.Number z))))
-  eval line (Two operation x y) =
-      bind (eval line x) (λ a. bind (eval line y) (λ b. bind (answered line (binary_answer operation (number_of a) (number_of b))) (λ z. spend 1 (give (result.Number z)))))
-  eval line (Short operation x y) =
-      bind (eval line x) (λ a. if decides operation (number_of a) then spend 1 (give a) else bind (eval line y) (λ b. spend 1 (give b)))
-  eval line (Step down low high x y) =
-      bind (eval line x) (λ a. bind (eval line y) (λ b. bind (answered line (step_answer down low high (number_of a) (number_of b))) (λ z. spend 1 (give (result.Number z)))))
+  -- what a call of a function gives, which has one result; what is none has no meaning
+  abbrev pub one_result : List Result → Computation Result
+  one_result [] = cut
+  one_result (r ∷ []) = spend (suc (weight_of r)) (give r)
+  one_result (r ∷ more) = cut
 
-  -- an argument: a value, or the allocation of a variable (ISO 10206, 6.7.3)
-  abbrev pub argument : ℕ → Actual → Computation Argument
-  argument line (Evaluated x) = bind (eval line x) (λ r. give (Value r))
-  argument line (Accessed p) = bind (place line p) (λ n. give (argument_is.Variable n))
+  abbrev mutual
+    -- an expression spends a step and its weight when it is done
+    pub eval : ℕ → Expr → Computation Result
+    eval line (Constant z) = spend 1 (give (result.Number z))
+    eval line (Text bytes) = spend (suc (length bytes)) (give (Bytes bytes))
+    eval line (Read p) = bind (place line p) (read line)
+    eval line (One operation x) = bind (eval line x) (λ a. bind (answered line (unary_answer operation (number_of a))) (λ z. spend 1 (give (result.Number z))))
+    eval line (Two operation x y) =
+        bind (eval line x) (λ a. bind (eval line y) (λ b. bind (answered line (binary_answer operation (number_of a) (number_of b))) (λ z. spend 1 (give (result.Number z)))))
+    eval line (Short operation x y) =
+        bind (eval line x) (λ a. if decides operation (number_of a) then spend 1 (give a) else bind (eval line y) (λ b. spend 1 (give b)))
+    eval line (Step down low high x y) =
+        bind (eval line x) (λ a. bind (eval line y) (λ b. bind (answered line (step_answer down low high (number_of a) (number_of b))) (λ z. spend 1 (give (result.Number z)))))
+    eval line (Function of_unit number given) = bind (arguments line given) (λ xs. bind (call unit line of_unit number xs) one_result)
 
-  -- arguments, from left to right
-  abbrev pub arguments : ℕ → List Actual → Computation (List Argument)
-  arguments line [] = give []
-  arguments line (a ∷ more) = bind (argument line a) (λ x. bind (arguments line more) (λ xs. give (x ∷ xs)))
+    -- an argument: a value, or the allocation of a variable (ISO 10206, 6.7.3)
+    pub argument : ℕ → Actual → Computation Argument
+    argument line (Evaluated x) = bind (eval line x) (λ r. give (Value r))
+    argument line (Accessed p) = bind (place line p) (λ n. give (argument_is.Variable n))
+
+    -- arguments, from left to right
+    pub arguments : ℕ → Actuals → Computation (List Argument)
+    arguments line no_actual = give []
+    arguments line (next_actual a more) = bind (argument line a) (λ x. bind (arguments line more) (λ xs. give (x ∷ xs)))
 
   -- one piece spends a step and its length, and is then written
   abbrev pub write_piece : List ℕ → Computation (Unit {0})
@@ -214,20 +224,34 @@ module _ (call : Handler) (g : ℕ) (unit : List ℕ) (types : List UnitType) wh
   takes_all line number (f ∷ fs) [] = cut
   takes_all line number (f ∷ fs) (x ∷ xs) = bind (takes_by f.mode line number f x) (λ _. takes_all line (suc number) fs xs)
 
--- What a routine does in its activation: its formal parameters take the arguments, it makes its variables, and runs its
--- block; so far it has no result. An error in taking arguments is on the line of the declaration (own).
-abbrev pub runs_routine : Handler → ℕ → List ℕ → Found → List Argument → Computation (Unit {0})
+-- The value that the variable of this number of the routine has. One that is undefined is an error of its own, since it is
+-- the result of a function that was never given (ISO 10206, 6.7.2).
+abbrev pub result_at : List ℕ → ℕ → ℕ → Computation (List Result)
+result_at unit line number =
+    bind (fetch (Error run_error.UNDEFINED_VALUE unit line) (own_variable number)) (λ n.
+    using (Error run_error.DISPOSED unit line) n (bind (fetch (Error run_error.RESULT_UNDEFINED unit line) (word_at n)) (λ w. give (result.Number w ∷ []))))
+
+-- what a routine gives when it is done: a function the value of the variable of this number, and a procedure nothing
+abbrev pub results_given : List ℕ → ℕ → ℕ → Option RoutineResult → Computation (List Result)
+results_given unit line number None = give []
+results_given unit line number (Some r) = result_at unit line number
+
+-- What a routine does in its activation: its formal parameters take the arguments, it makes the variable that has its
+-- result, where it has one, and those that it declares, runs its block, and gives its result. An error in taking arguments
+-- or in giving the result is on the line of the declaration (own).
+abbrev pub runs_routine : Handler → ℕ → List ℕ → Found → List Argument → Computation (List Result)
 runs_routine call g unit f xs =
     let r = out-UnitRoutine f.routine in
     bind (takes_all call g unit f.types r.line 0 r.formals xs)
-    (λ _. bind (make_all_own call g unit f.types (length r.formals) r.variables) (λ _. exec call g unit (stmt_of r.block)))
+    (λ _. bind (make_all_own call g unit f.types (length r.formals) (made_variables f.routine))
+    (λ _. bind (exec call g unit (stmt_of r.block)) (λ _. results_given unit r.line (length r.formals) r.result)))
 
 -- What a call of a routine does: it spends a step, and then the routine runs. What is none has no meaning, and no valid
 -- unit calls one.
 abbrev pub routine_does : Handler → ℕ → List ℕ → ℕ → List ℕ → Option Found → List Argument → Computation (List Result)
 routine_does call g from line unit None xs = cut
 routine_does call g from line unit (Some f) xs =
-    in_call (activation (out-UnitRoutine f.routine).name from line) (spend 1 (bind (runs_routine call g unit f xs) (λ _. give [])))
+    in_call (activation (out-UnitRoutine f.routine).name from line) (spend 1 (runs_routine call g unit f xs))
 
 -- What a call does, where calls nest at most so deep, and loops turn at most so often in each.
 abbrev pub routine_of : List TypedUnit → ℕ → Handler

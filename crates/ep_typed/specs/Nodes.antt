@@ -1,6 +1,6 @@
 -- How many typed nodes a unit has: its expressions, places, statements, ranges of `case` statements, imports, routines, formals, variables, denoters, bounds and values. An expression that is a constant or a text counts one, and its value one more.
 use Rattle.std.specs.Prelude.{ℕ, ◌+◌, ◌*◌, List, [], ◌∷◌, length, map, sum, Option, Some, None}
-use Rattle.ep_typed.specs.Trees.{Denoter, Required, Named, Subrange, Enumeration, Place, Variable, Own, Standard, Expr, Constant, Text, Read, One, Two, Short, Step, Actual, Evaluated, Accessed, Item, Plain, Wide, Stmt, Stmts, Empty, Compound, Assign, If, While, Repeat, Procedure, Case, Halt, Write, none, next, Arm, Arms, no_arm, next_arm, Other, no_other, otherwise_do}
+use Rattle.ep_typed.specs.Trees.{Denoter, Required, Named, Subrange, Enumeration, Place, Variable, Own, Standard, Expr, Constant, Text, Read, One, Two, Short, Step, Function, Actual, Evaluated, Accessed, Actuals, no_actual, next_actual, Item, Plain, Wide, Stmt, Stmts, Empty, Compound, Assign, If, While, Repeat, Procedure, Case, Halt, Write, none, next, Arm, Arms, no_arm, next_arm, Other, no_other, otherwise_do}
 use Rattle.ep_typed.specs.Viewed.{denoter_of, expr_of, stmt_of}
 use Rattle.ep_typed.specs.declared.interface.ConstantEntry.{ConstantEntry}
 use Rattle.ep_typed.specs.declared.interface.Formal.{Formal}
@@ -30,14 +30,24 @@ place_nodes (Variable unit number) = 1
 place_nodes (Own number) = 1
 place_nodes (Standard file) = 1
 
-abbrev pub expr_nodes : Expr → ℕ
-expr_nodes (Constant value) = 2
-expr_nodes (Text bytes) = 2
-expr_nodes (Read place) = 1 + place_nodes place
-expr_nodes (One operation x) = 1 + expr_nodes x
-expr_nodes (Two operation x y) = 1 + expr_nodes x + expr_nodes y
-expr_nodes (Short operation x y) = 1 + expr_nodes x + expr_nodes y
-expr_nodes (Step down low high x y) = 1 + expr_nodes x + expr_nodes y
+abbrev mutual
+  pub expr_nodes : Expr → ℕ
+  expr_nodes (Constant value) = 2
+  expr_nodes (Text bytes) = 2
+  expr_nodes (Read place) = 1 + place_nodes place
+  expr_nodes (One operation x) = 1 + expr_nodes x
+  expr_nodes (Two operation x y) = 1 + expr_nodes x + expr_nodes y
+  expr_nodes (Short operation x y) = 1 + expr_nodes x + expr_nodes y
+  expr_nodes (Step down low high x y) = 1 + expr_nodes x + expr_nodes y
+  expr_nodes (Function unit number given) = 1 + actuals_nodes given
+
+  pub actual_nodes : Actual → ℕ
+  actual_nodes (Evaluated x) = expr_nodes x
+  actual_nodes (Accessed p) = place_nodes p
+
+  pub actuals_nodes : Actuals → ℕ
+  actuals_nodes no_actual = 0
+  actuals_nodes (next_actual a more) = actual_nodes a + actuals_nodes more
 
 -- ---- statements
 
@@ -48,14 +58,6 @@ item_nodes (Wide print x w) = expr_nodes x + expr_nodes w
 abbrev pub items_nodes : List Item → ℕ
 items_nodes [] = 0
 items_nodes (i ∷ is) = item_nodes i + items_nodes is
-
-abbrev pub actual_nodes : Actual → ℕ
-actual_nodes (Evaluated x) = expr_nodes x
-actual_nodes (Accessed p) = place_nodes p
-
-abbrev pub actuals_nodes : List Actual → ℕ
-actuals_nodes [] = 0
-actuals_nodes (a ∷ more) = actual_nodes a + actuals_nodes more
 
 abbrev mutual
   pub stmt_nodes : Stmt → ℕ

@@ -28,22 +28,34 @@ pub data Place : Type 0 where
   Own : (number : ℕ) → Place
   Standard : (file : StandardFile) → Place
 
--- an expression
-pub data Expr : Type 0 where
-  Constant : (value : ℤ) → Expr
-  Text : (bytes : List ℕ) → Expr
-  Read : (place : Place) → Expr
-  One : (operation : Unary) (operand : Expr) → Expr
-  Two : (operation : Binary) (left right : Expr) → Expr
-  -- the right operand is evaluated only where the left one decides nothing
-  Short : (operation : ShortOperation) (left right : Expr) → Expr
-  -- `succ`, or `pred` where the mark says that the count is taken away, within the least and the greatest value
-  Step : (down : Bool) (low high : ℤ) (value count : Expr) → Expr
+mutual
+  -- an expression
+  pub data Expr : Type 0 where
+    Constant : (value : ℤ) → Expr
+    Text : (bytes : List ℕ) → Expr
+    Read : (place : Place) → Expr
+    One : (operation : Unary) (operand : Expr) → Expr
+    Two : (operation : Binary) (left right : Expr) → Expr
+    -- the right operand is evaluated only where the left one decides nothing
+    Short : (operation : ShortOperation) (left right : Expr) → Expr
+    -- `succ`, or `pred` where the mark says that the count is taken away, within the least and the greatest value
+    Step : (down : Bool) (low high : ℤ) (value count : Expr) → Expr
+    -- the function of this number of the unit of this name is called with these parameters
+    Function : (unit : List ℕ) (number : ℕ) (given : Actuals) → Expr
 
--- an actual parameter: the value of an expression, or a variable that is accessed
-pub data Actual : Type 0 where
-  Evaluated : (value : Expr) → Actual
-  Accessed : (place : Place) → Actual
+  -- an actual parameter: the value of an expression, or a variable that is accessed
+  pub data Actual : Type 0 where
+    Evaluated : (value : Expr) → Actual
+    Accessed : (place : Place) → Actual
+
+  -- actual parameters, in order
+  pub data Actuals : Type 0 where
+    no_actual : Actuals
+    next_actual : (first : Actual) (rest : Actuals) → Actuals
+
+abbrev pub actuals : List Actual → Actuals
+actuals [] = no_actual
+actuals (a ∷ more) = next_actual a (actuals more)
 
 -- an expression that is written, with its width where there is one
 pub data Item : Type 0 where
@@ -61,7 +73,7 @@ mutual
     -- the statements, and then the condition
     Repeat : (line : ℕ) (body : Stmts) (condition : Expr) → Stmt
     -- the procedure of this number of the unit of this name is called with these parameters
-    Procedure : (line : ℕ) (unit : List ℕ) (number : ℕ) (given : List Actual) → Stmt
+    Procedure : (line : ℕ) (unit : List ℕ) (number : ℕ) (given : Actuals) → Stmt
     -- the selector, the arms, and what is done where no range of theirs has its value
     Case : (line : ℕ) (selector : Expr) (arms : Arms) (other : Other) → Stmt
     Halt : (line : ℕ) → Stmt

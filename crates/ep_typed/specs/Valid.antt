@@ -6,7 +6,8 @@ use Rattle.ep_typed.specs.Hosts.{Host, least, greatest, is_of_host}
 use Rattle.ep_typed.specs.Hosts as host
 use Rattle.ep_typed.specs.Operations.{is_integer, is_apart}
 use Rattle.ep_typed.specs.Steps.{is_within}
-use Rattle.ep_typed.specs.Trees.{Denoter, Place, Variable, Own, Standard, Expr, Constant, Text, Read, One, Two, Short, Step, Actual, Evaluated, Accessed, Item, Plain, Wide, Stmt, Stmts, Empty, Compound, Assign, If, While, Repeat, Procedure, Halt, Write, none, next, Case, Arms, no_arm, next_arm, Other, no_other, otherwise_do}
+use Rattle.ep_typed.specs.Trees.{Denoter, Place, Variable, Own, Standard, Expr, Constant, Text, Read, One, Two, Short, Step, Function, Actual, Evaluated, Accessed, Actuals, no_actual, next_actual, Item, Plain, Wide, Stmt, Stmts, Empty, Compound, Assign, If, While, Repeat, Procedure, Halt, Write, none, next, Case, Arms, no_arm, next_arm, Other, no_other, otherwise_do}
+pub use Rattle.ep_typed.specs.Routines.{heading_of, formal_variable, variables_of}
 use Rattle.ep_typed.specs.Viewed.{denoter_of, stmt_of}
 use Rattle.ep_typed.specs.declared.operations.Unary.{Unary}
 use Rattle.ep_typed.specs.declared.operations.Unary.TheVariants as unary
@@ -19,6 +20,7 @@ use Rattle.ep_typed.specs.declared.interface.Formal.{Formal}
 use Rattle.ep_typed.specs.declared.interface.FormalMode.{FormalMode}
 use Rattle.ep_typed.specs.declared.interface.FormalMode.TheVariants as mode
 use Rattle.ep_typed.specs.declared.interface.RoutineEntry.{RoutineEntry}
+use Rattle.ep_typed.specs.declared.interface.RoutineResult.{RoutineResult}
 use Rattle.ep_typed.specs.declared.tree.CaseRange.{CaseRange}
 use Rattle.ep_typed.specs.declared.value.TypeValue.{TypeValue}
 use Rattle.ep_typed.specs.declared.value.TypeValue.TheVariants as type
@@ -99,6 +101,12 @@ printed_kind print.Text = Bytes
 abbrev pub IsProcedure : RoutineEntry → Type 0
 IsProcedure r = r.result ≡ None
 
+-- the heading of a function whose result has this host, in a unit with these types
+pub record IsFunction (types : List UnitType) (h : Host) (r : RoutineEntry) : Type 0 where
+  pub result : RoutineResult
+  pub has_result : r.result ≡ Some result
+  pub has_host : host_of types (denoter_of result.denoter) ≡ Some h
+
 -- the ranges of all arms
 abbrev pub ranges_of : Arms → List CaseRange
 ranges_of no_arm = []
@@ -116,37 +124,40 @@ module _ (declared : Declarations) where
   IsPlace h (Own number) = (v : UnitVariable) × (slice_get declared.routine_variables number ≡ Some v) × (host_of declared.routine_types (denoter_of v.denoter) ≡ Some h)
   IsPlace h (Standard file) = ⊥
 
-  -- an expression of this kind
-  abbrev pub IsExpr : Kind → Expr → Type 0
-  IsExpr kind (Constant z) = (h : Host) × (kind ≡ Ordinal h) × IsTrue (is_of_host h z)
-  IsExpr kind (Text bytes) = kind ≡ Bytes
-  IsExpr kind (Read p) = (h : Host) × (kind ≡ Ordinal h) × IsPlace h p
-  IsExpr kind (One operation x) = (k : Kind) × IsUnary operation k kind × IsExpr k x
-  IsExpr kind (Two operation x y) = (k l : Kind) × IsBinary operation k l kind × IsExpr k x × IsExpr l y
-  IsExpr kind (Short operation x y) = (kind ≡ Ordinal host.Boolean) × IsExpr (Ordinal host.Boolean) x × IsExpr (Ordinal host.Boolean) y
-  IsExpr kind (Step down low high x y) = (h : Host) × (kind ≡ Ordinal h) × (low ≡ least h) × (high ≡ greatest h) × IsExpr (Ordinal h) x × IsExpr (Ordinal host.Integer) y
-
   -- the place of a variable of this type value (ISO 10206, 6.7.3.3)
   abbrev pub IsVariableOf : TypeValue → Place → Type 0
   IsVariableOf t (Variable unit number) = (v : UnitVariable) × (declared.variables unit number ≡ Some v) × (type_of (declared.types unit) (denoter_of v.denoter) ≡ Some t)
   IsVariableOf t (Own number) = (v : UnitVariable) × (slice_get declared.routine_variables number ≡ Some v) × (type_of declared.routine_types (denoter_of v.denoter) ≡ Some t)
   IsVariableOf t (Standard file) = ⊥
 
-  -- What may be given for a formal parameter of a unit with these types: for a value parameter an expression of its host,
-  -- and for a variable parameter a variable of its type.
-  abbrev pub IsGiven : List UnitType → FormalMode → Formal → Actual → Type 0
-  IsGiven types mode.Value f (Evaluated x) = (h : Host) × (host_of types (denoter_of f.denoter) ≡ Some h) × IsExpr (Ordinal h) x
-  IsGiven types mode.ProtectedValue f (Evaluated x) = (h : Host) × (host_of types (denoter_of f.denoter) ≡ Some h) × IsExpr (Ordinal h) x
-  IsGiven types mode.Variable f (Accessed p) = (t : TypeValue) × (type_of types (denoter_of f.denoter) ≡ Some t) × IsVariableOf t p
-  IsGiven types mode.ProtectedVariable f (Accessed p) = (t : TypeValue) × (type_of types (denoter_of f.denoter) ≡ Some t) × IsVariableOf t p
-  IsGiven types mode f a = ⊥
+  abbrev mutual
+    -- an expression of this kind
+    pub IsExpr : Kind → Expr → Type 0
+    IsExpr kind (Constant z) = (h : Host) × (kind ≡ Ordinal h) × IsTrue (is_of_host h z)
+    IsExpr kind (Text bytes) = kind ≡ Bytes
+    IsExpr kind (Read p) = (h : Host) × (kind ≡ Ordinal h) × IsPlace h p
+    IsExpr kind (One operation x) = (k : Kind) × IsUnary operation k kind × IsExpr k x
+    IsExpr kind (Two operation x y) = (k l : Kind) × IsBinary operation k l kind × IsExpr k x × IsExpr l y
+    IsExpr kind (Short operation x y) = (kind ≡ Ordinal host.Boolean) × IsExpr (Ordinal host.Boolean) x × IsExpr (Ordinal host.Boolean) y
+    IsExpr kind (Step down low high x y) = (h : Host) × (kind ≡ Ordinal h) × (low ≡ least h) × (high ≡ greatest h) × IsExpr (Ordinal h) x × IsExpr (Ordinal host.Integer) y
+    IsExpr kind (Function unit number given) =
+        (h : Host) × (kind ≡ Ordinal h) × (r : RoutineEntry) × (slice_get (declared.routines unit) number ≡ Some r) × IsFunction (declared.types unit) h r × AreGiven (declared.types unit) r.formals given
 
-  -- one for each, in order
-  abbrev pub AreGiven : List UnitType → List Formal → List Actual → Type 0
-  AreGiven types [] [] = ⊤
-  AreGiven types [] (a ∷ more) = ⊥
-  AreGiven types (f ∷ fs) [] = ⊥
-  AreGiven types (f ∷ fs) (a ∷ more) = IsGiven types f.mode f a × AreGiven types fs more
+    -- What may be given for a formal parameter of a unit with these types: for a value parameter an expression of its host,
+    -- and for a variable parameter a variable of its type.
+    pub IsGiven : List UnitType → FormalMode → Formal → Actual → Type 0
+    IsGiven types mode.Value f (Evaluated x) = (h : Host) × (host_of types (denoter_of f.denoter) ≡ Some h) × IsExpr (Ordinal h) x
+    IsGiven types mode.ProtectedValue f (Evaluated x) = (h : Host) × (host_of types (denoter_of f.denoter) ≡ Some h) × IsExpr (Ordinal h) x
+    IsGiven types mode.Variable f (Accessed p) = (t : TypeValue) × (type_of types (denoter_of f.denoter) ≡ Some t) × IsVariableOf t p
+    IsGiven types mode.ProtectedVariable f (Accessed p) = (t : TypeValue) × (type_of types (denoter_of f.denoter) ≡ Some t) × IsVariableOf t p
+    IsGiven types mode f a = ⊥
+
+    -- one for each, in order
+    pub AreGiven : List UnitType → List Formal → Actuals → Type 0
+    AreGiven types [] no_actual = ⊤
+    AreGiven types [] (next_actual a more) = ⊥
+    AreGiven types (f ∷ fs) no_actual = ⊥
+    AreGiven types (f ∷ fs) (next_actual a more) = IsGiven types f.mode f a × AreGiven types fs more
 
   abbrev pub IsItem : Item → Type 0
   IsItem (Plain print x) = IsExpr (printed_kind print) x
@@ -231,10 +242,6 @@ pub record IsVariable (types : List UnitType) (v : UnitVariable) : Type 0 where
   pub denoter : IsDenoter types (denoter_of v.denoter)
   pub tuple : v.tuple ≡ []
 
--- the heading of a routine
-abbrev pub heading_of : UnitRoutine → RoutineEntry
-heading_of r = let parts = out-UnitRoutine r in record { name = parts.name; formals = parts.formals; result = parts.result }
-
 -- what the unit of this name has, and nothing of another one
 abbrev pub own_list : {A : Type 0} → List ℕ → List A → List ℕ → List A
 own_list name items unit = if bytes_eq name unit then items else []
@@ -255,18 +262,15 @@ own u =
 pub record IsFormal (types : List UnitType) (f : Formal) : Type 0 where
   pub denoter : IsDenoter types (denoter_of f.denoter)
 
--- a formal parameter as a variable of its routine, which is declared on this line
-abbrev pub formal_variable : ℕ → Formal → UnitVariable
-formal_variable line f = record { name = f.name; line = line; declaration = 0; denoter = f.denoter; tuple = []; parameter = false }
+-- a result of a valid denoter, where there is one
+abbrev pub IsResult : List UnitType → Option RoutineResult → Type 0
+IsResult types None = ⊤
+IsResult types (Some r) = IsDenoter types (denoter_of r.denoter)
 
--- the variables of a routine: its formal parameters, and those that it declares
-abbrev pub variables_of : UnitRoutine → List UnitVariable
-variables_of r = let parts = out-UnitRoutine r in map (formal_variable parts.line) parts.formals ++ parts.variables
-
--- A procedure under these declarations, of a unit with these types, which so far has no routines of its own.
+-- A routine under these declarations, of a unit with these types, which so far has no routines of its own.
 pub record IsRoutine (declared : Declarations) (types : List UnitType) (r : UnitRoutine) : Type 0 where
-  pub heading : IsProcedure (heading_of r)
   pub formals : All (IsFormal types) (out-UnitRoutine r).formals
+  pub result : IsResult types (out-UnitRoutine r).result
   pub variables : All (IsVariable types) (out-UnitRoutine r).variables
   pub routines : (out-UnitRoutine r).routines ≡ []
   pub block : IsStmt (in_routine (variables_of r) types declared) (stmt_of (out-UnitRoutine r).block)

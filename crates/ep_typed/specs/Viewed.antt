@@ -10,13 +10,12 @@ use Rattle.ep_typed.specs.declared.denoter.Denoter.TheOpen.{Denoter-F}
 use Rattle.ep_typed.specs.declared.denoter.Denoter.TheFolds.{fold-Denoter}
 use Rattle.ep_typed.specs.declared.operations.Print.{Print}
 use Rattle.ep_typed.specs.declared.tree.Actual.{Actual}
-use Rattle.ep_typed.specs.declared.tree.Actual.TheVariants as actual
 use Rattle.ep_typed.specs.declared.tree.TypedPlace.{TypedPlace}
 use Rattle.ep_typed.specs.declared.tree.TypedPlace.TheVariants.{Variable, Own, Standard}
 use Rattle.ep_typed.specs.declared.tree.TypedExpr.{TypedExpr}
-use Rattle.ep_typed.specs.declared.tree.TypedExpr.TheOpen as expr
-use Rattle.ep_typed.specs.declared.tree.TypedExpr.TheOpen.{TypedExpr-F}
-use Rattle.ep_typed.specs.declared.tree.TypedExpr.TheFolds.{fold-TypedExpr}
+use Rattle.ep_typed.specs.declared.tree.Actual.TheOpen as expr
+use Rattle.ep_typed.specs.declared.tree.Actual.TheOpen.{Actual-F, TypedExpr-F}
+use Rattle.ep_typed.specs.declared.tree.Actual.TheFolds.{fold-Actual, fold-TypedExpr}
 use Rattle.ep_typed.specs.declared.tree.WriteItem.{WriteItem}
 use Rattle.ep_typed.specs.declared.tree.TypedStmt.{TypedStmt}
 use Rattle.ep_typed.specs.declared.tree.TypedStmt.TheOpen as stmt
@@ -41,7 +40,7 @@ place_of (Variable unit number) = tree.Variable unit number
 place_of (Own number) = tree.Own number
 place_of (Standard file) = tree.Standard file
 
-abbrev pub expr_step : TypedExpr-F tree.Expr → tree.Expr
+abbrev pub expr_step : TypedExpr-F tree.Actual tree.Expr → tree.Expr
 expr_step (expr.Constant value) = tree.Constant value
 expr_step (expr.Text bytes) = tree.Text bytes
 expr_step (expr.Read place) = tree.Read (place_of place)
@@ -49,13 +48,17 @@ expr_step (expr.Unary operation operand) = tree.One operation operand
 expr_step (expr.Binary operation left right) = tree.Two operation left right
 expr_step (expr.Short operation left right) = tree.Short operation left right
 expr_step (expr.Step down low high value count) = tree.Step down low high value count
+expr_step (expr.Function unit number given) = tree.Function unit number (tree.actuals given)
+
+abbrev pub actual_step : Actual-F tree.Actual tree.Expr → tree.Actual
+actual_step (expr.Value value) = tree.Evaluated value
+actual_step (expr.Variable place) = tree.Accessed (place_of place)
 
 abbrev pub expr_of : TypedExpr → tree.Expr
-expr_of = fold-TypedExpr tree.Expr expr_step
+expr_of = fold-TypedExpr tree.Actual tree.Expr actual_step expr_step
 
 abbrev pub actual_of : Actual → tree.Actual
-actual_of (actual.Value value) = tree.Evaluated (expr_of value)
-actual_of (actual.Variable place) = tree.Accessed (place_of place)
+actual_of = fold-Actual tree.Actual tree.Expr actual_step expr_step
 
 abbrev pub wide : Print → TypedExpr → Option TypedExpr → tree.Item
 wide print value None = tree.Plain print (expr_of value)
@@ -71,7 +74,7 @@ stmt_step (stmt.Assign line place value) = tree.Assign line (place_of place) (ex
 stmt_step (stmt.If line condition then_part else_part) = tree.If line (expr_of condition) then_part else_part
 stmt_step (stmt.While line condition body) = tree.While line (expr_of condition) body
 stmt_step (stmt.Repeat line body condition) = tree.Repeat line (tree.stmts body) (expr_of condition)
-stmt_step (stmt.Procedure line unit number given) = tree.Procedure line unit number (map actual_of given)
+stmt_step (stmt.Procedure line unit number given) = tree.Procedure line unit number (tree.actuals (map actual_of given))
 stmt_step (stmt.Case line selector arms other) = tree.Case line (expr_of selector) (tree.arms arms) (tree.other other)
 stmt_step (stmt.Halt line) = tree.Halt line
 stmt_step (stmt.Write line items ends_line) = tree.Write line (map item_of items) ends_line

@@ -225,8 +225,9 @@ fn arm(a: &CaseArm) -> u64
         .saturating_add(statement(a.body.get()))
 }
 
+#[cycle(expressions)]
 fn actuals(all: &[Actual]) -> u64
-    ensures { result ≡ min (nodes.actuals_nodes (map actual_of all.now)) u64.MAX }
+    ensures { result ≡ min (nodes.actuals_nodes (tree.actuals (map actual_of all.now))) u64.MAX }
 {
     let mut total = 0;
     for a in all {
@@ -235,6 +236,7 @@ fn actuals(all: &[Actual]) -> u64
     total
 }
 
+#[cycle(expressions)]
 fn actual(a: &Actual) -> u64
     ensures { result ≡ min (nodes.actual_nodes (actual_of a.now)) u64.MAX }
 {
@@ -304,5 +306,6 @@ fn expression(x: &TypedExpr) -> u64
                 .saturating_add(expression(count.get()))
                 .saturating_add(1)
         }
+        TypedExpr::Function(_, _, given) => actuals(given.items()).saturating_add(1),
     }
 }

@@ -33,6 +33,7 @@ impl Drop for TypedPlace {
 }
 
 /// An expression (ISO 10206, 6.8.1).
+#[cycle(expression)]
 #[derive(Drop)]
 pub enum TypedExpr {
     /// A constant of an ordinal type, by its ordinal number.
@@ -50,26 +51,22 @@ pub enum TypedExpr {
     /// `succ` and `pred` with a count, which the flag says is taken away: the value and the count, and the
     /// least and the greatest value of the host type.
     Step(bool, i64, i64, Boxed<TypedExpr>, Boxed<TypedExpr>),
+    /// A function designator: the unit and the number of the function, and what it is given for its parameters
+    /// (ISO 10206, 6.8.5).
+    Function(Name, u32, Actuals),
 }
 
 /// An owned list of expressions.
 pub type TypedExprs = List<TypedExpr>;
 
 /// An actual parameter (ISO 10206, 6.7.3).
+#[cycle(expression)]
+#[derive(Drop)]
 pub enum Actual {
     /// A value, for a value parameter.
     Value(Boxed<TypedExpr>),
     /// A variable, for a variable parameter.
     Variable(TypedPlace),
-}
-
-impl Drop for Actual {
-    fn drop(self) {
-        match self {
-            Actual::Value(_) => {}
-            Actual::Variable(_) => {}
-        }
-    }
 }
 
 /// The actual parameters of a call, in order.

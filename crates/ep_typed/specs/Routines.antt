@@ -1,0 +1,35 @@
+-- The variables of routines, by number: the formal parameters, the result of a function, and those that it declares.
+use Rattle.std.specs.Prelude.{ℕ, false, List, [], ◌∷◌, ◌++◌, map, Option, Some, None}
+use Rattle.ep_typed.specs.declared.interface.Formal.{Formal}
+use Rattle.ep_typed.specs.declared.interface.RoutineEntry.{RoutineEntry}
+use Rattle.ep_typed.specs.declared.interface.RoutineResult.{RoutineResult}
+use Rattle.ep_typed.specs.declared.unit.UnitRoutine.{UnitRoutine}
+use Rattle.ep_typed.specs.declared.unit.UnitRoutine.TheViews.{out-UnitRoutine}
+use Rattle.ep_typed.specs.declared.unit.UnitVariable.{UnitVariable}
+
+-- the heading of a routine
+abbrev pub heading_of : UnitRoutine → RoutineEntry
+heading_of r = let parts = out-UnitRoutine r in record { name = parts.name; formals = parts.formals; result = parts.result }
+
+-- a formal parameter as a variable of its routine, which is declared on this line
+abbrev pub formal_variable : ℕ → Formal → UnitVariable
+formal_variable line f = record { name = f.name; line = line; declaration = 0; denoter = f.denoter; tuple = []; parameter = false }
+
+-- the name of the variable that has the result of a function: its own, or that of the function (ISO 10206, 6.7.2)
+abbrev pub result_name : List ℕ → Option (List ℕ) → List ℕ
+result_name name None = name
+result_name name (Some own) = own
+
+-- the variable that has the result of a function of this name, which is declared on this line; a procedure has none
+abbrev pub result_variable : List ℕ → ℕ → Option RoutineResult → List UnitVariable
+result_variable name line None = []
+result_variable name line (Some r) =
+    record { name = result_name name r.name; line = line; declaration = 0; denoter = r.denoter; tuple = []; parameter = false } ∷ []
+
+-- the variables that a routine makes: the one that has its result, and those that it declares
+abbrev pub made_variables : UnitRoutine → List UnitVariable
+made_variables r = let parts = out-UnitRoutine r in result_variable parts.name parts.line parts.result ++ parts.variables
+
+-- the variables of a routine: its formal parameters, and those that it makes
+abbrev pub variables_of : UnitRoutine → List UnitVariable
+variables_of r = let parts = out-UnitRoutine r in map (formal_variable parts.line) parts.formals ++ made_variables r
