@@ -4,7 +4,7 @@ pub mod Choices
 pub mod Declaring
 pub mod Fragments
 pub mod Losing
-pub mod Procedures
+pub mod Routines
 pub mod Promising
 pub mod Simulating
 pub mod Weights

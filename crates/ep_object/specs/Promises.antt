@@ -1,6 +1,6 @@
 -- What a routine promises to the code that calls it, whoever made either. It is said over the `Call` instruction, from
 -- before it to after the instruction that leaves the routine, whose tick may have an effect as any other.
-use Rattle.std.specs.Prelude.{◌≡◌, ℕ, ℤ, pos, ◌+◌, ◌≤◌, ◌⊎◌, IsTrue, List, [], ◌∷◌, Some, slice_get, ⊤}
+use Rattle.std.specs.Prelude.{◌≡◌, ℕ, ℤ, pos, ◌+◌, ◌≤◌, ◌⊎◌, IsTrue, List, [], ◌∷◌, Option, Some, None, slice_get, ⊤}
 use Rattle.ep_typed.specs.Denoters.{type_of, host_of}
 use Rattle.ep_typed.specs.Hosts.{Host}
 use Rattle.ep_typed.specs.Viewed.{denoter_of}
@@ -27,8 +27,9 @@ use Rattle.ep_typed.specs.Printing.{Result, Number, Bytes}
 use Rattle.ep_typed.specs.Steps.{Outcome, Gives, Ends, Cut, Computation, state_of}
 use Rattle.ep_typed.specs.Steps as meaning
 use Rattle.ep_typed.specs.Valid as kind
-use Rattle.ep_typed.specs.Valid.{Declarations, Kind, IsProcedure}
+use Rattle.ep_typed.specs.Valid.{Declarations, Kind}
 use Rattle.ep_typed.specs.declared.interface.RoutineEntry.{RoutineEntry}
+use Rattle.ep_typed.specs.declared.interface.RoutineResult.{RoutineResult}
 
 -- how a formal parameter takes its argument: a value of a kind, or a variable of a type
 pub data Passing : Type 0 where
@@ -107,20 +108,31 @@ pub record Promises (declared : Declarations) (G : Image) (routine n : ℕ) (for
       (point injection memory place operands) (called (unit_in G memory.frames) line arguments) (place + 1)
       (λ rs. Inside (kept_slots declared G) injection memory (ResultsOnTop results below rs)) 0 (λ rs. 0)
 
+-- The kinds of what a routine of a unit with these types gives: a procedure gives nothing, and a function one value of
+-- the host of its result (ISO 10206, 6.7.2).
+abbrev pub AreResults : List UnitType → Option RoutineResult → List Kind → Type 0
+AreResults types None [] = ⊤
+AreResults types None (k ∷ ks) = ⊥
+AreResults types (Some r) [] = ⊥
+AreResults types (Some r) (k ∷ []) = (h : Host) × (host_of types (denoter_of r.denoter) ≡ Some h) × (k ≡ kind.Ordinal h)
+AreResults types (Some r) (k ∷ l ∷ ks) = ⊥
+
 -- A routine of a unit has a number in the image, by which a call that names it is placed, and keeps its promise for what
--- these calls do. So far it has no result.
+-- these calls do.
 pub record RoutineKeeps (declared : Declarations) (G : Image) (ps : List Placement) (call : Handler) (n : ℕ)
     (unit : List ℕ) (number : ℕ) (r : RoutineEntry) : Type 0 where
   pub routine : ℕ
   pub formals : List Passing
   pub passed : ArePassed (declared.types unit) r.formals formals
+  pub results : List Kind
+  pub given : AreResults (declared.types unit) r.result results
   pub placed : (i : Instr) → placed_call ps (Some (record { unit = unit; number = number })) i ≡ record i { a = pos routine }
-  pub promise : Promises declared G routine n formals [] (λ from line arguments. call from line unit number arguments)
+  pub promise : Promises declared G routine n formals results (λ from line arguments. call from line unit number arguments)
 
--- every procedure that is declared does so
+-- every routine that is declared does so
 abbrev pub CallsAreKept : Declarations → Image → List Placement → Handler → ℕ → Type 0
 CallsAreKept declared G ps call n = (unit : List ℕ) (number : ℕ) (r : RoutineEntry)
-    → slice_get (declared.routines unit) number ≡ Some r → IsProcedure r → RoutineKeeps declared G ps call n unit number r
+    → slice_get (declared.routines unit) number ≡ Some r → RoutineKeeps declared G ps call n unit number r
 
 -- ---- what this says of runs from a call
 

@@ -102,7 +102,8 @@ Answers declared G injection begun memory Then k steps (Ends left end s) = (spen
     → EndsAfter G k (end_of end) s.trace spent
 Answers declared G injection begun memory Then k steps (Cut s) = StaysAfter G k s.trace steps
 
--- The same, but where the computation has more words or types than every run has room for within so many steps, the machine may end for want of storage or of depth within 64 ticks for each of them, after a front of the events.
+-- The same, but where the computation has more words, types or calls in each other than every run has room for within so
+-- many steps, the machine may end for want of storage or of depth within 64 ticks for each of them, after a front of the events.
 abbrev pub AnswersInRoom : {A : Type 0} → Declarations → Image → Injection → meaning.State → Memory
     → (A → Operands) → State → ℕ → Outcome A → Type 0
 AnswersInRoom declared G injection begun memory Then k steps o = Answers declared G injection begun memory Then k steps o ⊎ GivesUp G k steps 0 (state_of o)

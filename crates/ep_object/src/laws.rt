@@ -19,8 +19,8 @@ pub fn laws_of_runs()
 /// that gives a value after m steps the machine leaves the routine after t ticks, where it ends the run the machine ends
 /// so, and m is at most 64 * t and t at most 64 * m. Where it is not done after m steps the machine stays in the routine
 /// for m / 64 ticks, with a front of the events, and from 64 * m ticks on its events begin with all of them. But where
-/// the computation needs more words or types than every run has room for within m steps, the machine may end for want of
-/// storage within 64 * m ticks.
+/// the computation needs more words, types or calls in each other than every run has room for within m steps, the machine
+/// may end for want of storage or of depth within 64 * m ticks.
 pub fn laws_of_simulations()
     ensures procedures { ProceduresAnswer }
     ensures functions { FunctionsAnswer }

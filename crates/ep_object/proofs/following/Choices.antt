@@ -7,7 +7,7 @@ use Rattle.ep_object.specs.Operands.{Operand, Word}
 use Rattle.ep_object.specs.Runs.{outcome}
 use Rattle.ep_object.specs.State.{State, Going, Running, Stopped, Error}
 use Rattle.ep_object.specs.declared.code.Image.{Image}
-use Rattle.ep_object.proofs.following.Bind.{Met, follows_paid, follows_stop, follows_give, follows_changed}
+use Rattle.ep_object.proofs.following.Bind.{Met, follows_credit, follows_waits, follows_paid, follows_stop, follows_give, follows_changed}
 use Rattle.ep_object.proofs.following.Fragments.{Does, FailsWith, landed, fragment_bind_number, fragment_bind_bare, fragment_credit, fragment_less, fragment_waits, fragment_one, fragment_move, fragment_give, fragment_cut, fragment_stop}
 use Rattle.ep_object.proofs.matching.Growing.{grown_trans, not_left-here, same_routine-trans, inside_here}
 use Rattle.ep_typed.proofs.Steady.{steady_if, steady_bind, steady_spend, steady_give, steady_turns, steady_turns_until}
@@ -71,6 +71,22 @@ pub fragment_fetch : {A B : Type 0} {declared : Declarations} {G : Image} {Here 
     → 1 ≤ d → ((a : A) → e (f a) ≤ d + 63)
     → Fragment declared G Here (suc n) from (bind (fetch (meaning.Error number unit line) h) (λ a. spend 1 (give (f a)))) to P d e
 fragment_fetch {from = from} h f reads le le2 = record { by = λ s matches here. follows_fetch from h f s (reads s matches here) le le2 }
+
+-- one instruction that reads, without a step
+pub fragment_fetched : {A : Type 0} {declared : Declarations} {G : Image} {Here : Facts} {n : ℕ} {from : Point} {to : ℕ} {P : A → After} {d d1 : ℕ} {number line : ℕ} {unit : List ℕ} (h : meaning.State → Option A)
+    → ((s : meaning.State) → Matches declared G from.injection s from.memory → Here from.injection s from.memory → Reads declared G Here (state_at from s.trace) number unit line to P s (h s))
+    → 1 + d1 ≤ d
+    → Fragment declared G Here n from (fetch (meaning.Error number unit line) h) to P d (λ a. d1)
+fragment_fetched {A = A} {declared = declared} {G = G} {Here = Here} {n = n} {from = from} {to = to} {P = P} {d = d} {d1 = d1} {number = number} {line = line} {unit = unit} h reads le =
+    record { by = λ s matches here. record { by = λ m l. let z = go s (h s) (reads s matches here) in z.by m l } }
+  where
+    go : (s : meaning.State) (o : Option A) → Reads declared G Here (state_at from s.trace) number unit line to P s o
+        → Follows (λ k. IsNotLeft from.memory.frames k.frames) G n (state_at from s.trace) s (found (meaning.Error number unit line) o) (λ a. Lands declared G Here to (P a)) d (λ a. d1)
+    go s o (Misses is x) =
+        subst (λ y. Follows (λ k. IsNotLeft from.memory.frames k.frames) G n (state_at from s.trace) s (found (meaning.Error number unit line) y) (λ a. Lands declared G Here to (P a)) d (λ a. d1)) (sym is) (follows_stop (not_left-here from.memory.frames) x.fails (omega (arith, le)))
+    go s o (Finds a is x) =
+        subst (λ y. Follows (λ k. IsNotLeft from.memory.frames k.frames) G n (state_at from s.trace) s (found (meaning.Error number unit line) y) (λ a. Lands declared G Here to (P a)) d (λ a. d1)) (sym is)
+        (follows_credit {d = 1 + d1} {e = λ b. d1} le (λ b. omega arith) (follows_waits (not_left-here from.memory.frames) x.does (follows_give a (omega arith) (landed x))))
 
 -- ---- what is used has to live
 

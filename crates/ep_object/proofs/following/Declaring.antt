@@ -63,6 +63,6 @@ module _ (variables : List UnitVariable) (types : List UnitType) (declared : Dec
   promise_inside h = record { by = λ place line calls injection begun memory below operands arguments are. fragment_inside (h.by place line calls injection begun memory below operands arguments are) }
 
   pub calls_kept-inside : {G : Image} {ps : List Placement} {call : Handler} {n : ℕ} → CallsAreKept declared G ps call n → CallsAreKept inner G ps call n
-  calls_kept-inside kept unit number r is plain =
-      let k = kept unit number r is plain in
-      record { routine = k.routine; formals = k.formals; passed = k.passed; placed = k.placed; promise = promise_inside k.promise }
+  calls_kept-inside kept unit number r is =
+      let k = kept unit number r is in
+      record { routine = k.routine; formals = k.formals; passed = k.passed; results = k.results; given = k.given; placed = k.placed; promise = promise_inside k.promise }

@@ -1,15 +1,16 @@
 -- What the rows on places and variables lead to, where the machine matches.
 use Rattle.std.proofs.Common.{◌≡◌, ℕ, ℤ, pos, negsuc, ◌+◌, ◌<◌, true, false, List, [], ◌∷◌, Option, Some, None, slice_get, refl, ap, ◌∙◌, subst, arith}
-use Rattle.std.specs.Prelude.{int_lt}
+use Rattle.std.specs.Prelude.{int_lt, is_some}
 use Rattle.ep_object.specs.Follows.{Facts, OnTop, PlaceOnTop, Inside}
 use Rattle.ep_object.specs.Matching.{Memory, at, Injection, MatchesSlot, MatchesFrame, IsPlaceOf, Describes, IsValueOf, layout, Represents, HasType, Matches, Slots}
 use Rattle.ep_object.specs.Operands.{Operand, Word, Text}
 use Rattle.ep_object.specs.Operands as operand
 use Rattle.ep_object.specs.Places.{loaded}
 use Rattle.ep_object.specs.Runs.{outcome, after, unit_in}
-use Rattle.ep_object.specs.State.{undefined, output_place}
+use Rattle.ep_object.specs.State.{Running, undefined, output_place}
 use Rattle.ep_object.specs.Table.{on_operands}
 use Rattle.ep_object.specs.Types.{ordinal_entry}
+use Rattle.ep_object.specs.WordRows.{bit}
 use Rattle.ep_object.specs.declared.code.Image.{Image}
 use Rattle.ep_object.specs.declared.code.ImageUnit.{ImageUnit}
 use Rattle.ep_object.specs.declared.state.Place.{Place}
@@ -122,3 +123,50 @@ module _ (declared : Declarations) (G : Image) (place line : ℕ) (below : List 
             here = known;
             post = inside_here (record { number = w; is_number = refl; of_host = within_host host low high w of_host of_type.2; is = refl });
           })
+
+  -- what `Defined` finds
+  defined_outcome : (memory : Memory) (trace : Trace) (p : Place) (low high : ℤ) (type_number : ℕ) (w : ℤ)
+      → slice_get G.instructions place ≡ Some (instr op.DEFINED (pos 0) 0 line)
+      → slice_get memory.types p.type_number ≡ Some (ordinal_entry low high)
+      → slice_get memory.segments p.segment ≡ Some (Some (record { type_number = type_number; words = w ∷ [] }))
+      → p.offset ≡ 0
+      → outcome G (at place (operand.Place p ∷ below) memory trace) ≡ record { weight = 0; to = Running 0 (at (place + 1) (Word (bit (int_lt undefined w)) ∷ below) memory trace) }
+  defined_outcome memory trace p low high type_number w has typed stands offset =
+      outcome_at G (instr op.DEFINED (pos 0) 0 line) place (operand.Place p ∷ below) memory trace has ∙ rw (typed, stands, offset) refl
+
+  -- `Defined`, of a variable that has ended
+  pub defined_fails : (low high : ℤ) (n : ℕ) (p : Place)
+      → slice_get G.instructions place ≡ Some (instr op.DEFINED (pos 0) 0 line)
+      → (injection : Injection) (memory : Memory) → IsPlaceOf injection memory.segments n p
+      → Describes memory.types p.type_number (type.Ordinal low high) → (s : meaning.State)
+      → Matches declared G injection s memory → has_ended n s ≡ true
+      → FailsWith G (at place (operand.Place p ∷ below) memory s.trace) 0 11 (unit_in G memory.frames) line s
+  defined_fails low high n p has injection memory place_of described s matches ended =
+      record { fails = outcome_at G (instr op.DEFINED (pos 0) 0 line) place (operand.Place p ∷ below) memory s.trace has ∙ rw (described, place_ended matches place_of ended) refl }
+
+  -- `Defined`, of a variable of an ordinal type that lives: whether it has a value
+  pub defined_tells : (low high : ℤ) (n : ℕ) (p : Place)
+      → slice_get G.instructions place ≡ Some (instr op.DEFINED (pos 0) 0 line)
+      → (injection : Injection) (memory : Memory) → IsPlaceOf injection memory.segments n p
+      → Describes memory.types p.type_number (type.Ordinal low high) → (s : meaning.State)
+      → Matches declared G injection s memory → has_ended n s ≡ false
+      → outcome G (at place (operand.Place p ∷ below) memory s.trace) ≡ record { weight = 0; to = Running 0 (at (place + 1) (Word (bit (is_some (word_at n s))) ∷ below) memory s.trace) }
+  defined_tells low high n p has injection memory place_of described s matches living =
+      let x : Stands s memory n p = place_stands matches place_of living in
+      let a : Allocation = x.allocation in
+      let r : Represents memory.segments memory.types p.segment a = x.represents in
+      let e : a.type_value ≡ type.Ordinal low high = described-same memory.types r.type_number a.type_value low high r.described (subst (λ k. Describes memory.types k (type.Ordinal low high)) x.type_number described) in
+      go a x.is r.type_number a.value refl r.stands (subst (λ t. IsValueOf t a.value) e r.value)
+    where
+      go : (a : Allocation) → allocation_at s.allocations n ≡ Some a → (type_number : ℕ) (value : Value)
+          → a.value ≡ value
+          → slice_get memory.segments p.segment ≡ Some (Some (record { type_number = type_number; words = layout value }))
+          → IsValueOf (type.Ordinal low high) value
+          → outcome G (at place (operand.Place p ∷ below) memory s.trace) ≡ record { weight = 0; to = Running 0 (at (place + 1) (Word (bit (is_some (word_at n s))) ∷ below) memory s.trace) }
+      go a is type_number Undefined value_is stands of_type =
+          let none : word_at n s ≡ None = ap word_in is ∙ ap word_of value_is in
+          defined_outcome memory s.trace p low high type_number undefined has described stands place_of.offset ∙ rw none refl
+      go a is type_number (meaning.Word w) value_is stands of_type =
+          let some : word_at n s ≡ Some w = ap word_in is ∙ ap word_of value_is in
+          let found : int_lt undefined w ≡ true = word_defined low high w of_type.0 of_type.2 in
+          defined_outcome memory s.trace p low high type_number w has described stands place_of.offset ∙ rw (some, found) refl

@@ -7,7 +7,7 @@ use Rattle.ep_object.specs.Activations.{InActivation}
 use Rattle.ep_object.specs.Operands.{weights}
 use Rattle.ep_object.specs.Calls.{top_of, call_limit, new_frame, called}
 use Rattle.ep_object.specs.Effects.{Jumps, Fails}
-use Rattle.ep_object.specs.Follows.{Since, HasGrown, Follows, Fragment, GivesUp, Lands, Inside, IsStillCall, StillRuns, SameRoutine, IsNotLeft, point}
+use Rattle.ep_object.specs.Follows.{Since, HasGrown, Follows, operand_of, Fragment, GivesUp, Lands, Inside, IsStillCall, StillRuns, SameRoutine, IsNotLeft, point}
 use Rattle.ep_object.specs.Matching.{Memory, Injection, Matches, Slots, every_slot, Grown, at}
 use Rattle.ep_object.specs.Operands.{Operand}
 use Rattle.ep_object.specs.Promises.{CallsAt, ResultsOnTop}
@@ -21,21 +21,20 @@ use Rattle.ep_object.specs.declared.code.ImageRoutine.{ImageRoutine}
 use Rattle.ep_object.specs.declared.code.Instr.{Instr}
 use Rattle.ep_object.specs.declared.state.FrameNumber.TheVariants as number
 use Rattle.ep_object.specs.declared.state.Place.{Place}
-use Rattle.ep_object.proofs.following.Bind.{follows_wider, follows_bind, follows_give, gives_up}
+use Rattle.ep_object.proofs.following.Bind.{follows_wider, gives_up}
 use Rattle.ep_object.proofs.following.Calling.{follows_called}
 use Rattle.ep_object.proofs.matching.Changes.{matches_entered, matches_left}
 use Rattle.ep_object.proofs.matching.Endings.{without, ends_both}
 use Rattle.ep_object.proofs.matching.Growing.{grown_refl, grown_trans, not_left-here, not_left-still, same_call-refl, same_routine-refl, same_routine-trans, still_routine}
 use Rattle.ep_object.proofs.Grows.{is_prefix}
-use Rattle.ep_typed.proofs.Steady.{steady_bind, steady_give}
 use Rattle.ep_typed.specs.Calls.{activation_words, made_in, back_in, entered, left_from, in_call, nested}
 use Rattle.ep_typed.specs.Meaning.{activation}
 use Rattle.ep_typed.specs.Events.{Trace}
 use Rattle.ep_typed.specs.Printing.{Result}
 use Rattle.ep_typed.specs.Steady.{Steady}
-use Rattle.ep_typed.specs.Steps.{Call, Resources, watched, Computation, bind, give, spend, with_all_ended}
+use Rattle.ep_typed.specs.Steps.{Call, Resources, watched, Computation, spend, with_all_ended}
 use Rattle.ep_typed.specs.Steps as meaning
-use Rattle.ep_typed.specs.Valid.{Declarations}
+use Rattle.ep_typed.specs.Valid.{Declarations, Kind}
 use Rattle.ep_typed.specs.declared.run_error.TheConstants as run_error
 
 -- ---- frames
@@ -71,6 +70,14 @@ leaves : (G : Image) (ret : ℕ) (i : Instr) (st : List Operand) (memory : Memor
     → outcome G (at ret st memory trace) ≡ record { weight = 0; to = Running 0 (at frame.back st (left_memory frame.made below memory) trace) }
 leaves G ret i st memory trace frame below has is a b frames =
     ap (λ o. outcome_of G o (at ret st memory trace)) has ∙ rw (is, a, b, frames) refl
+
+-- results lie on the operands whatever the memory
+results_anywhere : (injection : Injection) (memory : Memory) (longer : Injection) (after : Memory) (operands : List Operand) (ks : List Kind) (below : List Operand) (rs : List Result)
+    → ResultsOnTop ks below rs injection memory operands → ResultsOnTop ks below rs longer after operands
+results_anywhere injection memory longer after operands [] below [] h = h
+results_anywhere injection memory longer after operands [] below (r ∷ rs) h = absurd h
+results_anywhere injection memory longer after operands (k ∷ ks) below [] h = absurd h
+results_anywhere injection memory longer after operands (k ∷ ks) below (r ∷ rs) h = (h.0, results_anywhere injection memory longer after operands ks (operand_of r ∷ below) rs h.1)
 
 -- ---- a call
 
@@ -166,21 +173,21 @@ module _ (declared : Declarations) (G : Image) (routine : ℕ) (r : ImageRoutine
       }
 
   module _ (ret : ℕ) (i : Instr) (stands : slice_get G.instructions ret ≡ Some i) (returns : op_of i.op ≡ Some table.Return) (a_is : i.a ≡ pos 0) (b_is : i.b ≡ 0) where
-    -- what the instruction that leaves the routine leads to, once the operands are those of the caller
+    -- what the instruction that leaves the routine leads to, which leaves the operands as they are
     record GoesBack (untouched : Slots) (injection : Injection) (s t : meaning.State) (memory : Memory) (place : ℕ)
-        (below : List Operand) (longer : Injection) (after : Memory) : Type 0 where
+        (operands : List Operand) (longer : Injection) (after : Memory) : Type 0 where
       later : Memory
-      does : outcome G (at ret below after t.trace) ≡ record { weight = 0; to = Running 0 (at (place + 1) below later t.trace) }
+      does : outcome G (at ret operands after t.trace) ≡ record { weight = 0; to = Running 0 (at (place + 1) operands later t.trace) }
       grown : Grown untouched injection memory longer later
       same : SameRoutine untouched memory.frames later.frames
       matches : Matches declared G longer (left_from s t) later
 
     -- what was made in the call ends on both sides, and the caller goes on
-    goes_back : {untouched : Slots} {injection longer : Injection} {s t : meaning.State} {memory after : Memory} (within : Declarations) (place : ℕ) (below : List Operand)
+    goes_back : {untouched : Slots} {injection longer : Injection} {s t : meaning.State} {memory after : Memory} (within : Declarations) (place : ℕ) (operands : List Operand)
         → Matches declared G injection s memory → Matches declared G longer t after
         → InActivation within untouched injection (begun_memory place memory) longer t after
-        → GoesBack untouched injection s t memory place below longer after
-    goes_back {untouched = untouched} {injection = injection} {longer = longer} {s = s} {t = t} {memory = memory} {after = after} within place below old h known =
+        → GoesBack untouched injection s t memory place operands longer after
+    goes_back {untouched = untouched} {injection = injection} {longer = longer} {s = s} {t = t} {memory = memory} {after = after} within place operands old h known =
         let frame = known.frame in
         let runs = known.runs in
         let still : IsStillCall (its_frame place ∷ memory.frames.calls) (frame ∷ known.below) = subst (λ cs. IsStillCall (its_frame place ∷ memory.frames.calls) cs) known.frames runs.calls in
@@ -193,41 +200,38 @@ module _ (declared : Declarations) (G : Image) (routine : ℕ) (r : ImageRoutine
         let made : made_in t.calls ≡ (known.call).made = ap (λ cs. made_in cs) known.calls in
         record {
           later = later;
-          does = leaves G ret i below after t.trace frame known.below stands returns a_is b_is known.frames
-              ∙ (ap (λ q. record { weight = 0; to = Running 0 (at q below (left_memory frame.made known.below after) t.trace) }) still.2
-              ∙ ap (λ cs. record { weight = 0; to = Running 0 (at (place + 1) below (left_memory frame.made cs after) t.trace) }) still.3);
+          does = leaves G ret i operands after t.trace frame known.below stands returns a_is b_is known.frames
+              ∙ (ap (λ q. record { weight = 0; to = Running 0 (at q operands (left_memory frame.made known.below after) t.trace) }) still.2
+              ∙ ap (λ cs. record { weight = 0; to = Running 0 (at (place + 1) operands (left_memory frame.made cs after) t.trace) }) still.3);
           grown = grown;
           same = record { turn = runs.turn; routine = runs.routine; unit = runs.unit; calls = same_call-refl memory.frames.calls; slots = λ k kept. refl };
           matches = subst (λ ns. Matches declared G longer (back_in s (with_all_ended ns t)) later) (sym made) (matches_left grown old old.depth under);
         }
 
-    -- Where the machine follows the routine up to the `Return` behind it, in any activation of it and with the credit of its
-    -- call, it follows a call as a whole.
-    pub procedure_keeps : (within : Declarations) → length within.routine_variables ≤ r.slots
+    -- Where the machine follows the routine up to its `Return`, with the results on the operands there, in any activation of
+    -- it and with the credit of its call, it follows a call as a whole.
+    pub routine_keeps : (within : Declarations) → length within.routine_variables ≤ r.slots
         → (n : ℕ) (place line : ℕ) → CallsAt G place routine line
         → (injection : Injection) (began : meaning.State) (memory : Memory) (below : List Operand)
-        → (name from : List ℕ) (body : Computation (Unit {0})) → Steady body → (untouched : Slots)
-        → Fragment declared G (InActivation within untouched injection (begun_memory place memory)) n (point injection (begun_memory place memory) r.entry below) body ret (λ a longer after operands. operands ≡ below) 63 (λ a. 63)
-        → Fragment declared G (Since untouched injection began memory) (suc n) (point injection memory place (top ++ below)) (in_call (activation name from line) (spend 1 (bind body (λ a. give [])))) (place + 1) (λ rs. Inside untouched injection memory (ResultsOnTop [] below rs)) 0 (λ rs. 0)
-    procedure_keeps within enough n place line calls injection began memory below name from body steady untouched inner =
+        → (name from : List ℕ) (results : List Kind) (body : Computation (List Result)) → Steady body → (untouched : Slots)
+        → Fragment declared G (InActivation within untouched injection (begun_memory place memory)) n (point injection (begun_memory place memory) r.entry below) body ret (λ rs. ResultsOnTop results below rs) 63 (λ rs. 1)
+        → Fragment declared G (Since untouched injection began memory) (suc n) (point injection memory place (top ++ below)) (in_call (activation name from line) (spend 1 body)) (place + 1) (λ rs. Inside untouched injection memory (ResultsOnTop results below rs)) 0 (λ rs. 0)
+    routine_keeps within enough n place line calls injection began memory below name from results body steady untouched inner =
         record {
           by = λ s matches since.
               let ran = inner.by (entered x s) (matches_begun place x matches) (begins within enough place injection s memory name from line) in
-              follows_called {P = P s} {Q = Q s} (not_left-here memory.frames) refl (steady_bind steady (λ a. steady_give [])) (go s matches (enters place line below memory injection s x calls matches) (ended s (follows_wider (λ k. not_left-called memory.frames k.frames (its_frame place)) ran)))
+              follows_called {P = P} {Q = Q} (not_left-here memory.frames) refl steady (go s matches (enters place line below memory injection s x calls matches) (follows_wider (λ k. not_left-called memory.frames k.frames (its_frame place)) ran))
               (λ rs s1 k1 post. back s matches since rs s1 k1 post);
         }
       where
         x : Call
         x = activation name from line
 
-        After : meaning.State → State → Type 0
-        After = Lands declared G (InActivation within untouched injection (begun_memory place memory)) ret (λ longer after operands. operands ≡ below)
+        P : List Result → meaning.State → State → Type 0
+        P rs = Lands declared G (InActivation within untouched injection (begun_memory place memory)) ret (ResultsOnTop results below rs)
 
-        P : meaning.State → List Result → meaning.State → State → Type 0
-        P s rs s1 k1 = (rs ≡ []) × After s1 k1
-
-        Q : meaning.State → List Result → meaning.State → State → Type 0
-        Q s rs = Lands declared G (Since untouched injection began memory) (place + 1) (Inside untouched injection memory (ResultsOnTop [] below rs))
+        Q : List Result → meaning.State → State → Type 0
+        Q rs = Lands declared G (Since untouched injection began memory) (place + 1) (Inside untouched injection memory (ResultsOnTop results below rs))
 
         In : State → Type 0
         In k = IsNotLeft memory.frames k.frames
@@ -235,36 +239,31 @@ module _ (declared : Declarations) (G : Image) (routine : ℕ) (r : ImageRoutine
         entry : meaning.State → State
         entry s = at r.entry below (begun_memory place memory) s.trace
 
-        ended : (s : meaning.State) → Follows In G n (entry s) (entered x s) body (λ a. After) 63 (λ a. 63)
-            → Follows In G n (entry s) (entered x s) (bind body (λ a. give [])) (P s) 63 (λ a. 1)
-        ended s h = follows_bind (λ a. steady_give []) h (λ a s1 k1 lands. follows_give [] (omega arith) (refl, lands))
-
         go : (s : meaning.State) → Matches declared G injection s memory
             → (outcome G (at place (top ++ below) memory s.trace) ≡ record { weight = 0; to = Running 0 (entry s) }) ⊎ GivesUp G (at place (top ++ below) memory s.trace) 0 1 (entered x s)
-            → Follows In G n (entry s) (entered x s) (bind body (λ a. give [])) (P s) 63 (λ a. 1)
-            → ((e : State) × (outcome G (at place (top ++ below) memory s.trace) ≡ record { weight = 0; to = Running 0 e }) × Follows In G n e (entered x s) (bind body (λ a. give [])) (P s) 63 (λ a. 1)) ⊎ GivesUp G (at place (top ++ below) memory s.trace) 0 1 (entered x s)
+            → Follows In G n (entry s) (entered x s) body P 63 (λ rs. 1)
+            → ((e : State) × (outcome G (at place (top ++ below) memory s.trace) ≡ record { weight = 0; to = Running 0 e }) × Follows In G n e (entered x s) body P 63 (λ rs. 1)) ⊎ GivesUp G (at place (top ++ below) memory s.trace) 0 1 (entered x s)
         go s matches (inl o) f = inl (entry s, o, f)
         go s matches (inr y) f = inr y
 
         back : (s : meaning.State) → Matches declared G injection s memory → HasGrown untouched injection began memory injection s memory
-            → (rs : List Result) (s1 : meaning.State) (k1 : State) → P s rs s1 k1
-            → In k1 × ((next : State) × (outcome G k1 ≡ record { weight = 0; to = Running 0 next }) × Q s rs (left_from s s1) next)
-        back s matches since rs s1 k1 (none, lands) =
+            → (rs : List Result) (s1 : meaning.State) (k1 : State) → P rs s1 k1
+            → In k1 × ((next : State) × (outcome G k1 ≡ record { weight = 0; to = Running 0 next }) × Q rs (left_from s s1) next)
+        back s matches since rs s1 k1 lands =
             let known = lands.here in
-            let out = goes_back within place below matches lands.matches known in
-            let at_return : k1 ≡ at ret below lands.memory s1.trace = lands.is ∙ ap (λ st. at ret st lands.memory s1.trace) lands.post in (
-              subst (λ (k : State). In k) (sym at_return) (not_left-called memory.frames lands.memory.frames (its_frame place) (not_left-still known.runs)),
+            let out = goes_back within place lands.operands matches lands.matches known in (
+              subst (λ (k : State). In k) (sym lands.is) (not_left-called memory.frames lands.memory.frames (its_frame place) (not_left-still known.runs)),
               (
-                at (place + 1) below out.later s1.trace,
-                ap (λ k. outcome G k) at_return ∙ out.does,
+                at (place + 1) lands.operands out.later s1.trace,
+                ap (λ k. outcome G k) lands.is ∙ out.does,
                 record {
                   injection = lands.injection;
                   memory = out.later;
-                  operands = below;
+                  operands = lands.operands;
                   is = refl;
                   matches = out.matches;
                   here = record { grown = grown_trans since.grown out.grown; routine = same_routine-trans since.routine out.same; calls = since.calls };
-                  post = record { grown = out.grown; routine = out.same; operands_are = subst (λ l. ResultsOnTop [] below l lands.injection out.later below) (sym none) refl };
+                  post = record { grown = out.grown; routine = out.same; operands_are = results_anywhere lands.injection lands.memory lands.injection out.later lands.operands results below rs lands.post };
                 },
               ),
             )
