@@ -1,12 +1,13 @@
 -- The machine follows the meaning of an expression through the code of the expression.
 use Rattle.std.proofs.Common.{◌≡◌, ℕ, ℤ, pos, suc, ◌+◌, ◌<◌, ◌≤◌, Bool, IsTrue, List, [], ◌∷◌, ◌++◌, length, Some, slice_get, refl, sym, ap, ◌∙◌, subst, arith, append_assoc, length-append, true, false}
 use Rattle.ep_object.specs.Activations.{KnowsOwn}
-use Rattle.ep_object.specs.Follows.{point, Facts, Fragment, OnTop, PlaceOnTop, Inside}
-use Rattle.ep_object.specs.Matching.{Slots, Memory, at, Injection, IsPlaceOf, Describes, HasType, HasOwnType, Matches}
+use Rattle.ep_object.specs.Follows.{point, Facts, Lasts, Fragment, SameRoutine, Operands, OnTop, PlaceOnTop, Inside}
+use Rattle.ep_object.specs.Matching.{Slots, AreAmong, Grown, kept_slots, Memory, at, Injection, IsPlaceOf, Describes, HasType, HasOwnType, Matches}
 use Rattle.ep_object.specs.Matching.{at as standing}
 use Rattle.ep_object.specs.Operands.{Operand}
 use Rattle.ep_object.specs.Operands as operand
 use Rattle.ep_object.specs.Placing.{Placement, CodeStands}
+use Rattle.ep_object.specs.Promises.{Passing, ByValue, ByReference, ArePassed, CallsAreKept, ResultsOnTop, RoutineKeeps}
 use Rattle.ep_object.specs.Scene.{Scene, TextStands, VariableStands, HaveValidTypes, HaveValidOwnTypes}
 use Rattle.ep_object.specs.Runs.{unit_in}
 use Rattle.ep_object.specs.declared.code.Image.{Image}
@@ -21,19 +22,22 @@ use Rattle.ep_object.proofs.rows.PlaceRows.{unit_reads, load_fails, load_reads}
 use Rattle.ep_object.proofs.rows.Rows.{push_pushes}
 use Rattle.ep_object.proofs.rows.TextRows.{text_pushes}
 use Rattle.std.proofs.lemmas.Option.{same_Some}
-use Rattle.ep_typed.specs.Steady.{IsSteadyHandler}
+use Rattle.ep_typed.specs.Steady.{Steady, IsSteadyHandler}
 use Rattle.ep_typed.specs.Calls.{Handler}
 use Rattle.ep_typed.proofs.Denoters.{types_are_instances}
 use Rattle.ep_typed.proofs.Steady.{steady_bind, steady_if, steady_spend, steady_give, steady_answered, steady_eval, steady_read}
-use Rattle.ep_typed.specs.Meaning.{eval, place, weight_of}
+use Rattle.ep_typed.specs.Meaning.{eval, arguments, place, weight_of}
 use Rattle.ep_typed.specs.Operations.{decides}
-use Rattle.ep_typed.specs.Printing.{number_of}
+use Rattle.ep_typed.specs.Printing.{Result, number_of}
 use Rattle.ep_typed.specs.Printing as result
-use Rattle.ep_typed.specs.Steps.{word_at, own_variable, has_ended}
+use Rattle.ep_typed.specs.Steps.{Computation, bind, word_at, own_variable, has_ended}
 use Rattle.ep_typed.specs.Steps as meaning
-use Rattle.ep_typed.specs.Trees.{Place, Variable, Own, Standard, Expr, Constant, Text, Read, One, Two, Short, Step}
-use Rattle.ep_typed.specs.Valid.{Declarations, Kind, Ordinal, Bytes, IsUnary, IsBinary, IsTypeOf, IsPlace, IsExpr}
+use Rattle.ep_typed.specs.Trees.{Place, Variable, Own, Standard, Expr, Constant, Text, Read, One, Two, Short, Step, Function, Actual, Evaluated, Accessed, Actuals, no_actual, next_actual}
+use Rattle.ep_typed.specs.Valid.{Declarations, Kind, Ordinal, Bytes, IsUnary, IsBinary, IsTypeOf, IsPlace, IsExpr, AreGiven}
 use Rattle.ep_typed.specs.Viewed.{denoter_of}
+use Rattle.ep_typed.specs.declared.interface.Formal.{Formal}
+use Rattle.ep_typed.specs.declared.interface.RoutineEntry.{RoutineEntry}
+use Rattle.ep_typed.specs.declared.unit.UnitType.{UnitType}
 use Rattle.ep_typed.specs.declared.operations.Binary.{Binary}
 use Rattle.ep_typed.specs.declared.operations.ShortOperation.{ShortOperation}
 use Rattle.ep_typed.specs.declared.operations.Unary.{Unary}
@@ -43,8 +47,10 @@ use Rattle.ep_typed.specs.declared.value.TypeValue.{TypeValue}
 use Rattle.ep_typed.specs.declared.value.TypeValue.TheVariants as type
 use Rattle.ep_typed.specs.declared.unit.UnitVariable.{UnitVariable}
 use Rattle.ep_gen_expr.specs.Following.{least_credit, HasPlaceType}
-use Rattle.ep_gen_expr.specs.ExprCode.{IsPlaceCode, IsExprCode, instr, push, bare, one_code, two_code, keep_code, step_code}
+use Rattle.ep_gen_expr.specs.ExprCode.{IsPlaceCode, IsExprCode, IsActualCode, AreActualsCode, reference, instr, push, bare, one_code, two_code, keep_code, step_code}
 use Rattle.ep_gen_expr.proofs.Answering.{Evaluates, IsFollowed}
+use Rattle.ep_gen_expr.proofs.Arguments.{Fits, fits, IsArgumentFollowed, AreArgumentsFollowed, value_follows, accessed_follows, none_follows, next_follows}
+use Rattle.ep_gen_expr.proofs.Calls.{passed_then, function_follows}
 use Rattle.ep_gen_expr.proofs.ShortCircuit.{kept_follows}
 use Rattle.ep_gen_expr.proofs.OneOperand.{UnaryFollows, unary_follows}
 use Rattle.ep_gen_expr.proofs.Placed.{code_front, code_back, text_at, variable_at}
@@ -204,50 +210,97 @@ module _ {declared : Declarations} {G : Image} {untouched : Slots} {Here : Facts
         (fragment_credit {d = d} (omega arith) (λ r. omega arith) (first injection memory below d le unit_is)) (λ z longer after of_z grown routine.
         kept_follows ps p references call steady_call g unit line room n (at + length xs) (at + length xs + length ks + 2) end operation y ys second refl refl inside stands z of_z longer after below d le (unit_in-same G routine ∙ unit_is)))
 
-    -- What the machine does from the code of an expression follows the meaning of the expression.
-    pub expression_follows : (n : ℕ) (kind : Kind) (x : Expr) → IsExpr declared kind x → (line at : ℕ) (code : List Instr) → IsExprCode texts references line at x code → CodeStands G ps p references at code → at + length code < p.instructions.own → (injection : Injection) (memory : Memory) (below : List Operand) (d : ℕ) → least_credit ≤ d → unit_in G memory.frames ≡ unit → Fragment declared G Here n (point injection memory (p.instructions.before + at) below) (eval call g unit line x) (p.instructions.before + (at + length code)) (λ r. Inside untouched injection memory (OnTop kind below r)) d (λ r. d + 8 + weight_of r)
-    expression_follows n kind (Constant z) (h, is_kind, of_host) line at code is stands inside =
-        followed_as n kind (Ordinal h) (Constant z) line at code (push line z ∷ []) is_kind is (λ injection memory below d le unit_is. constant_follows n h z of_host line at (subst (λ c. CodeStands G ps p references at c) is stands) injection memory below d)
-    expression_follows n kind (Text bytes) is_kind line at code (k, there, is) stands inside =
-        followed_as n kind Bytes (Text bytes) line at code (instr op.TEXT (pos k) 0 line ∷ []) is_kind is (λ injection memory below d le unit_is. text_follows n k bytes there line at (subst (λ c. CodeStands G ps p references at c) is stands) injection memory below d)
-    expression_follows n kind (Read place) (h, is_kind, is_place) line at code (xs, is_code, is) stands inside =
-        let v = typed_place declared scene.types_valid scene.own_types_valid h place is_place in
-        followed_as n kind (Ordinal h) (Read place) line at code (xs ++ bare line op.LOAD ∷ []) is_kind is (read_follows n h place v line at xs is_code (subst (λ c. CodeStands G ps p references at c) is stands))
-    expression_follows n kind (One operation x) (k, kinds, is_x) line at code (xs, x_code, is) stands inside =
-        let all : CodeStands G ps p references at (xs ++ one_code line operation) = subst (λ c. CodeStands G ps p references at c) is stands in
-        followed_as n kind kind (One operation x) line at code (xs ++ one_code line operation) refl is
-        (one_follows n operation x k kind kinds line at xs (expression_follows n k x is_x line at xs x_code (code_front G ps p references at xs (one_code line operation) all) (omega (arith, ap length is, length-append xs (one_code line operation), inside))) all)
-    expression_follows n kind (Two operation x y) (k, l, kinds, is_x, is_y) line at code (xs, ys, x_code, y_code, is) stands inside =
-        let all : CodeStands G ps p references at (xs ++ (ys ++ two_code line operation ∷ [])) = subst (λ c. CodeStands G ps p references at c) is stands in
-        let rest : CodeStands G ps p references (at + length xs) (ys ++ two_code line operation ∷ []) = code_back G ps p references at xs (ys ++ two_code line operation ∷ []) all in
-        let ends : length code ≡ length xs + length ys + 1 = omega (arith, ap length is, length-append xs (ys ++ two_code line operation ∷ []), length-append ys (two_code line operation ∷ [])) in
-        followed_as n kind kind (Two operation x y) line at code (xs ++ (ys ++ two_code line operation ∷ [])) refl is
-        (two_follows n operation x y k l kind kinds line at xs ys
-        (expression_follows n k x is_x line at xs x_code (code_front G ps p references at xs (ys ++ two_code line operation ∷ []) all) (omega (arith, ends, inside)))
-        (expression_follows n l y is_y line (at + length xs) ys y_code (code_front G ps p references (at + length xs) ys (two_code line operation ∷ []) rest) (omega (arith, ends, inside)))
-        (code_back G ps p references (at + length xs) ys (two_code line operation ∷ []) rest))
-    expression_follows n kind (Short operation x y) (is_kind, is_x, is_y) line at code (xs, ys, x_code, y_code, is) stands inside =
-        let ks : List Instr = keep_code line operation in
-        let right : ℕ = at + length xs + length ks + 2 in
-        let end : ℕ = right + length ys in
-        let jump : Instr = instr op.JUMP_FALSE (pos end) 0 line in
-        let drop : Instr = bare line op.DROP in
-        let all : CodeStands G ps p references at (xs ++ (ks ++ jump ∷ drop ∷ ys)) = subst (λ c. CodeStands G ps p references at c) is stands in
-        let kept : CodeStands G ps p references (at + length xs) ((ks ++ jump ∷ drop ∷ []) ++ ys) = subst (λ c. CodeStands G ps p references (at + length xs) c) (sym (append_assoc ks (jump ∷ drop ∷ []) ys)) (code_back G ps p references at xs (ks ++ jump ∷ drop ∷ ys) all) in
-        let between : length (ks ++ jump ∷ drop ∷ []) ≡ length ks + 2 = omega (arith, length-append ks (jump ∷ drop ∷ [])) in
-        let at_right : at + length xs + length (ks ++ jump ∷ drop ∷ []) ≡ right = omega (arith, between) in
-        let ends : at + length code ≡ end = omega (arith, ap length is, length-append xs (ks ++ jump ∷ drop ∷ ys), length-append ks (jump ∷ drop ∷ ys)) in
-        followed_as n kind (Ordinal host.Boolean) (Short operation x y) line at code (xs ++ (ks ++ jump ∷ drop ∷ ys)) is_kind is
-        (short_follows n operation x y line at xs ys
-        (expression_follows n (Ordinal host.Boolean) x is_x line at xs x_code (code_front G ps p references at xs (ks ++ jump ∷ drop ∷ ys) all) (omega (arith, ends, inside)))
-        (expression_follows n (Ordinal host.Boolean) y is_y line right ys y_code (subst (λ k. CodeStands G ps p references k ys) at_right (code_back G ps p references (at + length xs) (ks ++ jump ∷ drop ∷ []) ys kept)) (omega (arith, ends, inside)))
-        (omega (arith, ends, inside)) (code_front G ps p references (at + length xs) (ks ++ jump ∷ drop ∷ []) ys kept))
-    expression_follows n kind (Step down low high x y) (h, is_kind, is_low, is_high, is_x, is_y) line at code (xs, ys, x_code, y_code, is) stands inside =
-        let all : CodeStands G ps p references at (xs ++ (ys ++ step_code line down low high)) = subst (λ c. CodeStands G ps p references at c) is stands in
-        let rest : CodeStands G ps p references (at + length xs) (ys ++ step_code line down low high) = code_back G ps p references at xs (ys ++ step_code line down low high) all in
-        let ends : length code ≡ length xs + length ys + length (step_code line down low high) = omega (arith, ap length is, length-append xs (ys ++ step_code line down low high), length-append ys (step_code line down low high)) in
-        followed_as n kind (Ordinal h) (Step down low high x y) line at code (xs ++ (ys ++ step_code line down low high)) is_kind is
-        (stepped_follows n h down low high is_low is_high x y line at xs ys
-        (expression_follows n (Ordinal h) x is_x line at xs x_code (code_front G ps p references at xs (ys ++ step_code line down low high) all) (omega (arith, ends, inside)))
-        (expression_follows n (Ordinal host.Integer) y is_y line (at + length xs) ys y_code (code_front G ps p references (at + length xs) ys (step_code line down low high) rest) (omega (arith, ends, inside)))
-        (code_back G ps p references (at + length xs) ys (step_code line down low high) rest))
+    module _ (lasts : Lasts untouched Here) (among : AreAmong untouched (kept_slots declared G)) (n : ℕ) (kept : CallsAreKept declared G ps call n) where
+      mutual
+        -- What the machine does from the code of an expression follows the meaning of the expression.
+        pub expression_follows : (kind : Kind) (x : Expr) → IsExpr declared kind x → (line at : ℕ) (code : List Instr) → IsExprCode texts references line at x code → CodeStands G ps p references at code → at + length code < p.instructions.own → (injection : Injection) (memory : Memory) (below : List Operand) (d : ℕ) → least_credit ≤ d → unit_in G memory.frames ≡ unit → Fragment declared G Here n (point injection memory (p.instructions.before + at) below) (eval call g unit line x) (p.instructions.before + (at + length code)) (λ r. Inside untouched injection memory (OnTop kind below r)) d (λ r. d + 8 + weight_of r)
+        expression_follows kind (Constant z) (h, is_kind, of_host) line at code is stands inside =
+            followed_as n kind (Ordinal h) (Constant z) line at code (push line z ∷ []) is_kind is (λ injection memory below d le unit_is. constant_follows n h z of_host line at (subst (λ c. CodeStands G ps p references at c) is stands) injection memory below d)
+        expression_follows kind (Text bytes) is_kind line at code (k, there, is) stands inside =
+            followed_as n kind Bytes (Text bytes) line at code (instr op.TEXT (pos k) 0 line ∷ []) is_kind is (λ injection memory below d le unit_is. text_follows n k bytes there line at (subst (λ c. CodeStands G ps p references at c) is stands) injection memory below d)
+        expression_follows kind (Read place) (h, is_kind, is_place) line at code (xs, is_code, is) stands inside =
+            let v = typed_place declared scene.types_valid scene.own_types_valid h place is_place in
+            followed_as n kind (Ordinal h) (Read place) line at code (xs ++ bare line op.LOAD ∷ []) is_kind is (read_follows n h place v line at xs is_code (subst (λ c. CodeStands G ps p references at c) is stands))
+        expression_follows kind (One operation x) (k, kinds, is_x) line at code (xs, x_code, is) stands inside =
+            let all : CodeStands G ps p references at (xs ++ one_code line operation) = subst (λ c. CodeStands G ps p references at c) is stands in
+            followed_as n kind kind (One operation x) line at code (xs ++ one_code line operation) refl is
+            (one_follows n operation x k kind kinds line at xs (expression_follows k x is_x line at xs x_code (code_front G ps p references at xs (one_code line operation) all) (omega (arith, ap length is, length-append xs (one_code line operation), inside))) all)
+        expression_follows kind (Two operation x y) (k, l, kinds, is_x, is_y) line at code (xs, ys, x_code, y_code, is) stands inside =
+            let all : CodeStands G ps p references at (xs ++ (ys ++ two_code line operation ∷ [])) = subst (λ c. CodeStands G ps p references at c) is stands in
+            let rest : CodeStands G ps p references (at + length xs) (ys ++ two_code line operation ∷ []) = code_back G ps p references at xs (ys ++ two_code line operation ∷ []) all in
+            let ends : length code ≡ length xs + length ys + 1 = omega (arith, ap length is, length-append xs (ys ++ two_code line operation ∷ []), length-append ys (two_code line operation ∷ [])) in
+            followed_as n kind kind (Two operation x y) line at code (xs ++ (ys ++ two_code line operation ∷ [])) refl is
+            (two_follows n operation x y k l kind kinds line at xs ys
+            (expression_follows k x is_x line at xs x_code (code_front G ps p references at xs (ys ++ two_code line operation ∷ []) all) (omega (arith, ends, inside)))
+            (expression_follows l y is_y line (at + length xs) ys y_code (code_front G ps p references (at + length xs) ys (two_code line operation ∷ []) rest) (omega (arith, ends, inside)))
+            (code_back G ps p references (at + length xs) ys (two_code line operation ∷ []) rest))
+        expression_follows kind (Short operation x y) (is_kind, is_x, is_y) line at code (xs, ys, x_code, y_code, is) stands inside =
+            let ks : List Instr = keep_code line operation in
+            let right : ℕ = at + length xs + length ks + 2 in
+            let end : ℕ = right + length ys in
+            let jump : Instr = instr op.JUMP_FALSE (pos end) 0 line in
+            let drop : Instr = bare line op.DROP in
+            let all : CodeStands G ps p references at (xs ++ (ks ++ jump ∷ drop ∷ ys)) = subst (λ c. CodeStands G ps p references at c) is stands in
+            let kept : CodeStands G ps p references (at + length xs) ((ks ++ jump ∷ drop ∷ []) ++ ys) = subst (λ c. CodeStands G ps p references (at + length xs) c) (sym (append_assoc ks (jump ∷ drop ∷ []) ys)) (code_back G ps p references at xs (ks ++ jump ∷ drop ∷ ys) all) in
+            let between : length (ks ++ jump ∷ drop ∷ []) ≡ length ks + 2 = omega (arith, length-append ks (jump ∷ drop ∷ [])) in
+            let at_right : at + length xs + length (ks ++ jump ∷ drop ∷ []) ≡ right = omega (arith, between) in
+            let ends : at + length code ≡ end = omega (arith, ap length is, length-append xs (ks ++ jump ∷ drop ∷ ys), length-append ks (jump ∷ drop ∷ ys)) in
+            followed_as n kind (Ordinal host.Boolean) (Short operation x y) line at code (xs ++ (ks ++ jump ∷ drop ∷ ys)) is_kind is
+            (short_follows n operation x y line at xs ys
+            (expression_follows (Ordinal host.Boolean) x is_x line at xs x_code (code_front G ps p references at xs (ks ++ jump ∷ drop ∷ ys) all) (omega (arith, ends, inside)))
+            (expression_follows (Ordinal host.Boolean) y is_y line right ys y_code (subst (λ k. CodeStands G ps p references k ys) at_right (code_back G ps p references (at + length xs) (ks ++ jump ∷ drop ∷ []) ys kept)) (omega (arith, ends, inside)))
+            (omega (arith, ends, inside)) (code_front G ps p references (at + length xs) (ks ++ jump ∷ drop ∷ []) ys kept))
+        expression_follows kind (Step down low high x y) (h, is_kind, is_low, is_high, is_x, is_y) line at code (xs, ys, x_code, y_code, is) stands inside =
+            let all : CodeStands G ps p references at (xs ++ (ys ++ step_code line down low high)) = subst (λ c. CodeStands G ps p references at c) is stands in
+            let rest : CodeStands G ps p references (at + length xs) (ys ++ step_code line down low high) = code_back G ps p references at xs (ys ++ step_code line down low high) all in
+            let ends : length code ≡ length xs + length ys + length (step_code line down low high) = omega (arith, ap length is, length-append xs (ys ++ step_code line down low high), length-append ys (step_code line down low high)) in
+            followed_as n kind (Ordinal h) (Step down low high x y) line at code (xs ++ (ys ++ step_code line down low high)) is_kind is
+            (stepped_follows n h down low high is_low is_high x y line at xs ys
+            (expression_follows (Ordinal h) x is_x line at xs x_code (code_front G ps p references at xs (ys ++ step_code line down low high) all) (omega (arith, ends, inside)))
+            (expression_follows (Ordinal host.Integer) y is_y line (at + length xs) ys y_code (code_front G ps p references (at + length xs) ys (step_code line down low high) rest) (omega (arith, ends, inside)))
+            (code_back G ps p references (at + length xs) ys (step_code line down low high) rest))
+        expression_follows kind (Function of_unit number given) (h, is_kind, r, is_routine, is_function, are_given) line at code (xs, k, given_code, named, is) stands inside =
+            let all : CodeStands G ps p references at (xs ++ instr op.CALL (pos k) 0 line ∷ instr op.JUMP (pos (at + length xs + 2)) 0 line ∷ []) = subst (λ c. CodeStands G ps p references at c) is stands in
+            let ends : length code ≡ length xs + 2 = omega (arith, ap length is, length-append xs (instr op.CALL (pos k) 0 line ∷ instr op.JUMP (pos (at + length xs + 2)) 0 line ∷ [])) in
+            let keeps : RoutineKeeps declared G ps call n of_unit number r = kept of_unit number r is_routine in
+            followed_as n kind (Ordinal h) (Function of_unit number given) line at code (xs ++ instr op.CALL (pos k) 0 line ∷ instr op.JUMP (pos (at + length xs + 2)) 0 line ∷ []) is_kind is
+            (function_follows ps p references room lasts among call steady_call g unit n h line at of_unit number k given xs r keeps is_function
+            (arguments_follow (declared.types of_unit) r.formals keeps.formals given keeps.passed are_given line at xs given_code (code_front G ps p references at xs (instr op.CALL (pos k) 0 line ∷ instr op.JUMP (pos (at + length xs + 2)) 0 line ∷ []) all) (omega (arith, ends, inside)))
+            named all (omega (arith, ends, inside)))
+
+        -- an actual parameter
+        argument_follows : (k : Passing) (a : Actual) → Fits declared k a → (line at : ℕ) (is : List Instr) → IsActualCode texts references line at a is → CodeStands G ps p references at is → at + length is < p.instructions.own → IsArgumentFollowed declared G untouched Here p call g unit n k a line at is
+        argument_follows (ByValue k) (Accessed q) fit line at is h stands inside = absurd fit
+        argument_follows (ByReference t) (Evaluated x) fit line at is h stands inside = absurd fit
+        argument_follows (ByValue k) (Evaluated x) fit line at is h stands inside =
+            value_follows p call steady_call g unit n k fit.0 x line at is fit.1 (expression_follows (Ordinal fit.0) x fit.2 line at is h stands inside)
+        argument_follows (ByReference t) (Accessed q) fit line at is h stands inside =
+            accessed_follows p call steady_call g unit n t q line at is (place_follows n q t fit line at is h stands)
+
+        -- Actual parameters, from left to right: the machine leaves what the formal ones take on the operands below.
+        pub arguments_follow : (types : List UnitType) (fs : List Formal) (formals : List Passing) (given : Actuals) → ArePassed types fs formals → AreGiven declared types fs given → (line at : ℕ) (is : List Instr) → AreActualsCode texts references line at given is → CodeStands G ps p references at is → at + length is < p.instructions.own
+            → AreArgumentsFollowed declared G untouched Here p call g unit n formals given line at is
+        arguments_follow types [] [] no_actual passed valid line at is h stands inside = none_follows p call steady_call g unit n line at is h
+        arguments_follow types [] [] (next_actual a given) passed valid line at is h stands inside = absurd valid
+        arguments_follow types [] (k ∷ formals) given passed valid line at is h stands inside = absurd passed
+        arguments_follow types (f ∷ fs) [] given passed valid line at is h stands inside = absurd passed
+        arguments_follow types (f ∷ fs) (k ∷ formals) no_actual passed valid line at is h stands inside = absurd valid
+        arguments_follow types (f ∷ fs) (k ∷ formals) (next_actual a given) passed valid line at is h stands inside =
+            let all : CodeStands G ps p references at (h.0 ++ h.1) = subst (λ c. CodeStands G ps p references at c) h.4 stands in
+            let ends : length is ≡ length h.0 + length h.1 = omega (arith, ap length h.4, length-append h.0 h.1) in
+            next_follows p call steady_call g unit n k formals a given line at h.0 h.1 is h.4
+            (argument_follows k a (fits declared types f.mode f k a passed.0 valid.0) line at h.0 h.2 (code_front G ps p references at h.0 h.1 all) (omega (arith, ends, inside)))
+            (arguments_follow types fs formals given passed.1 valid.1 line (at + length h.0) h.1 h.3 (code_back G ps p references at h.0 h.1 all) (omega (arith, ends, inside)))
+
+      -- The actual parameters, the call, and what comes after it. Where the results lie on the operands behind the call, in a memory that has grown, what comes after it is followed from there.
+      pub call_then : {B : Type 0} {Then : B → Operands} {e : B → ℕ} {to : ℕ} (line at : ℕ) (of_unit : List ℕ) (number k : ℕ) (given : Actuals) (xs : List Instr) (r : RoutineEntry) (keeps : RoutineKeeps declared G ps call n of_unit number r)
+          → AreGiven declared (declared.types of_unit) r.formals given → AreActualsCode texts references line at given xs → slice_get references k ≡ Some (reference of_unit number)
+          → CodeStands G ps p references at (xs ++ instr op.CALL (pos k) 0 line ∷ instr op.JUMP (pos (at + length xs + 2)) 0 line ∷ []) → at + length xs + 2 < p.instructions.own
+          → (injection : Injection) (memory : Memory) (below : List Operand) (d : ℕ) → least_credit ≤ d → unit_in G memory.frames ≡ unit
+          → (rest : List Result → Computation B) → ((rs : List Result) → Steady (rest rs))
+          → ((rs : List Result) (longer : Injection) (after : Memory) (pushed : List Operand) → Grown untouched injection memory longer after → SameRoutine untouched memory.frames after.frames → ResultsOnTop keeps.results below rs longer after pushed → Fragment declared G Here n (point longer after (p.instructions.before + (at + length xs + 1)) pushed) (rest rs) to (λ b. Inside untouched longer after (Then b)) d e)
+          → Fragment declared G Here n (point injection memory (p.instructions.before + at) below) (bind (arguments call g unit line given) (λ vs. bind (call unit line of_unit number vs) rest)) to (λ b. Inside untouched injection memory (Then b)) d e
+      call_then line at of_unit number k given xs r keeps valid is_code named stands inside injection memory below d enough home rest steady behind =
+          passed_then ps p references room lasts among call steady_call g unit n line at of_unit number k given xs r keeps
+          (arguments_follow (declared.types of_unit) r.formals keeps.formals given keeps.passed valid line at xs is_code (code_front G ps p references at xs (instr op.CALL (pos k) 0 line ∷ instr op.JUMP (pos (at + length xs + 2)) 0 line ∷ []) stands) (omega (arith, inside)))
+          named (instr op.JUMP (pos (at + length xs + 2)) 0 line ∷ []) stands injection memory below d enough home rest steady behind

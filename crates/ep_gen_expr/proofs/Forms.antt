@@ -67,7 +67,8 @@ second_part : {a b c d : Code} {is js : List Instr} (x : Expr) → Grows a b is 
 second_part {a = a} {b = b} {d = d} x g p q =
     subst (λ at. IsExprCode d.texts d.references a.line at x p.code) (grows_length g) (subst (λ line. IsExprCode d.texts d.references line (length b.instructions) x p.code) g.line (first_part x p q))
 
-whole_expr : {a b : Code} (x : Expr) (code : List Instr) → IsExprCode b.texts b.references a.line (length a.instructions) x code → Grows a b code → AppendsExpr a b x
+-- the code of an expression, which is short
+pub whole_expr : {a b : Code} (x : Expr) (code : List Instr) → IsExprCode b.texts b.references a.line (length a.instructions) x code → Grows a b code → AppendsExpr a b x
 whole_expr {a = a} {b = b} x code h g = record { code = code; is_code = h; grows = g; short = omega (arith, expr_code_short b.texts b.references a.line (length a.instructions) x code h) }
 
 whole_place : {a b : Code} (x : Place) (code : List Instr) → IsPlaceCode b.references a.line x code → Grows a b code → AppendsPlace a b x

@@ -5,6 +5,9 @@ pub mod Forms
 pub mod Landing
 pub mod ShortCircuit
 pub mod Placed
+pub mod ActualForms
+pub mod Arguments
+pub mod Calls
 pub mod Following
 pub mod Hosts
 pub mod Answering

@@ -5,7 +5,7 @@ pub use Rattle.ep_object.specs.Table.{instr}
 use Rattle.ep_object.specs.declared.code.Instr.{Instr}
 use Rattle.ep_object.specs.declared.code.Reference.{Reference}
 use Rattle.ep_typed.specs.Operations.{last_char}
-use Rattle.ep_typed.specs.Trees.{Place, Variable, Own, Standard, Expr, Constant, Text, Read, One, Two, Short, Step}
+use Rattle.ep_typed.specs.Trees.{Place, Variable, Own, Standard, Expr, Constant, Text, Read, One, Two, Short, Step, Function, Actual, Evaluated, Accessed, Actuals, no_actual, next_actual}
 use Rattle.ep_typed.specs.declared.operations.Unary.{Unary}
 use Rattle.ep_typed.specs.declared.operations.Unary.TheVariants as unary
 use Rattle.ep_typed.specs.declared.operations.Binary.{Binary}
@@ -92,14 +92,31 @@ IsPlaceCode references line (Own number) is = is ≡ instr op.SLOT (pos number) 
 IsPlaceCode references line (Standard file) is = is ≡ standard_code line file ∷ []
 
 module _ (texts : List (List ℕ)) (references : List Reference) (line : ℕ) where
-  -- the code of an expression that begins at this place, whose instructions have this line
-  abbrev pub IsExprCode : ℕ → Expr → List Instr → Type 0
-  IsExprCode at (Constant z) is = is ≡ push line z ∷ []
-  IsExprCode at (Text bytes) is = (k : ℕ) × (slice_get texts k ≡ Some bytes) × (is ≡ instr op.TEXT (pos k) 0 line ∷ [])
-  IsExprCode at (Read p) is = (xs : List Instr) × IsPlaceCode references line p xs × (is ≡ xs ++ bare line op.LOAD ∷ [])
-  IsExprCode at (One operation x) is = (xs : List Instr) × IsExprCode at x xs × (is ≡ xs ++ one_code line operation)
-  IsExprCode at (Two operation x y) is = (xs ys : List Instr) × IsExprCode at x xs × IsExprCode (at + length xs) y ys × (is ≡ xs ++ (ys ++ two_code line operation ∷ []))
-  IsExprCode at (Short operation x y) is =
-      (xs ys : List Instr) × IsExprCode at x xs × IsExprCode (at + length xs + length (keep_code line operation) + 2) y ys
-      × (is ≡ xs ++ (keep_code line operation ++ instr op.JUMP_FALSE (pos (at + length xs + length (keep_code line operation) + 2 + length ys)) 0 line ∷ bare line op.DROP ∷ ys))
-  IsExprCode at (Step down low high x n) is = (xs ns : List Instr) × IsExprCode at x xs × IsExprCode (at + length xs) n ns × (is ≡ xs ++ (ns ++ step_code line down low high))
+  abbrev mutual
+    -- the code of an expression that begins at this place, whose instructions have this line
+    pub IsExprCode : ℕ → Expr → List Instr → Type 0
+    IsExprCode at (Constant z) is = is ≡ push line z ∷ []
+    IsExprCode at (Text bytes) is = (k : ℕ) × (slice_get texts k ≡ Some bytes) × (is ≡ instr op.TEXT (pos k) 0 line ∷ [])
+    IsExprCode at (Read p) is = (xs : List Instr) × IsPlaceCode references line p xs × (is ≡ xs ++ bare line op.LOAD ∷ [])
+    IsExprCode at (One operation x) is = (xs : List Instr) × IsExprCode at x xs × (is ≡ xs ++ one_code line operation)
+    IsExprCode at (Two operation x y) is = (xs ys : List Instr) × IsExprCode at x xs × IsExprCode (at + length xs) y ys × (is ≡ xs ++ (ys ++ two_code line operation ∷ []))
+    IsExprCode at (Short operation x y) is =
+        (xs ys : List Instr) × IsExprCode at x xs × IsExprCode (at + length xs + length (keep_code line operation) + 2) y ys
+        × (is ≡ xs ++ (keep_code line operation ++ instr op.JUMP_FALSE (pos (at + length xs + length (keep_code line operation) + 2 + length ys)) 0 line ∷ bare line op.DROP ∷ ys))
+    IsExprCode at (Step down low high x n) is = (xs ns : List Instr) × IsExprCode at x xs × IsExprCode (at + length xs) n ns × (is ≡ xs ++ (ns ++ step_code line down low high))
+    -- A function designator (ISO 10206, 6.8.5): the actual parameters, the call, and a jump to what comes next, which has the
+    -- tick for the step that is spent when the call is done.
+    IsExprCode at (Function unit number given) is =
+        (xs : List Instr) × (k : ℕ) × AreActualsCode at given xs × (slice_get references k ≡ Some (reference unit number))
+        × (is ≡ xs ++ instr op.CALL (pos k) 0 line ∷ instr op.JUMP (pos (at + length xs + 2)) 0 line ∷ [])
+
+    -- the code of an actual parameter: that of the value, or of the variable (ISO 10206, 6.7.3)
+    pub IsActualCode : ℕ → Actual → List Instr → Type 0
+    IsActualCode at (Evaluated x) is = IsExprCode at x is
+    IsActualCode at (Accessed p) is = IsPlaceCode references line p is
+
+    -- actual parameters, from left to right
+    pub AreActualsCode : ℕ → Actuals → List Instr → Type 0
+    AreActualsCode at no_actual is = is ≡ []
+    AreActualsCode at (next_actual a more) is =
+        (xs ys : List Instr) × IsActualCode at a xs × AreActualsCode (at + length xs) more ys × (is ≡ xs ++ ys)

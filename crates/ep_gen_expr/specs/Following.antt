@@ -3,9 +3,10 @@ use Rattle.std.specs.Prelude.{◌≡◌, ℕ, ◌+◌, ◌<◌, ◌≤◌, List,
 use Rattle.ep_gen_expr.specs.ExprCode.{IsPlaceCode, IsExprCode}
 use Rattle.ep_object.specs.Activations.{MatchesOwn, OwnAreKept}
 use Rattle.ep_object.specs.Follows.{point, Since, Fragment, Inside, Operands, OnTop, PlaceOnTop}
-use Rattle.ep_object.specs.Matching.{Memory, Injection, Slots, HasType, HasOwnType}
+use Rattle.ep_object.specs.Matching.{Memory, Injection, Slots, AreAmong, kept_slots, HasType, HasOwnType}
 use Rattle.ep_object.specs.Operands.{Operand}
 use Rattle.ep_object.specs.Placing.{Placement, CodeStands}
+use Rattle.ep_object.specs.Promises.{CallsAreKept}
 use Rattle.ep_object.specs.Runs.{unit_in}
 use Rattle.ep_object.specs.Scene.{Scene}
 use Rattle.ep_object.specs.declared.code.Image.{Image}
@@ -24,10 +25,10 @@ use Rattle.ep_typed.specs.declared.value.TypeValue.{TypeValue}
 abbrev pub least_credit : ℕ
 least_credit = 32
 
--- From every memory of a routine of the unit in which its own variables match, with any operands below and at every number of steps, the machine follows the computation through the code at this place of the object. Behind the code the same routine runs, memory has grown, any slots that are named are untouched, and what held and lasts still does, what the computation gives lies on the operands below, and the credit has risen by this gain.
-abbrev pub IsFollowedThrough : {A : Type 0} → Declarations → Image → Placement → List ℕ → ℕ → List Instr → Computation A → (List Operand → A → Operands) → (A → ℕ) → Type 0
-IsFollowedThrough declared G p unit at code c Then gain =
-    (untouched : Slots) → OwnAreKept declared untouched → (begun : State) (n : ℕ) (injection : Injection) (memory : Memory) → MatchesOwn declared injection begun memory
+-- From every memory of a routine of the unit in which its own variables match, with any operands below and up to this number of steps, the machine follows the computation through the code at this place of the object. Behind the code the same routine runs, memory has grown, the slots that are named are untouched, and what held and lasts still does, what the computation gives lies on the operands below, and the credit has risen by this gain.
+abbrev pub IsFollowedThrough : {A : Type 0} → Declarations → Image → Placement → List ℕ → Slots → ℕ → ℕ → List Instr → Computation A → (List Operand → A → Operands) → (A → ℕ) → Type 0
+IsFollowedThrough declared G p unit untouched n at code c Then gain =
+    OwnAreKept declared untouched → (begun : State) (injection : Injection) (memory : Memory) → MatchesOwn declared injection begun memory
     → (below : List Operand) (credit : ℕ) → least_credit ≤ credit → unit_in G memory.frames ≡ unit
     → Fragment declared G (Since untouched injection begun memory) n (point injection memory (p.instructions.before + at) below) c (p.instructions.before + (at + length code)) (λ a. Inside untouched injection memory (Then below a)) credit (λ a. credit + gain a)
 
@@ -37,19 +38,22 @@ HasPlaceType declared (Variable unit k) t = (v : UnitVariable) × (declared.vari
 HasPlaceType declared (Own k) t = (v : UnitVariable) × (slice_get declared.routine_variables k ≡ Some v) × HasOwnType declared v t
 HasPlaceType declared (Standard file) t = ⊥
 
--- Wherever the code of the place of a variable stands in an image with a scene, the machine follows the place through the code and leaves it on top, of a type that describes the variable's.
+-- Wherever the code of the place of a variable stands in an image with a scene, the machine follows the place through the code with any number of steps, whatever slots are named, and leaves it on top, of a type that describes the variable's.
 abbrev pub PlacesAreFollowed : Type 0
 PlacesAreFollowed =
     (declared : Declarations) (G : Image) (ps : List Placement) (p : Placement) (texts : List (List ℕ)) (references : List Reference) → Scene declared G ps p texts
     → (call : Handler) → IsSteadyHandler call → (turns : ℕ) (unit : List ℕ) (q : Place) (t : TypeValue) → HasPlaceType declared q t
     → (line at : ℕ) (code : List Instr) → IsPlaceCode references line q code → CodeStands G ps p references at code
-    → IsFollowedThrough declared G p unit at code (place call turns unit line q) (PlaceOnTop t) (λ a. 8)
+    → (untouched : Slots) (n : ℕ) → IsFollowedThrough declared G p unit untouched n at code (place call turns unit line q) (PlaceOnTop t) (λ a. 8)
 
 -- Wherever the code of an expression that is valid under the declarations stands in an image with a scene, with more code
--- of the object behind it, the machine follows its value through the code and leaves the value on top.
+-- of the object behind it, the machine follows its value through the code and leaves the value on top, with each number of
+-- steps up to which the routines that are declared keep their promises. The slots that are named are among those that calls
+-- leave as they are.
 abbrev pub ExpressionsAreFollowed : Type 0
 ExpressionsAreFollowed =
     (declared : Declarations) (G : Image) (ps : List Placement) (p : Placement) (texts : List (List ℕ)) (references : List Reference) → Scene declared G ps p texts
     → (call : Handler) → IsSteadyHandler call → (turns : ℕ) (unit : List ℕ) (kind : Kind) (x : Expr) → IsExpr declared kind x
     → (line at : ℕ) (code : List Instr) → IsExprCode texts references line at x code → CodeStands G ps p references at code → at + length code < p.instructions.own → p.instructions.before + p.instructions.own ≤ length G.instructions
-    → IsFollowedThrough declared G p unit at code (eval call turns unit line x) (OnTop kind) (λ r. 8 + weight_of r)
+    → (untouched : Slots) → AreAmong untouched (kept_slots declared G) → (n : ℕ) → CallsAreKept declared G ps call n
+    → IsFollowedThrough declared G p unit untouched n at code (eval call turns unit line x) (OnTop kind) (λ r. 8 + weight_of r)

@@ -1,18 +1,19 @@
-//! The code of places and expressions.
+//! The code of places, expressions and calls.
 
-ghost use Rattle.std.specs.Prelude.{OnOk};
-ghost use Rattle.ep_typed.specs.Trees.{Constant, One, Own, Read, Short, Step, Text, Two, Variable};
-ghost use Rattle.ep_typed.specs.Viewed.{expr_of, place_of};
-ghost use Rattle.ep_gen_expr.specs.Growth.{AppendsPlace, AppendsExpr};
+ghost use Rattle.std.specs.Prelude.{OnOk, map};
+ghost use Rattle.ep_typed.specs.Trees as tree;
+ghost use Rattle.ep_typed.specs.Trees.{Constant, Function, One, Own, Read, Short, Step, Text, Two, Variable};
+ghost use Rattle.ep_typed.specs.Viewed.{actual_of, expr_of, place_of};
+ghost use Rattle.ep_gen_expr.specs.Growth.{AppendsActual, AppendsActuals, AppendsExpr, AppendsPlace};
 
 use crate::code::{Code, emit};
-use crate::jumps::land;
+use crate::jumps::{land, next_place};
 use crate::operations::{apply_binary, apply_step, apply_unary, keep_operand};
 use crate::standard::standard_code;
 use crate::tables::{reference_number, text_number};
 use ep_base::{Name, NoMemory};
 use ep_object::op;
-use ep_typed::{Binary, ShortOperation, TypedExpr, TypedPlace, Unary};
+use ep_typed::{Actual, Binary, ShortOperation, TypedExpr, TypedPlace, Unary};
 use std::alloc::Global;
 
 /// Appends the code of a place, which leaves the place.
@@ -62,6 +63,9 @@ pub fn expression_code(alloc: Global, e: &TypedExpr, code: &mut Code) -> Result<
         }
         TypedExpr::Step(down, low, high, value, count) => {
             step_code(alloc, *down, *low, *high, value.get(), count.get(), code)
+        }
+        TypedExpr::Function(unit, number, given) => {
+            call_code(alloc, unit, *number, given.items(), code)
         }
     }
 }
@@ -160,4 +164,47 @@ fn step_code(
     expression_code(alloc, value, code)?;
     expression_code(alloc, count, code)?;
     apply_step(down, low, high, code)
+}
+
+/// Appends the code of a call: the actual parameters, the call, and a jump to what comes next, which takes the tick for
+/// the step that is spent when the call is done. It leaves what the routine gives: one value where it is a function.
+#[cycle(expression)]
+pub fn call_code(
+    alloc: Global,
+    unit: &Name,
+    number: u32,
+    given: &[Actual],
+    code: &mut Code,
+) -> Result<(), NoMemory>
+    ensures { OnOk result (AppendsExpr code.old code.new
+        (Function unit.now number (tree.actuals (map actual_of given.now)))) }
+{
+    actuals_code(alloc, given, code)?;
+    let routine = reference_number(alloc, unit, number, code)?;
+    emit(code, op::CALL, routine as i64, 0)?;
+    let next = next_place(code)? + 1;
+    emit(code, op::JUMP, next as i64, 0)
+}
+
+/// Appends the code of actual parameters one after another.
+#[cycle(expression)]
+fn actuals_code(alloc: Global, given: &[Actual], code: &mut Code) -> Result<(), NoMemory>
+    ensures { OnOk result (AppendsActuals code.old code.new (tree.actuals (map actual_of given.now))) }
+{
+    for actual in given {
+        actual_code(alloc, actual, code)?;
+    }
+    Ok(())
+}
+
+/// Appends the code of an actual parameter, which leaves the value or the place (ISO 10206, 6.7.3).
+#[cycle(expression)]
+#[tactic(auto, using(crate::proofs::ActualForms::actual_forms))]
+fn actual_code(alloc: Global, actual: &Actual, code: &mut Code) -> Result<(), NoMemory>
+    ensures { OnOk result (AppendsActual code.old code.new (actual_of actual.now)) }
+{
+    match actual {
+        Actual::Value(value) => expression_code(alloc, value.get(), code),
+        Actual::Variable(place) => place_code(alloc, place, code),
+    }
 }

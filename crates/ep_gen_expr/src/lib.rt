@@ -1,4 +1,4 @@
-//! The code of expressions and places.
+//! The code of expressions, places and calls.
 //!
 //! specs/ExprCode.antt says which instructions are the code of a tree under given tables, and stays true when the
 //! tables grow. specs/Growth.antt says how code grows. The functions append the code of one tree to what stands.
@@ -13,7 +13,7 @@ mod standard;
 mod tables;
 
 pub use code::{Code, NO_LINE, emit};
-pub use expressions::{expression_code, place_code};
+pub use expressions::{call_code, expression_code, place_code};
 pub use jumps::{field_number, land, leave_hole, next_place};
 pub use laws::{laws_of_code, laws_of_following};
 pub use standard::standard_code;

@@ -1,18 +1,34 @@
-use Rattle.std.proofs.Common.{◌+◌, ◌*◌, max}
+use Rattle.std.proofs.Common.{◌+◌, ◌*◌, max, map, take}
+use Rattle.ep_typed.specs.Trees.{actuals}
+use Rattle.ep_typed.specs.Viewed.{actual_of}
+use Rattle.ep_typed.specs.declared.tree.Actual.{size-Actual}
 use Rattle.ep_typed.specs.declared.tree.TypedExpr.{size-TypedExpr}
+use Rattle.ep_gen_expr.specs.Growth.{AppendsActuals}
 use Rattle.ep_gen_expr.proofs.expressions.+expression.Given as goal
 
 abbrev pub decreases-expression_code : goal.decreases-expression_code
-decreases-expression_code l = 2 * size-TypedExpr l.e.now
+decreases-expression_code l = 4 * size-TypedExpr l.e.now
 
 abbrev pub decreases-unary_code : goal.decreases-unary_code
-decreases-unary_code l = 2 * size-TypedExpr l.operand.now + 1
+decreases-unary_code l = 4 * size-TypedExpr l.operand.now + 1
 
 abbrev pub decreases-binary_code : goal.decreases-binary_code
-decreases-binary_code l = 2 * max (size-TypedExpr l.left.now) (size-TypedExpr l.right.now) + 1
+decreases-binary_code l = 4 * max (size-TypedExpr l.left.now) (size-TypedExpr l.right.now) + 1
 
 abbrev pub decreases-short_code : goal.decreases-short_code
-decreases-short_code l = 2 * max (size-TypedExpr l.left.now) (size-TypedExpr l.right.now) + 1
+decreases-short_code l = 4 * max (size-TypedExpr l.left.now) (size-TypedExpr l.right.now) + 1
 
 abbrev pub decreases-step_code : goal.decreases-step_code
-decreases-step_code l = 2 * max (size-TypedExpr l.value.now) (size-TypedExpr l.count.now) + 1
+decreases-step_code l = 4 * max (size-TypedExpr l.value.now) (size-TypedExpr l.count.now) + 1
+
+abbrev pub decreases-call_code : goal.decreases-call_code
+decreases-call_code l = 4 * goal.size-call_code l + 2
+
+abbrev pub decreases-actuals_code : goal.decreases-actuals_code
+decreases-actuals_code l = 4 * goal.size-actuals_code l + 1
+
+abbrev pub decreases-actual_code : goal.decreases-actual_code
+decreases-actual_code l = 4 * size-Actual l.actual.now
+
+abbrev pub invariant-actuals_code-loop-actual : goal.invariant-actuals_code-loop-actual
+invariant-actuals_code-loop-actual l = AppendsActuals l.fn.code l.code (actuals (map actual_of (take l.actual-index l.given)))
