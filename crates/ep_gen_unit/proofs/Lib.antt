@@ -1,5 +1,3 @@
-pub mod ActualForms
-mod ArgumentMoves
 pub mod Branching
 pub mod CaseForms
 pub mod CaseMoves
@@ -13,6 +11,7 @@ mod Parts
 mod ProcedureMoves
 pub mod ProgramForms
 pub mod Programs
+mod Results
 mod Routines
 pub mod Simple
 pub mod Starts

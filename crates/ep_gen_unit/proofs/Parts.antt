@@ -1,22 +1,27 @@
 -- What the proofs about statements share: where parts of code stand, and what is known of expressions.
-use Rattle.std.proofs.Common.{◌≡◌, ℕ, ℤ, ◌+◌, ◌<◌, ◌≤◌, List, ◌++◌, length, refl}
+use Rattle.std.proofs.Common.{◌≡◌, ℕ, ℤ, pos, ◌+◌, ◌<◌, ◌≤◌, List, [], ◌∷◌, ◌++◌, Some, length, slice_get, refl}
 use Rattle.ep_gen_expr.specs.Following.{least_credit, HasPlaceType}
-use Rattle.ep_gen_expr.specs.ExprCode.{IsPlaceCode, IsExprCode}
+use Rattle.ep_gen_expr.specs.ExprCode.{IsPlaceCode, IsExprCode, AreActualsCode, instr, reference}
 use Rattle.ep_gen_expr.proofs.Placed.{code_front, code_back}
-use Rattle.ep_object.specs.Follows.{point, Facts, Fragment, Inside, Bare, OnTop, PlaceOnTop}
-use Rattle.ep_object.specs.Matching.{Slots, Memory, Injection}
+use Rattle.ep_object.specs.Follows.{point, Facts, Fragment, Inside, Bare, OnTop, PlaceOnTop, SameRoutine}
+use Rattle.ep_object.specs.Matching.{Slots, Memory, Injection, Grown}
 use Rattle.ep_object.specs.Operands.{Operand}
 use Rattle.ep_object.specs.Placing.{Placement, CodeStands}
+use Rattle.ep_object.specs.Promises.{ResultsOnTop, RoutineKeeps}
 use Rattle.ep_object.specs.Runs.{unit_in}
 use Rattle.ep_object.specs.declared.code.Image.{Image}
 use Rattle.ep_object.specs.declared.code.Instr.{Instr}
 use Rattle.ep_object.specs.declared.code.Reference.{Reference}
+use Rattle.ep_object.specs.declared.op.TheConstants as op
+use Rattle.ep_typed.specs.Steady.{Steady}
+use Rattle.ep_typed.specs.Printing.{Result}
 use Rattle.ep_typed.specs.Calls.{Handler}
-use Rattle.ep_typed.specs.Meaning.{place, eval, weight_of}
-use Rattle.ep_typed.specs.Steps.{Computation}
-use Rattle.ep_typed.specs.Trees.{Place, Expr}
-use Rattle.ep_typed.specs.Valid.{Declarations, Kind, IsExpr, IsTypeOf}
+use Rattle.ep_typed.specs.Meaning.{place, eval, arguments, weight_of}
+use Rattle.ep_typed.specs.Steps.{Computation, bind}
+use Rattle.ep_typed.specs.Trees.{Place, Expr, Actuals}
+use Rattle.ep_typed.specs.Valid.{Declarations, Kind, IsExpr, IsTypeOf, AreGiven}
 use Rattle.ep_typed.specs.Hosts.{Host}
+use Rattle.ep_typed.specs.declared.interface.RoutineEntry.{RoutineEntry}
 use Rattle.ep_typed.specs.declared.value.TypeValue.{TypeValue}
 use Rattle.ep_typed.specs.declared.value.TypeValue.TheVariants as type
 
@@ -59,3 +64,15 @@ module _ (declared : Declarations) (G : Image) (untouched : Slots) (Here : Facts
       (q : Place) (t : TypeValue) → HasPlaceType declared q t → (line at : ℕ) (code : List Instr) → IsPlaceCode references line q code → CodeStands G ps p references at code
       → (injection : Injection) (memory : Memory) (below : List Operand) (d : ℕ) → least_credit ≤ d → unit_in G memory.frames ≡ unit
       → Fragment declared G Here n (point injection memory (p.instructions.before + at) below) (place call n unit line q) (p.instructions.before + (at + length code)) (λ a. Inside untouched injection memory (PlaceOnTop t below a)) d (λ a. d + 8)
+
+  -- the machine follows a call of a routine with its actual parameters, and what a statement does behind it
+  abbrev pub CallsFollow : Type 0
+  CallsFollow =
+      (line at to : ℕ) (of_unit : List ℕ) (number k : ℕ) (given : Actuals) (xs : List Instr) (r : RoutineEntry) (keeps : RoutineKeeps declared G ps call n of_unit number r)
+      → AreGiven declared (declared.types of_unit) r.formals given → AreActualsCode texts references line at given xs → slice_get references k ≡ Some (reference of_unit number)
+      → CodeStands G ps p references at (xs ++ instr op.CALL (pos k) 0 line ∷ instr op.JUMP (pos (at + length xs + 2)) 0 line ∷ []) → at + length xs + 2 < p.instructions.own
+      → (injection : Injection) (memory : Memory) (below : List Operand) (d : ℕ) → least_credit ≤ d → unit_in G memory.frames ≡ unit
+      → (rest : List Result → Computation (Unit {0})) → ((rs : List Result) → Steady (rest rs))
+      → ((rs : List Result) (longer : Injection) (after : Memory) (pushed : List Operand) → Grown untouched injection memory longer after → SameRoutine untouched memory.frames after.frames → ResultsOnTop keeps.results below rs longer after pushed
+      → Fragment declared G Here n (point longer after (p.instructions.before + (at + length xs + 1)) pushed) (rest rs) to (λ b. Inside untouched longer after (Bare below b)) d (λ b. d))
+      → Fragment declared G Here n (point injection memory (p.instructions.before + at) below) (bind (arguments call n unit line given) (λ vs. bind (call unit line of_unit number vs) rest)) to (λ b. Inside untouched injection memory (Bare below b)) d (λ b. d)

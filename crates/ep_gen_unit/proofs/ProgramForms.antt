@@ -1,17 +1,20 @@
 -- The object of a program, from the code of its parts.
-use Rattle.std.proofs.Common.{◌≡◌, ℕ, ℤ, suc, pos, ◌+◌, ◌<◌, List, [], ◌∷◌, ◌++◌, take, length, length-append, get_or, slice_get, ◌⊎◌, inl, inr, Some, refl, sym, ap, ◌∙◌, subst, append_assoc, append-nil, arith}
+use Rattle.std.proofs.Common.{◌≡◌, ℕ, ℤ, suc, pos, ◌+◌, ◌<◌, List, [], ◌∷◌, ◌++◌, take, length, length-append, get_or, slice_get, ◌⊎◌, inl, inr, Option, None, Some, refl, sym, ap, ◌∙◌, subst, append_assoc, append-nil, arith}
 use Rattle.std.proofs.lemmas.List.{take_more, length-take-le}
 use Rattle.std.proofs.lemmas.Option.{slice_get_within}
 use Rattle.ep_object.proofs.matching.Elements.{slice_get-push}
 use Rattle.ep_object.specs.declared.code.Instr.{Instr}
 use Rattle.ep_object.specs.declared.code.CodeRoutine.{CodeRoutine}
 use Rattle.ep_object.specs.declared.code.Object.{Object}
+use Rattle.ep_typed.specs.Routines.{result_variable}
 use Rattle.ep_typed.specs.Viewed.{denoter_of, stmt_of}
 use Rattle.ep_typed.specs.declared.value.TypeValue.TheVariants.{Ordinal}
 use Rattle.ep_typed.specs.declared.unit.Unit.{Unit as TypedUnit}
 use Rattle.ep_typed.specs.declared.unit.UnitRoutine.{UnitRoutine}
 use Rattle.ep_typed.specs.declared.unit.UnitRoutine.TheViews.{out-UnitRoutine}
 use Rattle.ep_typed.specs.declared.interface.Formal.{Formal}
+use Rattle.ep_typed.specs.declared.interface.RoutineResult.{RoutineResult}
+use Rattle.ep_typed.specs.declared.run_error.TheConstants as run_error
 use Rattle.ep_typed.specs.declared.unit.UnitVariable.{UnitVariable}
 use Rattle.ep_gen_expr.specs.ExprCode.{instr, bare, push}
 use Rattle.ep_gen_expr.specs.Growth.{Grows, IsTable, AreDistinct, empty_code}
@@ -20,10 +23,10 @@ use Rattle.ep_typed.specs.declared.unit.UnitType.{UnitType}
 use Rattle.ep_gen_expr.specs.declared.code.Code.{Code}
 use Rattle.ep_gen_expr.specs.declared.code.TheConstants as code
 use Rattle.ep_gen_expr.proofs.Forms.{grows_at}
-use Rattle.ep_gen_unit.specs.StmtCode.{IsStmtCode, type_code, elaborating_code, make_code, make_all_code, value_code, place_taken, take_code, take_all_code, return_code}
+use Rattle.ep_gen_unit.specs.StmtCode.{IsStmtCode, type_code, elaborating_code, make_code, make_all_code, value_code, place_taken, take_code, take_all_code, return_code, result_code, end_code}
 use Rattle.ep_gen_expr.specs.Jumps.{IsNextPlace}
-use Rattle.ep_gen_unit.specs.StmtGrowth.{Follows, AppendsStmt, AppendsStart, AppendsRoutine, AppendsRoutines, IsCompact, assembled}
-use Rattle.ep_gen_unit.specs.UnitCode.{IsProgramCode, IsRoutineCode, AreRoutinesCode, StandsIn, own_code, entry_of, plain_at, routine_at}
+use Rattle.ep_gen_unit.specs.StmtGrowth.{Follows, AppendsStmt, AppendsStart, AppendsRoutine, AppendsRoutines, IsCompact, MakesOwn, MakesResult, assembled}
+use Rattle.ep_gen_unit.specs.UnitCode.{IsProgramCode, IsRoutineCode, AreRoutinesCode, StandsIn, own_code, its_end, entry_of, plain_at, routine_at}
 use Rattle.ep_gen_unit.proofs.Following.{later_follows, stmt_later, follows_none, follows_grows, follows_line, follows_then, grown_length}
 use Rattle.ep_object.specs.declared.op.TheConstants as op
 
@@ -110,18 +113,90 @@ module _ (u : TypedUnit) {a b c d e : Code} (ts : List UnitType) (types_are : ts
 
 -- ---- routines
 
--- the code of a routine, from that of its formal parameters, its variables and its block
-pub appends_routine : {b c d e : Code} (a : Code) (types : List UnitType) (r : UnitRoutine) (fs : List Formal) (vs : List UnitVariable) (entry arguments slots : ℕ) (x : CodeRoutine) → fs ≡ (out-UnitRoutine r).formals → vs ≡ (out-UnitRoutine r).variables → arguments ≡ length fs → slots ≡ length fs + length vs
-    → IsNextPlace a entry → Follows a b (take_all_code types (out-UnitRoutine r).line 0 fs) → Follows b c (make_all_code types (length fs) vs) → AppendsStmt c d (stmt_of (out-UnitRoutine r).block)
-    → Grows (record d { line = code.NO_LINE }) e (return_code ∷ []) → x ≡ routine_at entry arguments slots → AppendsRoutine a e types r x
-appends_routine {b = b} {c = c} {d = d} {e = e} a types r fs vs entry arguments slots x formals_are variables_are many all next takes makes s last is =
-    let ends : Follows d e (return_code ∷ []) = follows_line d code.NO_LINE (follows_grows last) in
-    let begins : List UnitVariable → List Formal → List Instr = λ vs fs. take_all_code types (out-UnitRoutine r).line 0 fs ++ make_all_code types (length fs) vs in
-    let m : Follows a c (own_code types r) = subst (λ l. Follows a c (begins (out-UnitRoutine r).variables l)) formals_are (subst (λ l. Follows a c (begins l fs)) variables_are (follows_then takes makes)) in
+-- what makes variables makes those behind them too
+make_append : (types : List UnitType) (number : ℕ) (vs ws : List UnitVariable) → make_all_code types number (vs ++ ws) ≡ make_all_code types number vs ++ make_all_code types (number + length vs) ws
+make_append types number [] ws = ap (λ n. make_all_code types n ws) {x = number} {y = number + 0} (omega arith)
+make_append types number (v ∷ vs) ws =
+    let there : suc number + length vs ≡ number + length (v ∷ vs) = omega arith in
+    ap (λ l. make_code types number v ++ l) (make_append types (suc number) vs ws ∙ ap (λ n. make_all_code types (suc number) vs ++ make_all_code types n ws) there)
+    ∙ sym (append_assoc (make_code types number v) (make_all_code types (suc number) vs) (make_all_code types (number + length (v ∷ vs)) ws))
+
+-- a procedure has no variable for a result
+pub makes_none : (a : Code) (types : List UnitType) (r : UnitRoutine) (fs : List Formal) (o : Option RoutineResult) (slot : ℕ) → fs ≡ (out-UnitRoutine r).formals → o ≡ (out-UnitRoutine r).result → o ≡ None → slot ≡ length fs
+    → MakesResult a a types r slot
+makes_none a types r fs o slot formals_are result_is none many =
+    let parts = out-UnitRoutine r in
+    let is : result_variable parts.name parts.line parts.result ≡ [] = ap (result_variable parts.name parts.line) (sym result_is ∙ none) in
     record {
-      plain = is ∙ (ap (λ k. routine_at k arguments slots) next.is_length ∙ (ap (λ k. routine_at (length a.instructions) k slots) (many ∙ ap length formals_are) ∙ ap (λ k. routine_at (length a.instructions) (length (out-UnitRoutine r).formals) k) (all ∙ (ap (λ l. length l + length vs) formals_are ∙ ap (λ l. length (out-UnitRoutine r).formals + length l) variables_are))));
+      follows = subst (λ l. Follows a a (make_all_code types (length parts.formals) l)) (sym is) (follows_none a);
+      count = omega (arith, many, ap length formals_are, ap length is);
+    }
+
+-- the variable of a function's result
+pub makes_one : {b c : Code} (a : Code) (types : List UnitType) (r : UnitRoutine) (fs : List Formal) (o : Option RoutineResult) (x : RoutineResult) (slot first : ℕ) → fs ≡ (out-UnitRoutine r).formals → o ≡ (out-UnitRoutine r).result → o ≡ Some x → slot ≡ length fs
+    → Grows (record a { line = (out-UnitRoutine r).line }) b (elaborating_code (out-UnitRoutine r).line (type_of types (denoter_of x.denoter))) → Grows b c (instr op.MAKE (pos slot) 0 b.line ∷ []) → first ≡ slot + 1
+    → MakesResult a c types r first
+makes_one {c = c} a types r fs o x slot first formals_are result_is some many elaborates make behind =
+    let parts = out-UnitRoutine r in
+    let is : result_variable parts.name parts.line parts.result ≡ result_variable parts.name parts.line (Some x) = ap (result_variable parts.name parts.line) (sym result_is ∙ some) in
+    let made : Follows a c (elaborating_code parts.line (type_of types (denoter_of x.denoter)) ++ instr op.MAKE (pos slot) 0 parts.line ∷ []) = follows_line a parts.line (follows_grows (grows_at (λ l. instr op.MAKE (pos slot) 0 l ∷ []) elaborates make)) in
+    record {
+      follows = subst (λ l. Follows a c (make_all_code types (length parts.formals) l)) (sym is)
+          (subst (λ l. Follows a c l) (sym (append-nil _)) (subst (λ n. Follows a c (elaborating_code parts.line (type_of types (denoter_of x.denoter)) ++ instr op.MAKE (pos n) 0 parts.line ∷ [])) (many ∙ ap length formals_are) made));
+      count = omega (arith, many, behind, ap length formals_are, ap length is);
+    }
+
+-- and then those that a routine declares
+pub makes_own : {b c : Code} (a : Code) (types : List UnitType) (r : UnitRoutine) (vs : List UnitVariable) (first slots : ℕ) → vs ≡ (out-UnitRoutine r).variables → MakesResult a b types r first → Follows b c (make_all_code types first vs) → slots ≡ first + length vs
+    → MakesOwn a c types r slots
+makes_own {b = b} {c = c} a types r vs first slots variables_are result makes all =
+    let parts = out-UnitRoutine r in
+    let results : List UnitVariable = result_variable parts.name parts.line parts.result in
+    let others : Follows b c (make_all_code types (length parts.formals + length results) parts.variables) = subst (λ n. Follows b c (make_all_code types n parts.variables)) result.count (subst (λ l. Follows b c (make_all_code types first l)) variables_are makes) in
+    record {
+      follows = subst (λ l. Follows a c l) (sym (make_append types (length parts.formals) results parts.variables)) (follows_then result.follows others);
+      count = omega (arith, all, result.count, ap length variables_are, length-append results parts.variables);
+    }
+
+-- what a function ends with
+pub grows_result : {a b c d e f g h : Code} (number n : ℕ) → Grows a b (instr op.SLOT (pos number) 0 a.line ∷ []) → Grows b c (bare b.line op.DUP ∷ []) → Grows c d (bare c.line op.DEFINED ∷ []) → IsNextPlace d n
+    → Grows d e (instr op.JUMP_FALSE (pos (n + 3)) 0 d.line ∷ []) → Grows e f (bare e.line op.LOAD ∷ []) → Grows f g (bare f.line op.RETURN ∷ []) → Grows g h (instr op.FAIL (pos run_error.RESULT_UNDEFINED) 0 g.line ∷ [])
+    → Grows a h (result_code a.line number (length a.instructions))
+grows_result {a = a} {d = d} {h = h} number n slot dup defined next jump load return fail =
+    let three = grows_at (λ l. bare l op.DEFINED ∷ []) (grows_at (λ l. bare l op.DUP ∷ []) slot dup) defined in
+    let target : n + 3 ≡ length a.instructions + 6 = omega (arith, next.is_length, ap length three.instructions, length-append a.instructions (instr op.SLOT (pos number) 0 a.line ∷ bare a.line op.DUP ∷ bare a.line op.DEFINED ∷ [])) in
+    let four = grows_at (λ l. instr op.JUMP_FALSE (pos (n + 3)) 0 l ∷ []) three jump in
+    let all = grows_at (λ l. instr op.FAIL (pos run_error.RESULT_UNDEFINED) 0 l ∷ []) (grows_at (λ l. bare l op.RETURN ∷ []) (grows_at (λ l. bare l op.LOAD ∷ []) four load) return) fail in
+    subst (λ k. Grows a h (instr op.SLOT (pos number) 0 a.line ∷ bare a.line op.DUP ∷ bare a.line op.DEFINED ∷ instr op.JUMP_FALSE (pos k) 0 a.line ∷ bare a.line op.LOAD ∷ bare a.line op.RETURN ∷ instr op.FAIL (pos run_error.RESULT_UNDEFINED) 0 a.line ∷ [])) target all
+
+-- a procedure ends with a `Return`
+pub ends_procedure : {e : Code} (d : Code) (line number : ℕ) (o result : Option RoutineResult) → o ≡ result → o ≡ None → Grows (record d { line = code.NO_LINE }) e (return_code ∷ [])
+    → Follows d e (end_code line number (length d.instructions) result)
+ends_procedure {e = e} d line number o result is none last =
+    subst (λ r. Follows d e (end_code line number (length d.instructions) r)) (sym none ∙ is) (follows_line d code.NO_LINE (follows_grows last))
+
+-- a function with its result
+pub ends_function : {e : Code} (d : Code) (line number : ℕ) (o result : Option RoutineResult) (x : RoutineResult) → o ≡ result → o ≡ Some x → Grows (record d { line = line }) e (result_code line number (length d.instructions))
+    → Follows d e (end_code line number (length d.instructions) result)
+ends_function {e = e} d line number o result x is some last =
+    subst (λ r. Follows d e (end_code line number (length d.instructions) r)) (sym some ∙ is) (follows_line d line (follows_grows last))
+
+-- the code of a routine, from that of its formal parameters, its variables, its block and its end
+pub appends_routine : {b c d e : Code} (a : Code) (types : List UnitType) (r : UnitRoutine) (fs : List Formal) (entry arguments slots : ℕ) (x : CodeRoutine) → fs ≡ (out-UnitRoutine r).formals → arguments ≡ length fs
+    → IsNextPlace a entry → Follows a b (take_all_code types (out-UnitRoutine r).line 0 fs) → MakesOwn b c types r slots → AppendsStmt c d (stmt_of (out-UnitRoutine r).block)
+    → Follows d e (end_code (out-UnitRoutine r).line arguments (length d.instructions) (out-UnitRoutine r).result) → x ≡ routine_at entry arguments slots → AppendsRoutine a e types r x
+appends_routine {b = b} {c = c} {d = d} {e = e} a types r fs entry arguments slots x formals_are many next takes makes s last is =
+    let parts = out-UnitRoutine r in
+    let made = makes.follows in
+    let m : Follows a c (own_code types r) = follows_then (subst (λ l. Follows a b (take_all_code types parts.line 0 l)) formals_are takes) made in
+    let place : length d.instructions ≡ length a.instructions + length (own_code types r) + length s.code = omega (arith, grown_length m, grown_length s.follows) in
+    let number : arguments ≡ length parts.formals = many ∙ ap length formals_are in
+    let ends : Follows d e (its_end (length a.instructions + length (own_code types r) + length s.code) r) =
+    subst (λ k. Follows d e (end_code parts.line k (length a.instructions + length (own_code types r) + length s.code) parts.result)) number (subst (λ k. Follows d e (end_code parts.line arguments k parts.result)) place last) in
+    record {
+      plain = is ∙ (ap (λ k. routine_at k arguments slots) next.is_length ∙ (ap (λ k. routine_at (length a.instructions) k slots) number ∙ ap (λ k. routine_at (length a.instructions) (length parts.formals) k) makes.count));
       code = s.code;
-      is_code = subst (λ at. IsStmtCode e.texts e.references at (stmt_of (out-UnitRoutine r).block) s.code) (grown_length m) (stmt_later (length c.instructions) (stmt_of (out-UnitRoutine r).block) s.code (later_follows ends) s.is_code);
+      is_code = subst (λ at. IsStmtCode e.texts e.references at (stmt_of parts.block) s.code) (grown_length m) (stmt_later (length c.instructions) (stmt_of parts.block) s.code (later_follows ends) s.is_code);
       follows = follows_then m (follows_then s.follows ends);
     }
 
@@ -156,7 +231,7 @@ routines_then : {a b c : Code} (types : List UnitType) (rs : List UnitRoutine) (
 routines_then {b = b} {c = c} types rs entries r x p q =
     let blocks = p.blocks in
     record {
-      code = p.code ++ (own_code types r ++ (q.code ++ return_code ∷ []));
+      code = p.code ++ (own_code types r ++ (q.code ++ its_end (length b.instructions + length (own_code types r) + length q.code) r));
       follows = follows_then p.follows q.follows;
       blocks = record {
         count = omega (arith, blocks.count, length-append entries (x ∷ []), length-append rs (r ∷ []));
@@ -171,12 +246,12 @@ routines_then {b = b} {c = c} types rs entries r x p q =
           plain = q.plain ∙ ap (λ k. entry_of k r) (sym entry);
           code = q.code;
           is_code = subst (λ k. IsStmtCode c.texts c.references (k + length (own_code types r)) (stmt_of (out-UnitRoutine r).block) q.code) (sym entry) q.is_code;
-          stands = record {
+          stands = subst (λ k. StandsIn c.instructions k (own_code types r ++ (q.code ++ its_end (k + length (own_code types r) + length q.code) r))) (sym entry) (record {
             before = b.instructions;
             after = [];
-            is = let f = q.follows in f.instructions ∙ ap (λ l. b.instructions ++ l) (sym (append-nil (own_code types r ++ (q.code ++ return_code ∷ []))));
-            from = sym entry;
-          };
+            is = let f = q.follows in f.instructions ∙ ap (λ l. b.instructions ++ l) (sym (append-nil (own_code types r ++ (q.code ++ its_end (length b.instructions + length (own_code types r) + length q.code) r))));
+            from = refl;
+          });
         }
 
     either : (k : ℕ) (s : UnitRoutine) (y : CodeRoutine) → (slice_get rs k ≡ Some s) ⊎ ((k ≡ length rs) × (s ≡ r))

@@ -2,47 +2,57 @@
 use Rattle.std.proofs.Common.{◌⊎◌, inl, inr, append-nil, ◌≡◌, ℕ, zero, suc, pos, ◌+◌, ◌≤◌, ◌<◌, Bool, true, false, if◌then◌else◌, List, [], ◌∷◌, ◌++◌, map, option_map, length, length-append, Option, Some, None, slice_get, bytes_eq, refl, sym, ap, ◌∙◌, subst, arith}
 use Rattle.std.proofs.lemmas.Option.{same_Some, slice_get_within, slice_get-map, get_or_from_slice_get}
 use Rattle.std.proofs.lemmas.List.{length-map}
-use Rattle.ep_gen_expr.proofs.Following.{place_follows, expression_follows}
-use Rattle.ep_gen_unit.specs.StmtCode.{IsStmtCode, make_all_code, take_all_code, return_code}
-use Rattle.ep_gen_unit.specs.UnitCode.{IsProgramCode, own_code, entry_of, plain_at}
+use Rattle.ep_gen_expr.specs.ExprCode.{bare}
+use Rattle.ep_gen_expr.proofs.Following.{place_follows, expression_follows, call_then}
+use Rattle.ep_gen_expr.proofs.Placed.{instr_at}
+use Rattle.ep_typed.proofs.Denoters.{types_are_instances}
+use Rattle.ep_gen_unit.specs.StmtCode.{IsStmtCode, make_all_code, take_all_code, return_code, end_code}
+use Rattle.ep_gen_unit.specs.UnitCode.{IsProgramCode, own_code, its_end, entry_of, plain_at}
 use Rattle.ep_gen_unit.proofs.Declared.{name_same, same_name, own_types}
 use Rattle.ep_gen_unit.proofs.OwnMakes.{make_all_own_moves, takes_all_moves}
 use Rattle.ep_gen_unit.proofs.Parts.{code_stands-parts}
+use Rattle.ep_gen_unit.proofs.Results.{result_moves}
 use Rattle.ep_gen_unit.proofs.StmtMoves.{statement_moves}
 use Rattle.ep_gen_unit.proofs.Units.{of_object, room, routine_there, scene_of, moved_own}
 use Rattle.ep_object.proofs.following.Declaring.{fragment_outside, calls_kept-inside}
-use Rattle.ep_object.proofs.following.Fragments.{fragment_bind, fragment_cut, fragment_from, fragment_post, fragment_to}
-use Rattle.ep_object.proofs.following.Procedures.{begun_memory, grown_begun, procedure_keeps}
+use Rattle.ep_object.proofs.following.Fragments.{fragment_bind, fragment_cut, fragment_from, fragment_give, fragment_to}
+use Rattle.ep_object.proofs.following.Routines.{begun_memory, grown_begun, routine_keeps}
 use Rattle.ep_object.proofs.matching.Awaiting.{AreAwaited, AreLight, IsLight, Handed, arguments_in, awaited-grown, handed}
-use Rattle.ep_object.proofs.matching.Growing.{among_same, slice_get-prefix, unit_in-still}
+use Rattle.ep_object.proofs.matching.Growing.{among_same, slice_get-prefix, still_routine, unit_in-same, unit_in-still}
 use Rattle.ep_object.proofs.matching.OwnVariables.{in_activation-lasts}
 use Rattle.ep_object.specs.Activations.{KnowsOwn, InActivation}
-use Rattle.ep_object.specs.Follows.{Facts, Lasts, Since, Fragment, Inside, point}
+use Rattle.ep_object.specs.Follows.{Facts, Lasts, Since, Fragment, Inside, Bare, point}
 use Rattle.ep_object.specs.Matching.{Memory, Injection, Slots, kept_slots}
 use Rattle.ep_object.specs.Operands.{Operand}
 use Rattle.ep_object.specs.Placing.{Placement, CodeStands, Stands, HasDistinctNames, moved, placement_of, placed_call, placed_routine}
-use Rattle.ep_object.specs.Promises.{Passing, ByValue, ByReference, IsPassed, ArePassed, CallsAt, AreArguments, ResultsOnTop, RoutineKeeps, CallsAreKept}
+use Rattle.ep_object.specs.Promises.{Passing, ByValue, ByReference, IsPassed, ArePassed, CallsAt, AreArguments, AreResults, ResultsOnTop, RoutineKeeps, CallsAreKept}
 use Rattle.ep_object.specs.Routines.{routine_of as routine_there_in}
 use Rattle.ep_object.specs.Runs.{unit_in}
 use Rattle.ep_object.specs.Scene.{Scene, HaveValidOwnTypes}
+use Rattle.ep_object.specs.Table as table
+use Rattle.ep_object.specs.Table.{op_of}
 use Rattle.ep_object.specs.declared.code.CodeRoutine.{CodeRoutine}
 use Rattle.ep_object.specs.declared.code.Image.{Image}
 use Rattle.ep_object.specs.declared.code.ImageRoutine.{ImageRoutine}
 use Rattle.ep_object.specs.declared.code.Instr.{Instr}
 use Rattle.ep_object.specs.declared.code.Object.{Object}
-use Rattle.ep_typed.proofs.Steady.{steady_bind, steady_routine_of, steady_runs_routine, steady_make_all_own, steady_exec}
+use Rattle.ep_object.specs.declared.op.TheConstants as op
+use Rattle.ep_typed.proofs.Steady.{steady_bind, steady_routine_of, steady_runs_routine, steady_results_given, steady_make_all_own, steady_exec}
 use Rattle.ep_typed.specs.Calls.{Argument, Handler}
-use Rattle.ep_typed.specs.Meaning.{exec, make_all_own, Found, found_among, routine_in, runs_routine, routine_does, routine_of}
+use Rattle.ep_typed.specs.Meaning.{exec, make_all_own, results_given, Found, found_among, routine_in, runs_routine, routine_does, routine_of}
+use Rattle.ep_typed.specs.Printing.{Result}
+use Rattle.ep_typed.specs.Routines.{made_variables, result_name, result_variable}
 use Rattle.ep_typed.specs.Steps.{Computation, bind}
 use Rattle.ep_typed.specs.Steps as meaning
 use Rattle.ep_typed.specs.Valid as kind
-use Rattle.ep_typed.specs.Valid.{Declarations, in_routine, IsDenoter, IsFormal, IsValid, IsRoutine, IsVariable, formal_variable, variables_of, heading_of, own}
-use Rattle.ep_typed.specs.Steady.{IsSteadyHandler}
+use Rattle.ep_typed.specs.Valid.{Declarations, Kind, in_routine, IsResult, IsDenoter, IsFormal, IsValid, IsRoutine, IsVariable, formal_variable, variables_of, heading_of, own}
+use Rattle.ep_typed.specs.Steady.{Steady, IsSteadyHandler}
 use Rattle.ep_typed.specs.Viewed.{denoter_of, stmt_of}
 use Rattle.ep_typed.specs.declared.interface.Formal.{Formal}
 use Rattle.ep_typed.specs.declared.interface.FormalMode.{FormalMode}
 use Rattle.ep_typed.specs.declared.interface.FormalMode.TheVariants as mode
 use Rattle.ep_typed.specs.declared.interface.RoutineEntry.{RoutineEntry}
+use Rattle.ep_typed.specs.declared.interface.RoutineResult.{RoutineResult}
 use Rattle.ep_typed.specs.declared.unit.Unit.{Unit as TypedUnit}
 use Rattle.ep_typed.specs.declared.unit.UnitRoutine.{UnitRoutine}
 use Rattle.ep_typed.specs.declared.unit.UnitVariable.{UnitVariable}
@@ -72,6 +82,11 @@ at_place [] k less = absurd (omega (arith, less))
 at_place (x ∷ xs) zero less = (x, refl)
 at_place (x ∷ xs) (suc k) less = at_place xs k (omega (arith, less))
 
+-- a routine ends with an instruction at least
+end_length : (line number at : ℕ) (y : Option RoutineResult) → 1 ≤ length (end_code line number at y)
+end_length line number at None = omega arith
+end_length line number at (Some y) = omega arith
+
 -- what stands behind a list
 slice_get-behind : {A : Type 0} (xs ys : List A) (k : ℕ) → slice_get (xs ++ ys) (length xs + k) ≡ slice_get ys k
 slice_get-behind [] ys k = ap (slice_get ys) {x = 0 + k} {y = k} (omega arith)
@@ -93,8 +108,8 @@ module _ (u : TypedUnit) (o : Object) (is : IsProgramCode u o) (valid : IsValid 
     is_code : IsStmtCode o.texts o.references (entry.entry + length (own_code u.types r)) (stmt_of (out-UnitRoutine r).block) code
     makes_stand : CodeStands G ps p o.references entry.entry (own_code u.types r)
     code_stands : CodeStands G ps p o.references (entry.entry + length (own_code u.types r)) code
-    return_stands : CodeStands G ps p o.references (entry.entry + length (own_code u.types r) + length code) (return_code ∷ [])
-    inside : entry.entry + length (own_code u.types r) + length code < p.instructions.own
+    end_stands : CodeStands G ps p o.references (entry.entry + length (own_code u.types r) + length code) (its_end (entry.entry + length (own_code u.types r) + length code) r)
+    room_for : entry.entry + length (own_code u.types r) + length code + length (its_end (entry.entry + length (own_code u.types r) + length code) r) ≤ p.instructions.own
 
   placed_at : (number : ℕ) (r : UnitRoutine) → slice_get u.routines number ≡ Some r → Placed number r
   placed_at number r there =
@@ -104,11 +119,12 @@ module _ (u : TypedUnit) (o : Object) (is : IsProgramCode u o) (valid : IsValid 
       let h = blocks.each number r x.0 there x.1 in
       let s = h.stands in
       let makes : List Instr = own_code u.types r in
-      let whole : CodeStands G ps p o.references 0 (s.before ++ ((makes ++ (h.code ++ return_code ∷ [])) ++ s.after)) = subst (λ k. CodeStands G ps p o.references 0 k) s.is stands.code in
-      let first = code_stands-parts G ps p o.references 0 s.before ((makes ++ (h.code ++ return_code ∷ [])) ++ s.after) whole in
-      let second = code_stands-parts G ps p o.references (0 + length s.before) (makes ++ (h.code ++ return_code ∷ [])) s.after first.1 in
-      let third = code_stands-parts G ps p o.references (0 + length s.before) makes (h.code ++ return_code ∷ []) second.0 in
-      let fourth = code_stands-parts G ps p o.references (0 + length s.before + length makes) h.code (return_code ∷ []) third.1 in
+      let ends : List Instr = its_end (x.0.entry + length makes + length h.code) r in
+      let whole : CodeStands G ps p o.references 0 (s.before ++ ((makes ++ (h.code ++ ends)) ++ s.after)) = subst (λ k. CodeStands G ps p o.references 0 k) s.is stands.code in
+      let first = code_stands-parts G ps p o.references 0 s.before ((makes ++ (h.code ++ ends)) ++ s.after) whole in
+      let second = code_stands-parts G ps p o.references (0 + length s.before) (makes ++ (h.code ++ ends)) s.after first.1 in
+      let third = code_stands-parts G ps p o.references (0 + length s.before) makes (h.code ++ ends) second.0 in
+      let fourth = code_stands-parts G ps p o.references (0 + length s.before + length makes) h.code ends third.1 in
       let at : 0 + length s.before ≡ x.0.entry = omega (arith, s.from) in
       record {
         entry = x.0;
@@ -118,8 +134,8 @@ module _ (u : TypedUnit) (o : Object) (is : IsProgramCode u o) (valid : IsValid 
         is_code = h.is_code;
         makes_stand = subst (λ k. CodeStands G ps p o.references k makes) at third.0;
         code_stands = subst (λ k. CodeStands G ps p o.references (k + length makes) h.code) at fourth.0;
-        return_stands = subst (λ k. CodeStands G ps p o.references (k + length makes + length h.code) (return_code ∷ [])) at fourth.1;
-        inside = omega (arith, object.instructions, ap length s.is, length-append s.before ((makes ++ (h.code ++ return_code ∷ [])) ++ s.after), length-append (makes ++ (h.code ++ return_code ∷ [])) s.after, length-append makes (h.code ++ return_code ∷ []), length-append h.code (return_code ∷ []), s.from);
+        end_stands = subst (λ k. CodeStands G ps p o.references (k + length makes + length h.code) ends) at fourth.1;
+        room_for = omega (arith, object.instructions, ap length s.is, length-append s.before ((makes ++ (h.code ++ ends)) ++ s.after), length-append (makes ++ (h.code ++ ends)) s.after, length-append makes (h.code ++ ends), length-append h.code ends, s.from);
       }
 
   -- a call that names it is placed so
@@ -145,6 +161,18 @@ module _ (u : TypedUnit) (o : Object) (is : IsProgramCode u o) (valid : IsValid 
       let first = passing_of f (valid 0 f refl) in
       let rest = passings_of fs (λ k w e. valid (suc k) w e) in
       (first.0 ∷ rest.0, (first.1, rest.1), (first.2, rest.2), ap suc rest.3)
+
+  -- the kinds of what a routine gives
+  abbrev kinds_of : (y : Option RoutineResult) → IsResult u.types y → (ks : List Kind) × AreResults u.types y ks
+  kinds_of None valid = ([], tt)
+  kinds_of (Some y) valid = (kind.Ordinal valid.host ∷ [], (valid.host, valid.has_host, refl))
+
+  -- the variables that a routine makes have valid denoters
+  made_valid : (name : List ℕ) (line : ℕ) (y : Option RoutineResult) → IsResult u.types y → (vs : List UnitVariable) → ((k : ℕ) (v : UnitVariable) → slice_get vs k ≡ Some v → IsDenoter u.types (denoter_of v.denoter))
+      → (k : ℕ) (v : UnitVariable) → slice_get (result_variable name line y ++ vs) k ≡ Some v → IsDenoter u.types (denoter_of v.denoter)
+  made_valid name line None valid vs each k v e = each k v e
+  made_valid name line (Some y) valid vs each zero v e = subst (λ (w : UnitVariable). IsDenoter u.types (denoter_of w.denoter)) (same_Some (record { name = result_name name y.name; line = line; declaration = 0; denoter = y.denoter; tuple = []; parameter = false }) v e) valid
+  made_valid name line (Some y) valid vs each (suc k) v e = each k v e
 
   module _ (m : ℕ) (kept : CallsAreKept (own u) G ps (routine_of (u ∷ []) m) m) (number : ℕ) (r : UnitRoutine) (there : slice_get u.routines number ≡ Some r) where
     x : Placed number r
@@ -186,13 +214,13 @@ module _ (u : TypedUnit) (o : Object) (is : IsProgramCode u o) (valid : IsValid 
     takes = ap (λ (c : CodeRoutine). c.arguments) x.plain
 
     entry : image_routine.entry ≡ p.instructions.before + x.entry.entry
-    entry = moved_own p.instructions x.entry.entry (omega (arith, x.inside))
+    entry = moved_own p.instructions x.entry.entry (omega (arith, x.room_for, end_length (out-UnitRoutine r).line (length formals) (x.entry.entry + length (own_code u.types r) + length x.code) (out-UnitRoutine r).result))
 
     abbrev variables : List UnitVariable
     variables = variables_of r
 
-    many : length variables ≡ length formals + length (out-UnitRoutine r).variables
-    many = omega (arith, length-append (map (formal_variable (out-UnitRoutine r).line) formals) (out-UnitRoutine r).variables, length-map formals (formal_variable (out-UnitRoutine r).line))
+    many : length variables ≡ length formals + length (made_variables r)
+    many = omega (arith, length-append (map (formal_variable (out-UnitRoutine r).line) formals) (made_variables r), length-map formals (formal_variable (out-UnitRoutine r).line))
 
     -- the declarations in its block
     abbrev within : Declarations
@@ -204,7 +232,7 @@ module _ (u : TypedUnit) (o : Object) (is : IsProgramCode u o) (valid : IsValid 
     abbrev found_routine : Found
     found_routine = record { routine = r; types = u.types }
 
-    abbrev body : List Argument → Computation (Unit {0})
+    abbrev body : List Argument → Computation (List Result)
     body xs = runs_routine call m u.name found_routine xs
 
     -- a formal parameter is the variable of its number, and the others stand behind them
@@ -212,17 +240,22 @@ module _ (u : TypedUnit) (o : Object) (is : IsProgramCode u o) (valid : IsValid 
     formal_is k f e =
         let mapped : slice_get (map (formal_variable (out-UnitRoutine r).line) formals) k ≡ Some (formal_variable (out-UnitRoutine r).line f) = slice_get-map (formal_variable (out-UnitRoutine r).line) formals k ∙ ap (option_map (formal_variable (out-UnitRoutine r).line)) e in
         subst (λ i. slice_get variables i ≡ Some (formal_variable (out-UnitRoutine r).line f)) {x = k} {y = 0 + k} (omega arith)
-        (slice_get-prefix (map (formal_variable (out-UnitRoutine r).line) formals) variables k (formal_variable (out-UnitRoutine r).line f) (record { rest = (out-UnitRoutine r).variables; is = refl }) mapped)
+        (slice_get-prefix (map (formal_variable (out-UnitRoutine r).line) formals) variables k (formal_variable (out-UnitRoutine r).line f) (record { rest = made_variables r; is = refl }) mapped)
 
-    variable_is : (k : ℕ) (v : UnitVariable) → slice_get (out-UnitRoutine r).variables k ≡ Some v → slice_get variables (length formals + k) ≡ Some v
+    variable_is : (k : ℕ) (v : UnitVariable) → slice_get (made_variables r) k ≡ Some v → slice_get variables (length formals + k) ≡ Some v
     variable_is k v e =
         ap (λ i. slice_get variables (i + k)) (sym (length-map formals (formal_variable (out-UnitRoutine r).line)))
-        ∙ (slice_get-behind (map (formal_variable (out-UnitRoutine r).line) formals) (out-UnitRoutine r).variables k ∙ e)
+        ∙ (slice_get-behind (map (formal_variable (out-UnitRoutine r).line) formals) (made_variables r) k ∙ e)
+
+    -- the variables that it makes
+    made_typed : (k : ℕ) (v : UnitVariable) → slice_get (made_variables r) k ≡ Some v → IsDenoter u.types (denoter_of v.denoter)
+    made_typed = made_valid (out-UnitRoutine r).name (out-UnitRoutine r).line (out-UnitRoutine r).result its.result (out-UnitRoutine r).variables
+        (λ k v e. (subst (λ w. IsVariable u.types w) (get_or_from_slice_get (out-UnitRoutine r).variables k v v e) (its.variables k v (slice_get_within (out-UnitRoutine r).variables k v e))).denoter)
 
     own_types_valid : HaveValidOwnTypes within
-    own_types_valid k v e = either (slice_get-either (map (formal_variable (out-UnitRoutine r).line) formals) (out-UnitRoutine r).variables k v e)
+    own_types_valid k v e = either (slice_get-either (map (formal_variable (out-UnitRoutine r).line) formals) (made_variables r) k v e)
       where
-        either : (slice_get (map (formal_variable (out-UnitRoutine r).line) formals) k ≡ Some v) ⊎ ((j : ℕ) × (slice_get (out-UnitRoutine r).variables j ≡ Some v)) → IsDenoter u.types (denoter_of v.denoter)
+        either : (slice_get (map (formal_variable (out-UnitRoutine r).line) formals) k ≡ Some v) ⊎ ((j : ℕ) × (slice_get (made_variables r) j ≡ Some v)) → IsDenoter u.types (denoter_of v.denoter)
         either (inl at) = of_formal (slice_get formals k) refl (sym (slice_get-map (formal_variable (out-UnitRoutine r).line) formals k) ∙ at)
           where
             of_formal : (y : Option Formal) → slice_get formals k ≡ y → option_map (formal_variable (out-UnitRoutine r).line) y ≡ Some v → IsDenoter u.types (denoter_of v.denoter)
@@ -230,8 +263,7 @@ module _ (u : TypedUnit) (o : Object) (is : IsProgramCode u o) (valid : IsValid 
             of_formal (Some f) q is =
                 let valid_formal : IsFormal u.types f = subst (λ w. IsFormal u.types w) (get_or_from_slice_get formals k f f q) (its.formals k f (slice_get_within formals k f q)) in
                 subst (λ (w : UnitVariable). IsDenoter u.types (denoter_of w.denoter)) (same_Some (formal_variable (out-UnitRoutine r).line f) v is) valid_formal.denoter
-        either (inr at) =
-            (subst (λ w. IsVariable u.types w) (get_or_from_slice_get (out-UnitRoutine r).variables at.0 v v at.1) (its.variables at.0 v (slice_get_within (out-UnitRoutine r).variables at.0 v at.1))).denoter
+        either (inr at) = made_typed at.0 v at.1
 
     scene : Scene within G ps p o.texts
     scene =
@@ -244,6 +276,9 @@ module _ (u : TypedUnit) (o : Object) (is : IsProgramCode u o) (valid : IsValid 
     abbrev untouched : Slots
     untouched = kept_slots within G
 
+    kept_inside : CallsAreKept within G ps call m
+    kept_inside = calls_kept-inside variables u.types (own u) kept
+
     abbrev end : ℕ
     end = x.entry.entry + length (own_code u.types r) + length x.code
 
@@ -254,7 +289,53 @@ module _ (u : TypedUnit) (o : Object) (is : IsProgramCode u o) (valid : IsValid 
     takes_code = take_all_code u.types line_of 0 formals
 
     abbrev makes_code : List Instr
-    makes_code = make_all_code u.types (length formals) (out-UnitRoutine r).variables
+    makes_code = make_all_code u.types (length formals) (made_variables r)
+
+    -- the results that it gives
+    abbrev results : List Kind
+    results = (kinds_of (out-UnitRoutine r).result its.result).0
+
+    -- where a routine with this result leaves its call, from where its block ends
+    record Ends (y : Option RoutineResult) (ks : List Kind) : Type 1 where
+      place : ℕ
+      instruction : Instr
+      stands_there : slice_get G.instructions place ≡ Some instruction
+      returns : op_of instruction.op ≡ Some table.Return
+      first_field : instruction.a ≡ pos 0
+      second_field : instruction.b ≡ 0
+      moves : {Here : Facts} → KnowsOwn within Here → (longer : Injection) (after : Memory) (below : List Operand) → unit_in G after.frames ≡ u.name
+          → Fragment within G Here m (point longer after (p.instructions.before + end) below) (results_given u.name line_of (length formals) y) place (λ rs. ResultsOnTop ks below rs) 63 (λ rs. 1)
+
+    ends_of : (y : Option RoutineResult) (valid_result : IsResult u.types y) → (out-UnitRoutine r).result ≡ y → CodeStands G ps p o.references end (end_code line_of (length formals) end y)
+        → end + length (end_code line_of (length formals) end y) ≤ p.instructions.own → Ends y (kinds_of y valid_result).0
+    ends_of None valid_result is_none end_stands room_for =
+        record {
+          place = p.instructions.before + end;
+          instruction = return_code;
+          stands_there = end_stands.0;
+          returns = refl;
+          first_field = refl;
+          second_field = refl;
+          moves = λ knows longer after below home. fragment_give (omega arith) refl;
+        }
+    ends_of (Some y) valid_result is_some end_stands room_for =
+        let result : UnitVariable = record { name = result_name (out-UnitRoutine r).name y.name; line = line_of; declaration = 0; denoter = y.denoter; tuple = []; parameter = false } in
+        let first : slice_get (made_variables r) 0 ≡ Some result = ap (λ z. slice_get (result_variable (out-UnitRoutine r).name line_of z ++ (out-UnitRoutine r).variables) 0) is_some in
+        let numbered_so : slice_get variables (length formals) ≡ Some result = ap (slice_get variables) {x = length formals} {y = length formals + 0} (omega arith) ∙ variable_is 0 result first in
+        record {
+          place = p.instructions.before + end + 5;
+          instruction = bare line_of op.RETURN;
+          stands_there = instr_at G (omega arith) end_stands.1.1.1.1.1.0;
+          returns = refl;
+          first_field = refl;
+          second_field = refl;
+          moves = λ knows longer after below home.
+              result_moves untouched knows ps p o.references m u.name in_code (length formals) line_of end valid_result.host valid_result.type_value valid_result.is_type end_stands (omega (arith, room_for))
+              result numbered_so (types_are_instances u.types (denoter_of y.denoter) valid_result.type_value valid_result.has_type) longer after below 63 (omega arith) home;
+        }
+
+    ends : Ends (out-UnitRoutine r).result results
+    ends = ends_of (out-UnitRoutine r).result its.result refl x.end_stands x.room_for
 
     -- a call that hands over such operands
     module _ (place line : ℕ) (injection : Injection) (memory : Memory) (below operands : List Operand) (xs : List Argument) (hands : Handed injection memory passings.0 xs below operands) where
@@ -283,33 +364,47 @@ module _ (u : TypedUnit) (o : Object) (is : IsProgramCode u o) (valid : IsValid 
           awaited-grown (grown_begun (own u) G (moved p.routines number) image_routine exists numbered hands.top counted hands.light {untouched = untouched} place injection memory) passings.0 xs 0 (map Some hands.top) (subst (λ l. AreAwaited injection memory passings.0 xs 0 (map Some l)) none (hands.awaited 0 [] refl))
 
       -- the block, once the arguments are taken and the variables are made
-      blocks : (longer : Injection) (after : Memory) (pushed : List Operand) → unit_in G after.frames ≡ u.name → pushed ≡ below
-          → Fragment within G Here m (point longer after (p.instructions.before + (x.entry.entry + length (own_code u.types r))) pushed) (exec call m u.name (stmt_of (out-UnitRoutine r).block)) (p.instructions.before + end) (λ b last final operands. operands ≡ below) 63 (λ b. 63)
-      blocks longer after pushed at_home is_below =
-          subst (λ o. Fragment within G Here m (point longer after (p.instructions.before + (x.entry.entry + length (own_code u.types r))) o) (exec call m u.name (stmt_of (out-UnitRoutine r).block)) (p.instructions.before + end) (λ b last final operands. operands ≡ below) 63 (λ b. 63)) (sym is_below)
-          (fragment_post (λ b last final operands i. i.operands_are)
+      runs_block : (longer : Injection) (after : Memory) (pushed : List Operand) → unit_in G after.frames ≡ u.name → pushed ≡ below
+          → Fragment within G Here m (point longer after (p.instructions.before + (x.entry.entry + length (own_code u.types r))) pushed) (exec call m u.name (stmt_of (out-UnitRoutine r).block)) (p.instructions.before + end) (λ b. Inside untouched longer after (Bare below b)) 63 (λ b. 63)
+      runs_block longer after pushed at_home is_below =
+          subst (λ o. Fragment within G Here m (point longer after (p.instructions.before + (x.entry.entry + length (own_code u.types r))) o) (exec call m u.name (stmt_of (out-UnitRoutine r).block)) (p.instructions.before + end) (λ b. Inside untouched longer after (Bare below b)) 63 (λ b. 63)) (sym is_below)
           (statement_moves lasts ps p o.texts o.references call steady_call m u.name in_code scene
-          (λ x_kind e is_x line at code is_code x_stands inside v1 m1 operands d enough x_home. expression_follows {untouched = untouched} ps p o.texts o.references scene knows call steady_call m u.name in_code m x_kind e is_x line at code is_code x_stands inside v1 m1 operands d (omega arith) x_home)
+          (λ x_kind e is_x line at code is_code x_stands inside v1 m1 operands d enough x_home. expression_follows {untouched = untouched} ps p o.texts o.references scene knows call steady_call m u.name in_code lasts among_same m kept_inside x_kind e is_x line at code is_code x_stands inside v1 m1 operands d (omega arith) x_home)
           (λ q t has_type line at code is_code x_stands v1 m1 operands d enough x_home. place_follows ps p o.texts o.references scene knows call steady_call m u.name m q t has_type line at code is_code x_stands v1 m1 operands d (omega arith) x_home)
-          among_same (calls_kept-inside variables u.types (own u) kept) (stmt_of (out-UnitRoutine r).block) (x.entry.entry + length (own_code u.types r)) x.code its.block x.is_code x.code_stands x.inside longer after below 63 (omega arith) at_home))
+          (λ line at to of_unit number k given xs r keeps given_valid is_code named xs_stands xs_inside v1 m1 operands d enough x_home rest steady behind. call_then {untouched = untouched} ps p o.texts o.references scene knows call steady_call m u.name in_code lasts among_same m kept_inside {to = to} line at of_unit number k given xs r keeps given_valid is_code named xs_stands xs_inside v1 m1 operands d enough x_home rest steady behind)
+          kept_inside (stmt_of (out-UnitRoutine r).block) (x.entry.entry + length (own_code u.types r)) x.code its.block x.is_code x.code_stands (omega (arith, x.room_for, end_length line_of (length formals) end (out-UnitRoutine r).result)) longer after below 63 (omega arith) at_home)
+
+      abbrev gives : Computation (List Result)
+      gives = results_given u.name line_of (length formals) (out-UnitRoutine r).result
+
+      steady_gives : Steady gives
+      steady_gives = steady_results_given u.name line_of (length formals) (out-UnitRoutine r).result
+
+      -- and then what it gives
+      blocks : (longer : Injection) (after : Memory) (pushed : List Operand) → unit_in G after.frames ≡ u.name → pushed ≡ below
+          → Fragment within G Here m (point longer after (p.instructions.before + (x.entry.entry + length (own_code u.types r))) pushed) (bind (exec call m u.name (stmt_of (out-UnitRoutine r).block)) (λ b. gives)) ends.place (λ rs. ResultsOnTop results below rs) 63 (λ rs. 1)
+      blocks longer after pushed at_home is_below =
+          fragment_bind {middle = p.instructions.before + end} {P = λ b. Inside untouched longer after (Bare below b)} {e = λ b. 63} (λ b. steady_gives)
+          (runs_block longer after pushed at_home is_below)
+          (λ b last final above i. (still_routine i.routine, subst (λ st. Fragment within G Here m (point last final (p.instructions.before + end) st) gives ends.place (λ rs. ResultsOnTop results below rs) 63 (λ rs. 1)) (sym i.operands_are) (ends.moves knows last final below (unit_in-same G i.routine ∙ at_home))))
 
       -- the making of the variables, and then the block
       makes : (longer : Injection) (after : Memory) (pushed : List Operand) → unit_in G after.frames ≡ u.name → pushed ≡ below
-          → Fragment within G Here m (point longer after (p.instructions.before + (x.entry.entry + length takes_code)) pushed) (bind (make_all_own call m u.name u.types (length formals) (out-UnitRoutine r).variables) (λ a. exec call m u.name (stmt_of (out-UnitRoutine r).block))) (p.instructions.before + end) (λ b last final operands. operands ≡ below) 63 (λ b. 63)
+          → Fragment within G Here m (point longer after (p.instructions.before + (x.entry.entry + length takes_code)) pushed) (bind (make_all_own call m u.name u.types (length formals) (made_variables r)) (λ a. bind (exec call m u.name (stmt_of (out-UnitRoutine r).block)) (λ b. gives))) ends.place (λ rs. ResultsOnTop results below rs) 63 (λ rs. 1)
       makes longer after pushed at_home is_below =
           let parts = code_stands-parts G ps p o.references x.entry.entry takes_code makes_code x.makes_stand in
           let size : x.entry.entry + length takes_code + length makes_code ≡ x.entry.entry + length (own_code u.types r) = omega (arith, length-append takes_code makes_code) in
-          subst (λ st. Fragment within G Here m (point longer after (p.instructions.before + (x.entry.entry + length takes_code)) st) (bind (make_all_own call m u.name u.types (length formals) (out-UnitRoutine r).variables) (λ a. exec call m u.name (stmt_of (out-UnitRoutine r).block))) (p.instructions.before + end) (λ b last final operands. operands ≡ below) 63 (λ b. 63)) (sym is_below)
-          (fragment_bind {middle = p.instructions.before + (x.entry.entry + length (own_code u.types r))} {e = λ a. 63} (λ a. steady_exec call steady_call m u.name (stmt_of (out-UnitRoutine r).block))
-          (fragment_to (ap (λ k. p.instructions.before + k) size) (make_all_own_moves within G untouched injection begun lasts ps p o.references call steady_call m u.name scene.types_valid scene.own_types_valid m (length formals) (x.entry.entry + length takes_code) (out-UnitRoutine r).variables variable_is parts.1 longer after below 63 (omega arith)))
+          subst (λ st. Fragment within G Here m (point longer after (p.instructions.before + (x.entry.entry + length takes_code)) st) (bind (make_all_own call m u.name u.types (length formals) (made_variables r)) (λ a. bind (exec call m u.name (stmt_of (out-UnitRoutine r).block)) (λ b. gives))) ends.place (λ rs. ResultsOnTop results below rs) 63 (λ rs. 1)) (sym is_below)
+          (fragment_bind {middle = p.instructions.before + (x.entry.entry + length (own_code u.types r))} {e = λ a. 63} (λ a. steady_bind (steady_exec call steady_call m u.name (stmt_of (out-UnitRoutine r).block)) (λ b. steady_gives))
+          (fragment_to (ap (λ k. p.instructions.before + k) size) (make_all_own_moves within G untouched injection begun lasts ps p o.references call steady_call m u.name scene.types_valid scene.own_types_valid m (length formals) (x.entry.entry + length takes_code) (made_variables r) variable_is parts.1 longer after below 63 (omega arith)))
           (λ a last final above still. (still.runs, blocks last final above (unit_in-still G still.runs ∙ at_home) still.operands_are)))
 
       -- the machine follows the routine, in any activation of it
-      follows : Fragment (own u) G Here m (point injection begun image_routine.entry below) (body xs) (p.instructions.before + end) (λ a longer after operands. operands ≡ below) 63 (λ a. 63)
+      follows : Fragment (own u) G Here m (point injection begun image_routine.entry below) (body xs) ends.place (λ rs. ResultsOnTop results below rs) 63 (λ rs. 1)
       follows =
           let parts = code_stands-parts G ps p o.references x.entry.entry takes_code makes_code x.makes_stand in
           fragment_outside variables u.types (own u) (fragment_from entry
-          (fragment_bind {middle = p.instructions.before + (x.entry.entry + length takes_code)} {e = λ a. 63} (λ a. steady_bind (steady_make_all_own call steady_call m u.name u.types (length formals) (out-UnitRoutine r).variables) (λ b. steady_exec call steady_call m u.name (stmt_of (out-UnitRoutine r).block)))
+          (fragment_bind {middle = p.instructions.before + (x.entry.entry + length takes_code)} {e = λ a. 63} (λ a. steady_bind (steady_make_all_own call steady_call m u.name u.types (length formals) (made_variables r)) (λ b. steady_bind (steady_exec call steady_call m u.name (stmt_of (out-UnitRoutine r).block)) (λ c. steady_gives)))
           (takes_all_moves within G untouched injection begun lasts ps p o.references call steady_call m u.name scene.types_valid scene.own_types_valid m line_of 0 x.entry.entry formals passings.0 xs passings.1 formal_is parts.0 injection begun below 63 (omega arith) home awaited)
           (λ a longer after pushed still. (still.runs, makes longer after pushed (unit_in-still G still.runs ∙ home) still.operands_are))))
 
@@ -320,15 +415,15 @@ module _ (u : TypedUnit) (o : Object) (is : IsProgramCode u o) (valid : IsValid 
     go : (place line : ℕ) → CallsAt G place (moved p.routines number) line
         → (injection : Injection) (began : meaning.State) (memory : Memory) (below operands : List Operand) (arguments : List Argument)
         → AreArguments injection memory passings.0 arguments below operands
-        → Fragment (own u) G (Since (kept_slots (own u) G) injection began memory) (suc m) (point injection memory place operands) (routine_of us (suc m) (unit_in G memory.frames) line u.name number arguments) (place + 1) (λ rs. Inside (kept_slots (own u) G) injection memory (ResultsOnTop [] below rs)) 0 (λ rs. 0)
+        → Fragment (own u) G (Since (kept_slots (own u) G) injection began memory) (suc m) (point injection memory place operands) (routine_of us (suc m) (unit_in G memory.frames) line u.name number arguments) (place + 1) (λ rs. Inside (kept_slots (own u) G) injection memory (ResultsOnTop results below rs)) 0 (λ rs. 0)
     go place line calls injection began memory below operands xs are =
         let hands : Handed injection memory passings.0 xs below operands = handed injection memory passings.0 passings.2 xs below operands are in
-        let does : Option Found → Type 0 = λ y. Fragment (own u) G (Since (kept_slots (own u) G) injection began memory) (suc m) (point injection memory place (hands.top ++ below)) (routine_does call m (unit_in G memory.frames) line u.name y xs) (place + 1) (λ rs. Inside (kept_slots (own u) G) injection memory (ResultsOnTop [] below rs)) 0 (λ rs. 0) in
+        let does : Option Found → Type 0 = λ y. Fragment (own u) G (Since (kept_slots (own u) G) injection began memory) (suc m) (point injection memory place (hands.top ++ below)) (routine_does call m (unit_in G memory.frames) line u.name y xs) (place + 1) (λ rs. Inside (kept_slots (own u) G) injection memory (ResultsOnTop results below rs)) 0 (λ rs. 0) in
         let keeps : does (Some found_routine) =
-        procedure_keeps (own u) G (moved p.routines number) image_routine exists numbered hands.top (counted place line injection memory below operands xs hands) hands.light (p.instructions.before + end) return_code x.return_stands.0 refl refl refl within enough_slots m place line calls injection began memory below (out-UnitRoutine r).name (unit_in G memory.frames) (body xs) (steady_runs_routine call steady_call m u.name found_routine xs) (kept_slots (own u) G)
+        routine_keeps (own u) G (moved p.routines number) image_routine exists numbered hands.top (counted place line injection memory below operands xs hands) hands.light ends.place ends.instruction ends.stands_there ends.returns ends.first_field ends.second_field within enough_slots m place line calls injection began memory below (out-UnitRoutine r).name (unit_in G memory.frames) results (body xs) (steady_runs_routine call steady_call m u.name found_routine xs) (kept_slots (own u) G)
         (follows place line injection memory below operands xs hands) in
         let meant : does (routine_in us u.name number) = subst does (sym found) keeps in
-        subst (λ st. Fragment (own u) G (Since (kept_slots (own u) G) injection began memory) (suc m) (point injection memory place st) (routine_of us (suc m) (unit_in G memory.frames) line u.name number xs) (place + 1) (λ rs. Inside (kept_slots (own u) G) injection memory (ResultsOnTop [] below rs)) 0 (λ rs. 0)) (sym hands.is) meant
+        subst (λ st. Fragment (own u) G (Since (kept_slots (own u) G) injection began memory) (suc m) (point injection memory place st) (routine_of us (suc m) (unit_in G memory.frames) line u.name number xs) (place + 1) (λ rs. Inside (kept_slots (own u) G) injection memory (ResultsOnTop results below rs)) 0 (λ rs. 0)) (sym hands.is) meant
 
     -- with one step more than the routines keep theirs
     keeps_own : RoutineKeeps (own u) G ps (routine_of (u ∷ []) (suc m)) (suc m) u.name number (heading_of r)
@@ -337,6 +432,8 @@ module _ (u : TypedUnit) (o : Object) (is : IsProgramCode u o) (valid : IsValid 
           routine = moved p.routines number;
           formals = passings.0;
           passed = subst (λ ts. ArePassed ts formals passings.0) (sym (own_types u)) passings.1;
+          results = results;
+          given = subst (λ ts. AreResults ts (out-UnitRoutine r).result results) (sym (own_types u)) (kinds_of (out-UnitRoutine r).result its.result).1;
           placed = call_placed number;
           promise = record { by = λ place line calls injection began memory below operands arguments are. go place line calls injection began memory below operands arguments are };
         }
@@ -351,15 +448,17 @@ module _ (u : TypedUnit) (o : Object) (is : IsProgramCode u o) (valid : IsValid 
         routine = moved p.routines number;
         formals = passings.0;
         passed = subst (λ n. ArePassed ((own u).types n) formals passings.0) named (subst (λ ts. ArePassed ts formals passings.0) (sym (own_types u)) passings.1);
+        results = (kinds_of (out-UnitRoutine r).result its.result).0;
+        given = subst (λ n. AreResults ((own u).types n) (out-UnitRoutine r).result (kinds_of (out-UnitRoutine r).result its.result).0) named (subst (λ ts. AreResults ts (out-UnitRoutine r).result (kinds_of (out-UnitRoutine r).result its.result).0) (sym (own_types u)) (kinds_of (out-UnitRoutine r).result its.result).1);
         placed = λ i. subst (λ n. placed_call ps (Some (record { unit = n; number = number })) i ≡ record i { a = pos (moved p.routines number) }) named (call_placed number i);
         promise = record { by = λ place line calls injection began memory below operands arguments are. fragment_cut };
       }
 
   -- the routines keep their promises with any number of steps
   pub routines_kept : (n : ℕ) → CallsAreKept (own u) G ps (routine_of (u ∷ []) n) n
-  routines_kept zero unit number r h plain =
+  routines_kept zero unit number r h =
       let own_one = own_routine u unit number r h in
       subst (λ x. RoutineKeeps (own u) G ps (routine_of (u ∷ []) 0) 0 unit number x) own_one.heading (keeps_none unit number own_one.routine own_one.there own_one.named)
-  routines_kept (suc m) unit number r h plain =
+  routines_kept (suc m) unit number r h =
       let own_one = own_routine u unit number r h in
       subst (λ x. RoutineKeeps (own u) G ps (routine_of (u ∷ []) (suc m)) (suc m) unit number x) own_one.heading (subst (λ n. RoutineKeeps (own u) G ps (routine_of (u ∷ []) (suc m)) (suc m) n number (heading_of own_one.routine)) own_one.named (keeps_own m (routines_kept m) number own_one.routine own_one.there))

@@ -3,10 +3,10 @@ use Rattle.ep_gen_expr.specs.Following.{least_credit}
 use Rattle.std.proofs.Common.{◌≡◌, ℕ, ◌+◌, ◌≤◌, List, [], ◌∷◌, ◌++◌, length, length-append, ap, ◌∙◌, subst, arith}
 use Rattle.ep_gen_unit.specs.StmtCode.{make_all_code, return_code}
 use Rattle.ep_gen_unit.specs.UnitCode.{IsProgramCode}
-use Rattle.ep_gen_unit.proofs.Parts.{statement_credit, ExpressionsFollow, PlacesFollow, code_stands-parts}
+use Rattle.ep_gen_unit.proofs.Parts.{statement_credit, ExpressionsFollow, PlacesFollow, CallsFollow, code_stands-parts}
 use Rattle.ep_gen_unit.proofs.StmtMoves.{statement_moves}
 use Rattle.ep_object.specs.Follows.{point, Facts, Lasts, Fragment, Inside, Bare}
-use Rattle.ep_object.specs.Matching.{Slots, Memory, Injection, AreAmong, kept_slots}
+use Rattle.ep_object.specs.Matching.{Slots, Memory, Injection}
 use Rattle.ep_object.specs.Operands.{Operand}
 use Rattle.ep_object.specs.Placing.{Placement, CodeStands}
 use Rattle.ep_object.specs.Promises.{CallsAreKept}
@@ -40,7 +40,7 @@ module _ (declared : Declarations) (G : Image) (untouched : Slots) (Here : Facts
       → Fragment declared G Here n (point injection memory (p.instructions.before + 0) below) (make_all call n u.name u.types 0 u.variables) (p.instructions.before + length (make_all_code u.types 0 u.variables)) (λ a. Inside untouched injection memory (Bare below a)) d (λ a. d)
 
 module _ {declared : Declarations} {G : Image} {untouched : Slots} {Here : Facts} (lasts : Lasts untouched Here) (ps : List Placement) (p : Placement) (call : Handler) (steady_call : IsSteadyHandler call) (n : ℕ) (u : TypedUnit) (o : Object) (is : IsProgramCode u o) (stands : CodeStands G ps p o.references 0 o.instructions) (room : p.instructions.before + p.instructions.own ≤ length G.instructions) (own : p.instructions.own ≡ length o.instructions) (scene : Scene declared G ps p o.texts)
-    (expressions : ExpressionsFollow declared G untouched Here ps p o.texts o.references call n u.name) (places : PlacesFollow declared G untouched Here ps p o.texts o.references call n u.name) (among : AreAmong untouched (kept_slots declared G)) (kept : CallsAreKept declared G ps call n) (valid : IsStmt declared (stmt_of u.start)) (makes : MakesFollow declared G untouched Here p call n u) where
+    (expressions : ExpressionsFollow declared G untouched Here ps p o.texts o.references call n u.name) (places : PlacesFollow declared G untouched Here ps p o.texts o.references call n u.name) (calls : CallsFollow declared G untouched Here ps p o.texts o.references call n u.name) (kept : CallsAreKept declared G ps call n) (valid : IsStmt declared (stmt_of u.start)) (makes : MakesFollow declared G untouched Here p call n u) where
   -- after the step of its call the start makes the variables and runs the block, up to the `Return` behind it
   pub body_follows : (injection : Injection) (memory : Memory) (below : List Operand) (d : ℕ)
       → statement_credit ≤ d → unit_in G memory.frames ≡ u.name → RunsAtHome p memory.frames
@@ -48,7 +48,7 @@ module _ {declared : Declarations} {G : Image} {untouched : Slots} {Here : Facts
   body_follows injection memory below d enough home framed =
       let parts = code_stands-parts G ps p o.references 0 (make_all_code u.types 0 u.variables) (is.code ++ return_code ∷ return_code ∷ is.others) (subst (λ k. CodeStands G ps p o.references 0 k) is.instructions stands) in
       let block = code_stands-parts G ps p o.references (0 + length (make_all_code u.types 0 u.variables)) is.code (return_code ∷ return_code ∷ is.others) parts.1 in
-      let moves = statement_moves lasts ps p o.texts o.references call steady_call n u.name room scene expressions places among kept (stmt_of u.start) (length (make_all_code u.types 0 u.variables)) is.code valid is.is_code (subst (λ k. CodeStands G ps p o.references k is.code) (omega arith) block.0)
+      let moves = statement_moves lasts ps p o.texts o.references call steady_call n u.name room scene expressions places calls kept (stmt_of u.start) (length (make_all_code u.types 0 u.variables)) is.code valid is.is_code (subst (λ k. CodeStands G ps p o.references k is.code) (omega arith) block.0)
       (omega (arith, own, ap length is.instructions, length-append (make_all_code u.types 0 u.variables) (is.code ++ return_code ∷ return_code ∷ is.others), length-append is.code (return_code ∷ return_code ∷ is.others))) in
       fragment_bind_bare {e = λ a. d} (λ a. steady_exec call steady_call n u.name (stmt_of u.start)) (makes injection memory below d (omega arith) home framed) (λ a longer after grown routine.
       moves longer after below d (omega arith) (unit_in-same G routine ∙ home))

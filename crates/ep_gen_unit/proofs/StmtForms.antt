@@ -1,19 +1,18 @@
 -- The code of each form of statement, from that of its parts.
-use Rattle.std.proofs.Common.{◌≡◌, ℕ, pos, ◌+◌, ◌<◌, Bool, List, [], ◌∷◌, ◌++◌, map, take, length, get_or, slice_get, Some, refl, sym, ap, ◌∙◌, subst, append_assoc, append-nil, arith, length-append}
+use Rattle.std.proofs.Common.{◌≡◌, ℕ, pos, ◌+◌, ◌<◌, Bool, List, [], ◌∷◌, ◌++◌, map, take, length, get_or, refl, sym, ap, ◌∙◌, subst, append_assoc, append-nil, arith, length-append}
 use Rattle.std.proofs.lemmas.List.{map_more}
 use Rattle.ep_object.specs.declared.code.Instr.{Instr}
 use Rattle.ep_object.specs.declared.code.Reference.{Reference}
-use Rattle.ep_typed.specs.Trees.{Place, Expr, Actual, Item, Stmt, Stmts, Empty, Compound, Assign, If, While, Repeat, Procedure, Halt, Write, stmts}
-use Rattle.ep_gen_expr.specs.ExprCode.{IsExprCode, bare, instr, reference}
-use Rattle.ep_gen_expr.specs.Growth.{Grows, NumbersReference, AppendsPlace, AppendsExpr}
+use Rattle.ep_typed.specs.Trees.{Place, Expr, Function, Actuals, Item, Stmt, Stmts, Empty, Compound, Assign, If, While, Repeat, Procedure, Halt, Write, stmts}
+use Rattle.ep_gen_expr.specs.ExprCode.{IsExprCode, bare, instr}
+use Rattle.ep_gen_expr.specs.Growth.{Grows, AppendsPlace, AppendsExpr}
 use Rattle.ep_gen_expr.specs.Jumps.{IsNextPlace, LeavesHole, landed}
 use Rattle.ep_gen_expr.specs.declared.code.Code.{Code}
 use Rattle.ep_gen_expr.proofs.Forms.{grows_at}
-use Rattle.ep_gen_expr.proofs.Pushed.{get_later}
 use Rattle.ep_gen_expr.proofs.Stays.{place_code_stays}
 use Rattle.ep_gen_unit.specs.StmtCode.{IsStmtCode, AreStmtsCode}
-use Rattle.ep_gen_unit.specs.StmtGrowth.{Follows, AppendsActuals, AppendsItems, AppendsStmt, AppendsStmts}
-use Rattle.ep_gen_unit.proofs.StmtStays.{actuals_code_stays, stmt_code_short, stmts_code_stays}
+use Rattle.ep_gen_unit.specs.StmtGrowth.{Follows, AppendsItems, AppendsStmt, AppendsStmts}
+use Rattle.ep_gen_unit.proofs.StmtStays.{stmt_code_short, stmts_code_stays}
 use Rattle.ep_gen_unit.proofs.Following.{IsLater, later_then, later_grows, later_follows, later_landed, expr_later, stmt_later, follows_none, follows_grows, follows_line, follows_then, follows_middle, follows_landed, grown_length, landed_length}
 use Rattle.ep_object.specs.declared.op.TheConstants as op
 
@@ -38,25 +37,9 @@ appends_assign {b = b} {c = c} {d = d} a line place x p q r =
     )
     (follows_line a line (follows_grows (grows_at (λ l. q.code ++ bare l op.STORE ∷ []) p.grows after)))
 
--- the actual parameters, a call, and the jump behind it
-pub appends_procedure : {b c d e : Code} (a : Code) (line : ℕ) (unit : List ℕ) (number : ℕ) (given : List Actual) (k n : ℕ) → AppendsActuals (record a { line = line }) b given → NumbersReference b c (reference unit number) k
-    → Grows c d (instr op.CALL (pos k) 0 c.line ∷ []) → IsNextPlace d n → Grows d e (instr op.JUMP (pos (n + 1)) 0 d.line ∷ []) → AppendsStmt a e (Procedure line unit number given)
-appends_procedure {b = b} {d = d} {e = e} a line unit number given k n p q call next jump =
-    let xs = p.code in
-    let at = length a.instructions in
-    let calls : Grows b d (instr op.CALL (pos k) 0 b.line ∷ []) = grows_at (λ l. instr op.CALL (pos k) 0 l ∷ []) q.grows call in
-    let after : Grows b e (instr op.CALL (pos k) 0 b.line ∷ instr op.JUMP (pos (n + 1)) 0 b.line ∷ []) = grows_at (λ l. instr op.JUMP (pos (n + 1)) 0 l ∷ []) calls jump in
-    let whole_code : Grows (record a { line = line }) e (xs ++ instr op.CALL (pos k) 0 line ∷ instr op.JUMP (pos (n + 1)) 0 line ∷ []) = grows_at (λ l. instr op.CALL (pos k) 0 l ∷ instr op.JUMP (pos (n + 1)) 0 l ∷ []) p.grows after in
-    let there : slice_get e.references k ≡ Some (reference unit number) = get_later k (reference unit number) jump.references.begins (get_later k (reference unit number) call.references.begins q.there) in
-    let next_is : n + 1 ≡ at + length xs + 2 = omega (arith, next.is_length, grown_length (follows_grows calls), grown_length (follows_grows p.grows)) in
-    whole a (Procedure line unit number given) (xs ++ instr op.CALL (pos k) 0 line ∷ instr op.JUMP (pos (at + length xs + 2)) 0 line ∷ []) (
-      xs,
-      k,
-      actuals_code_stays b.texts e.texts b.references e.references after.texts.begins after.references.begins line at given xs p.is_code,
-      there,
-      refl,
-    )
-    (subst (λ m. Follows a e (xs ++ instr op.CALL (pos k) 0 line ∷ instr op.JUMP (pos m) 0 line ∷ [])) next_is (follows_line a line (follows_grows whole_code)))
+-- a call
+pub appends_procedure : {b : Code} (a : Code) (line : ℕ) (unit : List ℕ) (number : ℕ) (given : Actuals) → AppendsExpr (record a { line = line }) b (Function unit number given) → AppendsStmt a b (Procedure line unit number given)
+appends_procedure a line unit number given p = whole a (Procedure line unit number given) p.code p.is_code (follows_line a line (follows_grows p.grows))
 
 pub appends_halt : {b : Code} (a : Code) (line : ℕ) → Grows (record a { line = line }) b (bare line op.HALT ∷ []) → AppendsStmt a b (Halt line)
 appends_halt a line p = whole a (Halt line) (bare line op.HALT ∷ []) refl (follows_line a line (follows_grows p))

@@ -1,10 +1,10 @@
 -- The machine follows statements.
 use Rattle.std.proofs.Common.{◌≡◌, ℕ, pos, ◌+◌, ◌≤◌, ◌<◌, List, [], ◌∷◌, ◌++◌, length, length-append, refl, sym, ap, ◌∙◌, subst, arith, ℤ, ◌*◌}
 use Rattle.ep_object.specs.Follows.{Facts, Lasts}
-use Rattle.ep_object.specs.Matching.{Slots, AreAmong, kept_slots}
+use Rattle.ep_object.specs.Matching.{Slots}
 use Rattle.ep_gen_expr.specs.ExprCode.{instr, bare}
 use Rattle.ep_gen_unit.specs.StmtCode.{IsStmtCode, AreStmtsCode, AreArmsCode, IsOtherCode, tests_code}
-use Rattle.ep_gen_unit.proofs.Parts.{Moves, ExpressionsFollow, PlacesFollow, code_stands-parts}
+use Rattle.ep_gen_unit.proofs.Parts.{Moves, ExpressionsFollow, PlacesFollow, CallsFollow, code_stands-parts}
 use Rattle.ep_gen_unit.proofs.Simple.{empty_moves, halt_moves, assign_moves}
 use Rattle.ep_gen_unit.proofs.Branching.{if_parts, repeat_parts, while_parts}
 use Rattle.ep_gen_unit.proofs.ProcedureMoves.{procedure_moves}
@@ -31,7 +31,7 @@ use Rattle.ep_object.specs.declared.op.TheConstants as op
 
 module _ {declared : Declarations} {G : Image} {untouched : Slots} {Here : Facts} (lasts : Lasts untouched Here) (ps : List Placement) (p : Placement) (texts : List (List ℕ)) (references : List Reference) (call : Handler) (steady_call : IsSteadyHandler call) (n : ℕ) (unit : List ℕ) (room : p.instructions.before + p.instructions.own ≤ length G.instructions) (scene : Scene declared G ps p texts)
     (expressions : ExpressionsFollow declared G untouched Here ps p texts references call n unit) (places : PlacesFollow declared G untouched Here ps p texts references call n unit)
-    (among : AreAmong untouched (kept_slots declared G)) (kept : CallsAreKept declared G ps call n) where
+    (calls_follow : CallsFollow declared G untouched Here ps p texts references call n unit) (kept : CallsAreKept declared G ps call n) where
   -- The code of a statement does what it means, where more code stands behind it.
   mutual
     pub statement_moves : (s : Stmt) (at : ℕ) (is : List Instr) → IsStmt declared s → IsStmtCode texts references at s is → CodeStands G ps p references at is → at + length is < p.instructions.own → Moves declared G untouched Here ps p texts references call n unit at (at + length is) (exec call n unit s)
@@ -76,10 +76,9 @@ module _ {declared : Declarations} {G : Image} {untouched : Slots} {Here : Facts
         (repeat_parts ps p texts references call steady_call n unit room expressions line at body_end test_end ss x h.1 valid.1 h.3 refl (omega (arith, ends, inside)) (omega arith) second.0 second.1 body_moves)
     statement_moves (Procedure line of_unit number given) at is valid h stands inside =
         let calls : List Instr = instr op.CALL (pos h.1) 0 line ∷ instr op.JUMP (pos (at + length h.0 + 2)) 0 line ∷ [] in
-        let parts = code_stands-parts G ps p references at h.0 calls (subst (λ k. CodeStands G ps p references at k) h.4 stands) in
         let ends : at + length h.0 + 2 ≡ at + length is = omega (arith, ap length h.4, length-append h.0 calls) in
         subst (λ k. Moves declared G untouched Here ps p texts references call n unit at k (exec call n unit (Procedure line of_unit number given))) ends
-        (procedure_moves lasts among ps p texts references call n unit room steady_call expressions places kept line at of_unit number h.1 given h.0 valid h.2 h.3 parts.0 parts.1 (omega (arith, ends, inside)))
+        (procedure_moves ps p texts references call n unit room calls_follow kept line at of_unit number h.1 given h.0 valid h.2 h.3 (subst (λ k. CodeStands G ps p references at k) h.4 stands) (omega (arith, ends, inside)))
     statement_moves (Case line x arms o) at is valid h stands inside =
         let start : ℕ = at + length h.0 + 2 in
         let leave : ℕ = at + length h.0 + 1 in

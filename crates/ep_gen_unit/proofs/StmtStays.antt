@@ -3,16 +3,14 @@ use Rattle.std.proofs.Common.{◌≡◌, ℕ, ◌+◌, ◌*◌, ◌≤◌, Bool,
 use Rattle.ep_outside.specs.Known.{IsPrefix}
 use Rattle.ep_object.specs.declared.code.Instr.{Instr}
 use Rattle.ep_object.specs.declared.code.Reference.{Reference}
-use Rattle.ep_typed.specs.Trees.{Place, Variable, Own, Standard, Actual, Evaluated, Accessed, Item, Plain, Wide, Stmt, Stmts, Empty, Compound, Assign, If, While, Repeat, Procedure, Halt, Write, none, next, Case, Arms, no_arm, next_arm, Other, no_other, otherwise_do}
+use Rattle.ep_typed.specs.Trees.{Place, Variable, Own, Standard, Function, Item, Plain, Wide, Stmt, Stmts, Empty, Compound, Assign, If, While, Repeat, Procedure, Halt, Write, none, next, Case, Arms, no_arm, next_arm, Other, no_other, otherwise_do}
 use Rattle.ep_typed.specs.declared.tree.CaseRange.{CaseRange}
 use Rattle.ep_typed.specs.declared.operations.Print.{Print}
 use Rattle.ep_typed.specs.declared.operations.Print.TheVariants as print
 use Rattle.ep_gen_expr.specs.ExprCode.{bare}
-use Rattle.ep_gen_expr.proofs.Pushed.{get_later}
-use Rattle.ep_gen_expr.specs.ExprCode.{reference}
 use Rattle.ep_gen_expr.proofs.Stays.{place_code_stays, expr_code_stays, place_code_short, expr_code_short}
-use Rattle.ep_gen_unit.specs.StmtCode.{IsActualCode, AreActualsCode, IsItemCode, AreItemsCode, IsStmtCode, AreStmtsCode, AreArmsCode, IsOtherCode, plain_code, before_width, wide_code, test_code, tests_code}
-use Rattle.ep_typed.specs.Nodes.{place_nodes, expr_nodes, actual_nodes, actuals_nodes, item_nodes, items_nodes, stmt_nodes, stmts_nodes, arms_nodes, other_nodes}
+use Rattle.ep_gen_unit.specs.StmtCode.{IsItemCode, AreItemsCode, IsStmtCode, AreStmtsCode, AreArmsCode, IsOtherCode, plain_code, before_width, wide_code, test_code, tests_code}
+use Rattle.ep_typed.specs.Nodes.{place_nodes, expr_nodes, item_nodes, items_nodes, stmt_nodes, stmts_nodes, arms_nodes, other_nodes}
 use Rattle.ep_object.specs.declared.op.TheConstants as op
 
 module _ (ts us : List (List ℕ)) (rs ss : List Reference) (a : IsPrefix ts us) (b : IsPrefix rs ss) where
@@ -25,16 +23,6 @@ module _ (ts us : List (List ℕ)) (rs ss : List Reference) (a : IsPrefix ts us)
   items_code_stays line at [] true is h = h
   items_code_stays line at (i ∷ items) ends_line is h = (h.0, h.1, item_code_stays line at i h.0 h.2, items_code_stays line (at + length h.0) items ends_line h.1 h.3, h.4)
 
-  -- an actual parameter's code
-  actual_code_stays : (line at : ℕ) (x : Actual) (is : List Instr) → IsActualCode ts rs line at x is → IsActualCode us ss line at x is
-  actual_code_stays line at (Evaluated x) is h = expr_code_stays ts us rs ss line a b at x is h
-  actual_code_stays line at (Accessed p) is h = place_code_stays rs ss line p is b h
-
-  -- that of actual parameters
-  pub actuals_code_stays : (line at : ℕ) (given : List Actual) (is : List Instr) → AreActualsCode ts rs line at given is → AreActualsCode us ss line at given is
-  actuals_code_stays line at [] is h = h
-  actuals_code_stays line at (x ∷ more) is h = (h.0, h.1, actual_code_stays line at x h.0 h.2, actuals_code_stays line (at + length h.0) more h.1 h.3, h.4)
-
   mutual
     pub stmt_code_stays : (at : ℕ) (s : Stmt) (is : List Instr) → IsStmtCode ts rs at s is → IsStmtCode us ss at s is
     stmt_code_stays at Empty is h = h
@@ -44,7 +32,7 @@ module _ (ts us : List (List ℕ)) (rs ss : List Reference) (a : IsPrefix ts us)
         (h.0, h.1, h.2, expr_code_stays ts us rs ss line a b at x h.0 h.3, stmt_code_stays (at + length h.0 + 1) s h.1 h.4, stmt_code_stays (at + length h.0 + 1 + length h.1 + 1) t h.2 h.5, h.6)
     stmt_code_stays at (While line x s) is h = (h.0, h.1, expr_code_stays ts us rs ss line a b at x h.0 h.2, stmt_code_stays (at + length h.0 + 1) s h.1 h.3, h.4)
     stmt_code_stays at (Repeat line statements x) is h = (h.0, h.1, stmts_code_stays at statements h.0 h.2, expr_code_stays ts us rs ss line a b (at + length h.0) x h.1 h.3, h.4)
-    stmt_code_stays at (Procedure line unit number given) is h = (h.0, h.1, actuals_code_stays line at given h.0 h.2, get_later h.1 (reference unit number) b h.3, h.4)
+    stmt_code_stays at (Procedure line unit number given) is h = expr_code_stays ts us rs ss line a b at (Function unit number given) is h
     stmt_code_stays at (Case line x arms o) is h =
         (h.0, h.1, h.2, expr_code_stays ts us rs ss line a b at x h.0 h.3, arms_code_stays line (at + length h.0 + 1) (at + length h.0 + 2) arms h.1 h.4, other_code_stays line (at + length h.0 + 2 + length h.1) o h.2 h.5, h.6)
     stmt_code_stays at (Halt line) is h = h
@@ -84,10 +72,6 @@ while_short xs ys i j is e k m p q = omega (arith, ap length e, length-append xs
 repeat_short : (ys xs : List Instr) (i : Instr) (is : List Instr) → is ≡ ys ++ (xs ++ i ∷ []) → (k m : ℕ) → length ys ≤ 32 * k → length xs + 8 ≤ 32 * m → length is + 8 ≤ 32 * (1 + k + m)
 repeat_short ys xs i is e k m p q = omega (arith, ap length e, length-append ys (xs ++ i ∷ []), length-append xs (i ∷ []), p, q)
 
--- a call behind code that is short, and one more instruction
-procedure_short : (xs : List Instr) (i j : Instr) (is : List Instr) → is ≡ xs ++ i ∷ j ∷ [] → (k : ℕ) → length xs ≤ 32 * k → length is + 8 ≤ 32 * (1 + k)
-procedure_short xs i j is e k p = omega (arith, ap length e, length-append xs (i ∷ j ∷ []), p)
-
 case_short : (xs ys zs : List Instr) (i j : Instr) (is : List Instr) → is ≡ xs ++ i ∷ j ∷ (ys ++ zs) → (k m n : ℕ) → length xs + 8 ≤ 32 * k → length ys ≤ 32 * m → length zs ≤ 32 * n + 1 → length is + 8 ≤ 32 * (1 + k + m + n)
 case_short xs ys zs i j is e k m n p q r = omega (arith, ap length e, length-append xs (i ∷ j ∷ (ys ++ zs)), length-append ys zs, p, q, r)
 
@@ -125,16 +109,6 @@ module _ (ts : List (List ℕ)) (rs : List Reference) where
   items_code_short line at [] true is h = omega (arith, ap length h)
   items_code_short line at (i ∷ items) ends_line is h = omega (arith, ap length h.4, length-append h.0 h.1, item_code_short line at i h.0 h.2, items_code_short line (at + length h.0) items ends_line h.1 h.3)
 
-  -- the code of an actual parameter is short
-  actual_code_short : (line at : ℕ) (x : Actual) (is : List Instr) → IsActualCode ts rs line at x is → length is ≤ 32 * actual_nodes x
-  actual_code_short line at (Evaluated x) is h = omega (arith, expr_code_short ts rs line at x is h)
-  actual_code_short line at (Accessed p) is h = place_code_short rs line p is h
-
-  -- and so is that of actual parameters
-  actuals_code_short : (line at : ℕ) (given : List Actual) (is : List Instr) → AreActualsCode ts rs line at given is → length is ≤ 32 * actuals_nodes given
-  actuals_code_short line at [] is h = omega (arith, ap length h)
-  actuals_code_short line at (x ∷ more) is h = omega (arith, ap length h.4, length-append h.0 h.1, actual_code_short line at x h.0 h.2, actuals_code_short line (at + length h.0) more h.1 h.3)
-
   -- The code of a statement, with some room for what the form around it adds.
   mutual
     stmt_code_room : (at : ℕ) (s : Stmt) (is : List Instr) → IsStmtCode ts rs at s is → length is + 8 ≤ 32 * stmt_nodes s
@@ -149,7 +123,7 @@ module _ (ts : List (List ℕ)) (rs : List Reference) where
         while_short h.0 h.1 _ _ is h.4 (expr_nodes x) (stmt_nodes s) (expr_code_short ts rs line at x h.0 h.2) (stmt_code_room (at + length h.0 + 1) s h.1 h.3)
     stmt_code_room at (Repeat line statements x) is h =
         repeat_short h.0 h.1 _ is h.4 (stmts_nodes statements) (expr_nodes x) (stmts_code_short at statements h.0 h.2) (expr_code_short ts rs line (at + length h.0) x h.1 h.3)
-    stmt_code_room at (Procedure line unit number given) is h = procedure_short h.0 _ _ is h.4 (actuals_nodes given) (actuals_code_short line at given h.0 h.2)
+    stmt_code_room at (Procedure line unit number given) is h = expr_code_short ts rs line at (Function unit number given) is h
     stmt_code_room at (Case line x arms o) is h =
         case_short h.0 h.1 h.2 _ _ is h.6 (expr_nodes x) (arms_nodes arms) (other_nodes o)
         (expr_code_short ts rs line at x h.0 h.3) (arms_code_short line (at + length h.0 + 1) (at + length h.0 + 2) arms h.1 h.4) (other_code_short line (at + length h.0 + 2 + length h.1) o h.2 h.5)

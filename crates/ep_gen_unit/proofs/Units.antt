@@ -3,7 +3,7 @@ use Rattle.std.proofs.Common.{◌≡◌, ℕ, ◌+◌, ◌≤◌, ◌<◌, List,
 use Rattle.std.specs.Prelude.{All}
 use Rattle.std.proofs.lemmas.Bool.{lt-ltb}
 use Rattle.std.proofs.lemmas.Option.{slice_get_within, same_Some}
-use Rattle.ep_gen_expr.proofs.Following.{place_follows, expression_follows}
+use Rattle.ep_gen_expr.proofs.Following.{place_follows, expression_follows, call_then}
 use Rattle.ep_gen_unit.specs.StmtCode.{make_all_code, return_code}
 use Rattle.ep_gen_unit.specs.UnitCode.{IsProgramCode, plain_at}
 use Rattle.ep_gen_unit.specs.UnitLaws.{AreDeclared, idle_stop}
@@ -195,9 +195,10 @@ module _ (u : TypedUnit) (o : Object) (is : IsProgramCode u o) (G : Image) (ps :
               let whole = of_object in
               let knows : KnowsOwn declared (Since (kept_slots declared G) injection s memory) = λ longer t after since slot v is. absurd (none_declared declared.routine_variables no_routine slot v is) in
               let body = body_follows {Here = Since (kept_slots declared G) injection s memory} since_lasts ps p call steady_call n u o is stands.code room whole.instructions scene
-              (λ x_kind x is_x line at code is_code x_stands inside v1 m1 operands d enough x_home. expression_follows ps p o.texts o.references scene knows call steady_call n u.name room n x_kind x is_x line at code is_code x_stands inside v1 m1 operands d (omega arith) x_home)
+              (λ x_kind x is_x line at code is_code x_stands inside v1 m1 operands d enough x_home. expression_follows ps p o.texts o.references scene knows call steady_call n u.name room since_lasts among_same n kept x_kind x is_x line at code is_code x_stands inside v1 m1 operands d (omega arith) x_home)
               (λ q t has_type line at code is_code x_stands v1 m1 operands d enough x_home. place_follows ps p o.texts o.references scene knows call steady_call n u.name n q t has_type line at code is_code x_stands v1 m1 operands d (omega arith) x_home)
-              among_same kept valid (makes since_lasts) injection memory below routine_credit (omega arith) (home o.start (plain_at 0) start_is memory.frames enters.without_calls enters.runs) (record { calls = enters.without_calls; unit = enters.in_unit }) in
+              (λ line at to of_unit number k given xs r keeps given_valid is_code named xs_stands xs_inside v1 m1 operands d enough x_home rest steady behind. call_then ps p o.texts o.references scene knows call steady_call n u.name room since_lasts among_same n kept {to = to} line at of_unit number k given xs r keeps given_valid is_code named xs_stands xs_inside v1 m1 operands d enough x_home rest steady behind)
+              kept valid (makes since_lasts) injection memory below routine_credit (omega arith) (home o.start (plain_at 0) start_is memory.frames enters.without_calls enters.runs) (record { calls = enters.without_calls; unit = enters.in_unit }) in
               follows_from (at_entry o.start (plain_at 0) start_is (omega (arith, instructions_own)) enters)
               (follows_less {n = n} (omega arith) (follows_post (λ a t l lands. record { place = p.instructions.before + ends_block; instruction = return_code; stands = returns_stand.0; returns = (let routine = lands.post.routine in subst (λ (x : State). obey G return_code x ≡ light Returns) (sym lands.is) (returns_from (p.instructions.before + ends_block) lands.operands lands.memory t.trace (no_calls memory.frames.calls lands.memory.frames.calls routine.calls enters.without_calls))); lands = lands }) (body.by s enters.matches (since_here injection s memory))));
         }

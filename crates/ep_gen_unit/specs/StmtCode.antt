@@ -1,12 +1,12 @@
 -- Which instructions are the code of a statement, under given tables of texts and references. Jumps name places of
 -- the object, so the code of a statement depends on where it begins.
-use Rattle.std.specs.Prelude.{◌≡◌, ℕ, pos, suc, ◌+◌, Bool, true, false, List, [], ◌∷◌, ◌++◌, length, slice_get, Option, Some, None, ◌*◌}
+use Rattle.std.specs.Prelude.{◌≡◌, ℕ, pos, suc, ◌+◌, Bool, true, false, List, [], ◌∷◌, ◌++◌, length, Option, Some, None, ◌*◌}
 use Rattle.ep_typed.specs.Denoters.{type_of}
-use Rattle.ep_gen_expr.specs.ExprCode.{instr, bare, reference, push, standard_code, IsPlaceCode, IsExprCode}
+use Rattle.ep_gen_expr.specs.ExprCode.{instr, bare, push, standard_code, IsPlaceCode, IsExprCode}
 use Rattle.ep_gen_expr.specs.declared.code.TheConstants as code
 use Rattle.ep_object.specs.declared.code.Instr.{Instr}
 use Rattle.ep_object.specs.declared.code.Reference.{Reference}
-use Rattle.ep_typed.specs.Trees.{Actual, Evaluated, Accessed, Item, Plain, Wide, Stmt, Stmts, Empty, Compound, Assign, If, While, Repeat, Procedure, Halt, Write, none, next, Case, Arms, no_arm, next_arm, Other, no_other, otherwise_do}
+use Rattle.ep_typed.specs.Trees.{Function, Item, Plain, Wide, Stmt, Stmts, Empty, Compound, Assign, If, While, Repeat, Procedure, Halt, Write, none, next, Case, Arms, no_arm, next_arm, Other, no_other, otherwise_do}
 use Rattle.ep_typed.specs.Viewed.{denoter_of}
 use Rattle.ep_typed.specs.declared.operations.Print.{Print}
 use Rattle.ep_typed.specs.declared.operations.Print.TheVariants as print
@@ -19,6 +19,7 @@ use Rattle.ep_typed.specs.declared.unit.UnitType.{UnitType}
 use Rattle.ep_typed.specs.declared.interface.Formal.{Formal}
 use Rattle.ep_typed.specs.declared.interface.FormalMode.{FormalMode}
 use Rattle.ep_typed.specs.declared.interface.FormalMode.TheVariants as mode
+use Rattle.ep_typed.specs.declared.interface.RoutineResult.{RoutineResult}
 use Rattle.ep_typed.specs.declared.unit.UnitVariable.{UnitVariable}
 use Rattle.ep_object.specs.declared.op.TheConstants as op
 use Rattle.ep_gen_unit.specs.declared.items.TheConstants as constant
@@ -77,16 +78,6 @@ module _ (texts : List (List ℕ)) (references : List Reference) where
   AreItemsCode line at [] true is = is ≡ line_end_code line
   AreItemsCode line at (i ∷ items) ends_line is = (xs ys : List Instr) × IsItemCode line at i xs × AreItemsCode line (at + length xs) items ends_line ys × (is ≡ xs ++ ys)
 
-  -- the code of an actual parameter, which has this line and begins at this place
-  abbrev pub IsActualCode : ℕ → ℕ → Actual → List Instr → Type 0
-  IsActualCode line at (Evaluated x) is = IsExprCode texts references line at x is
-  IsActualCode line at (Accessed p) is = IsPlaceCode references line p is
-
-  -- that of actual parameters, one after another
-  abbrev pub AreActualsCode : ℕ → ℕ → List Actual → List Instr → Type 0
-  AreActualsCode line at [] is = is ≡ []
-  AreActualsCode line at (a ∷ more) is = (xs ys : List Instr) × IsActualCode line at a xs × AreActualsCode line (at + length xs) more ys × (is ≡ xs ++ ys)
-
   abbrev mutual
     -- the code of a statement that begins at this place
     pub IsStmtCode : ℕ → Stmt → List Instr → Type 0
@@ -101,10 +92,8 @@ module _ (texts : List (List ℕ)) (references : List Reference) where
         × (is ≡ xs ++ instr op.JUMP_FALSE (pos (at + length xs + 1 + length ys + 1)) 0 line ∷ (ys ++ instr op.JUMP (pos at) 0 line ∷ []))
     IsStmtCode at (Repeat line ss x) is =
         (ys xs : List Instr) × AreStmtsCode at ss ys × IsExprCode texts references line (at + length ys) x xs × (is ≡ ys ++ (xs ++ instr op.JUMP_FALSE (pos at) 0 line ∷ []))
-    -- The jump to what comes next has the tick for the step that the statement spends when the call is done.
-    IsStmtCode at (Procedure line unit number given) is =
-        (xs : List Instr) × (k : ℕ) × AreActualsCode line at given xs × (slice_get references k ≡ Some (reference unit number))
-        × (is ≡ xs ++ instr op.CALL (pos k) 0 line ∷ instr op.JUMP (pos (at + length xs + 2)) 0 line ∷ [])
+    -- that of a function designator: the jump behind the call has the tick for the step that the statement spends when the call is done
+    IsStmtCode at (Procedure line unit number given) is = IsExprCode texts references line at (Function unit number given) is
     IsStmtCode at (Case line x arms o) is =
         (xs ys zs : List Instr) × IsExprCode texts references line at x xs × AreArmsCode line (at + length xs + 1) (at + length xs + 2) arms ys × IsOtherCode line (at + length xs + 2 + length ys) o zs
         × (is ≡ xs ++ instr op.JUMP (pos (at + length xs + 2)) 0 line ∷ instr op.JUMP (pos (at + length xs + 2 + length ys + length zs)) 0 line ∷ (ys ++ zs))
@@ -166,6 +155,18 @@ abbrev pub take_all_code : List UnitType → ℕ → ℕ → List Formal → Lis
 take_all_code types line number [] = []
 take_all_code types line number (f ∷ fs) = take_code types line number f.mode f ++ take_all_code types line (suc number) fs
 
--- the end of a routine, which no statement asks for
+-- the instruction that leaves a routine, which no statement asks for
 abbrev pub return_code : Instr
 return_code = bare code.NO_LINE op.RETURN
+
+-- The end of a function that is declared on this line, which begins at this place: it leaves the value of the variable of
+-- this number, or ends with an error where that is undefined.
+abbrev pub result_code : ℕ → ℕ → ℕ → List Instr
+result_code line number at =
+    instr op.SLOT (pos number) 0 line ∷ bare line op.DUP ∷ bare line op.DEFINED ∷ instr op.JUMP_FALSE (pos (at + 6)) 0 line ∷ bare line op.LOAD ∷ bare line op.RETURN
+    ∷ instr op.FAIL (pos run_error.RESULT_UNDEFINED) 0 line ∷ []
+
+-- the end of a routine, where a function has its result in the variable of this number
+abbrev pub end_code : ℕ → ℕ → ℕ → Option RoutineResult → List Instr
+end_code line number at None = return_code ∷ []
+end_code line number at (Some r) = result_code line number at

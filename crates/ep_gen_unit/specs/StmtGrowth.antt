@@ -4,19 +4,20 @@ use Rattle.ep_gen_expr.specs.ExprCode.{IsExprCode, instr}
 use Rattle.ep_gen_expr.specs.Growth.{TableGrows, Grows, IsTable, AreDistinct}
 use Rattle.ep_gen_expr.specs.Jumps.{landed}
 use Rattle.ep_gen_expr.specs.declared.code.Code.{Code}
-use Rattle.ep_gen_unit.specs.StmtCode.{IsActualCode, AreActualsCode, IsItemCode, AreItemsCode, IsStmtCode, AreStmtsCode, make_all_code, return_code, AreArmsCode, IsOtherCode, tests_code}
-use Rattle.ep_gen_unit.specs.UnitCode.{AreRoutinesCode, own_code, entry_of}
+use Rattle.ep_gen_unit.specs.StmtCode.{IsItemCode, AreItemsCode, IsStmtCode, AreStmtsCode, make_all_code, return_code, end_code, AreArmsCode, IsOtherCode, tests_code}
+use Rattle.ep_gen_unit.specs.UnitCode.{AreRoutinesCode, own_code, entry_of, its_end}
 use Rattle.ep_object.specs.declared.code.CodeRoutine.{CodeRoutine}
 use Rattle.ep_object.specs.declared.code.Instr.{Instr}
 use Rattle.ep_object.specs.declared.code.Object.{Object}
 use Rattle.ep_object.specs.declared.op.TheConstants as op
 use Rattle.ep_typed.specs.Nodes.{stmt_nodes}
+use Rattle.ep_typed.specs.Routines.{made_variables, result_variable}
 use Rattle.ep_typed.specs.Viewed.{stmt_of}
 use Rattle.ep_typed.specs.declared.unit.Unit.{Unit as TypedUnit}
 use Rattle.ep_typed.specs.declared.unit.UnitRoutine.{UnitRoutine}
 use Rattle.ep_typed.specs.declared.unit.UnitRoutine.TheViews.{out-UnitRoutine}
 use Rattle.ep_typed.specs.declared.unit.UnitType.{UnitType}
-use Rattle.ep_typed.specs.Trees.{Actual, Item, Stmt, Stmts, Expr, Arms, Other}
+use Rattle.ep_typed.specs.Trees.{Item, Stmt, Stmts, Expr, Arms, Other}
 use Rattle.ep_typed.specs.declared.tree.CaseRange.{CaseRange}
 
 -- these instructions are appended, the line is any, and all else is as before but for new items of the two tables
@@ -36,18 +37,6 @@ pub record AppendsItem (old new : Code) (i : Item) : Type 0 where
 pub record AppendsItems (old new : Code) (items : List Item) (ends_line : Bool) : Type 0 where
   pub code : List Instr
   pub is_code : AreItemsCode new.texts new.references old.line (length old.instructions) items ends_line code
-  pub grows : Grows old new code
-
--- the code of the actual parameter is appended
-pub record AppendsActual (old new : Code) (a : Actual) : Type 0 where
-  pub code : List Instr
-  pub is_code : IsActualCode new.texts new.references old.line (length old.instructions) a code
-  pub grows : Grows old new code
-
--- the code of the actual parameters is appended
-pub record AppendsActuals (old new : Code) (given : List Actual) : Type 0 where
-  pub code : List Instr
-  pub is_code : AreActualsCode new.texts new.references old.line (length old.instructions) given code
   pub grows : Grows old new code
 
 -- the code of the statement is appended, at most 32 instructions for each typed node
@@ -106,12 +95,12 @@ pub record AppendsStart (old new : Code) (u : TypedUnit) (stop_entry : ℕ) : Ty
   pub stops : stop_entry ≡ length old.instructions + length (make_all_code u.types 0 u.variables) + length code + 1
   pub small : IsTable new.instructions
 
--- the code of a routine of a unit with these types is appended: what makes its variables, its block, and a `Return`
+-- the code of a routine of a unit with these types is appended: what makes its variables, its block, and its end
 pub record AppendsRoutine (old new : Code) (types : List UnitType) (r : UnitRoutine) (x : CodeRoutine) : Type 0 where
   pub plain : x ≡ entry_of (length old.instructions) r
   pub code : List Instr
   pub is_code : IsStmtCode new.texts new.references (length old.instructions + length (own_code types r)) (stmt_of (out-UnitRoutine r).block) code
-  pub follows : Follows old new (own_code types r ++ (code ++ return_code ∷ []))
+  pub follows : Follows old new (own_code types r ++ (code ++ its_end (length old.instructions + length (own_code types r) + length code) r))
 
 -- the code of routines is appended, and these are their entries
 pub record AppendsRoutines (old new : Code) (types : List UnitType) (rs : List UnitRoutine) (entries : List CodeRoutine) : Type 0 where
@@ -144,3 +133,19 @@ assembled name code routines start slots = record {
   stop = start + 1;
   instructions = code.instructions;
 }
+
+-- The code that makes the variables of a routine's own is appended, of a unit with these types, and the routine has so many
+-- slots.
+pub record MakesOwn (old new : Code) (types : List UnitType) (r : UnitRoutine) (slots : ℕ) : Type 0 where
+  pub follows : Follows old new (let parts = out-UnitRoutine r in make_all_code types (length parts.formals) (made_variables r))
+  pub count : slots ≡ (let parts = out-UnitRoutine r in length parts.formals + length (made_variables r))
+
+-- The code that makes the variable of a routine's result is appended, where it has one, and the first variable behind it
+-- has this number.
+pub record MakesResult (old new : Code) (types : List UnitType) (r : UnitRoutine) (first : ℕ) : Type 0 where
+  pub follows : Follows old new (let parts = out-UnitRoutine r in make_all_code types (length parts.formals) (result_variable parts.name parts.line parts.result))
+  pub count : first ≡ (let parts = out-UnitRoutine r in length parts.formals + length (result_variable parts.name parts.line parts.result))
+
+-- the code with which a routine ends is appended, where a function has its result in the variable of this number
+abbrev pub AppendsEnd : Code → Code → UnitRoutine → ℕ → Type 0
+AppendsEnd old new r number = let parts = out-UnitRoutine r in Follows old new (end_code parts.line number (length old.instructions) parts.result)

@@ -1,11 +1,12 @@
 -- Which object is the code of a program: its start makes the variables and runs the block, its stop does nothing, and behind
 -- them stands the code of its routines.
 use Rattle.std.specs.Prelude.{◌≡◌, ℕ, ◌+◌, false, List, [], ◌∷◌, ◌++◌, Some, length, slice_get}
-use Rattle.ep_gen_unit.specs.StmtCode.{IsStmtCode, take_all_code, make_all_code, return_code}
+use Rattle.ep_gen_unit.specs.StmtCode.{IsStmtCode, take_all_code, make_all_code, return_code, end_code}
 use Rattle.ep_object.specs.declared.code.CodeRoutine.{CodeRoutine}
 use Rattle.ep_object.specs.declared.code.Instr.{Instr}
 use Rattle.ep_object.specs.declared.code.Object.{Object}
 use Rattle.ep_object.specs.declared.code.Reference.{Reference}
+use Rattle.ep_typed.specs.Routines.{made_variables}
 use Rattle.ep_typed.specs.Viewed.{stmt_of}
 use Rattle.ep_typed.specs.declared.unit.Unit.{Unit as TypedUnit}
 use Rattle.ep_typed.specs.declared.unit.UnitRoutine.{UnitRoutine}
@@ -27,25 +28,29 @@ pub record StandsIn (instructions : List Instr) (place : ℕ) (code : List Instr
   pub is : instructions ≡ before ++ (code ++ after)
   pub from : length before ≡ place
 
--- the code with which a routine of a unit with these types begins: its formal parameters take the arguments, and its
--- variables are made
+-- the code with which a routine of a unit with these types begins: its formal parameters take the arguments, and the
+-- variables of its own are made, of which the one that has its result is the first
 abbrev pub own_code : List UnitType → UnitRoutine → List Instr
 own_code types r =
     let parts = out-UnitRoutine r in
-    take_all_code types parts.line 0 parts.formals ++ make_all_code types (length parts.formals) parts.variables
+    take_all_code types parts.line 0 parts.formals ++ make_all_code types (length parts.formals) (made_variables r)
 
 -- the entry of a routine, with an argument for each formal parameter and a slot for each variable
 abbrev pub entry_of : ℕ → UnitRoutine → CodeRoutine
-entry_of entry r = let parts = out-UnitRoutine r in routine_at entry (length parts.formals) (length parts.formals + length parts.variables)
+entry_of entry r = let parts = out-UnitRoutine r in routine_at entry (length parts.formals) (length parts.formals + length (made_variables r))
+
+-- the code with which a routine ends, at this place
+abbrev pub its_end : ℕ → UnitRoutine → List Instr
+its_end at r = let parts = out-UnitRoutine r in end_code parts.line (length parts.formals) at parts.result
 
 -- At the entry of a routine of a unit with these types stands the code with which it begins, and behind that the one of its
--- block, and a `Return`.
+-- block, and that with which it ends.
 pub record IsRoutineCode (texts : List (List ℕ)) (references : List Reference) (instructions : List Instr)
     (types : List UnitType) (r : UnitRoutine) (x : CodeRoutine) : Type 0 where
   pub plain : x ≡ entry_of x.entry r
   pub code : List Instr
   pub is_code : IsStmtCode texts references (x.entry + length (own_code types r)) (stmt_of (out-UnitRoutine r).block) code
-  pub stands : StandsIn instructions x.entry (own_code types r ++ (code ++ return_code ∷ []))
+  pub stands : StandsIn instructions x.entry (own_code types r ++ (code ++ its_end (x.entry + length (own_code types r) + length code) r))
 
 -- the routines of a unit have these entries, one for each and in order
 pub record AreRoutinesCode (texts : List (List ℕ)) (references : List Reference) (instructions : List Instr)

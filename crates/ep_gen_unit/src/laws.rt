@@ -12,7 +12,8 @@ pub fn laws_of_statements()
 {}
 
 /// Does nothing: its contract states that wherever the object of a unit stands in an image, its start routine simulates
-/// the meaning of the unit's start, and its stop routine a stop that does nothing.
+/// the meaning of the unit's start, and its stop routine a stop that does nothing, and that its procedures and functions
+/// keep their promises for what calls of them mean.
 pub fn laws_of_units()
     ensures starts { StartsAreSimulated }
     ensures starts_under { StartsAreSimulatedUnder }
@@ -22,9 +23,9 @@ pub fn laws_of_units()
 
 /// Does nothing: its contract states that a run of the image of a program tells what the program means. A run that has
 /// ended has done the same events and ended in the same way, and the events of one that goes on are a front of those of
-/// the meaning, and begin with all that the meaning does in one step for 64 ticks. Only where the meaning needs more words
-/// or types than every run has room for may the machine have ended for want of storage. A run that has ended after exactly
-/// t ticks and the m steps of the meaning, by its end or where room was lost, have m at most 64 * (t + 1) and t at most
+/// the meaning, and begin with all that the meaning does in one step for 64 ticks. Only where the meaning needs more words,
+/// types or calls in each other than every run has room for may the machine have ended for want of storage or of depth. A
+/// run that has ended after exactly t ticks and the m steps of the meaning, by its end or where room was lost, have m at most 64 * (t + 1) and t at most
 /// 64 * (m + 1).
 pub fn laws_of_programs()
     ensures tell { ProgramsTell }

@@ -1,17 +1,19 @@
 //! The object of a program.
 
-ghost use Rattle.std.specs.Prelude.{◌≡◌, ◌+◌, ◌<◌, ◌^◌, OnOk, IfOk};
+ghost use Rattle.std.specs.Prelude.{◌≡◌, ◌+◌, ◌<◌, ◌^◌, OnOk, IfOk, length};
 ghost use Rattle.ep_typed.specs.declared.value.TypeValue.TheVariants.{Ordinal};
 ghost use Rattle.ep_gen_expr.specs.Growth.{Grows};
-ghost use Rattle.ep_gen_unit.specs.StmtCode.{type_code, elaborating_code, make_code, make_all_code, value_code, place_taken, take_code, take_all_code};
-ghost use Rattle.ep_gen_unit.specs.StmtGrowth.{AppendsStart, AppendsRoutine, AppendsRoutines, Follows, IsCompact, assembled};
+ghost use Rattle.ep_gen_unit.specs.StmtCode.{result_code, type_code, elaborating_code, make_code, make_all_code, value_code, place_taken, take_code, take_all_code};
+ghost use Rattle.ep_gen_unit.specs.StmtGrowth.{AppendsEnd, AppendsStart, AppendsRoutine, AppendsRoutines, Follows, IsCompact, MakesOwn, MakesResult, assembled};
 ghost use Rattle.ep_gen_unit.specs.UnitCode.{IsProgramCode, routine_at};
 
 use crate::statements::statement_code;
 use ep_base::{Line, List, Name, NoMemory};
 use ep_gen_expr::{Code, NO_LINE, emit, field_number, next_place};
 use ep_object::{CodeRoutine, CodeRoutines, Object, op};
-use ep_typed::{Formal, FormalMode, TypeValue, Unit, UnitRoutine, UnitType, UnitVariable, type_of};
+use ep_typed::{
+    Formal, FormalMode, TypeValue, Unit, UnitRoutine, UnitType, UnitVariable, run_error, type_of,
+};
 use std::alloc::{AllocError, Global};
 
 /// The object of a program. Its first routines are those of the program, by their numbers; the one after them makes
@@ -84,16 +86,73 @@ fn routine_code(
     ensures { IfOk result (λ entry. AppendsRoutine code.old code.new types.now routine.now entry) }
 {
     let formals = routine.formals.items();
-    let variables = routine.variables.items();
     let arguments = field_number(formals.len())?;
-    let slots = field_sum(formals.len(), variables.len())?;
     let entry = next_place(code)?;
     take_all(types, routine.line, formals, code)?;
-    make_all(types, formals.len(), variables, code)?;
+    let slots = make_own(types, routine, code)?;
     statement_code(alloc, &routine.block, code)?;
-    code.line = NO_LINE;
-    emit(code, op::RETURN, 0, 0)?;
+    end_routine(routine, arguments, code)?;
     Ok(routine_at(entry, arguments, slots))
+}
+
+/// Appends the code that makes the variables of a routine's own, of which the one that has its result is the first, and
+/// answers how many slots the routine has.
+fn make_own(types: &[UnitType], routine: &UnitRoutine, code: &mut Code) -> Result<u32, NoMemory>
+    ensures { IfOk result (λ slots. MakesOwn code.old code.new types.now routine.now slots) }
+{
+    let variables = routine.variables.items();
+    let first = make_result(types, routine, code)?;
+    let slots = field_sum(first as usize, variables.len())?;
+    make_all(types, first as usize, variables, code)?;
+    Ok(slots)
+}
+
+/// Appends the code that makes the variable of a function's result, and answers the number of the first variable behind.
+fn make_result(types: &[UnitType], routine: &UnitRoutine, code: &mut Code) -> Result<u32, NoMemory>
+    ensures { IfOk result (λ first. MakesResult code.old code.new types.now routine.now first) }
+{
+    let slot = field_number(routine.formals.items().len())?;
+    match &routine.result {
+        None => Ok(slot),
+        Some(result) => {
+            let behind = field_sum(slot as usize, 1)?;
+            code.line = routine.line;
+            elaborate(type_of(types, &result.denoter), code)?;
+            emit(code, op::MAKE, slot as i64, 0)?;
+            Ok(behind)
+        }
+    }
+}
+
+/// Appends the code with which a routine ends. A function has its result in the variable of this number.
+fn end_routine(routine: &UnitRoutine, number: u32, code: &mut Code) -> Result<(), NoMemory>
+    ensures { OnOk result (AppendsEnd code.old code.new routine.now number) }
+{
+    match &routine.result {
+        None => {
+            code.line = NO_LINE;
+            emit(code, op::RETURN, 0, 0)
+        }
+        Some(_) => {
+            code.line = routine.line;
+            give_result(number, code)
+        }
+    }
+}
+
+/// Appends the code with which a function ends: it leaves the value of the variable of this number, or ends with an error
+/// where that is undefined.
+fn give_result(number: u32, code: &mut Code) -> Result<(), NoMemory>
+    ensures { OnOk result (Grows code.old code.new (result_code code.old.line number (length code.old.instructions))) }
+{
+    emit(code, op::SLOT, number as i64, 0)?;
+    emit(code, op::DUP, 0, 0)?;
+    emit(code, op::DEFINED, 0, 0)?;
+    let jump = next_place(code)?;
+    emit(code, op::JUMP_FALSE, (jump as u64 + 3) as i64, 0)?;
+    emit(code, op::LOAD, 0, 0)?;
+    emit(code, op::RETURN, 0, 0)?;
+    emit(code, op::FAIL, run_error::RESULT_UNDEFINED as i64, 0)
 }
 
 /// The object of the code.

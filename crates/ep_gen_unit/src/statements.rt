@@ -5,14 +5,14 @@
 ghost use Rattle.std.specs.Prelude.{OnOk, map, IfOk, ◌<◌, length, [], ◌∷◌};
 ghost use Rattle.ep_typed.specs.Trees.{Compound, Assign, If, While, Repeat, Procedure, Halt, Write, stmts};
 ghost use Rattle.ep_typed.specs.Viewed.{expr_of, actual_of, item_of, place_of, stmt_of, arm_of};
-ghost use Rattle.ep_gen_unit.specs.StmtGrowth.{AppendsActual, AppendsActuals, AppendsStmt, AppendsStmts, AppendsArms, ClosesCase, OpensCase};
+ghost use Rattle.ep_gen_unit.specs.StmtGrowth.{AppendsStmt, AppendsStmts, AppendsArms, ClosesCase, OpensCase};
 ghost use Rattle.ep_typed.specs.Trees as tree;
 
 use crate::items::items_code;
 use crate::ranges::tests_code;
 use ep_base::{Line, Name, NoMemory};
 use ep_gen_expr::{
-    Code, emit, expression_code, land, leave_hole, next_place, place_code, reference_number,
+    Code, call_code, emit, expression_code, land, leave_hole, next_place, place_code,
 };
 use ep_object::op;
 use ep_typed::{Actual, CaseArm, TypedExpr, TypedPlace, TypedStmt, WriteItem, run_error};
@@ -155,8 +155,8 @@ fn repeat_code(
     emit(code, op::JUMP_FALSE, start as i64, 0)
 }
 
-/// Appends the code of a procedure statement: the actual parameters, the call, and a jump to what comes next, which takes
-/// the tick for the step that the statement spends when the call is done.
+/// Appends the code of a procedure statement, which is a call. The jump behind the call takes the tick for the step that
+/// the statement spends when the call is done.
 fn procedure_code(
     alloc: Global,
     line: Line,
@@ -165,35 +165,11 @@ fn procedure_code(
     given: &[Actual],
     code: &mut Code,
 ) -> Result<(), NoMemory>
-    ensures { OnOk result (AppendsStmt code.old code.new (Procedure line unit.now number (map actual_of given.now))) }
+    ensures { OnOk result (AppendsStmt code.old code.new
+        (Procedure line unit.now number (tree.actuals (map actual_of given.now)))) }
 {
     code.line = line;
-    actuals_code(alloc, given, code)?;
-    let routine = reference_number(alloc, unit, number, code)?;
-    emit(code, op::CALL, routine as i64, 0)?;
-    let next = next_place(code)? + 1;
-    emit(code, op::JUMP, next as i64, 0)
-}
-
-/// Appends the code of actual parameters one after another.
-fn actuals_code(alloc: Global, given: &[Actual], code: &mut Code) -> Result<(), NoMemory>
-    ensures { OnOk result (AppendsActuals code.old code.new (map actual_of given.now)) }
-{
-    for actual in given {
-        actual_code(alloc, actual, code)?;
-    }
-    Ok(())
-}
-
-/// Appends the code of an actual parameter, which leaves the value or the place.
-#[tactic(auto, using(crate::proofs::ActualForms::actual_forms))]
-fn actual_code(alloc: Global, actual: &Actual, code: &mut Code) -> Result<(), NoMemory>
-    ensures { OnOk result (AppendsActual code.old code.new (actual_of actual.now)) }
-{
-    match actual {
-        Actual::Value(value) => expression_code(alloc, value.get(), code),
-        Actual::Variable(place) => place_code(alloc, place, code),
-    }
+    call_code(alloc, unit, number, given, code)
 }
 
 /// Appends the beginning of the code of a `case`: the selector, the jump over the one jump out of the `case`, a filler for
