@@ -2,7 +2,7 @@
 use Rattle.std.proofs.Common.{◌≡◌, ℕ, ℤ, Bool, true, false, List, ◌∷◌, [], Option, Some, None, refl, ap, subst}
 use Rattle.std.specs.Prelude.{if◌then◌else◌}
 use Rattle.ep_typed.specs.Hosts.{is_of_host}
-use Rattle.ep_typed.specs.Trees.{Expr, Constant, Text, Read, One, Two, Short, Step}
+use Rattle.ep_typed.specs.Trees.{Expr, Constant, Text, Read, One, Two, Short, Step, Function}
 use Rattle.ep_typed.specs.Valid.{Declarations}
 use Rattle.ep_typed.specs.declared.value.Value.TheVariants as value
 use Rattle.ep_tree.specs.declared.expression.Expression.{Expression}
@@ -117,6 +117,7 @@ same_kind k (Some (One operation x)) c e = folded_kind k (folded (One operation 
 same_kind k (Some (Two operation x y)) c e = folded_kind k (folded (Two operation x y)) c e
 same_kind k (Some (Short operation x y)) c e = folded_kind k (folded (Short operation x y)) c e
 same_kind k (Some (Step down low high x y)) c e = folded_kind k (folded (Step down low high x y)) c e
+same_kind k (Some (Function unit number given)) c e = folded_kind k (folded (Function unit number given)) c e
 
 -- a constant has the kind of its expression
 known_constant : (scopes : List Region) (kind : Kind) (form : Option Expr) → IsKnownKind scopes kind → (c : ConstantForm) → constant_of kind form ≡ Accepts c → IsKnownKind scopes c.kind

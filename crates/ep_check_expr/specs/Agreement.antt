@@ -3,7 +3,7 @@ use Rattle.std.specs.Prelude.{◌≡◌, ℕ, pos, List, [], ◌∷◌, Option, 
 use Rattle.ep_typed.specs.Denoters.{host_of, type_of}
 use Rattle.ep_typed.specs.Hosts.{greatest, is_of_host}
 use Rattle.ep_typed.specs.Operations.{maxint}
-use Rattle.ep_typed.specs.Trees.{Place, Variable, Own, Expr, Constant, Text, Read, One, Two, Short, Step}
+use Rattle.ep_typed.specs.Trees.{Place, Variable, Own, Expr, Constant, Text, Read, One, Two, Short, Step, Function}
 use Rattle.ep_typed.specs.Valid.{Declarations, IsPlace, IsExpr, IsProcedure, IsVariableOf}
 use Rattle.ep_typed.specs.Valid as valid
 use Rattle.ep_typed.specs.Viewed.{denoter_of}
@@ -47,6 +47,7 @@ IsFile (One operation x) = ⊥
 IsFile (Two operation x y) = ⊥
 IsFile (Short operation x y) = ⊥
 IsFile (Step down low high x y) = ⊥
+IsFile (Function unit number given) = ⊥
 
 -- the type value of each type, where it has one
 abbrev pub TypeValues : Type 0

@@ -1,7 +1,7 @@
 -- What is known of a typed form as a constant, by the operations that a run has (ISO 10206, 6.8.2).
 use Rattle.std.specs.Prelude.{◌≡◌, ℤ, Result, Ok, Err, if◌then◌else◌}
 use Rattle.ep_typed.specs.Operations.{Answer, Number, Fault, is_integer, decides, unary_answer, binary_answer, step_answer}
-use Rattle.ep_typed.specs.Trees.{Expr, Constant, Text, Read, One, Two, Short, Step}
+use Rattle.ep_typed.specs.Trees.{Expr, Constant, Text, Read, One, Two, Short, Step, Function}
 use Rattle.ep_typed.specs.declared.operations.ShortOperation.{ShortOperation}
 use Rattle.ep_check_expr.specs.declared.folding.Folded.{Folded}
 use Rattle.ep_check_expr.specs.declared.folding.Folded.TheVariants.{Known, Varies, Errs}
@@ -36,7 +36,7 @@ short_folded operation Errs (Known z) = Errs
 short_folded operation Errs Varies = Varies
 short_folded operation Errs Errs = Errs
 
--- a number, or that a variable is read, or else that there would be an error
+-- a number, or that a variable is read or a function called, or else that there would be an error
 abbrev pub folded : Expr → Folded
 folded (Constant z) = Known z
 folded (Text bytes) = Errs
@@ -45,6 +45,7 @@ folded (One operation x) = one_folded (unary_answer operation) (folded x)
 folded (Two operation x y) = two_folded (binary_answer operation) (folded x) (folded y)
 folded (Short operation x y) = short_folded operation (folded x) (folded y)
 folded (Step down low high x count) = two_folded (step_answer down low high) (folded x) (folded count)
+folded (Function unit number given) = Varies
 
 -- two numbers, or what is known of a form of the two
 abbrev pub AnswersPair : Folded → Folded → Result (ℤ × ℤ) Folded → Type 0

@@ -14,7 +14,7 @@ use ep_typed::{Binary, ShortOperation, TypedExpr, Unary};
 pub enum Folded {
     /// The number of this value.
     Known(i64),
-    /// No constant, since a variable is read.
+    /// No constant, since a variable is read or a function is called.
     Varies,
     /// No constant, since there would be an error.
     Errs,
@@ -29,6 +29,7 @@ pub fn folded_form(e: &TypedExpr) -> Folded
         TypedExpr::Constant(value) => Folded::Known(*value),
         TypedExpr::Text(_) => Folded::Errs,
         TypedExpr::Read(_) => Folded::Varies,
+        TypedExpr::Function(_, _, _) => Folded::Varies,
         TypedExpr::Unary(operation, operand) => {
             match folded_form(operand.get()) {
                 Folded::Known(x) => unary(*operation, x),

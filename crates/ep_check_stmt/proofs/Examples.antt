@@ -9,7 +9,7 @@ use Rattle.ep_tree.specs.declared.expression.Factor.{Factor, out-Factor, out-rol
 use Rattle.ep_tree.specs.declared.expression.Factor.TheVariants as factor
 use Rattle.ep_tree.specs.declared.expression.Simple.{out-roll-Simple}
 use Rattle.ep_tree.specs.declared.expression.Term.{out-roll-Term}
-use Rattle.ep_typed.specs.Trees.{Stmt, Accessed, Constant, Evaluated, Procedure, Variable}
+use Rattle.ep_typed.specs.Trees.{Stmt, Accessed, Constant, Evaluated, Procedure, Variable, actuals}
 use Rattle.ep_typed.specs.declared.denoter.RequiredType.{RequiredType}
 use Rattle.ep_typed.specs.declared.denoter.RequiredType.TheVariants as simple
 use Rattle.ep_typed.specs.declared.interface.FormalMode.{FormalMode}
@@ -71,7 +71,7 @@ factor-out : (a : Access) → out-Factor (factor.Access a) ≡ Factor-F.Access a
 factor-out a = ap out-Factor (sym (factor.rolls-Access a)) ∙ out-roll-Factor (Factor-F.Access a)
 
 -- p(3, x)
-value_and_variable : called (number 3 ∷ name (codes "x") ∷ []) ≡ Accepts (Some (Procedure 1 (codes "u") 0 (Evaluated (Constant (pos 3)) ∷ Accessed (Variable (codes "u") 0) ∷ [])))
+value_and_variable : called (number 3 ∷ name (codes "x") ∷ []) ≡ Accepts (Some (Procedure 1 (codes "u") 0 (actuals (Evaluated (Constant (pos 3)) ∷ Accessed (Variable (codes "u") 0) ∷ []))))
 value_and_variable = simp (out-roll-Argument, out-roll-Expression, out-roll-Simple, out-roll-Term, factor-out, expression-judged, simple-judged, term-judged, number-judged) refl
 
 -- p(3)

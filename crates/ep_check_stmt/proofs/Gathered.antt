@@ -1,6 +1,5 @@
 -- What is made of arguments, gathered one after another.
 use Rattle.std.proofs.Common.{◌≡◌, ℕ, ◌+◌, ◌<◌, List, [], ◌∷◌, ◌++◌, map, drop, length, get_or, Option, Some, None, refl, sym, ap, ◌∙◌, subst, append_assoc}
-use Rattle.std.specs.Option.{option_map}
 use Rattle.ep_check_expr.specs.Functions.{Given}
 use Rattle.ep_check_expr.specs.Judgements.{Judged, Accepts, Breaks, both, when_accepted}
 use Rattle.ep_check_expr.specs.declared.forms.Refusal.{Refusal}
@@ -17,16 +16,6 @@ gathered found (Breaks rules) = Breaks rules
 gathered found (Accepts None) = Accepts None
 gathered None (Accepts (Some more)) = Accepts None
 gathered (Some found) (Accepts (Some more)) = Accepts (Some (found ++ more))
-
--- one more at the end, in the view of each
-pub viewed_after : {T A : Type 0} (view : T → A) (found : Option (List T)) (x : Option T) → option_map (map view) (one_after found x) ≡ one_after (option_map (map view) found) (option_map view x)
-viewed_after view found None = refl
-viewed_after view None (Some x) = refl
-viewed_after view (Some found) (Some x) = ap Some (pushed found x)
-  where
-    pushed : (xs : List _) (x : _) → map view (xs ++ x ∷ []) ≡ map view xs ++ view x ∷ []
-    pushed [] x = refl
-    pushed (y ∷ xs) x = ap (λ ys. view y ∷ ys) (pushed xs x)
 
 -- one more that comes
 one_taken : {A : Type 0} (found : Option (List A)) (x : Option A) (rest : Judged (Option (List A)))

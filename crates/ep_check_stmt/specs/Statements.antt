@@ -294,7 +294,7 @@ module _ (context : Context) where
 
   -- a procedure of a unit is called (ISO 10206, 6.9.2.3)
   abbrev pub own_called : ℕ → Declared → List FormalParameter → List Argument → Judged (Option Stmt)
-  own_called line d parameters arguments = when_accepted (λ given. Accepts (option_map (tree.Procedure line d.unit d.number) given)) (arguments_judged context.scopes parameters arguments)
+  own_called line d parameters arguments = when_accepted (λ given. Accepts (option_map (λ xs. tree.Procedure line d.unit d.number (tree.actuals xs)) given)) (arguments_judged context.scopes parameters arguments)
 
   -- nothing else that is declared is a statement
   abbrev pub declared_called : ℕ → Declared → Declaration → List Argument → Judged (Option Stmt)

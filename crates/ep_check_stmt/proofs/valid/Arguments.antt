@@ -38,6 +38,10 @@ use Rattle.ep_check_stmt.proofs.judged.SameType.{type_same}
 use Rattle.ep_check_stmt.proofs.valid.Passing.{IfForm}
 
 module _ (declared : Declarations) where
+  -- what is given for these formal parameters is valid
+  abbrev pub AreTaken : List UnitType → List Formal → List Actual → Type 0
+  AreTaken list fs given = AreGiven declared list fs (tree.actuals given)
+
   -- ---- values that are given
 
   module _ {A : Type 0} (P : A → Type 0) (form : Expr → A) (h : Host) (fits : (x : Expr) → IsExpr declared (valid.Ordinal (typed_host h)) x → P (form x)) where
@@ -128,18 +132,18 @@ module _ (declared : Declarations) where
           (fits_both Any (IfForm (IsGiven declared list p.mode f)) (IfForm (IsGiven declared list p.mode f)) (λ done actual. Accepts actual) (without_width (out-Argument a).width) (actual_judged scopes p.mode p (out-Argument a).value)
           (fits_any (without_width (out-Argument a).width)) (actual_fits p.mode (out-Argument a).value) (λ done actual q x. x))
 
-    more_fits : (f : Formal) (fs : List Formal) (x : Option Actual) (xs : Option (List Actual)) → IfForm (IsGiven declared list f.mode f) x → IfForm (AreGiven declared list fs) xs → IfForm (AreGiven declared list (f ∷ fs)) (one_more x xs)
+    more_fits : (f : Formal) (fs : List Formal) (x : Option Actual) (xs : Option (List Actual)) → IfForm (IsGiven declared list f.mode f) x → IfForm (AreTaken list fs) xs → IfForm (AreTaken list (f ∷ fs)) (one_more x xs)
     more_fits f fs None xs h g = tt
     more_fits f fs (Some x) None h g = tt
     more_fits f fs (Some x) (Some xs) h g = (h, g)
 
     -- one for each formal parameter
-    pub arguments_fit : (ps : List FormalParameter) (fs : List Formal) (arguments : List Argument) → AreParameters types list ps fs → Fits (IfForm (AreGiven declared list fs)) (arguments_judged scopes ps arguments)
+    pub arguments_fit : (ps : List FormalParameter) (fs : List Formal) (arguments : List Argument) → AreParameters types list ps fs → Fits (IfForm (AreTaken list fs)) (arguments_judged scopes ps arguments)
     arguments_fit [] [] [] h = tt
     arguments_fit [] [] (a ∷ arguments) h = tt
     arguments_fit [] (f ∷ fs) arguments h = absurd h
     arguments_fit (p ∷ ps) [] arguments h = absurd h
     arguments_fit (p ∷ ps) (f ∷ fs) [] h = tt
     arguments_fit (p ∷ ps) (f ∷ fs) (a ∷ arguments) h =
-        fits_both (IfForm (IsGiven declared list f.mode f)) (IfForm (AreGiven declared list fs)) (IfForm (AreGiven declared list (f ∷ fs))) (λ x xs. Accepts (one_more x xs)) (argument_judged scopes p a) (arguments_judged scopes ps arguments)
+        fits_both (IfForm (IsGiven declared list f.mode f)) (IfForm (AreTaken list fs)) (IfForm (AreTaken list (f ∷ fs))) (λ x xs. Accepts (one_more x xs)) (argument_judged scopes p a) (arguments_judged scopes ps arguments)
         (argument_fits p f h.0 a) (arguments_fit ps fs arguments h.1) (λ x xs q r. more_fits f fs x xs q r)

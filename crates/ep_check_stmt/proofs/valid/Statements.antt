@@ -20,7 +20,7 @@ use Rattle.ep_typed.specs.Hosts as typed
 use Rattle.ep_typed.specs.Trees as tree
 use Rattle.ep_typed.specs.Trees.{Actual, Place, Expr, Item, Other, Stmt, Stmts}
 use Rattle.ep_typed.specs.Valid as valid
-use Rattle.ep_typed.specs.Valid.{AreGiven, AreItems, AreStmts, Declarations, IsExpr, IsItem, IsOther, IsPlace, IsStmt, WritesSomething, printed_kind}
+use Rattle.ep_typed.specs.Valid.{AreItems, AreStmts, Declarations, IsExpr, IsItem, IsOther, IsPlace, IsStmt, WritesSomething, printed_kind}
 use Rattle.ep_typed.specs.declared.operations.Print.{Print}
 use Rattle.ep_typed.specs.declared.tree.StandardFile.{StandardFile}
 use Rattle.ep_typed.specs.declared.tree.StandardFile.TheVariants as file
@@ -49,7 +49,7 @@ use Rattle.ep_check_stmt.specs.Cases.{CaseSelector, labelled, selecting, selecto
 use Rattle.ep_check_stmt.specs.Laws.{StatementsAreSound}
 use Rattle.ep_check_stmt.specs.Statements.{ArmJudged, Context, Judgement, Passes, Shown, after, arm_judged, arm_row, arms_in_order, assigned, at_arm, at_compound, at_item, at_otherwise, at_statement, available, call_arguments, call_judged, case_judged, compound_judged, condition, condition_judged, declared_called, declared_target, file_given, formed, if_judged, in_order, item_form, item_judged, items_judged, measured, name_called, own_called, otherwise_judged, place_named, procedure_called, required_called, shown, something, statement_judged, target_judged, tested, to_file, usually_written, width_judged, write_judged, written, written_or}
 use Rattle.ep_check_stmt.proofs.judged.Fits.{Any, Fits, fits_any, fits_both, fits_is, fits_then, fits_weaker}
-use Rattle.ep_check_stmt.proofs.valid.Arguments.{arguments_fit, given_fits}
+use Rattle.ep_check_stmt.proofs.valid.Arguments.{AreTaken, arguments_fit, given_fits}
 use Rattle.ep_check_stmt.proofs.valid.Passing.{FitsRow, IfForm, after_fits, formed_fits, item_fits}
 use Rattle.ep_check_stmt.proofs.valid.Cases.{BodiesFit, IsSelected, labelled_fits, row_fits as arms_row_fits}
 
@@ -318,15 +318,15 @@ module _ (declared : Declarations) (expressions : ExpressionsAreSound) (values :
 
   -- a call of a procedure with arguments that are valid for its formal parameters
   call_form : (line : ℕ) (d : Declared) (parameters : List FormalParameter) (x : IsProcedureOf declared agrees.0 d.unit d.number parameters) (given : Option (List Actual))
-      → IfForm (AreGiven declared (declared.types d.unit) x.0.formals) given → IfForm (IsStmt declared) (option_map (tree.Procedure line d.unit d.number) given)
+      → IfForm (AreTaken declared (declared.types d.unit) x.0.formals) given → IfForm (IsStmt declared) (option_map (λ xs. tree.Procedure line d.unit d.number (tree.actuals xs)) given)
   call_form line d parameters x None h = tt
   call_form line d parameters x (Some given) h = (x.0, x.1, x.2, h)
 
   own_fits : (c : Context) → c.scopes ≡ scopes → (line : ℕ) (d : Declared) (parameters : List FormalParameter) (arguments : List Argument) → IsProcedureOf declared agrees.0 d.unit d.number parameters
       → Fits (IfForm (IsStmt declared)) (own_called c line d parameters arguments)
   own_fits c is line d parameters arguments x =
-      subst (λ s. Fits (IfForm (IsStmt declared)) (when_accepted (λ given. Accepts (option_map (tree.Procedure line d.unit d.number) given)) (arguments_judged s parameters arguments))) (sym is)
-      (fits_then (IfForm (AreGiven declared (declared.types d.unit) x.0.formals)) (IfForm (IsStmt declared)) (λ given. Accepts (option_map (tree.Procedure line d.unit d.number) given)) (arguments_judged scopes parameters arguments)
+      subst (λ s. Fits (IfForm (IsStmt declared)) (when_accepted (λ given. Accepts (option_map (λ xs. tree.Procedure line d.unit d.number (tree.actuals xs)) given)) (arguments_judged s parameters arguments))) (sym is)
+      (fits_then (IfForm (AreTaken declared (declared.types d.unit) x.0.formals)) (IfForm (IsStmt declared)) (λ given. Accepts (option_map (λ xs. tree.Procedure line d.unit d.number (tree.actuals xs)) given)) (arguments_judged scopes parameters arguments)
       (arguments_fit declared agrees.0 scopes agrees.1 expression_fits (declared.types d.unit) parameters x.0.formals arguments x.3) (λ given h. call_form line d parameters x given h))
 
   declared_call_fits : (c : Context) → c.scopes ≡ scopes → (line : ℕ) (d : Declared) (what : Declaration) (arguments : List Argument) → IsDeclaration declared agrees.0 d.unit d.number what → Fits (IfForm (IsStmt declared)) (declared_called c line d what arguments)

@@ -1,6 +1,8 @@
 -- Procedures lead from one block to the next, and so do all parts of a block.
-use Rattle.std.proofs.Common.{◌≡◌, ℕ, zero, suc, ◌≤◌, Bool, true, false, not, ◌||◌, List, [], ◌∷◌, ◌++◌, map, length, Option, Some, None, slice_get, bytes_eq, refl, sym, ap, ◌∙◌, subst, append_assoc}
-use Rattle.std.proofs.lemmas.List.Elements.{All-cons, All-head, All-nil, All-push, All-tail}
+use Rattle.std.proofs.Common.{◌≡◌, ℕ, zero, suc, ◌≤◌, Bool, true, false, not, ◌||◌, List, [], ◌∷◌, ◌++◌, map, length, Option, Some, None, slice_get, bytes_eq, option_map, refl, sym, ap, ◌∙◌, subst, append_assoc}
+use Rattle.std.proofs.lemmas.List.{length-map, map_push}
+use Rattle.std.proofs.lemmas.List.Elements.{All-cons, All-get_or, All-head, All-nil, All-push, All-set, All-tail}
+use Rattle.std.proofs.lemmas.Option.{get_or_from_slice_get, slice_get-map, slice_get_within}
 use Rattle.std.specs.Prelude.{All, if◌then◌else◌}
 use Rattle.ep_tree.specs.declared.declaration.FormalSection.{FormalSection}
 use Rattle.ep_tree.specs.declared.declaration.FormalType.{FormalType}
@@ -40,7 +42,6 @@ use Rattle.ep_check_stmt.proofs.judged.Fits.{Any, Fits, fits_any, fits_pair, fit
 use Rattle.ep_typed.specs.declared.unit.UnitVariable.{UnitVariable}
 use Rattle.ep_check_unit.specs.Blocks.{Block, RoutineForm}
 use Rattle.ep_check_unit.specs.Declarations.{Headed, Standing, Stands, Falls, Written, and_then, at_line, block_declared, body_declared, body_ended, context_of, declared_procedure, entered, formal_of, formals_entered, forwarded, has_body, headed_again, headed_first, headed_over, headed_then, heading_declared, hidden_type, inside_declared, is_parameter, is_repeated, local_part_declared, local_parts_declared, own_thing, parameter_added, parameters_added, part_declared, parts_declared, procedure_declared, procedure_form, procedure_headed, procedure_there, scope_closed, scope_opened, section_judged, section_mode, section_type, sections_judged, set_to, start_declared, type_definitions, type_named, unused, with_block, with_body, with_its_block, with_name, with_procedure}
-use Rattle.ep_check_unit.proofs.Forms.{all_set}
 use Rattle.ep_check_unit.proofs.valid.Denoting.{Denotes}
 use Rattle.ep_check_unit.proofs.valid.Holds.{Holds, HoldsDeclaration, HoldsOwn, HoldsParameter, HoldsProcedure, HoldsRoutine, HoldsScopes, HoldsThing, HoldsThings, formals_valid, holds_agrees, holds_more, name_denotes}
 use Rattle.ep_check_unit.proofs.valid.Items.{LeadsOn, constants_lead, further, line_leads, then_leads, type_definitions-leads, variables_lead}
@@ -63,9 +64,7 @@ same_there : {A : Type 0} (o : Option A) (x y : A) → o ≡ Some x → o ≡ So
 same_there o x y e f = cc
 
 all_get : {A : Type 0} (P : A → Type 0) (xs : List A) (n : ℕ) (x : A) → All P xs → slice_get xs n ≡ Some x → P x
-all_get P [] n x h e = cc
-all_get P (y ∷ ys) zero x h e = let same : y ≡ x = cc in subst P same (All-head P y ys h)
-all_get P (y ∷ ys) (suc n) x h e = all_get P ys n x (All-tail P y ys h) e
+all_get P xs n x h e = subst P (get_or_from_slice_get xs n x x e) (All-get_or P xs n x (slice_get_within xs n x e) h)
 
 -- the first items of more
 all_front : {A : Type 0} (P : A → Type 0) (xs : List A) (y : A) → All P (xs ++ y ∷ []) → All P xs
@@ -79,17 +78,7 @@ all_between P (x ∷ xs) y ys h = all_between P xs y ys (All-tail P x (xs ++ y �
 
 -- a form at a place, and its heading there
 heading_at : (rs : List RoutineForm) (n : ℕ) (r : RoutineForm) → slice_get rs n ≡ Some r → slice_get (map heading_in rs) n ≡ Some (heading_in r)
-heading_at [] n r e = cc
-heading_at (x ∷ xs) zero r e = cc
-heading_at (x ∷ xs) (suc n) r e = heading_at xs n r e
-
-headings_push : (rs : List RoutineForm) (r : RoutineForm) → map heading_in (rs ++ r ∷ []) ≡ map heading_in rs ++ heading_in r ∷ []
-headings_push [] r = refl
-headings_push (x ∷ xs) r = ap (λ hs. heading_in x ∷ hs) (headings_push xs r)
-
-headings_length : (rs : List RoutineForm) → length (map heading_in rs) ≡ length rs
-headings_length [] = refl
-headings_length (r ∷ rs) = ap suc (headings_length rs)
+heading_at rs n r e = slice_get-map heading_in rs n ∙ ap (option_map heading_in) e
 
 -- headings stay where a routine gets its block
 set_headings : (line : ℕ) (vs : List UnitVariable) (s : Stmt) (rs : List RoutineForm) (n : ℕ) → map heading_in (set_to rs n (with_its_block line vs s) (slice_get rs n)) ≡ map heading_in rs
@@ -164,8 +153,8 @@ module _ (u : TypedUnit) (few : length u.constants ≤ maxint) (statements : Sta
   procedure_at : (name : List ℕ) (line : ℕ) (ps : List FormalParameter) (b : Block) → IsPrefix (map heading_in (b.routines ++ procedure_form name line ps ∷ [])) (map heading_of u.routines)
       → slice_get (map heading_of u.routines) (length b.routines) ≡ Some (heading_in (procedure_form name line ps))
   procedure_at name line ps b p =
-      subst (λ n. slice_get (map heading_of u.routines) n ≡ Some (heading_in (procedure_form name line ps))) (headings_length b.routines)
-      (prefix_last (map heading_in b.routines) (heading_in (procedure_form name line ps)) (map heading_of u.routines) (subst (λ hs. IsPrefix hs (map heading_of u.routines)) (headings_push b.routines (procedure_form name line ps)) p))
+      subst (λ n. slice_get (map heading_of u.routines) n ≡ Some (heading_in (procedure_form name line ps))) (length-map b.routines heading_in)
+      (prefix_last (map heading_in b.routines) (heading_in (procedure_form name line ps)) (map heading_of u.routines) (subst (λ hs. IsPrefix hs (map heading_of u.routines)) (map_push heading_in b.routines (procedure_form name line ps)) p))
 
   procedure_leads : (name : List ℕ) (line : ℕ) (ps : List FormalParameter) (b : Block) → ParametersHeld b ps → Leads u [] b (with_procedure name line ps b)
   procedure_leads name line ps b held = record {
@@ -177,7 +166,7 @@ module _ (u : TypedUnit) (few : length u.constants ≤ maxint) (statements : Sta
       parameters = refl;
       outer = refl;
       alone = λ e. refl;
-      headings = subst (IsPrefix (map heading_in b.routines)) (sym (headings_push b.routines (procedure_form name line ps))) (prefix_more (map heading_in b.routines) (heading_in (procedure_form name line ps) ∷ []));
+      headings = subst (IsPrefix (map heading_in b.routines)) (sym (map_push heading_in b.routines (procedure_form name line ps))) (prefix_more (map heading_in b.routines) (heading_in (procedure_form name line ps) ∷ []));
       waits = λ w. w;
     };
     holds = λ e w x. record {
@@ -357,13 +346,13 @@ module _ (u : TypedUnit) (few : length u.constants ≤ maxint) (statements : Sta
   routine_held line number c s None at same held owned valid = held
   routine_held line number c s (Some r) at same held owned valid =
       let old : HoldsRoutine u r = all_get (HoldsRoutine u) c.routines number r held at in
-      all_set (HoldsRoutine u) c.routines number (with_its_block line c.own.variables s r) held (record {
+      All-set (HoldsRoutine u) c.routines number (with_its_block line c.own.variables s r) (record {
         procedure = old.procedure;
         alone = old.alone;
         formals = old.formals;
         variables = owned;
         block = subst (λ fs. IsStmt (in_routine (map (formal_variable line) fs ++ c.own.variables) u.types (own u)) s) (sym (same r at)) valid;
-      })
+      }) held
 
   -- the unit holds what stands there, where the routine has the variables that were declared
   ended_held : (line : ℕ) (h : Headed) (c : Block) (compound : Compound) (ss : Stmts) → compound_judged (context_of c) compound ≡ Passes ss → ((i : ℕ) → Holds u [] i h.block → HoldsProcedure u i h.number h.parameters)

@@ -1,15 +1,18 @@
 -- A typed unit that the rules give is valid.
-use Rattle.std.proofs.Common.{◌≡◌, ◌∙◌, ℕ, ◌≤◌, List, [], ◌∷◌, map, length, Option, Some, None, refl, sym, ap, subst, arith}
+use Rattle.std.proofs.Common.{◌≡◌, ◌∙◌, ℕ, ◌≤◌, List, [], ◌∷◌, ◌++◌, map, length, Option, Some, None, refl, sym, ap, subst, arith}
 use Rattle.std.proofs.lemmas.List.Elements.{All-cons, All-head, All-nil, All-same, All-tail}
 use Rattle.std.specs.Prelude.{All}
 use Rattle.ep_outside.specs.Known.{IsPrefix}
 use Rattle.ep_tree.specs.declared.component.Component.TheVariants as component_is
 use Rattle.ep_tree.specs.declared.component.Program.{Program}
 use Rattle.ep_typed.specs.Operations.{maxint}
+use Rattle.ep_typed.specs.Routines.{formal_variable, heading_of, result_variable}
 use Rattle.ep_typed.specs.Trees.{Stmts}
-use Rattle.ep_typed.specs.Valid.{IsConstant, IsRoutine, IsStmt, IsType, IsValid, IsVariable, heading_of, own}
+use Rattle.ep_typed.specs.Valid.{IsConstant, IsResult, IsRoutine, IsStmt, IsType, IsValid, IsVariable, in_routine, own}
+use Rattle.ep_typed.specs.Viewed.{stmt_of}
 use Rattle.ep_typed.specs.declared.unit.Unit.{Unit as TypedUnit}
 use Rattle.ep_typed.specs.declared.unit.UnitRoutine.{UnitRoutine}
+use Rattle.ep_typed.specs.declared.unit.UnitRoutine.TheViews.{out-UnitRoutine}
 use Rattle.ep_check_expr.specs.Judgements.{Judged, Accepts, Breaks}
 use Rattle.ep_check_expr.specs.Laws.{BoundsAreKnown, BoundsAreSound, ConstantsAreKnown, ConstantsAreSound}
 use Rattle.ep_check_stmt.specs.Laws.{StatementsAreSound}
@@ -78,7 +81,15 @@ routines_valid : (u : TypedUnit) (rs : List UnitRoutine) → All (HoldsRoutine u
 routines_valid u [] g = All-nil (IsRoutine (own u) u.types)
 routines_valid u (r ∷ rs) g =
     let held = All-head (HoldsRoutine u) (routine_form r) (map routine_form rs) g in
-    All-cons (IsRoutine (own u) u.types) r rs (record { heading = held.procedure; formals = held.formals; variables = held.variables; routines = held.alone; block = held.block })
+    let parts = out-UnitRoutine r in
+    All-cons (IsRoutine (own u) u.types) r rs
+    (record {
+      formals = held.formals;
+      result = subst (IsResult u.types) (sym held.procedure) tt;
+      variables = held.variables;
+      routines = held.alone;
+      block = subst (λ o. IsStmt (in_routine (map (formal_variable parts.line) parts.formals ++ (result_variable parts.name parts.line o ++ parts.variables)) u.types (own u)) (stmt_of parts.block)) (sym held.procedure) held.block;
+    })
     (routines_valid u rs (All-tail (HoldsRoutine u) (routine_form r) (map routine_form rs) g))
 
 module _ (statements : StatementsAreSound) (constants : ConstantsAreSound) (bounds : BoundsAreSound) (constant_hosts : ConstantsAreKnown) (bound_hosts : BoundsAreKnown) where

@@ -1,6 +1,7 @@
 use Rattle.std.proofs.Common.{rules, ◌≡◌, length, sym, ◌∙◌}
-use Rattle.ep_check_unit.specs.Blocks.{block_of}
-use Rattle.ep_check_unit.proofs.Forms.{first_headed, length_forms}
+use Rattle.std.proofs.lemmas.List.{length-map}
+use Rattle.ep_check_unit.specs.Blocks.{block_of, routine_form}
+use Rattle.ep_check_unit.proofs.Forms.{first_headed}
 use Rattle.ep_check_unit.proofs.Programs.{empty_is}
 use Rattle.ep_check_unit.proofs.block.Block.add_procedure.Goals as goal
 
@@ -10,6 +11,6 @@ returns c =
     first_headed c.args.name.now c.args.line c.args.parameters (block_of c.args.self.now) (block_of c.add_routine.new.self) _ c.in_ok-number.number c.in_ok-thing.thing (block_of c.enter.new.self)
     c.in_ok-add_routine.ensures
     (rw (c.in_ok-copy.ensures, c.in_ok-formals.ensures, c.items.ensures, empty_is) at c.procedure-routine.ensures)
-    (count ∙ sym (length_forms c.args.self.now.routines.items))
+    (count ∙ sym (length-map c.args.self.now.routines.items routine_form))
     (rw (c.in_ok-copy-2.ensures, c.items-2.ensures) at c.in_ok-thing.ensures)
     c.in_ok-enter.ensures
