@@ -18,6 +18,8 @@ mod texts;
 #[cfg(test)]
 mod tokens;
 #[cfg(test)]
+mod typed_functions;
+#[cfg(test)]
 mod typed_programs;
 #[cfg(test)]
 mod typed_runs;

@@ -20,7 +20,7 @@ use std::test::Fail;
 
 /// A formal parameter: an integer, or of the type `0..9`.
 #[derive(Clone, Copy)]
-struct Parameter {
+pub(crate) struct Parameter {
     mode: FormalMode,
     digit: bool,
 }
@@ -34,7 +34,7 @@ struct Routine {
     steps: &'static [Step],
 }
 
-const BY_VALUE: Parameter = Parameter {
+pub(crate) const BY_VALUE: Parameter = Parameter {
     mode: FormalMode::Value,
     digit: false,
 };
@@ -44,7 +44,7 @@ const PROTECTED: Parameter = Parameter {
     digit: false,
 };
 
-const BY_REFERENCE: Parameter = Parameter {
+pub(crate) const BY_REFERENCE: Parameter = Parameter {
     mode: FormalMode::Variable,
     digit: false,
 };
@@ -483,7 +483,7 @@ const FALLING: &[Step] = &[
 ];
 
 /// The variable `x` of the type integer, on line 1.
-fn integer(alloc: Global) -> Result<UnitVariables, Unbuilt> {
+pub(crate) fn integer(alloc: Global) -> Result<UnitVariables, Unbuilt> {
     let mut variables = List::new(alloc);
     let denoter = Denoter::Required(RequiredType::Integer);
     variables.push(variable(alloc, b"x", 1, denoter)?)?;
@@ -500,7 +500,7 @@ fn denoter_of(alloc: Global, parameter: Parameter) -> Result<Denoter, Unbuilt> {
     Ok(Denoter::Subrange(host, Bound::Constant(0), Bound::Constant(9)))
 }
 
-fn formals(alloc: Global, parameters: &[Parameter]) -> Result<Formals, Unbuilt> {
+pub(crate) fn formals(alloc: Global, parameters: &[Parameter]) -> Result<Formals, Unbuilt> {
     let mut formals = List::new(alloc);
     for parameter in parameters {
         let denoter = denoter_of(alloc, *parameter)?;
@@ -620,7 +620,7 @@ fn instructions(alloc: Global, object: &Object) -> Result<Instrs, AllocError> {
 }
 
 /// The image of an object alone.
-fn image(alloc: Global, object: &Object) -> Result<Image, AllocError> {
+pub(crate) fn image(alloc: Global, object: &Object) -> Result<Image, AllocError> {
     let instructions = instructions(alloc, object)?;
     let routines = routines(alloc, object)?;
     let texts = texts(alloc, object)?;
@@ -663,7 +663,7 @@ fn ended(alloc: Global, image: &Image, budget: u32) -> Result<(End, SureSink), A
 }
 
 /// What is written within the budget, and how the run stands then.
-fn ran(alloc: Global, image: &Image, budget: u32) -> Result<String, AllocError> {
+pub(crate) fn ran(alloc: Global, image: &Image, budget: u32) -> Result<String, AllocError> {
     let (end, output) = ended(alloc, image, budget)?;
     let told = told(alloc, &end)?;
     let (bytes, more) = shown(output.held());

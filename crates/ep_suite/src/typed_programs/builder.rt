@@ -43,6 +43,8 @@ pub(crate) enum Step {
     While(Line),
     /// A call of the procedure of this number of `main`, with all that is given.
     Procedure(Line, u32),
+    /// The value of the function of this number of `main`, with all that is given.
+    Function(u32),
     /// `halt`
     Halt(Line),
     /// `write` of all values that are written, or with the flag `writeln`.
@@ -124,6 +126,7 @@ impl Builder {
             Step::If(line) => self.choice(line),
             Step::While(line) => self.repetition(line),
             Step::Procedure(line, number) => self.call(line, number),
+            Step::Function(number) => self.function(number),
             Step::Halt(line) => self.put(TypedStmt::Halt(line)),
             Step::Write(line, ends_line) => self.write(line, ends_line),
             Step::Compound => self.compound(),
@@ -135,6 +138,13 @@ impl Builder {
         let unit = Name::from_bytes(self.alloc, b"main")?;
         let actuals = std::mem::replace(&mut self.actuals, List::new(self.alloc));
         self.put(TypedStmt::Procedure(line, unit, number, actuals))
+    }
+
+    /// The value of a function of `main`.
+    fn function(&mut self, number: u32) -> Result<(), Unbuilt> {
+        let unit = Name::from_bytes(self.alloc, b"main")?;
+        let actuals = std::mem::replace(&mut self.actuals, List::new(self.alloc));
+        self.push(TypedExpr::Function(unit, number, actuals))
     }
 
     /// Gives a value or a variable to the next call.
