@@ -5,7 +5,7 @@
 -- - the component, for a module
 -- - the program, for a parameter that is neither `input` nor `output`
 -- - the import
--- - the part, for a function, and in the block of a procedure for a routine
+-- - the part, for a function whose result has a type with a name that is not built, and in the block of a routine for a routine
 -- - the formal section, for `type of`, and for the name of a type that is not built
 -- - the type definition, for discriminants
 -- - the type denoter, for an initial state
@@ -15,7 +15,7 @@
 -- - the structured value, with the name of its type or without
 -- - the expression, the simple expression or the term, for an operator that is not built
 -- - the factor, for `nil`, for a set, and for a character string of another length than one that is not the whole value of an argument of a `write` or `writeln` statement
--- - the access, for something else than a name that is built and a call of `abs`, `sqr`, `odd`, `ord`, `chr`, `succ` or `pred`.
+-- - the access, for a name that is not built, and for other selectors than one pair of parentheses.
 --
 -- An identifier that is spelled as a required one counts as the required one, also where the text declares it anew. Only uses of names count, and not their declarations.
 use Rattle.std.specs.Prelude.{ℕ, pos, int_le, Bool, true, false, if◌then◌else◌, ◌&&◌, ◌||◌, not, is_none, is_some, length, ◌==◌, List, [], ◌∷◌, map, codes, Option, Some, None}
@@ -93,10 +93,6 @@ later_types = codes "text" ∷ codes "string" ∷ codes "bindingtype" ∷ []
 abbrev pub is_later : List ℕ → Bool
 is_later name = is_among later_functions name || is_among later_procedures name || is_among later_types name
 
--- the required functions whose calls are built
-unfoldable pub called_functions : List (List ℕ)
-called_functions = codes "abs" ∷ codes "sqr" ∷ codes "odd" ∷ codes "ord" ∷ codes "chr" ∷ codes "succ" ∷ codes "pred" ∷ []
-
 -- the required procedures that write their arguments
 unfoldable pub writing_procedures : List (List ℕ)
 writing_procedures = codes "write" ∷ codes "writeln" ∷ []
@@ -124,16 +120,21 @@ built_program p = list_all (is_among program_parameters) p.parameters
 abbrev pub built_import : Import → Bool
 built_import i = false
 
--- a heading is one of a procedure
+-- the name of a type comes from an interface, or is built
+abbrev pub built_type_name : QualifiedName → Bool
+built_type_name name = is_some name.second || not (is_later name.first)
+
+-- the heading of a function names the type of its result (ISO 10206, 6.7.2), with or without a name of the result
 abbrev pub built_heading : RoutineHeading → Bool
 built_heading (heading_is.Procedure line name formals) = true
-built_heading _ = false
+built_heading (heading_is.Function line name formals own result) = built_type_name result
 
+-- a routine starts with such a heading, or with the name alone of a function that is declared `forward`
 abbrev pub built_start : RoutineStart → Bool
 built_start (start_is.Heading heading) = built_heading heading
-built_start _ = false
+built_start (start_is.Function line name) = true
 
--- a routine is a procedure
+-- a routine is a procedure or a function that starts so
 abbrev pub built_part : {A B : Type 0} → Part-F A B Routine → Bool
 built_part (Part-F.Routine r) = built_start (out-Routine r).start
 built_part _ = true
@@ -154,10 +155,6 @@ built_type_denoter t = is_none t.initial
 -- nor is it `bindable`
 abbrev pub built_plain : {A B C D E F G H : Type 0} → Plain-F A B C D E F G H → Bool
 built_plain p = not p.bindable
-
--- the name of a type comes from an interface, or is built
-abbrev pub built_type_name : QualifiedName → Bool
-built_type_name name = is_some name.second || not (is_later name.first)
 
 -- the type of a formal section is a name, and not that of a variable
 abbrev pub built_formal_type : FormalType → Bool
@@ -237,10 +234,10 @@ built_factor (Factor-F.Parenthesized line inner) = true
 built_factor (Factor-F.Not line inner) = true
 built_factor _ = false
 
--- an access is a name that is built, or a call of a function; of each selector it is given whether it is built
+-- an access is a name that is built, alone or called (ISO 10206, 6.8.5); of each selector it is given whether it is built
 abbrev pub built_access : List ℕ → List Bool → Bool
 built_access name [] = not (is_later name)
-built_access name (selector ∷ []) = selector && is_among called_functions name
+built_access name (selector ∷ []) = selector && not (is_later name)
 built_access name _ = false
 
 -- `"[" values "]"` without the name of a type
@@ -617,15 +614,15 @@ body_unbuilt b = in_body (out-RoutineBody b)
 abbrev pub section_unbuilt : FormalSection → Found
 section_unbuilt s = at_node (built_section s) s.line None
 
--- the first line in the heading of a routine, by its formal sections; nothing inside the heading of a function is reached
+-- the first line in the heading of a routine, by its formal sections
 abbrev pub heading_unbuilt : RoutineHeading → Found
 heading_unbuilt (heading_is.Procedure line name formals) = first_in (map section_unbuilt formals)
-heading_unbuilt _ = None
+heading_unbuilt (heading_is.Function line name formals own result) = first_in (map section_unbuilt formals)
 
 -- the first line in the start of a routine
 abbrev pub start_unbuilt : RoutineStart → Found
 start_unbuilt (start_is.Heading heading) = heading_unbuilt heading
-start_unbuilt _ = None
+start_unbuilt (start_is.Function line name) = None
 
 -- the first line inside a part, by its definitions or declarations; of a routine by its start, then its body
 abbrev pub in_part : {A B : Type 0} → Part-F A B Routine → Found

@@ -3,7 +3,7 @@
 
 ghost use Rattle.std.specs.Prelude.{◌≡◌, map};
 ghost use Rattle.ep_tree.specs.Shapes.{bare};
-ghost use Rattle.ep_built.specs.Built.{built_component, built_program, built_import, built_heading, built_start, built_part, built_local_part, built_type_definition, built_type_denoter, built_plain, built_type_name, built_formal_type, built_section, built_core, built_selector, built_target, built_call_selectors, built_call_of, built_call, built_statement, built_relation, built_adding, built_multiplying, is_character, built_factor, built_access, is_built, selector_belonging, brackets_are_built, is_bare_text};
+ghost use Rattle.ep_built.specs.Built.{built_component, built_program, built_import, built_type_name, built_heading, built_start, built_part, built_local_part, built_type_definition, built_type_denoter, built_plain, built_formal_type, built_section, built_core, built_selector, built_target, built_call_selectors, built_call_of, built_call, built_statement, built_relation, built_adding, built_multiplying, is_character, built_factor, built_access, is_built, selector_belonging, brackets_are_built, is_bare_text};
 ghost use Rattle.ep_tree.specs.declared.expression.Factor.{out-Factor};
 ghost use Rattle.ep_tree.specs.declared.expression.Selector.{out-Selector};
 ghost use Rattle.ep_tree.specs.declared.types.Core.{out-Core};
@@ -48,26 +48,34 @@ pub(super) fn import_is_built(_import: &Import) -> bool
     false
 }
 
-/// A heading is one of a procedure.
+/// A name of a type is that of an interface, or one that is built.
+fn type_name_is_built(name: &QualifiedName) -> bool
+    ensures { result ≡ built_type_name name.now }
+{
+    name.second.is_some() || !names::is_later(&name.first)
+}
+
+/// The heading of a function names the type of its result, with or without a name of the result.
 fn heading_is_built(h: &RoutineHeading) -> bool
     ensures { result ≡ built_heading h.now }
 {
     match h {
         RoutineHeading::Procedure(_, _, _) => true,
-        _ => false,
+        RoutineHeading::Function(_, _, _, _, of) => type_name_is_built(of),
     }
 }
 
+/// A routine starts with such a heading, or with the name alone of a function that is declared `forward`.
 fn start_is_built(s: &RoutineStart) -> bool
     ensures { result ≡ built_start s.now }
 {
     match s {
         RoutineStart::Heading(heading) => heading_is_built(heading),
-        _ => false,
+        RoutineStart::Function(_, _) => true,
     }
 }
 
-/// A routine is a procedure.
+/// A routine is a procedure or a function that starts so.
 pub(super) fn part_is_built(p: &Part) -> bool
     ensures { result ≡ built_part (out-Part p.now) }
 {
@@ -106,13 +114,6 @@ pub(super) fn plain_is_built(p: &Plain) -> bool
     ensures { result ≡ built_plain (out-Plain p.now) }
 {
     !p.bindable
-}
-
-/// A name of a type is that of an interface, or one that is built.
-fn type_name_is_built(name: &QualifiedName) -> bool
-    ensures { result ≡ built_type_name name.now }
-{
-    name.second.is_some() || !names::is_later(&name.first)
 }
 
 /// The type of a formal section is a name, and not that of a variable.
@@ -242,13 +243,13 @@ pub(super) fn factor_is_built(f: &Factor) -> bool
     }
 }
 
-/// An access is a name that is built, or a call of a function.
+/// An access is a name that is built, alone or with one pair of parentheses.
 pub(super) fn access_is_built(name: &Name, selectors: &[Selector]) -> bool
     ensures { result ≡ built_access name.now (map is_built (map selector_belonging selectors.now)) }
 {
     match selectors {
         [] => !names::is_later(name),
-        [selector] => selector_is_built(selector) && names::is_called_function(name),
+        [selector] => selector_is_built(selector) && !names::is_later(name),
         _ => false,
     }
 }

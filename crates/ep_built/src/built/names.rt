@@ -1,7 +1,7 @@
 //! The names whose uses are built or are not, in the order of the lists of specs/Built.antt.
 
 ghost use Rattle.std.specs.Prelude.{◌≡◌, map};
-ghost use Rattle.ep_built.specs.Built.{is_among, is_later, called_functions, writes, program_parameters};
+ghost use Rattle.ep_built.specs.Built.{is_among, is_later, writes, program_parameters};
 
 use ep_base::Name;
 
@@ -29,9 +29,6 @@ const LATER_PROCEDURES: [&[u8]; 11] = [
 /// The required types (ISO 10206, 6.4) that are not built.
 const LATER_TYPES: [&[u8]; 3] = [b"text", b"string", b"bindingtype"];
 
-/// The required functions whose calls are built.
-const CALLED_FUNCTIONS: [&[u8]; 7] = [b"abs", b"sqr", b"odd", b"ord", b"chr", b"succ", b"pred"];
-
 /// The required procedures that write their arguments.
 const WRITING_PROCEDURES: [&[u8]; 2] = [b"write", b"writeln"];
 
@@ -58,13 +55,6 @@ pub(super) fn is_later(name: &Name) -> bool
     is_among(&LATER_FUNCTIONS, name)
         || is_among(&LATER_PROCEDURES, name)
         || is_among(&LATER_TYPES, name)
-}
-
-#[tactic(auto, unfolding(crate::specs::Built::called_functions))]
-pub(super) fn is_called_function(name: &Name) -> bool
-    ensures { result ≡ is_among called_functions name.now }
-{
-    is_among(&CALLED_FUNCTIONS, name)
 }
 
 /// Whether a call writes its arguments.

@@ -53,7 +53,7 @@ fn heading(h: &RoutineHeading) -> Option<Line>
 {
     match h {
         RoutineHeading::Procedure(_, _, formals) => sections(formals.items()),
-        RoutineHeading::Function(_, _, _, _, _) => None,
+        RoutineHeading::Function(_, _, formals, _, _) => sections(formals.items()),
     }
 }
 
