@@ -55,6 +55,8 @@ pub enum Declaration {
     Own(TypeName, Kind, Protection),
     /// A procedure with these formal parameters (ISO 10206, 6.7.1).
     Procedure(FormalParameters),
+    /// A function with these formal parameters, and its result of this type with this host (ISO 10206, 6.7.2).
+    Function(FormalParameters, TypeName, Host),
 }
 
 impl Drop for Declaration {
@@ -65,6 +67,7 @@ impl Drop for Declaration {
             Declaration::Variable(_, _) => {}
             Declaration::Own(_, _, _) => {}
             Declaration::Procedure(_) => {}
+            Declaration::Function(_, _, _) => {}
         }
     }
 }
