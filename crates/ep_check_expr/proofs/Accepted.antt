@@ -24,11 +24,12 @@ use Rattle.ep_tree.specs.declared.operator.RelationalOperator.{RelationalOperato
 use Rattle.ep_tree.specs.declared.operator.Sign.{Sign}
 use Rattle.ep_scope.specs.Scopes.{Region}
 use Rattle.ep_check_expr.specs.Expressions.{judged, judged_value, simple_judged, term_judged, factor_judged, addend_judged, multiplier_judged, comparison_judged, name_judged, selected, given}
-use Rattle.ep_check_expr.specs.Judgements.{Typed, when_accepted}
+use Rattle.ep_check_expr.specs.Judgements.{Accepts, Typed, when_accepted}
+use Rattle.ep_check_expr.specs.Names.{parenthesized}
 use Rattle.ep_check_expr.specs.Operators.{signed, negated, added, multiplied}
 use Rattle.ep_check_expr.proofs.Nodes.{expression-judged, compared-judged, second-judged, access-judged, simple-judged, addend-judged, term-judged, multiplier-judged, argument-judged, wide-judged}
-use Rattle.ep_check_expr.proofs.Parts.{AreOperands, AreGiven, IsSelected, AreSelected, when_accepted-fits, chained-fits, comparison_of-fits, string_judged-fits, access_judged-fits}
-use Rattle.ep_check_expr.proofs.Keeping.{IsKept, Satisfies}
+use Rattle.ep_check_expr.proofs.Parts.{AreOperands, IsSelected, AreSelected, when_accepted-fits, chained-fits, comparison_of-fits, string_judged-fits, access_judged-fits}
+use Rattle.ep_check_expr.proofs.Keeping.{AreGiven, IsKept, Satisfies}
 
 module _ (Q : Typed → Type 0) (scopes : List Region) (kept : IsKept Q scopes) where
   -- what is accepted of a node has the property
@@ -142,7 +143,7 @@ module _ (Q : Typed → Type 0) (scopes : List Region) (kept : IsKept Q scopes) 
   factor-fits (Factor-F.Number at n) = rw fold-roll-Factor (kept.number n)
   factor-fits (Factor-F.Text at bytes) = rw fold-roll-Factor (string_judged-fits Q scopes kept bytes)
   factor-fits (Factor-F.Nil at) = rw fold-roll-Factor tt
-  factor-fits (Factor-F.Parenthesized at e) = rw fold-roll-Factor e.1
+  factor-fits (Factor-F.Parenthesized at e) = rw fold-roll-Factor (when_accepted-fits Q (λ x. Accepts (parenthesized x)) kept.parenthesizes (judged scopes e.0) e.1)
   factor-fits (Factor-F.Not at f) = rw fold-roll-Factor (when_accepted-fits Q negated kept.negates (factor_judged scopes f.0) f.1)
   factor-fits (Factor-F.Set at labels) = rw fold-roll-Factor tt
   factor-fits (Factor-F.Structured at name values) = rw fold-roll-Factor tt

@@ -3,7 +3,7 @@ use Rattle.std.proofs.Common.{◌≡◌, ℕ, nat_eq, Bool, true, false, ◌||�
 use Rattle.std.specs.List.{list_any}
 use Rattle.std.specs.Result.{IsErrAnd}
 use Rattle.std.proofs.lemmas.Result.{err_from_is_err_and}
-use Rattle.ep_check_expr.specs.Answers.{AnswersTyped}
+use Rattle.ep_check_expr.specs.Answers.{AnswersJudged, AnswersTyped}
 use Rattle.ep_check_expr.specs.Expressions.{Operand, chained}
 use Rattle.ep_check_expr.specs.Judgements.{Judged, Accepts, Breaks, Typed, breaks, both, when_accepted}
 use Rattle.ep_check_expr.specs.declared.forms.Typed as code
@@ -50,7 +50,15 @@ module _ (n : ℕ) where
   chained-first rule x [] h = h
   chained-first rule x (o ∷ os) h = chained-first rule (both (rule o.operator) x o.operand) os (both-first (rule o.operator) x o.operand h)
 
--- a refusal of a part is one of the whole
+-- a refusal of a part is one of the whole, of whatever they are
+part-within : {T U A B : Type 0} (v : T → A) (w : U → B) (J : Judged A) (K : Judged B) → ((n : ℕ) → breaks n J ≡ true → breaks n K ≡ true) → (e : Refusal) → AnswersJudged v (Err e) J → AnswersJudged w (Err e) K
+part-within v w J K f (Rule n) h = f n h
+part-within v w J K f NoMemory h = tt
+
+pub part-exit : {T U A B : Type 0} (v : T → A) (w : U → B) (r : Result U Refusal) (e : Refusal) (J : Judged A) (K : Judged B) → IsErrAnd r (λ x. x ≡ e) → ((n : ℕ) → breaks n J ≡ true → breaks n K ≡ true) → AnswersJudged v (Err e) J → AnswersJudged w r K
+part-exit v w r e J K is f h = let p = err_from_is_err_and r is in rw (p.1, p.2) (part-within v w J K f e h)
+
+-- alike, of typed forms
 pub refused-within : (J K : Judged Typed) → ((n : ℕ) → breaks n J ≡ true → breaks n K ≡ true) → (e : Refusal) → AnswersTyped (Err e) J → AnswersTyped (Err e) K
 refused-within J K f (Rule n) h = f n h
 refused-within J K f NoMemory h = tt

@@ -4,7 +4,7 @@ use Rattle.std.specs.Result.{IsErrAnd}
 use Rattle.std.proofs.lemmas.Result.{err_from_is_err_and}
 use Rattle.ep_scope.specs.declared.required.Function.{Function}
 use Rattle.ep_check_expr.proofs.Breaking.{IsIn, IsIn-first, IsIn-second}
-use Rattle.ep_check_expr.specs.Answers.{AnswersTyped, AnswersGiven}
+use Rattle.ep_check_expr.specs.Answers.{AnswersJudged, AnswersTyped, AnswersGiven}
 use Rattle.ep_check_expr.specs.declared.forms.Typed as code
 use Rattle.ep_check_expr.specs.declared.forms.Refusal.{Refusal}
 use Rattle.ep_check_expr.specs.declared.forms.Refusal.TheVariants.{Rule, NoMemory}
@@ -31,7 +31,7 @@ pub applied-two : (f : Function) (g h : Given) (x y : Typed) → takes f 2 ≡ t
     → applied f (g ∷ h ∷ []) ≡ applied_two f x y
 applied-two f g h x y t v w v' w' = rw (v, w, v', w', t) refl
 
-unless_faults-in : (n : ℕ) (rules : List ℕ) (J : Judged Typed) → IsIn n rules → breaks n (unless_faults rules J) ≡ true
+pub unless_faults-in : (n : ℕ) (rules : List ℕ) (J : Judged Typed) → IsIn n rules → breaks n (unless_faults rules J) ≡ true
 unless_faults-in n [] J h = cc
 unless_faults-in n (r ∷ rs) J h = h
 
@@ -54,6 +54,14 @@ later-fault n g gs h = IsIn-second n (given_faults g) (all_faults gs) h
 given-refused : (g : Given) (K : Judged Typed) → ((n : ℕ) → IsIn n (given_faults g) → breaks n K ≡ true) → (e : Refusal) → AnswersGiven (Err e) g → AnswersTyped (Err e) K
 given-refused g K f (Rule n) h = f n h
 given-refused g K f NoMemory h = tt
+
+fault-within : {U B : Type 0} (w : U → B) (g : Given) (K : Judged B) → ((n : ℕ) → IsIn n (given_faults g) → breaks n K ≡ true) → (e : Refusal) → AnswersGiven (Err e) g → AnswersJudged w (Err e) K
+fault-within w g K f (Rule n) h = f n h
+fault-within w g K f NoMemory h = tt
+
+-- what is handed on of a refusal in an argument, of whatever takes it
+pub given-exit : {U B : Type 0} (w : U → B) (r : Result U Refusal) (e : Refusal) (g : Given) (K : Judged B) → IsErrAnd r (λ x. x ≡ e) → ((n : ℕ) → IsIn n (given_faults g) → breaks n K ≡ true) → AnswersGiven (Err e) g → AnswersJudged w r K
+given-exit w r e g K is f h = let p = err_from_is_err_and r is in rw (p.1, p.2) (fault-within w g K f e h)
 
 -- what a call hands on of a refusal in an argument
 pub fault-exit : (r : Result code.Typed Refusal) (e : Refusal) (g : Given) (K : Judged Typed) → IsErrAnd r (λ x. x ≡ e) → ((n : ℕ) → IsIn n (given_faults g) → breaks n K ≡ true) → AnswersGiven (Err e) g → AnswersTyped r K

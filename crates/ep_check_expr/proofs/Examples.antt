@@ -11,7 +11,7 @@ use Rattle.ep_tree.specs.declared.expression.Term.{Term}
 use Rattle.ep_tree.specs.declared.operator.AddingOperator.TheVariants as adding
 use Rattle.ep_tree.specs.declared.operator.MultiplyingOperator.TheVariants as multiplying
 use Rattle.ep_tree.specs.declared.operator.RelationalOperator.TheVariants as relation
-use Rattle.ep_typed.specs.Trees.{Constant, Read, Two, Step, Variable}
+use Rattle.ep_typed.specs.Trees.{Accessed, Constant, Evaluated, Function, Read, Two, Step, Variable, next_actual, no_actual}
 use Rattle.ep_typed.specs.declared.operations.Binary.TheVariants as binary
 use Rattle.ep_typed.specs.declared.value.Value.TheVariants as value
 use Rattle.ep_scope.specs.Scopes.{Region}
@@ -20,12 +20,16 @@ use Rattle.ep_scope.specs.declared.kind.Host.TheVariants as host
 use Rattle.ep_scope.specs.declared.kind.Kind.TheVariants as kind
 use Rattle.ep_scope.specs.declared.rule.TheConstants as rule
 use Rattle.ep_typed.specs.declared.denoter.RequiredType.TheVariants as simple
+use Rattle.ep_typed.specs.declared.interface.FormalMode.{FormalMode}
+use Rattle.ep_typed.specs.declared.interface.FormalMode.TheVariants as mode
+use Rattle.ep_scope.specs.declared.parameter.FormalParameter.{FormalParameter}
 use Rattle.ep_scope.specs.declared.parameter.TypeName.TheVariants as type_name
 use Rattle.ep_scope.specs.declared.thing.Declaration.{Declaration}
 use Rattle.ep_scope.specs.declared.thing.Declaration.TheVariants as declaration
 use Rattle.ep_scope.specs.declared.thing.Thing.{Thing}
 use Rattle.ep_scope.specs.declared.thing.Thing.TheVariants as thing
-use Rattle.ep_check_expr.proofs.Nodes.{expression-judged, comparison-judged, simple-judged, addend-judged, term-judged, multiplier-judged, name-judged, arguments-judged, argument-judged, wide-judged, number-judged, string-judged}
+use Rattle.ep_check_expr.proofs.Nodes.{expression-judged, comparison-judged, simple-judged, addend-judged, term-judged, multiplier-judged, name-judged, arguments-judged, argument-judged, wide-judged, number-judged, parenthesized-judged, string-judged}
+use Rattle.ep_check_expr.specs.declared.access.Access.TheVariants as access
 use Rattle.ep_check_expr.specs.Constants.{constant_expression, bound_judged}
 use Rattle.ep_check_expr.specs.Expressions.{judged}
 use Rattle.ep_check_expr.specs.Judgements.{Accepts, Breaks}
@@ -79,20 +83,32 @@ color = host.Enumeration (record { number = 0; last = 1 })
 abbrev declares : ℕ → Declaration → Thing
 declares number what = thing.Declared (record { unit = codes "p"; number = number; what = what })
 
--- red, of the colors, and the integer x
+-- a formal parameter of type integer
+abbrev integer_parameter : FormalMode → FormalParameter
+integer_parameter how = record { name = codes "n"; mode = how; section = 0; of = type_name.Required simple.Integer; host = host.Integer }
+
+-- a function of an integer, whose result is a color
+abbrev function_of : FormalMode → Declaration
+function_of how = declaration.Function (integer_parameter how ∷ []) (type_name.Entry 0) color
+
+-- red, of the colors, the integer x, f with a value parameter, g with a variable parameter, and h without any
 abbrev scope : List Region
-scope = record { entries = (codes "red", declares 0 (declaration.Constant (kind.Ordinal color) (value.Word (pos 0)))) ∷ (codes "x", declares 0 (declaration.Variable (type_name.Required simple.Integer) integer)) ∷ []; qualified = [] } ∷ []
+scope = record {
+  entries = (codes "red", declares 0 (declaration.Constant (kind.Ordinal color) (value.Word (pos 0)))) ∷ (codes "x", declares 0 (declaration.Variable (type_name.Required simple.Integer) integer))
+      ∷ (codes "f", declares 0 (function_of mode.Value)) ∷ (codes "g", declares 1 (function_of mode.Variable)) ∷ (codes "h", declares 2 (declaration.Function [] (type_name.Required simple.Integer) host.Integer)) ∷ [];
+  qualified = [];
+} ∷ []
 
 -- 3
-three : judged scope (bare (number 3)) ≡ Accepts (record { form = Some (Constant (pos 3)); kind = integer; depth = 1 })
+three : judged scope (bare (number 3)) ≡ Accepts (record { form = Some (Constant (pos 3)); kind = integer; depth = 1; access = access.Value })
 three = simp (expression-judged, simple-judged, term-judged, number-judged) refl
 
 -- x + 3
-variable_and_number : judged scope (sum (name (codes "x")) (number 3)) ≡ Accepts (record { form = Some (Two binary.Add (Read (Variable (codes "p") 0)) (Constant (pos 3))); kind = integer; depth = 3 })
+variable_and_number : judged scope (sum (name (codes "x")) (number 3)) ≡ Accepts (record { form = Some (Two binary.Add (Read (Variable (codes "p") 0)) (Constant (pos 3))); kind = integer; depth = 3; access = access.Value })
 variable_and_number = simp (expression-judged, simple-judged, addend-judged, term-judged, name-judged, number-judged) refl
 
 -- succ(red), within the colors
-successor : judged scope (bare (call (codes "succ") (plain (name (codes "red")) ∷ []))) ≡ Accepts (record { form = Some (Step false (pos 0) (pos 1) (Constant (pos 0)) (Constant (pos 1))); kind = kind.Ordinal color; depth = 2 })
+successor : judged scope (bare (call (codes "succ") (plain (name (codes "red")) ∷ []))) ≡ Accepts (record { form = Some (Step false (pos 0) (pos 1) (Constant (pos 0)) (Constant (pos 1))); kind = kind.Ordinal color; depth = 2; access = access.Value })
 successor = simp (expression-judged, simple-judged, term-judged, name-judged, arguments-judged, argument-judged) refl
 
 -- 1 + true
@@ -104,7 +120,7 @@ number_and_color : judged scope (equality (name (codes "x")) (name (codes "red")
 number_and_color = simp (comparison-judged, simple-judged, term-judged, name-judged) refl
 
 -- 'a' + 'b', which has no code yet
-characters : judged scope (sum (text (codes "a")) (text (codes "b"))) ≡ Accepts (record { form = None; kind = kind.Text; depth = 2 })
+characters : judged scope (sum (text (codes "a")) (text (codes "b"))) ≡ Accepts (record { form = None; kind = kind.Text; depth = 2; access = access.Value })
 characters = simp (expression-judged, simple-judged, addend-judged, term-judged, string-judged) refl
 
 -- abs('a')
@@ -124,12 +140,46 @@ other_names : judged scope (sum (name (codes "y")) (name (codes "output"))) ≡ 
 other_names = simp (expression-judged, simple-judged, addend-judged, term-judged, name-judged) refl
 
 -- 1 div 0, where no constant is asked for
-quotient_by_zero : judged scope (quotient (number 1) (number 0)) ≡ Accepts (record { form = Some (Two binary.Divide (Constant (pos 1)) (Constant (pos 0))); kind = integer; depth = 2 })
+quotient_by_zero : judged scope (quotient (number 1) (number 0)) ≡ Accepts (record { form = Some (Two binary.Divide (Constant (pos 1)) (Constant (pos 0))); kind = integer; depth = 2; access = access.Value })
 quotient_by_zero = simp (expression-judged, simple-judged, term-judged, multiplier-judged, number-judged) refl
 
 -- and where one is
 constant_quotient_by_zero : constant_expression scope (quotient (number 1) (number 0)) ≡ Breaks (rule.CONSTANT ∷ [])
 constant_quotient_by_zero = simp (expression-judged, simple-judged, term-judged, multiplier-judged, number-judged) refl
+
+-- f(3)
+called_by_value : judged scope (bare (call (codes "f") (plain (number 3) ∷ [])))
+    ≡ Accepts (record { form = Some (Function (codes "p") 0 (next_actual (Evaluated (Constant (pos 3))) no_actual)); kind = kind.Ordinal color; depth = 2; access = access.Value })
+called_by_value = simp (expression-judged, simple-judged, term-judged, name-judged, arguments-judged, argument-judged, number-judged) refl
+
+-- g(x)
+called_by_variable : judged scope (bare (call (codes "g") (plain (name (codes "x")) ∷ [])))
+    ≡ Accepts (record { form = Some (Function (codes "p") 1 (next_actual (Accessed (Variable (codes "p") 0)) no_actual)); kind = kind.Ordinal color; depth = 3; access = access.Value })
+called_by_variable = simp (expression-judged, simple-judged, term-judged, name-judged, arguments-judged, argument-judged) refl
+
+-- h
+called_alone : judged scope (bare (name (codes "h"))) ≡ Accepts (record { form = Some (Function (codes "p") 2 no_actual); kind = integer; depth = 1; access = access.Value })
+called_alone = simp (expression-judged, simple-judged, term-judged, name-judged) refl
+
+-- f
+without_argument : judged scope (bare (name (codes "f"))) ≡ Breaks (rule.ARGUMENTS ∷ [])
+without_argument = simp (expression-judged, simple-judged, term-judged, name-judged) refl
+
+-- g(3)
+value_for_variable : judged scope (bare (call (codes "g") (plain (number 3) ∷ []))) ≡ Breaks (rule.VARIABLE_NEEDED ∷ [])
+value_for_variable = simp (expression-judged, simple-judged, term-judged, name-judged, arguments-judged, argument-judged, number-judged) refl
+
+-- g(red), which is a constant
+constant_for_variable : judged scope (bare (call (codes "g") (plain (name (codes "red")) ∷ []))) ≡ Breaks (rule.CONSTANT_THREATENED ∷ rule.VARIABLE_NEEDED ∷ [])
+constant_for_variable = simp (expression-judged, simple-judged, term-judged, name-judged, arguments-judged, argument-judged) refl
+
+-- g((x)), which is no variable
+parenthesized_for_variable : judged scope (bare (call (codes "g") (plain (factor.Parenthesized 1 (bare (name (codes "x")))) ∷ []))) ≡ Breaks (rule.VARIABLE_NEEDED ∷ [])
+parenthesized_for_variable = simp (expression-judged, simple-judged, term-judged, name-judged, arguments-judged, argument-judged, parenthesized-judged) refl
+
+-- h, where a constant is asked for
+constant_call : constant_expression scope (bare (name (codes "h"))) ≡ Breaks (rule.CONSTANT ∷ [])
+constant_call = simp (expression-judged, simple-judged, term-judged, name-judged) refl
 
 -- a bound that varies
 varying_bound : bound_judged scope (bare (name (codes "x"))) ≡ Breaks (rule.BOUND_CONSTANT ∷ rule.CONSTANT ∷ [])

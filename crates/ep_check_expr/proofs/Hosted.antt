@@ -31,14 +31,16 @@ use Rattle.ep_scope.specs.declared.thing.Declaration.TheVariants as declaration
 use Rattle.ep_scope.specs.declared.thing.Thing.{Thing}
 use Rattle.ep_scope.specs.declared.thing.Thing.TheVariants as thing
 use Rattle.ep_scope.specs.declared.rule.TheConstants as rule
+use Rattle.ep_check_expr.specs.declared.access.Access.TheVariants as access
+use Rattle.ep_check_expr.specs.Arguments.{Taken, arguments_judged, function_typed}
 use Rattle.ep_check_expr.specs.Expressions.{spelled}
-use Rattle.ep_check_expr.specs.Functions.{applied_one, applied_two, ordinal_by, other_argument, step_typed, stepped_by, one}
+use Rattle.ep_check_expr.specs.Functions.{Given, applied_one, applied_two, ordinal_by, other_argument, step_typed, stepped_by, one}
 use Rattle.ep_check_expr.specs.Hosts.{typed_host}
-use Rattle.ep_check_expr.specs.Judgements.{Judged, Accepts, Breaks, Typed, unbuilt}
-use Rattle.ep_check_expr.specs.Names.{leaf, value_declared, value_named, value_required}
+use Rattle.ep_check_expr.specs.Judgements.{Judged, Accepts, Breaks, Typed, unbuilt, when_accepted}
+use Rattle.ep_check_expr.specs.Names.{call_declared, leaf, value_declared, value_named, value_required}
 use Rattle.ep_check_expr.specs.Operators.{added, are_compatible, arithmetic, binary_typed, boolean, compared, comparison, integer, is_boolean, is_integer, is_string, logical, misfit, multiplied, short_circuit, short_typed, sign_of, signed, unary_typed, unbuilt_typed, within_depth}
 use Rattle.ep_check_expr.specs.Origins.{DeclaresHost, EntriesHaveHost, HasHost, InterfacesHaveHost, IsKnownHost, IsKnownKind, ScopesHaveHost, ThingHasHost}
-use Rattle.ep_check_expr.proofs.Keeping.{IsKept, Satisfies, if-satisfies}
+use Rattle.ep_check_expr.proofs.Keeping.{IsCalled, IsKept, Satisfies, if-satisfies}
 
 -- ---- names
 
@@ -126,12 +128,34 @@ module _ (scopes : List Region) where
   kind_comes kind.Text f = tt
   kind_comes kind.File f = tt
 
+  depth_comes : (form : Option Expr) (k : Kind) (depth : ℕ) → IsKnownKind scopes k → Comes (within_depth form k depth)
+  depth_comes form k depth p = if-satisfies IsKnown (nat_le depth 1000) (Accepts (record { form = form; kind = k; depth = depth; access = access.Value })) (Breaks (rule.TOO_DEEP ∷ [])) (λ e. p) tt
+
+  function_comes : (unit : List ℕ) (number : ℕ) (h : Host) (J : Judged Taken) → IsKnownHost scopes h → Comes (when_accepted (function_typed unit number h) J)
+  function_comes unit number h (Accepts t) p = depth_comes _ (kind.Ordinal h) _ p
+  function_comes unit number h (Breaks rules) p = tt
+
   declared_comes : (unit : List ℕ) (number : ℕ) (d : Declaration) → ((h : Host) → DeclaresHost d h → ScopesHaveHost scopes h) → Comes (value_declared unit number d)
   declared_comes unit number (declaration.Constant k v) f = kind_comes k f
   declared_comes unit number (declaration.«Type» of h) f = tt
   declared_comes unit number (declaration.Variable of k) f = kind_comes k f
   declared_comes unit number (declaration.Own of k guarded) f = kind_comes k f
   declared_comes unit number (declaration.Procedure parameters) f = tt
+  declared_comes unit number (declaration.Function parameters of h) f = function_comes unit number h (arguments_judged parameters []) (inr (f h refl))
+
+  call_comes : (unit : List ℕ) (number : ℕ) (d : Declaration) (gs : List Given) → ((h : Host) → DeclaresHost d h → ScopesHaveHost scopes h) → Comes (call_declared unit number d gs)
+  call_comes unit number (declaration.Constant k v) gs f = tt
+  call_comes unit number (declaration.«Type» of h) gs f = tt
+  call_comes unit number (declaration.Variable of k) gs f = tt
+  call_comes unit number (declaration.Own of k guarded) gs f = tt
+  call_comes unit number (declaration.Procedure parameters) gs f = tt
+  call_comes unit number (declaration.Function parameters of h) gs f = function_comes unit number h (arguments_judged parameters gs) (inr (f h refl))
+
+  called_comes : (m : Meant) → MeantComes (ScopesHaveHost scopes) m → IsCalled IsKnown m
+  called_comes (Declares d) c = λ gs p. call_comes d.unit d.number d.what gs c
+  called_comes (meaning.Standard file) c = tt
+  called_comes (Requires r) c = tt
+  called_comes Nothing c = tt
 
   value_comes : (r : Required) → Comes (value_required r)
   value_comes (required.Constant constant.MaxInt) = inl tt
@@ -148,9 +172,6 @@ module _ (scopes : List Region) where
   named_comes name (Requires r) c = value_comes r
   named_comes name Nothing c = tt
 
-  depth_comes : (form : Option Expr) (k : Kind) (depth : ℕ) → IsKnownKind scopes k → Comes (within_depth form k depth)
-  depth_comes form k depth p = if-satisfies IsKnown (nat_le depth 1000) (Accepts (record { form = form; kind = k; depth = depth })) (Breaks (rule.TOO_DEEP ∷ [])) (λ e. p) tt
-
   unary_comes : (b : Bool) (operation : Unary) (k : Kind) (x : Typed) (other : Judged Typed) → IsKnownKind scopes k → Comes other → Comes (if b then unary_typed operation k x else other)
   unary_comes b operation k x other p q = if-satisfies IsKnown b (unary_typed operation k x) other (λ e. depth_comes _ k _ p) q
 
@@ -161,7 +182,7 @@ module _ (scopes : List Region) where
   unbuilt_comes b k x y other p q = if-satisfies IsKnown b (unbuilt_typed k x y) other (λ e. depth_comes _ k _ p) q
 
   spelled_comes : (h : Host) (z : ℤ) → IsKnownHost scopes h → Comes (spelled h z)
-  spelled_comes h z p = if-satisfies IsKnown (is_of_host (typed_host h) z) (leaf (Constant z) (kind.Ordinal h)) unbuilt (λ e. p) tt
+  spelled_comes h z p = if-satisfies IsKnown (is_of_host (typed_host h) z) (leaf (Constant z) (kind.Ordinal h) access.Value) unbuilt (λ e. p) tt
 
   signed_comes : (o : Option Sign) (x : Typed) → IsKnown x → Comes (signed o x)
   signed_comes None x p = p
@@ -240,6 +261,8 @@ module _ (scopes : List Region) where
     text = λ bytes. tt;
     named = λ name. named_comes name (meant scopes name) (meant_comes scopes name);
     within = λ interface name. named_comes name (meant_in scopes interface name) (meant_in_comes scopes interface name);
+    called = λ name. called_comes (meant scopes name) (meant_comes scopes name);
+    parenthesizes = λ x p. p;
     signs = signed_comes;
     negates = λ x p. unary_comes (is_boolean x.kind) _ boolean x misfit (inl tt) tt;
     adds = λ o x y p q. added_comes o x y;

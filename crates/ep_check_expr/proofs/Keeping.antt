@@ -1,38 +1,77 @@
 -- Properties of typed forms that each rule keeps: a form has them where its parts do.
-use Rattle.std.proofs.Common.{◌≡◌, ℕ, ℤ, Bool, true, false, List, Option, refl}
+use Rattle.std.proofs.Common.{◌≡◌, ℕ, ℤ, Bool, true, false, List, [], ◌∷◌, Option, refl}
 use Rattle.std.specs.Prelude.{⊤, if◌then◌else◌}
 use Rattle.ep_tree.specs.declared.operator.AddingOperator.{AddingOperator}
 use Rattle.ep_tree.specs.declared.operator.MultiplyingOperator.{MultiplyingOperator}
 use Rattle.ep_tree.specs.declared.operator.RelationalOperator.{RelationalOperator}
 use Rattle.ep_tree.specs.declared.operator.Sign.{Sign}
 use Rattle.ep_typed.specs.Trees as tree
-use Rattle.ep_scope.specs.Scopes.{Region, meant, meant_in}
+use Rattle.ep_scope.specs.Scopes.{Region, Meant, Declares, Requires, Nothing, meant, meant_in}
+use Rattle.ep_scope.specs.Scopes as meaning
 use Rattle.ep_scope.specs.declared.kind.Host.TheVariants as host
 use Rattle.ep_scope.specs.declared.kind.Kind.TheVariants as kind
 use Rattle.ep_scope.specs.declared.required.Function.{Function}
+use Rattle.ep_check_expr.specs.declared.access.Access.TheVariants as access
 use Rattle.ep_check_expr.specs.Expressions.{spelled}
-use Rattle.ep_check_expr.specs.Functions.{applied_one, applied_two}
-use Rattle.ep_check_expr.specs.Judgements.{Judged, Accepts, Breaks, Typed}
-use Rattle.ep_check_expr.specs.Names.{leaf, value_named}
+use Rattle.ep_check_expr.specs.Functions.{Given, applied_one, applied_two}
+use Rattle.ep_check_expr.specs.Judgements.{Judged, Accepts, Breaks, Typed, both, when_accepted}
+use Rattle.ep_check_expr.specs.Names.{call_declared, leaf, parenthesized, value_named}
 use Rattle.ep_check_expr.specs.Operators.{signed, negated, added, multiplied, compared}
 
 -- what is accepted has the property
-abbrev pub Satisfies : (Typed → Type 0) → Judged Typed → Type 0
+abbrev pub Satisfies : {A : Type 0} → (A → Type 0) → Judged A → Type 0
 Satisfies Q (Accepts t) = Q t
 Satisfies Q (Breaks rules) = ⊤
+
+-- a form of one part
+pub then-satisfies : {A B : Type 0} (P : A → Type 0) (Q : B → Type 0) (f : A → Judged B) (J : Judged A) → Satisfies P J → ((a : A) → P a → Satisfies Q (f a)) → Satisfies Q (when_accepted f J)
+then-satisfies P Q f (Accepts a) h g = g a h
+then-satisfies P Q f (Breaks rules) h g = tt
+
+-- a form of two parts
+pub both-satisfies : {A B C : Type 0} (P : A → Type 0) (Q : B → Type 0) (R : C → Type 0) (f : A → B → Judged C) (J : Judged A) (K : Judged B)
+    → Satisfies P J → Satisfies Q K → ((a : A) (b : B) → P a → Q b → Satisfies R (f a b)) → Satisfies R (both f J K)
+both-satisfies P Q R f (Accepts a) (Accepts b) h k g = g a b h k
+both-satisfies P Q R f (Accepts a) (Breaks rules) h k g = tt
+both-satisfies P Q R f (Breaks rules) (Accepts b) h k g = tt
+both-satisfies P Q R f (Breaks rules) (Breaks more) h k g = tt
+
+-- what has one property has another
+pub weaker-satisfies : {A : Type 0} (P Q : A → Type 0) (J : Judged A) → ((a : A) → P a → Q a) → Satisfies P J → Satisfies Q J
+weaker-satisfies P Q (Accepts a) f h = f a h
+weaker-satisfies P Q (Breaks rules) f h = tt
+
+-- two properties at once
+pub pair-satisfies : {A : Type 0} (P Q : A → Type 0) (J : Judged A) → Satisfies P J → Satisfies Q J → Satisfies (λ a. P a × Q a) J
+pair-satisfies P Q (Accepts a) p q = (p, q)
+pair-satisfies P Q (Breaks rules) p q = tt
 
 -- whichever is chosen
 pub if-satisfies : (Q : Typed → Type 0) (b : Bool) (J K : Judged Typed) → (b ≡ true → Satisfies Q J) → Satisfies Q K → Satisfies Q (if b then J else K)
 if-satisfies Q true J K f s = f refl
 if-satisfies Q false J K f s = s
 
+-- all arguments have it
+abbrev pub AreGiven : (Typed → Type 0) → List Given → Type 0
+AreGiven Q [] = ⊤
+AreGiven Q (g ∷ gs) = Satisfies Q g.value × AreGiven Q gs
+
+-- what is declared has it with arguments that have it
+abbrev pub IsCalled : (Typed → Type 0) → Meant → Type 0
+IsCalled Q (Declares d) = (gs : List Given) → AreGiven Q gs → Satisfies Q (call_declared d.unit d.number d.what gs)
+IsCalled Q (meaning.Standard file) = ⊤
+IsCalled Q (Requires r) = ⊤
+IsCalled Q Nothing = ⊤
+
 -- each rule keeps the property, and what names mean in these scopes has it
 pub record IsKept (Q : Typed → Type 0) (scopes : List Region) : Type 0 where
   pub number : (z : ℤ) → Satisfies Q (spelled host.Integer z)
   pub character : (z : ℤ) → Satisfies Q (spelled host.Char z)
-  pub text : (bytes : List ℕ) → Satisfies Q (leaf (tree.Text bytes) kind.Text)
+  pub text : (bytes : List ℕ) → Satisfies Q (leaf (tree.Text bytes) kind.Text access.Value)
   pub named : (name : List ℕ) → Satisfies Q (value_named name (meant scopes name))
   pub within : (interface name : List ℕ) → Satisfies Q (value_named name (meant_in scopes interface name))
+  pub called : (name : List ℕ) → IsCalled Q (meant scopes name)
+  pub parenthesizes : (x : Typed) → Q x → Q (parenthesized x)
   pub signs : (o : Option Sign) (x : Typed) → Q x → Satisfies Q (signed o x)
   pub negates : (x : Typed) → Q x → Satisfies Q (negated x)
   pub adds : (o : AddingOperator) (x y : Typed) → Q x → Q y → Satisfies Q (added o x y)

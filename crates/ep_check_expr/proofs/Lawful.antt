@@ -1,10 +1,12 @@
 -- The laws of typed forms.
-use Rattle.std.proofs.Common.{◌≡◌, ℕ, ℤ, Bool, true, false, List, ◌∷◌, [], Option, Some, None, refl, ap, subst}
+use Rattle.std.proofs.Common.{◌≡◌, ℕ, ℤ, Bool, true, false, List, ◌∷◌, [], Option, Some, None, map, refl, ap, sym, subst}
 use Rattle.std.specs.Prelude.{if◌then◌else◌}
 use Rattle.ep_typed.specs.Hosts.{is_of_host}
 use Rattle.ep_typed.specs.Trees.{Expr, Constant, Text, Read, One, Two, Short, Step, Function}
 use Rattle.ep_typed.specs.Valid.{Declarations}
 use Rattle.ep_typed.specs.declared.value.Value.TheVariants as value
+use Rattle.ep_tree.specs.declared.expression.Argument.{Argument, out-Argument}
+use Rattle.ep_tree.specs.declared.expression.ComponentValue.{ComponentValue}
 use Rattle.ep_tree.specs.declared.expression.Expression.{Expression}
 use Rattle.ep_scope.specs.Scopes.{Region, meant, meant_in}
 use Rattle.ep_scope.specs.declared.kind.Host.{Host}
@@ -12,58 +14,107 @@ use Rattle.ep_scope.specs.declared.kind.Host.TheVariants as host
 use Rattle.ep_scope.specs.declared.kind.Kind.{Kind}
 use Rattle.ep_scope.specs.declared.kind.Kind.TheVariants as kind
 use Rattle.ep_scope.specs.declared.rule.TheConstants as rule
-use Rattle.ep_check_expr.specs.Agreement.{Agrees, IsFormOf, IsHost}
+use Rattle.ep_check_expr.specs.Agreement.{Agrees, AgreesBy, AreActuals, IsAccessOf, IsFormOf, IsHost, TypeValues}
 use Rattle.ep_check_expr.specs.Constants.{IsSoundConstant, as_constant, as_bound, as_label, constant_expression, constant_folded, constant_of, stand_in, varies}
-use Rattle.ep_check_expr.specs.Expressions.{judged, judged_value, spelled}
+use Rattle.ep_check_expr.specs.Expressions.{given, judged, judged_value, spelled}
 use Rattle.ep_check_expr.specs.Hosts.{typed_host}
 use Rattle.ep_check_expr.specs.Judgements.{Judged, Accepts, Breaks, Typed, unbuilt, when_accepted}
-use Rattle.ep_check_expr.specs.Laws.{ExpressionsAreSound, ValuesAreSound, ConstantsAreSound, BoundsAreSound, LabelsAreSound, ExpressionsAreKnown, ConstantsAreKnown, BoundsAreKnown}
+use Rattle.ep_check_expr.specs.Laws.{ExpressionsAreSound, AccessesAreSound, ArgumentsAreSound, ValuesAreSound, ConstantsAreSound, BoundsAreSound, LabelsAreSound, ExpressionsAreKnown, ConstantsAreKnown, BoundsAreKnown}
 use Rattle.ep_check_expr.specs.Origins.{IsKnownKind}
 use Rattle.ep_check_expr.specs.Folding.{folded}
 use Rattle.ep_check_expr.specs.declared.folding.Folded.{Folded}
 use Rattle.ep_check_expr.specs.declared.folding.Folded.TheVariants.{Known, Varies, Errs}
+use Rattle.ep_check_expr.specs.declared.access.Access.TheVariants as access
+use Rattle.ep_check_expr.specs.Functions.{applied_one, applied_two}
+use Rattle.ep_check_expr.specs.Operators.{signed, negated, added, multiplied, compared}
 use Rattle.ep_check_expr.specs.Names.{leaf}
 use Rattle.ep_check_expr.specs.declared.constants.ConstantForm.{ConstantForm}
+use Rattle.ep_check_expr.proofs.Plain.{spelled-plain, signed-plain, negated-plain, added-plain, multiplied-plain, compared-plain, applied_one-plain, applied_two-plain}
+use Rattle.ep_check_expr.proofs.Passing.{IsForm, arguments-fit}
+use Rattle.ep_check_expr.proofs.Nodes.{given-value}
 use Rattle.ep_check_expr.proofs.Accepted.{expressions-fit, values-fit}
 use Rattle.ep_check_expr.proofs.Hosted.{IsKnown, knowledge_is_kept}
-use Rattle.ep_check_expr.proofs.Keeping.{IsKept, Satisfies, if-satisfies}
+use Rattle.ep_check_expr.proofs.Keeping.{AreGiven, IsKept, Satisfies, if-satisfies, pair-satisfies, weaker-satisfies}
 use Rattle.ep_check_expr.proofs.Known.{IsJudgedConstant, constant-fits}
-use Rattle.ep_check_expr.proofs.Meant.{meant-declared, meant_in-declared, value_named-fits}
+use Rattle.ep_check_expr.proofs.Meant.{called-fits, meant-declared, meant_in-declared, value_named-fits}
 use Rattle.ep_check_expr.proofs.Sound.{Fits, signed-fits, negated-fits, added-fits, multiplied-fits, compared-fits, applied_one-fits, applied_two-fits}
-
--- a valid form of its kind
-abbrev IsForm : Declarations → Typed → Type 0
-IsForm declared t = IsFormOf declared t.kind t.form
 
 -- a number or a character of the text
 spelled-fits : (declared : Declarations) (h : Host) → IsHost h → (z : ℤ) → Fits declared (spelled h z)
-spelled-fits declared h s z = if-satisfies (IsForm declared) (is_of_host (typed_host h) z) (leaf (Constant z) (kind.Ordinal h)) unbuilt (λ e. (s, (typed_host h, refl, e))) tt
+spelled-fits declared h s z = if-satisfies (λ t. IsFormOf declared t.kind t.form) (is_of_host (typed_host h) z) (leaf (Constant z) (kind.Ordinal h) access.Value) unbuilt (λ e. (s, (typed_host h, refl, e))) tt
 
-text-fits : (declared : Declarations) (bytes : List ℕ) → Fits declared (leaf (Text bytes) kind.Text)
+text-fits : (declared : Declarations) (bytes : List ℕ) → Fits declared (leaf (Text bytes) kind.Text access.Value)
 text-fits declared bytes = refl
 
--- each rule gives valid forms of valid ones
-validity_is_kept : (declared : Declarations) (scopes : List Region) → Agrees declared scopes → IsKept (IsForm declared) scopes
-validity_is_kept declared scopes agrees = record {
-  number = spelled-fits declared host.Integer refl;
-  character = spelled-fits declared host.Char refl;
-  text = text-fits declared;
-  named = λ name. value_named-fits declared agrees.0 name (meant scopes name) (meant-declared declared agrees.0 scopes name agrees.1);
-  within = λ interface name. value_named-fits declared agrees.0 name (meant_in scopes interface name) (meant_in-declared declared agrees.0 scopes interface name agrees.1);
-  signs = signed-fits declared;
-  negates = negated-fits declared;
-  adds = added-fits declared;
-  multiplies = multiplied-fits declared;
-  compares = compared-fits declared;
-  applies_one = applied_one-fits declared;
-  applies_two = applied_two-fits declared;
-}
+module _ (declared : Declarations) (types : TypeValues) where
+  -- what is accepted is valid, of its kind and by what it is the bare name of
+  abbrev Holds : Judged Typed → Type 0
+  Holds = Satisfies (IsForm declared types)
+
+  -- read of a variable of its type, where it is the bare name of one
+  abbrev IsRead : Typed → Type 0
+  IsRead t = IsAccessOf declared types t.access t.form
+
+  plain : (form : Option Expr) (k : Kind) (depth : ℕ) → IsRead (record { form = form; kind = k; depth = depth; access = access.Value })
+  plain form k depth = tt
+
+  holds : (J : Judged Typed) → Fits declared J → Satisfies IsRead J → Holds J
+  holds J p q = pair-satisfies (λ t. IsFormOf declared t.kind t.form) IsRead J p q
+
+  module _ (scopes : List Region) (agrees : AgreesBy declared types scopes) where
+    -- each rule gives valid forms of valid ones
+    validity_is_kept : IsKept (IsForm declared types) scopes
+    validity_is_kept = record {
+      number = λ z. holds (spelled host.Integer z) (spelled-fits declared host.Integer refl z) (spelled-plain IsRead plain host.Integer z);
+      character = λ z. holds (spelled host.Char z) (spelled-fits declared host.Char refl z) (spelled-plain IsRead plain host.Char z);
+      text = λ bytes. (text-fits declared bytes, tt);
+      named = λ name. value_named-fits declared types name (meant scopes name) (meant-declared declared types scopes name agrees);
+      within = λ interface name. value_named-fits declared types name (meant_in scopes interface name) (meant_in-declared declared types scopes interface name agrees);
+      called = λ name. called-fits declared types (meant scopes name) (meant-declared declared types scopes name agrees);
+      parenthesizes = λ x p. (p.0, tt);
+      signs = λ o x p. holds (signed o x) (signed-fits declared o x p.0) (signed-plain IsRead plain o x p.1);
+      negates = λ x p. holds (negated x) (negated-fits declared x p.0) (negated-plain IsRead plain x);
+      adds = λ o x y p q. holds (added o x y) (added-fits declared o x y p.0 q.0) (added-plain IsRead plain o x y);
+      multiplies = λ o x y p q. holds (multiplied o x y) (multiplied-fits declared o x y p.0 q.0) (multiplied-plain IsRead plain o x y);
+      compares = λ o x y p q. holds (compared o x y) (compared-fits declared o x y p.0 q.0) (compared-plain IsRead plain o x y);
+      applies_one = λ f x p. holds (applied_one f x) (applied_one-fits declared f x p.0) (applied_one-plain IsRead plain f x);
+      applies_two = λ f x y p q. holds (applied_two f x y) (applied_two-fits declared f x y p.0 q.0) (applied_two-plain IsRead plain f x y);
+    }
+
+    -- so every expression and every value that is accepted is valid
+    pub expression-holds : (e : Expression) → Holds (judged scopes e)
+    expression-holds e = expressions-fit (IsForm declared types) scopes validity_is_kept e
+
+    -- and so are arguments
+    arguments-hold : (arguments : List Argument) → AreGiven (IsForm declared types) (map (given scopes) arguments)
+    arguments-hold [] = tt
+    arguments-hold (a ∷ more) = (subst (Satisfies (IsForm declared types)) (sym (given-value scopes a)) (expression-holds (out-Argument a).value), arguments-hold more)
+
+    value-holds : (v : ComponentValue) → Holds (judged_value scopes v)
+    value-holds v = values-fit (IsForm declared types) scopes validity_is_kept v
+
+-- alike, of its kind alone
+of_kind : (declared : Declarations) (types : TypeValues) (J : Judged Typed) → Satisfies (IsForm declared types) J → Fits declared J
+of_kind declared types J p = weaker-satisfies (IsForm declared types) (λ t. IsFormOf declared t.kind t.form) J (λ t q. q.0) p
+
+expression-fits : (declared : Declarations) (scopes : List Region) → Agrees declared scopes → (e : Expression) → Fits declared (judged scopes e)
+expression-fits declared scopes agrees e = of_kind declared agrees.0 (judged scopes e) (expression-holds declared agrees.0 scopes agrees.1 e)
+
+value-fits : (declared : Declarations) (scopes : List Region) → Agrees declared scopes → (v : ComponentValue) → Fits declared (judged_value scopes v)
+value-fits declared scopes agrees v = of_kind declared agrees.0 (judged_value scopes v) (value-holds declared agrees.0 scopes agrees.1 v)
 
 pub expressions_are_sound : ExpressionsAreSound
-expressions_are_sound scopes e t accepted declared agrees = subst (Fits declared) accepted (expressions-fit (IsForm declared) scopes (validity_is_kept declared scopes agrees) e)
+expressions_are_sound scopes e t accepted declared agrees = subst (Fits declared) accepted (expression-fits declared scopes agrees e)
+
+pub accesses_are_sound : AccessesAreSound
+accesses_are_sound scopes e t accepted declared types agrees = (subst (Satisfies (IsForm declared types)) accepted (expression-holds declared types scopes agrees e)).1
+
+pub arguments_are_sound : ArgumentsAreSound
+arguments_are_sound scopes ps arguments t accepted declared types agrees list fs is =
+    subst (Satisfies (λ x. AreActuals declared list fs x.actuals)) accepted (arguments-fit declared types list ps fs (map (given scopes) arguments) is (arguments-hold declared types scopes agrees arguments))
 
 pub values_are_sound : ValuesAreSound
-values_are_sound scopes v t accepted declared agrees = subst (Fits declared) accepted (values-fit (IsForm declared) scopes (validity_is_kept declared scopes agrees) v)
+values_are_sound scopes v t accepted declared agrees = subst (Fits declared) accepted (value-fits declared scopes agrees v)
 
 -- a constant of a valid form is of its kind
 as_constant-fits : (declared : Declarations) (J : Judged Typed) → Fits declared J → IsJudgedConstant (when_accepted as_constant J)
@@ -89,17 +140,17 @@ as_label-fits declared (Accepts t) p = label-fits (varies t) (as_constant t) (co
 as_label-fits declared (Breaks rules) p = tt
 
 pub constants_are_sound : ConstantsAreSound
-constants_are_sound scopes v c accepted declared agrees = subst IsJudgedConstant accepted (as_constant-fits declared (judged_value scopes v) (values-fit (IsForm declared) scopes (validity_is_kept declared scopes agrees) v))
+constants_are_sound scopes v c accepted declared agrees = subst IsJudgedConstant accepted (as_constant-fits declared (judged_value scopes v) (value-fits declared scopes agrees v))
 
 -- so is a constant expression
 pub constant_expressions_are_sound : (scopes : List Region) (e : Expression) (c : ConstantForm) → constant_expression scopes e ≡ Accepts c → IsSoundConstant scopes c
-constant_expressions_are_sound scopes e c accepted declared agrees = subst IsJudgedConstant accepted (as_constant-fits declared (judged scopes e) (expressions-fit (IsForm declared) scopes (validity_is_kept declared scopes agrees) e))
+constant_expressions_are_sound scopes e c accepted declared agrees = subst IsJudgedConstant accepted (as_constant-fits declared (judged scopes e) (expression-fits declared scopes agrees e))
 
 pub bounds_are_sound : BoundsAreSound
-bounds_are_sound scopes e c accepted declared agrees = subst IsJudgedConstant accepted (as_bound-fits declared (judged scopes e) (expressions-fit (IsForm declared) scopes (validity_is_kept declared scopes agrees) e))
+bounds_are_sound scopes e c accepted declared agrees = subst IsJudgedConstant accepted (as_bound-fits declared (judged scopes e) (expression-fits declared scopes agrees e))
 
 pub labels_are_sound : LabelsAreSound
-labels_are_sound scopes e c accepted declared agrees = subst IsJudgedConstant accepted (as_label-fits declared (judged scopes e) (expressions-fit (IsForm declared) scopes (validity_is_kept declared scopes agrees) e))
+labels_are_sound scopes e c accepted declared agrees = subst IsJudgedConstant accepted (as_label-fits declared (judged scopes e) (expression-fits declared scopes agrees e))
 
 -- ---- hosts
 

@@ -1,4 +1,7 @@
 pub mod Accepted
+pub mod Plain
+pub mod Alone
+pub mod Passing
 pub mod Breaking
 pub mod Calls
 pub mod Examples
@@ -8,7 +11,12 @@ pub mod Known
 pub mod Meant
 pub mod Nodes
 pub mod Parts
+pub mod Reading
 pub mod Rows
+pub mod SameHost
+pub mod SameType
 pub mod Sound
+pub mod Gathering
+pub mod Written
 pub mod Keeping
 pub mod Lawful

@@ -21,8 +21,11 @@ use Rattle.ep_scope.specs.declared.thing.Thing.{Thing}
 use Rattle.ep_scope.specs.declared.thing.Thing.TheVariants as thing
 use Rattle.ep_check_expr.specs.Agreement.{IsConstantOf, IsStoredIn, IsDeclaration, IsThing, AreThings, AreInterfaces, AgreesBy, TypeValues, IsFormOf}
 use Rattle.ep_check_expr.specs.Hosts.{typed_host}
-use Rattle.ep_check_expr.specs.Names.{value_form, value_declared, value_required, value_named}
-use Rattle.ep_check_expr.proofs.Sound.{Fits}
+use Rattle.ep_check_expr.specs.Names.{call_declared, value_form, value_declared, value_required, value_named}
+use Rattle.ep_check_expr.specs.Functions.{Given}
+use Rattle.ep_check_expr.specs.Judgements.{Judged, Typed}
+use Rattle.ep_check_expr.proofs.Passing.{IsForm, function_called-fits}
+use Rattle.ep_check_expr.proofs.Keeping.{AreGiven, IsCalled, Satisfies}
 
 module _ (declared : Declarations) (types : TypeValues) where
   -- what is found is declared
@@ -101,24 +104,44 @@ module _ (declared : Declarations) (types : TypeValues) where
   variable-fits place kind.Text s = absurd s
   variable-fits place kind.File s = tt
 
-  value_declared-fits : (unit : List ℕ) (number : ℕ) (d : Declaration) → IsDeclaration declared types unit number d → Fits declared (value_declared unit number d)
-  value_declared-fits unit number (declaration.Constant k v) s = constant-fits k v s
-  value_declared-fits unit number (declaration.«Type» of host) s = tt
-  value_declared-fits unit number (declaration.Variable of k) s = variable-fits (Variable unit number) k s.0
-  value_declared-fits unit number (declaration.Own of k guarded) s = variable-fits (Own number) k s.0
-  value_declared-fits unit number (declaration.Procedure parameters) s = tt
+  -- what is accepted is valid
+  abbrev Holds : Judged Typed → Type 0
+  Holds = Satisfies (IsForm declared types)
 
-  value_required-fits : (r : Required) → Fits declared (value_required r)
-  value_required-fits (required.Constant constant.MaxInt) = (refl, (hosts.Integer, refl, refl))
-  value_required-fits (required.Constant constant.MaxChar) = (refl, (hosts.Char, refl, refl))
-  value_required-fits (required.Constant constant.True) = (refl, (hosts.Boolean, refl, refl))
-  value_required-fits (required.Constant constant.False) = (refl, (hosts.Boolean, refl, refl))
+  value_declared-fits : (unit : List ℕ) (number : ℕ) (d : Declaration) → IsDeclaration declared types unit number d → Holds (value_declared unit number d)
+  value_declared-fits unit number (declaration.Constant k v) s = (constant-fits k v s, tt)
+  value_declared-fits unit number (declaration.«Type» of host) s = tt
+  value_declared-fits unit number (declaration.Variable of k) s = (variable-fits (Variable unit number) k s.0, (Variable unit number, refl, s.1))
+  value_declared-fits unit number (declaration.Own of k guarded) s = (variable-fits (Own number) k s.0, (Own number, refl, s.1))
+  value_declared-fits unit number (declaration.Procedure parameters) s = tt
+  value_declared-fits unit number (declaration.Function parameters of h) s = function_called-fits declared types unit number parameters h [] s tt
+
+  value_required-fits : (r : Required) → Holds (value_required r)
+  value_required-fits (required.Constant constant.MaxInt) = ((refl, (hosts.Integer, refl, refl)), tt)
+  value_required-fits (required.Constant constant.MaxChar) = ((refl, (hosts.Char, refl, refl)), tt)
+  value_required-fits (required.Constant constant.True) = ((refl, (hosts.Boolean, refl, refl)), tt)
+  value_required-fits (required.Constant constant.False) = ((refl, (hosts.Boolean, refl, refl)), tt)
   value_required-fits (required.«Type» t) = tt
   value_required-fits (required.Function f) = tt
   value_required-fits (required.Procedure p) = tt
 
-  pub value_named-fits : (name : List ℕ) (m : Meant) → IsMeant m → Fits declared (value_named name m)
+  pub value_named-fits : (name : List ℕ) (m : Meant) → IsMeant m → Holds (value_named name m)
   value_named-fits name (Declares d) s = value_declared-fits d.unit d.number d.what s
-  value_named-fits name (meaning.Standard file) s = tt
+  value_named-fits name (meaning.Standard file) s = (tt, tt)
   value_named-fits name (Requires r) s = value_required-fits r
   value_named-fits name Nothing s = tt
+
+  call_declared-fits : (unit : List ℕ) (number : ℕ) (d : Declaration) (gs : List Given) → IsDeclaration declared types unit number d → AreGiven (IsForm declared types) gs → Holds (call_declared unit number d gs)
+  call_declared-fits unit number (declaration.Constant k v) gs s p = tt
+  call_declared-fits unit number (declaration.«Type» of host) gs s p = tt
+  call_declared-fits unit number (declaration.Variable of k) gs s p = tt
+  call_declared-fits unit number (declaration.Own of k guarded) gs s p = tt
+  call_declared-fits unit number (declaration.Procedure parameters) gs s p = tt
+  call_declared-fits unit number (declaration.Function parameters of h) gs s p = function_called-fits declared types unit number parameters h gs s p
+
+  -- what is called with valid arguments is valid
+  pub called-fits : (m : Meant) → IsMeant m → IsCalled (IsForm declared types) m
+  called-fits (Declares d) s = λ gs p. call_declared-fits d.unit d.number d.what gs s p
+  called-fits (meaning.Standard file) s = tt
+  called-fits (Requires r) s = tt
+  called-fits Nothing s = tt

@@ -4,7 +4,7 @@ use Rattle.ep_scope.specs.Scopes.{Region}
 use Rattle.ep_tree.specs.Nodes.{expression_node, comparison_node, simple_node, addend_node, term_node, multiplier_node, access_node, argument_node}
 use Rattle.ep_tree.specs.declared.expression.ComponentValue.TheFolds.{fold-roll-Factor, fold-roll-Selector, fold-roll-Access, fold-roll-Addend, fold-roll-Argument, fold-roll-Comparison, fold-roll-Expression, fold-roll-Multiplier, fold-roll-Simple, fold-roll-Term}
 use Rattle.ep_tree.specs.declared.expression.Addend.{Addend}
-use Rattle.ep_tree.specs.declared.expression.Argument.{Argument}
+use Rattle.ep_tree.specs.declared.expression.Argument.{Argument, out-Argument, roll-out-Argument}
 use Rattle.ep_tree.specs.declared.expression.Comparison.{Comparison}
 use Rattle.ep_tree.specs.declared.expression.Expression.{Expression}
 use Rattle.ep_tree.specs.declared.expression.Factor.{Factor}
@@ -20,7 +20,8 @@ use Rattle.ep_tree.specs.declared.operator.RelationalOperator.{RelationalOperato
 use Rattle.ep_tree.specs.declared.operator.Sign.{Sign}
 use Rattle.ep_scope.specs.declared.kind.Host.TheVariants as host
 use Rattle.ep_check_expr.specs.Expressions.{Arguments, chained, spelled, string_judged, access_judged, judged, simple_judged, term_judged, factor_judged, addend_judged, multiplier_judged, comparison_judged, name_judged, selected, given}
-use Rattle.ep_check_expr.specs.Judgements.{both, when_accepted}
+use Rattle.ep_check_expr.specs.Judgements.{Accepts, both, when_accepted}
+use Rattle.ep_check_expr.specs.Names.{parenthesized}
 use Rattle.ep_check_expr.specs.Operators.{signed, added, multiplied, compared}
 
 module _ (scopes : List Region) where
@@ -63,8 +64,19 @@ module _ (scopes : List Region) where
   pub wide-judged : (at : ℕ) (e w : Expression) → given scopes (argument_node at e (Some w)) ≡ record { value = judged scopes e; width = Some (judged scopes w) }
   wide-judged at e w = simp fold-roll-Argument
 
+  -- the value of an argument
+  pub given-value : (a : Argument) → (given scopes a).value ≡ judged scopes (out-Argument a).value
+  given-value a = ap (λ x. (given scopes x).value) (sym (roll-out-Argument a)) ∙ in_node (out-Argument a).width
+    where
+      in_node : (w : Option Expression) → (given scopes (argument_node (out-Argument a).line (out-Argument a).value w)).value ≡ judged scopes (out-Argument a).value
+      in_node None = ap (λ g. g.value) (argument-judged (out-Argument a).line (out-Argument a).value)
+      in_node (Some w) = ap (λ g. g.value) (wide-judged (out-Argument a).line (out-Argument a).value w)
+
   pub number-judged : (at : ℕ) (n : ℤ) → factor_judged scopes (factor.Number at n) ≡ spelled host.Integer n
   number-judged at n = ap (factor_judged scopes) (sym (factor.rolls-Number at n)) ∙ simp fold-roll-Factor
+
+  pub parenthesized-judged : (at : ℕ) (e : Expression) → factor_judged scopes (factor.Parenthesized at e) ≡ when_accepted (λ x. Accepts (parenthesized x)) (judged scopes e)
+  parenthesized-judged at e = ap (factor_judged scopes) (sym (factor.rolls-Parenthesized at e)) ∙ simp fold-roll-Factor
 
   pub string-judged : (at : ℕ) (b : List ℕ) → factor_judged scopes (factor.Text at b) ≡ string_judged b
   string-judged at b = ap (factor_judged scopes) (sym (factor.rolls-Text at b)) ∙ simp fold-roll-Factor

@@ -12,7 +12,7 @@ use Rattle.ep_check_expr.specs.Functions.{Given, all_faults, accepted, accepted_
 use Rattle.ep_check_expr.specs.Judgements.{Judged, Accepts, Breaks, Typed, both, when_accepted}
 use Rattle.ep_check_expr.specs.Names.{call_required, call_named, no_field, is_nothing, constituent_value, value_named}
 use Rattle.ep_check_expr.specs.Operators.{compared}
-use Rattle.ep_check_expr.proofs.Keeping.{IsKept, Satisfies, if-satisfies}
+use Rattle.ep_check_expr.proofs.Keeping.{AreGiven, IsCalled, IsKept, Satisfies, if-satisfies}
 
 module _ (Q : Typed → Type 0) where
   -- a rule of two operands that keeps the property
@@ -24,15 +24,10 @@ module _ (Q : Typed → Type 0) where
   AreOperands [] = ⊤
   AreOperands (o ∷ os) = Satisfies Q o.operand × AreOperands os
 
-  -- all arguments have it
-  abbrev pub AreGiven : List Given → Type 0
-  AreGiven [] = ⊤
-  AreGiven (g ∷ gs) = Satisfies Q g.value × AreGiven gs
-
   -- all arguments that follow a name have it
   abbrev pub IsSelected : Selected → Type 0
   IsSelected (Field name) = ⊤
-  IsSelected (Arguments gs) = AreGiven gs
+  IsSelected (Arguments gs) = AreGiven Q gs
   IsSelected Other = ⊤
 
   abbrev pub AreSelected : List Selected → Type 0
@@ -67,7 +62,7 @@ module _ (Q : Typed → Type 0) where
   accepted_first-forms (Breaks rules) xs p q = q
 
   -- the arguments that are accepted have it
-  accepted-forms : (gs : List Given) → AreGiven gs → AreForms (accepted gs)
+  accepted-forms : (gs : List Given) → AreGiven Q gs → AreForms (accepted gs)
   accepted-forms [] p = tt
   accepted-forms (g ∷ gs) p = accepted_first-forms g.value (accepted gs) p.0 (accepted-forms gs p.1)
 
@@ -95,22 +90,22 @@ module _ (Q : Typed → Type 0) where
     unless_faults-fits (r ∷ rs) J p = tt
 
     -- a call of a required function
-    applied-fits : (f : Function) (gs : List Given) → AreGiven gs → Satisfies Q (applied f gs)
+    applied-fits : (f : Function) (gs : List Given) → AreGiven Q gs → Satisfies Q (applied f gs)
     applied-fits f gs p = unless_faults-fits (all_faults gs ++ number_faults (takes f (length gs))) (called f (accepted gs)) (called-fits f (accepted gs) (accepted-forms gs p))
 
     -- a required name with arguments
-    call_required-fits : (r : Required) (gs : List Given) → AreGiven gs → Satisfies Q (call_required r gs)
+    call_required-fits : (r : Required) (gs : List Given) → AreGiven Q gs → Satisfies Q (call_required r gs)
     call_required-fits (required.Constant c) gs p = tt
     call_required-fits (required.«Type» t) gs p = tt
     call_required-fits (required.Function f) gs p = applied-fits f gs p
     call_required-fits (required.Procedure q) gs p = tt
 
     -- a name with arguments
-    call_named-fits : (name : List ℕ) (m : Meant) (gs : List Given) → AreGiven gs → Satisfies Q (call_named name m gs)
-    call_named-fits name (Declares d) gs p = tt
-    call_named-fits name (meaning.Standard file) gs p = tt
-    call_named-fits name (Requires r) gs p = call_required-fits r gs p
-    call_named-fits name Nothing gs p = tt
+    call_named-fits : (name : List ℕ) (m : Meant) (gs : List Given) → IsCalled Q m → AreGiven Q gs → Satisfies Q (call_named name m gs)
+    call_named-fits name (Declares d) gs c p = c gs p
+    call_named-fits name (meaning.Standard file) gs c p = tt
+    call_named-fits name (Requires r) gs c p = call_required-fits r gs p
+    call_named-fits name Nothing gs c p = tt
 
     -- what has no field is not accepted
     no_field-fits : (name : List ℕ) (m : Meant) → Satisfies Q (no_field name m)
@@ -126,7 +121,7 @@ module _ (Q : Typed → Type 0) where
     -- a name with what follows it
     pub access_judged-fits : (name : List ℕ) (ss : List Selected) → AreSelected ss → Satisfies Q (access_judged scopes name ss)
     access_judged-fits name [] p = kept.named name
-    access_judged-fits name (Arguments gs ∷ []) p = call_named-fits name (meant scopes name) gs p.0
+    access_judged-fits name (Arguments gs ∷ []) p = call_named-fits name (meant scopes name) gs (kept.called name) p.0
     access_judged-fits name (Field field ∷ []) p = constituent_value-fits name field (meant scopes name) (meant_in scopes name field) (kept.within name field)
     access_judged-fits name (Other ∷ []) p = tt
     access_judged-fits name (Arguments gs ∷ s ∷ ss) p = tt

@@ -1,7 +1,7 @@
 -- Rows of operands, read from the left.
 use Rattle.std.proofs.Common.{◌≡◌, ℕ, suc, ◌+◌, ◌<◌, Bool, true, false, ◌&&◌, List, ◌∷◌, drop, get_or, length, map, Some, None, refl, sym, ap, ◌∙◌, add-one, drop-cons}
 use Rattle.std.specs.Option.{option_or}
-use Rattle.ep_built.specs.Built.{Belonging, Found, at_node, lines_in, all_are_built}
+use Rattle.ep_built.specs.Built.{Belonging, Found, at_node, first_in, lines_in, all_are_built}
 use Rattle.ep_check_expr.proofs.Breaking.{both-second, chained-first}
 use Rattle.ep_check_expr.specs.Expressions.{Operand, chained}
 use Rattle.ep_check_expr.specs.Judgements.{Judged, Accepts, Typed, breaks, both}
@@ -70,3 +70,14 @@ module _ {I : Type 0} (g : I → Belonging) (xs : List I) (i : ℕ) (x : I) (wit
 
   pub operators-built : all_are_built (map g (drop i xs)) ≡ true → all_are_built (map g (drop (i + 1) xs)) ≡ true
   operators-built h = and_second b (all_are_built (map g (drop (i + 1) xs))) (sym built-left ∙ h)
+
+-- of items that are built, the next one, and those after it
+module _ {I : Type 0} (line_of : I → Found) (xs : List I) (i : ℕ) (x : I) (within : i < length xs) (is : x ≡ get_or xs i x) where
+  first_left : first_in (map line_of (drop i xs)) ≡ option_or (line_of x) (first_in (map line_of (drop (i + 1) xs)))
+  first_left = ap (λ ys. first_in (map line_of ys)) (left-cons xs i x within is)
+
+  pub next-built : first_in (map line_of (drop i xs)) ≡ None → line_of x ≡ None
+  next-built h = or-first (line_of x) (first_in (map line_of (drop (i + 1) xs))) (sym first_left ∙ h)
+
+  pub rest-built : first_in (map line_of (drop i xs)) ≡ None → first_in (map line_of (drop (i + 1) xs)) ≡ None
+  rest-built h = or-second (line_of x) (first_in (map line_of (drop (i + 1) xs))) (sym first_left ∙ h)

@@ -33,6 +33,7 @@ use Rattle.ep_check_expr.specs.Functions.{of_integer, ordinal_by, step_typed, st
 use Rattle.ep_check_expr.specs.Hosts.{typed_host}
 use Rattle.ep_check_expr.specs.Judgements.{Judged, Accepts, Breaks, Typed}
 use Rattle.ep_check_expr.specs.Operators.{integer, boolean, is_integer, is_boolean, is_string, are_compatible, map_both, within_depth, unary_typed, binary_typed, short_typed, unbuilt_typed, signed, negated, arithmetic, logical, short_circuit, added, multiplied, comparison, compared}
+use Rattle.ep_check_expr.specs.declared.access.Access.TheVariants as access
 use Rattle.ep_check_expr.specs.declared.forms.TheConstants as limit
 use Rattle.ep_check_expr.proofs.Keeping.{Satisfies}
 
@@ -47,7 +48,7 @@ module _ (declared : Declarations) where
 
   within_depth-fits : (form : Option Expr) (k : Kind) (depth : ℕ) → IsFormOf declared k form → Fits (within_depth form k depth)
   within_depth-fits form k depth s =
-      elim (nat_le depth limit.DEPTH) as (λ b. Fits (if b then Accepts (record { form = form; kind = k; depth = depth }) else Breaks (58 ∷ []))) [ true ↦ s | false ↦ tt ]
+      elim (nat_le depth limit.DEPTH) as (λ b. Fits (if b then Accepts (record { form = form; kind = k; depth = depth; access = access.Value }) else Breaks (58 ∷ []))) [ true ↦ s | false ↦ tt ]
 
   pub if-fits : (b : Bool) (J K : Judged Typed) → (b ≡ true → Fits J) → Fits K → Fits (if b then J else K)
   if-fits true J K f s = f refl

@@ -3,8 +3,8 @@ use Rattle.std.specs.Prelude.{◌≡◌, ℕ, pos, List, [], ◌∷◌, Option, 
 use Rattle.ep_typed.specs.Denoters.{host_of, type_of}
 use Rattle.ep_typed.specs.Hosts.{greatest, is_of_host}
 use Rattle.ep_typed.specs.Operations.{maxint}
-use Rattle.ep_typed.specs.Trees.{Place, Variable, Own, Expr, Constant, Text, Read, One, Two, Short, Step, Function}
-use Rattle.ep_typed.specs.Valid.{Declarations, IsPlace, IsExpr, IsProcedure, IsVariableOf}
+use Rattle.ep_typed.specs.Trees.{Place, Variable, Own, Expr, Constant, Text, Read, One, Two, Short, Step, Function, Actual, actuals}
+use Rattle.ep_typed.specs.Valid.{Declarations, AreGiven, IsFunction, IsPlace, IsExpr, IsProcedure, IsVariableOf}
 use Rattle.ep_typed.specs.Valid as valid
 use Rattle.ep_typed.specs.Viewed.{denoter_of}
 use Rattle.ep_typed.specs.declared.interface.Formal.{Formal}
@@ -23,6 +23,9 @@ use Rattle.ep_scope.specs.declared.thing.Declaration.{Declaration}
 use Rattle.ep_scope.specs.declared.thing.Declaration.TheVariants as declaration
 use Rattle.ep_scope.specs.declared.thing.Thing.{Thing}
 use Rattle.ep_scope.specs.declared.thing.Thing.TheVariants as thing
+use Rattle.ep_check_expr.specs.declared.access.Access.{Access}
+use Rattle.ep_check_expr.specs.declared.access.Access.TheVariants as access
+use Rattle.ep_check_expr.specs.Arguments.{Taken}
 use Rattle.ep_check_expr.specs.Hosts.{typed_host}
 use Rattle.ep_check_expr.specs.Judgements.{Typed}
 
@@ -66,6 +69,11 @@ AreParameters types list (p ∷ ps) (f ∷ fs) = IsParameter types list p f × A
 AreParameters types list ps fs = ⊥
 
 module _ (declared : Declarations) where
+  -- what is given is valid for these formal parameters of a unit with this list of types, where it is built
+  abbrev pub AreActuals : List UnitType → List Formal → Option (List Actual) → Type 0
+  AreActuals list fs None = ⊤
+  AreActuals list fs (Some given) = AreGiven declared list fs (actuals given)
+
   -- the place is that of a variable that is declared, with a type of this host; there are no variables of string types so far
   abbrev pub IsStoredIn : Place → Kind → Type 0
   IsStoredIn place (kind.Ordinal h) = IsHost h × IsPlace declared (typed_host h) place
@@ -86,9 +94,21 @@ module _ (declared : Declarations) (types : TypeValues) where
   abbrev pub IsOfType : Place → TypeName → Type 0
   IsOfType place t = (v : TypeValue) × (types t ≡ Some v) × IsVariableOf declared v place
 
+  -- what is the bare name of a variable of this type is read of its place
+  abbrev pub IsAccessOf : Access → Option Expr → Type 0
+  IsAccessOf (access.Variable of guarded) form = (place : Place) × (form ≡ Some (Read place)) × IsOfType place of
+  IsAccessOf access.File form = ⊤
+  IsAccessOf access.Constant form = ⊤
+  IsAccessOf access.Value form = ⊤
+
   -- the routine is declared, and a procedure with these formal parameters
   abbrev pub IsProcedureOf : List ℕ → ℕ → List FormalParameter → Type 0
   IsProcedureOf unit number ps = (r : RoutineEntry) × (slice_get (declared.routines unit) number ≡ Some r) × IsProcedure r × AreParameters types (declared.types unit) ps r.formals
+
+  -- the routine is declared, and a function with these formal parameters and a result of this host
+  abbrev pub IsFunctionOf : List ℕ → ℕ → List FormalParameter → Host → Type 0
+  IsFunctionOf unit number ps h =
+      (r : RoutineEntry) × (slice_get (declared.routines unit) number ≡ Some r) × IsFunction (declared.types unit) (typed_host h) r × IsHost h × AreParameters types (declared.types unit) ps r.formals
 
   abbrev pub IsDeclaration : List ℕ → ℕ → Declaration → Type 0
   IsDeclaration unit number (declaration.Constant kind value) = IsConstantOf kind value
@@ -96,6 +116,7 @@ module _ (declared : Declarations) (types : TypeValues) where
   IsDeclaration unit number (declaration.Variable of kind) = IsStoredIn declared (Variable unit number) kind × IsOfType (Variable unit number) of
   IsDeclaration unit number (declaration.Own of kind guarded) = IsStoredIn declared (Own number) kind × IsOfType (Own number) of
   IsDeclaration unit number (declaration.Procedure parameters) = IsProcedureOf unit number parameters
+  IsDeclaration unit number (declaration.Function parameters of host) = IsFunctionOf unit number parameters host
 
   abbrev pub IsThing : Thing → Type 0
   IsThing (thing.Declared d) = IsDeclaration d.unit d.number d.what
@@ -121,3 +142,12 @@ Agrees declared scopes = (types : TypeValues) × AgreesBy declared types scopes
 -- under all declarations that hold what the scopes declare, the typed form is valid
 abbrev pub IsSound : List Region → Typed → Type 0
 IsSound scopes t = (declared : Declarations) → Agrees declared scopes → IsFormOf declared t.kind t.form
+
+-- alike, what is the bare name of a variable is read of the place of a variable of its type
+abbrev pub IsSoundAccess : List Region → Typed → Type 0
+IsSoundAccess scopes t = (declared : Declarations) (types : TypeValues) → AgreesBy declared types scopes → IsAccessOf declared types t.access t.form
+
+-- alike, what is given is valid for the formal parameters of each routine that has these
+abbrev pub IsSoundTaken : List Region → List FormalParameter → Taken → Type 0
+IsSoundTaken scopes ps t =
+    (declared : Declarations) (types : TypeValues) → AgreesBy declared types scopes → (list : List UnitType) (fs : List Formal) → AreParameters types list ps fs → AreActuals declared list fs t.actuals

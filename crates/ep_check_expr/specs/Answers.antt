@@ -1,20 +1,26 @@
 -- What a call answers of what is judged: the typed form, or one of the rules that fail; want of memory is free.
-use Rattle.std.specs.Prelude.{◌≡◌, ℕ, suc, nat_eq, nat_le, true, false, None, Result, Ok, Err, IsTrue, ⊤}
+use Rattle.std.specs.Prelude.{◌≡◌, ℕ, suc, nat_eq, nat_le, true, false, map, None, Result, Ok, Err, IsTrue, ⊤}
 use Rattle.std.specs.List.{list_any}
 use Rattle.std.specs.Option.{option_map}
-use Rattle.ep_typed.specs.Viewed.{expr_of}
+use Rattle.ep_typed.specs.Viewed.{actual_of, expr_of}
+use Rattle.ep_check_expr.specs.Arguments as arguments
 use Rattle.ep_check_expr.specs.Functions.{Given, given_faults}
 use Rattle.ep_check_expr.specs.Judgements as spec
 use Rattle.ep_check_expr.specs.Judgements.{Judged, Accepts, breaks}
 use Rattle.ep_scope.specs.declared.rule.TheConstants as rules
 use Rattle.ep_check_expr.specs.declared.forms.TheConstants as limit
+use Rattle.ep_check_expr.specs.declared.arguments.Taken.{Taken}
 use Rattle.ep_check_expr.specs.declared.forms.Typed.{Typed}
 use Rattle.ep_check_expr.specs.declared.forms.Refusal.{Refusal}
 use Rattle.ep_check_expr.specs.declared.forms.Refusal.TheVariants.{Rule, NoMemory}
 
 -- the plain data of a typed form
 abbrev pub typed_of : Typed → spec.Typed
-typed_of t = record { form = option_map expr_of t.form; kind = t.kind; depth = t.depth }
+typed_of t = record { form = option_map expr_of t.form; kind = t.kind; depth = t.depth; access = t.access }
+
+-- the plain data of what is given for formal parameters
+abbrev pub taken_of : Taken → arguments.Taken
+taken_of t = record { actuals = option_map (map actual_of) t.actuals; depth = t.depth }
 
 -- the form exactly where it is accepted, or a rule that fails
 abbrev pub AnswersJudged : {T A : Type 0} → (T → A) → Result T Refusal → Judged A → Type 0

@@ -21,10 +21,11 @@ use Rattle.ep_scope.specs.Scopes.{Region, meant}
 use Rattle.ep_scope.specs.declared.kind.Host.{Host}
 use Rattle.ep_scope.specs.declared.kind.Host.TheVariants as host
 use Rattle.ep_scope.specs.declared.kind.Kind.TheVariants as kind
+use Rattle.ep_check_expr.specs.declared.access.Access.TheVariants as access
 use Rattle.ep_check_expr.specs.Functions.{Given}
 use Rattle.ep_check_expr.specs.Hosts.{typed_host}
-use Rattle.ep_check_expr.specs.Judgements.{Judged, Typed, unbuilt, when_accepted, both}
-use Rattle.ep_check_expr.specs.Names.{leaf, value_named, call_named, qualified_value}
+use Rattle.ep_check_expr.specs.Judgements.{Judged, Accepts, Typed, unbuilt, when_accepted, both}
+use Rattle.ep_check_expr.specs.Names.{leaf, parenthesized, value_named, call_named, qualified_value}
 use Rattle.ep_check_expr.specs.Operators.{signed, negated, added, multiplied, compared}
 
 -- an operand with the operator before it
@@ -62,12 +63,12 @@ pub data Selected : Type 0 where
 
 -- a number or a character as the text spells it, which is a value of its host: no text has a number above `maxint` (ISO 10206, 6.1.7 and 6.4.2.2)
 abbrev pub spelled : Host → ℤ → Judged Typed
-spelled h z = if is_of_host (typed_host h) z then leaf (tree.Constant z) (kind.Ordinal h) else unbuilt
+spelled h z = if is_of_host (typed_host h) z then leaf (tree.Constant z) (kind.Ordinal h) access.Value else unbuilt
 
 -- a character string of one byte is a char, and any other one a text (ISO 10206, 6.1.9)
 abbrev pub string_judged : List ℕ → Judged Typed
 string_judged (byte ∷ []) = spelled host.Char (pos byte)
-string_judged bytes = leaf (tree.Text bytes) kind.Text
+string_judged bytes = leaf (tree.Text bytes) kind.Text access.Value
 
 -- an expression, with the second half of a comparison where it has one
 abbrev pub compared_if : Judged Typed → Option (Operand RelationalOperator) → Judged Typed
@@ -95,7 +96,7 @@ module _ (scopes : List Region) where
   at_factor (Factor-F.Number line number) = spelled host.Integer number
   at_factor (Factor-F.Text line bytes) = string_judged bytes
   at_factor (Factor-F.Nil line) = unbuilt
-  at_factor (Factor-F.Parenthesized line inner) = inner
+  at_factor (Factor-F.Parenthesized line inner) = when_accepted (λ x. Accepts (parenthesized x)) inner
   at_factor (Factor-F.Not line inner) = when_accepted negated inner
   at_factor (Factor-F.Set line labels) = unbuilt
   at_factor (Factor-F.Structured line name values) = unbuilt

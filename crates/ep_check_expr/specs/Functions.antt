@@ -12,6 +12,7 @@ use Rattle.ep_scope.specs.declared.required.Function.TheVariants as function
 use Rattle.ep_scope.specs.declared.rule.TheConstants as rule
 use Rattle.ep_check_expr.specs.Hosts.{typed_host}
 use Rattle.ep_check_expr.specs.Judgements.{Judged, Accepts, Breaks, Typed, faults}
+use Rattle.ep_check_expr.specs.declared.access.Access.TheVariants as access
 use Rattle.ep_check_expr.specs.Operators.{integer, character, boolean, is_integer, unary_typed, within_depth, map_both}
 
 -- an argument of a call
@@ -71,7 +72,7 @@ stepped down x count = stepped_by x.kind down x count
 
 -- the count of `succ` and `pred` where none is given
 abbrev pub one : Typed
-one = record { form = Some (Constant (pos 1)); kind = integer; depth = 1 }
+one = record { form = Some (Constant (pos 1)); kind = integer; depth = 1; access = access.Value }
 
 -- a call of one argument
 abbrev pub applied_one : Function → Typed → Judged Typed

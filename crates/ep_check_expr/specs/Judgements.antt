@@ -5,17 +5,19 @@ use Rattle.std.specs.Prelude.{ℕ, nat_eq, Bool, false, List, [], ◌++◌, Opti
 use Rattle.std.specs.List.{list_any}
 use Rattle.ep_typed.specs.Trees.{Expr}
 use Rattle.ep_scope.specs.declared.kind.Kind.{Kind}
+use Rattle.ep_check_expr.specs.declared.access.Access.{Access}
 
 -- the typed form, or the rules that fail. A form that is not built has no rule yet: none fails, and it is not accepted.
 pub data Judged (A : Type 0) : Type 0 where
   Accepts : (form : A) → Judged A
   Breaks : (rules : List ℕ) → Judged A
 
--- An expression that is accepted: its typed form, its kind, and how many typed nodes of it stand one below the other. A form that is accepted and has no code yet, as `+` of two characters, has no typed form.
+-- An expression that is accepted: its typed form, its kind, how many typed nodes of it stand one below the other, and what it is the bare name of. A form that is accepted and has no code yet, as `+` of two characters, has no typed form.
 pub record Typed : Type 0 where
   pub form : Option Expr
   pub kind : Kind
   pub depth : ℕ
+  pub access : Access
 
 -- what is not built, where no rule is known to fail
 abbrev pub unbuilt : {A : Type 0} → Judged A

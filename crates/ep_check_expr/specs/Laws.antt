@@ -1,11 +1,14 @@
 -- The laws of typed forms: what the rules accept is valid wherever the declarations hold what the scopes declare, and of a host that is known.
-use Rattle.std.specs.Prelude.{◌≡◌, List}
+use Rattle.std.specs.Prelude.{◌≡◌, List, map}
+use Rattle.ep_tree.specs.declared.expression.Argument.{Argument}
 use Rattle.ep_tree.specs.declared.expression.ComponentValue.{ComponentValue}
 use Rattle.ep_tree.specs.declared.expression.Expression.{Expression}
 use Rattle.ep_scope.specs.Scopes.{Region}
-use Rattle.ep_check_expr.specs.Agreement.{IsSound}
+use Rattle.ep_scope.specs.declared.parameter.FormalParameter.{FormalParameter}
+use Rattle.ep_check_expr.specs.Agreement.{IsSound, IsSoundAccess, IsSoundTaken}
+use Rattle.ep_check_expr.specs.Arguments.{Taken, arguments_judged}
 use Rattle.ep_check_expr.specs.Constants.{IsSoundConstant, constant_judged, bound_judged, label_judged}
-use Rattle.ep_check_expr.specs.Expressions.{judged, judged_value}
+use Rattle.ep_check_expr.specs.Expressions.{given, judged, judged_value}
 use Rattle.ep_check_expr.specs.Judgements.{Accepts, Typed}
 use Rattle.ep_check_expr.specs.Origins.{IsKnownKind}
 use Rattle.ep_check_expr.specs.declared.constants.ConstantForm.{ConstantForm}
@@ -13,6 +16,14 @@ use Rattle.ep_check_expr.specs.declared.constants.ConstantForm.{ConstantForm}
 -- an expression that is accepted has a valid form
 abbrev pub ExpressionsAreSound : Type 0
 ExpressionsAreSound = (scopes : List Region) (e : Expression) (t : Typed) → judged scopes e ≡ Accepts t → IsSound scopes t
+
+-- and is read of a variable of its type where it is the bare name of one
+abbrev pub AccessesAreSound : Type 0
+AccessesAreSound = (scopes : List Region) (e : Expression) (t : Typed) → judged scopes e ≡ Accepts t → IsSoundAccess scopes t
+
+-- arguments that are accepted are valid for formal parameters
+abbrev pub ArgumentsAreSound : Type 0
+ArgumentsAreSound = (scopes : List Region) (ps : List FormalParameter) (arguments : List Argument) (t : Taken) → arguments_judged ps (map (given scopes) arguments) ≡ Accepts t → IsSoundTaken scopes ps t
 
 -- so has the value of a definition or of an assignment
 abbrev pub ValuesAreSound : Type 0

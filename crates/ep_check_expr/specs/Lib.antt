@@ -1,5 +1,6 @@
 pub mod Agreement
 pub mod Answers
+pub mod Arguments
 pub mod Constants
 pub mod Expressions
 pub mod Folding

@@ -10,6 +10,7 @@ use Rattle.ep_scope.specs.Scopes.{Region, Meant, Declares, Requires, Nothing, me
 use Rattle.ep_scope.specs.Scopes as meaning
 use Rattle.ep_scope.specs.declared.kind.Kind.{Kind}
 use Rattle.ep_scope.specs.declared.kind.Kind.TheVariants as kind
+use Rattle.ep_scope.specs.declared.parameter.Protection.TheVariants as protection
 use Rattle.ep_scope.specs.declared.required.Required.{Required}
 use Rattle.ep_scope.specs.declared.required.Required.TheVariants as required
 use Rattle.ep_scope.specs.declared.required.RequiredConstant.{RequiredConstant}
@@ -17,13 +18,20 @@ use Rattle.ep_scope.specs.declared.required.RequiredConstant.TheVariants as cons
 use Rattle.ep_scope.specs.declared.rule.TheConstants as rule
 use Rattle.ep_scope.specs.declared.thing.Declaration.{Declaration}
 use Rattle.ep_scope.specs.declared.thing.Declaration.TheVariants as declaration
+use Rattle.ep_check_expr.specs.declared.access.Access.{Access}
+use Rattle.ep_check_expr.specs.declared.access.Access.TheVariants as access
+use Rattle.ep_check_expr.specs.Arguments.{function_called}
 use Rattle.ep_check_expr.specs.Functions.{Given, all_faults, applied}
 use Rattle.ep_check_expr.specs.Judgements.{Judged, Accepts, Breaks, Typed}
 use Rattle.ep_check_expr.specs.Operators.{integer, character, boolean}
 
 -- a form without parts
-abbrev pub leaf : Expr → Kind → Judged Typed
-leaf form kind = Accepts (record { form = Some form; kind = kind; depth = 1 })
+abbrev pub leaf : Expr → Kind → Access → Judged Typed
+leaf form kind access = Accepts (record { form = Some form; kind = kind; depth = 1; access = access })
+
+-- the same in parentheses, which is a value (ISO 10206, 6.5.1)
+abbrev pub parenthesized : Typed → Typed
+parenthesized x = record { form = x.form; kind = x.kind; depth = x.depth; access = access.Value }
 
 -- the value of a constant
 abbrev pub value_form : Value → Expr
@@ -31,22 +39,23 @@ value_form (value.Word z) = Constant z
 value_form (value.Text bytes) = Text bytes
 
 -- the value of a variable stands above its place
-abbrev pub reading : Expr → Kind → Judged Typed
-reading form kind = Accepts (record { form = Some form; kind = kind; depth = 2 })
+abbrev pub reading : Expr → Kind → Access → Judged Typed
+reading form kind access = Accepts (record { form = Some form; kind = kind; depth = 2; access = access })
 
 abbrev pub value_declared : List ℕ → ℕ → Declaration → Judged Typed
-value_declared unit number (declaration.Constant kind value) = leaf (value_form value) kind
+value_declared unit number (declaration.Constant kind value) = leaf (value_form value) kind access.Constant
 value_declared unit number (declaration.«Type» of host) = Breaks (rule.OTHER_THING ∷ [])
-value_declared unit number (declaration.Variable of kind) = reading (Read (Variable unit number)) kind
-value_declared unit number (declaration.Own of kind guarded) = reading (Read (Own number)) kind
+value_declared unit number (declaration.Variable of kind) = reading (Read (Variable unit number)) kind (access.Variable of protection.Unprotected)
+value_declared unit number (declaration.Own of kind guarded) = reading (Read (Own number)) kind (access.Variable of guarded)
 value_declared unit number (declaration.Procedure parameters) = Breaks (rule.PROCEDURE ∷ rule.OTHER_THING ∷ [])
+value_declared unit number (declaration.Function parameters of host) = function_called unit number parameters host []
 
 -- the required constants (ISO 10206, 6.4.2.2)
 abbrev pub constant_required : RequiredConstant → Judged Typed
-constant_required constant.MaxInt = leaf (Constant (pos maxint)) integer
-constant_required constant.MaxChar = leaf (Constant (pos last_char)) character
-constant_required constant.True = leaf (Constant (pos 1)) boolean
-constant_required constant.False = leaf (Constant (pos 0)) boolean
+constant_required constant.MaxInt = leaf (Constant (pos maxint)) integer access.Constant
+constant_required constant.MaxChar = leaf (Constant (pos last_char)) character access.Constant
+constant_required constant.True = leaf (Constant (pos 1)) boolean access.Constant
+constant_required constant.False = leaf (Constant (pos 0)) boolean access.Constant
 
 abbrev pub value_required : Required → Judged Typed
 value_required (required.Constant c) = constant_required c
@@ -69,7 +78,7 @@ is_one_of rule rules = list_any (nat_eq rule) rules
 -- a name as a value
 abbrev pub value_named : List ℕ → Meant → Judged Typed
 value_named name (Declares d) = value_declared d.unit d.number d.what
-value_named name (meaning.Standard file) = reading (Read (Standard file)) kind.File
+value_named name (meaning.Standard file) = reading (Read (Standard file)) kind.File access.File
 value_named name (Requires r) = value_required r
 value_named name Nothing = Breaks (undeclared name)
 
@@ -80,9 +89,18 @@ call_required (required.«Type» t) gs = Breaks (rule.OTHER_THING ∷ all_faults
 call_required (required.Function f) gs = applied f gs
 call_required (required.Procedure p) gs = Breaks (rule.PROCEDURE ∷ rule.OTHER_THING ∷ all_faults gs)
 
+-- what is declared with arguments is a function (ISO 10206, 6.8.5)
+abbrev pub call_declared : List ℕ → ℕ → Declaration → List Given → Judged Typed
+call_declared unit number (declaration.Function parameters of host) gs = function_called unit number parameters host gs
+call_declared unit number (declaration.Procedure parameters) gs = Breaks (rule.PROCEDURE ∷ rule.OTHER_THING ∷ all_faults gs)
+call_declared unit number (declaration.Constant kind value) gs = Breaks (rule.OTHER_THING ∷ all_faults gs)
+call_declared unit number (declaration.«Type» of host) gs = Breaks (rule.OTHER_THING ∷ all_faults gs)
+call_declared unit number (declaration.Variable of kind) gs = Breaks (rule.OTHER_THING ∷ all_faults gs)
+call_declared unit number (declaration.Own of kind guarded) gs = Breaks (rule.OTHER_THING ∷ all_faults gs)
+
 -- a name with arguments
 abbrev pub call_named : List ℕ → Meant → List Given → Judged Typed
-call_named name (Declares d) gs = Breaks (rule.OTHER_THING ∷ all_faults gs)
+call_named name (Declares d) gs = call_declared d.unit d.number d.what gs
 call_named name (meaning.Standard file) gs = Breaks (rule.OTHER_THING ∷ all_faults gs)
 call_named name (Requires r) gs = call_required r gs
 call_named name Nothing gs = Breaks (undeclared name ++ all_faults gs)

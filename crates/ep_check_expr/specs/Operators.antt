@@ -22,6 +22,7 @@ use Rattle.ep_scope.specs.declared.kind.Kind.{Kind}
 use Rattle.ep_scope.specs.declared.kind.Kind.TheVariants.{Ordinal, Text}
 use Rattle.ep_scope.specs.declared.rule.TheConstants as rule
 use Rattle.ep_check_expr.specs.Judgements.{Judged, Accepts, Breaks, Typed, unbuilt}
+use Rattle.ep_check_expr.specs.declared.access.Access.TheVariants as access
 use Rattle.ep_check_expr.specs.declared.forms.TheConstants as limit
 
 -- the kinds of the required ordinal types
@@ -55,7 +56,7 @@ are_compatible _ _ = false
 
 -- at most so many typed nodes stand one below the other
 abbrev pub within_depth : Option Expr → Kind → ℕ → Judged Typed
-within_depth form kind depth = if nat_le depth limit.DEPTH then Accepts (record { form = form; kind = kind; depth = depth }) else Breaks (rule.TOO_DEEP ∷ [])
+within_depth form kind depth = if nat_le depth limit.DEPTH then Accepts (record { form = form; kind = kind; depth = depth; access = access.Value }) else Breaks (rule.TOO_DEEP ∷ [])
 
 abbrev pub map_both : {A B C : Type 0} → (A → B → C) → Option A → Option B → Option C
 map_both f (Some x) (Some y) = Some (f x y)

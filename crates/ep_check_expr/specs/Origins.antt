@@ -23,13 +23,14 @@ HasHost (kind.Ordinal g) h = g ≡ h
 HasHost kind.Text h = ⊥
 HasHost kind.File h = ⊥
 
--- a constant or variable of the host is declared, or a type with it
+-- a constant or variable of the host is declared, or a type or the result of a function with it
 abbrev pub DeclaresHost : Declaration → Host → Type 0
 DeclaresHost (declaration.Constant k v) h = HasHost k h
 DeclaresHost (declaration.«Type» of g) h = g ≡ h
 DeclaresHost (declaration.Variable of k) h = HasHost k h
 DeclaresHost (declaration.Own of k guarded) h = HasHost k h
 DeclaresHost (declaration.Procedure parameters) h = ⊥
+DeclaresHost (declaration.Function parameters of g) h = g ≡ h
 
 abbrev pub ThingHasHost : Thing → Host → Type 0
 ThingHasHost (thing.Declared d) h = DeclaresHost d.what h

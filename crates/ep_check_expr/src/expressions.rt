@@ -1,21 +1,27 @@
 //! The walk over expressions: one function for each production, which takes its tree by reference.
 
 ghost use Rattle.std.specs.Prelude.{◌≡◌, ◌∷◌, [], true, None, map};
-ghost use Rattle.ep_built.specs.Built.{component_value_unbuilt, expression_unbuilt, simple_unbuilt, term_unbuilt, factor_unbuilt, access_unbuilt, argument_unbuilt, addend_belonging, multiplier_belonging, selector_belonging, all_are_built, lines_in, first_in};
+ghost use Rattle.ep_built.specs.Built.{component_value_unbuilt, expression_unbuilt, simple_unbuilt, term_unbuilt, factor_unbuilt, access_unbuilt, argument_unbuilt, addend_belonging, multiplier_belonging, selector_belonging, written_unbuilt, written_value_unbuilt, all_are_built, lines_in, first_in};
 ghost use Rattle.ep_scope.specs.Scopes.{meant};
-ghost use Rattle.ep_check_expr.specs.Answers.{typed_of, AnswersTyped, AnswersGiven};
+ghost use Rattle.ep_check_expr.specs.Answers.{taken_of, typed_of, AnswersJudged, AnswersTyped, AnswersGiven};
+ghost use Rattle.ep_check_expr.specs.Arguments.{arguments_judged};
 ghost use Rattle.ep_check_expr.specs.Expressions.{chained, judged, judged_value, addend_judged, multiplier_judged, simple_judged, term_judged, factor_judged, name_judged, access_judged, selected, given, string_judged};
 ghost use Rattle.ep_check_expr.specs.Functions.{applied};
 ghost use Rattle.ep_check_expr.specs.Judgements.{Accepts};
-ghost use Rattle.ep_check_expr.specs.Names.{call_named};
+ghost use Rattle.ep_check_expr.specs.Names.{call_declared, call_named};
 ghost use Rattle.ep_check_expr.specs.Operators.{added, multiplied};
 
+use crate::arguments::Taken;
 use crate::forms::{Refusal, Typed};
 use crate::functions::{applied_to_one, applied_to_two, takes};
 use crate::names::{named, undeclared};
 use crate::operators::{added, compared, multiplied, negated, signed};
+use crate::shapes::bare;
 use ep_base::Name;
-use ep_scope::{Function, Host, Kind, Meaning, Required, Scope, meaning_of, rule};
+use ep_scope::{
+    Declaration, Declared, FormalParameter, Function, Host, Meaning, Required, Scope, meaning_of,
+    rule,
+};
 use ep_tree::{
     Access, Addend, Argument, ComponentValue, Expression, Factor, Multiplier, Selector, Simple,
     Term,
@@ -41,6 +47,23 @@ pub fn typed_expression(
             let right = simple(alloc, &comparison.get().right, scopes)?;
             compared(alloc, comparison.get().operator, left, right)
         }
+    }
+}
+
+/// The typed form of what is written or given, which may be a character string of any length, or a rule that fails in it.
+/// The forms of the expression are otherwise all built.
+#[cycle(typed)]
+pub fn written_expression(
+    alloc: Global,
+    tree: &Expression,
+    scopes: &[Scope],
+) -> Result<Typed, Refusal>
+    requires { written_value_unbuilt tree.now ≡ None }
+    ensures typed { AnswersTyped result (judged scopes.now tree.now) }
+{
+    match bare(tree) {
+        Some(Factor::Text(_, bytes)) => string(alloc, bytes.items()),
+        _ => typed_expression(alloc, tree, scopes),
     }
 }
 
@@ -123,7 +146,10 @@ fn factor(alloc: Global, f: &Factor, scopes: &[Scope]) -> Result<Typed, Refusal>
         Factor::Access(a) => access(alloc, a, scopes),
         Factor::Number(_, number) => Typed::spelled(alloc, *number, Host::Integer),
         Factor::Text(_, bytes) => string(alloc, bytes.items()),
-        Factor::Parenthesized(_, inner) => typed_expression(alloc, inner.get(), scopes),
+        Factor::Parenthesized(_, inner) => {
+            let value = typed_expression(alloc, inner.get(), scopes)?;
+            Ok(value.parenthesized())
+        }
         Factor::Not(_, inner) => {
             let operand = factor(alloc, inner.get(), scopes)?;
             negated(alloc, operand)
@@ -140,7 +166,7 @@ pub(crate) fn string(alloc: Global, bytes: &[u8]) -> Result<Typed, Refusal>
 {
     match bytes {
         [byte] => Typed::spelled(alloc, *byte as i64, Host::Char),
-        _ => Typed::text(alloc, bytes, Kind::Text),
+        _ => Typed::text(alloc, bytes),
     }
 }
 
@@ -194,7 +220,7 @@ fn call(
         }
         Meaning::Required(Required::Procedure(_)) => Err(Refusal::Rule(rule::PROCEDURE)),
         Meaning::Required(_) => Err(Refusal::Rule(rule::OTHER_THING)),
-        Meaning::Declared(_) => Err(Refusal::Rule(rule::OTHER_THING)),
+        Meaning::Declared(declared) => designator(alloc, declared, arguments, scopes),
         Meaning::Standard(_) => Err(Refusal::Rule(rule::OTHER_THING)),
         Meaning::Nothing => Err(Refusal::Rule(undeclared(name))),
     }
@@ -208,7 +234,7 @@ fn application(
     arguments: &[Argument],
     scopes: &[Scope],
 ) -> Result<Typed, Refusal>
-    requires built { first_in (map argument_unbuilt arguments.now) ≡ None }
+    requires built { first_in (map written_unbuilt arguments.now) ≡ None }
     ensures { AnswersTyped result (applied function (map (given scopes.now) arguments.now)) }
 {
     if !takes(function, arguments.len()) {
@@ -228,14 +254,64 @@ fn application(
     }
 }
 
-/// `arg`, of a function
+/// What is declared, called with arguments (ISO 10206, 6.8.5).
+#[cycle(typed)]
+fn designator(
+    alloc: Global,
+    declared: &Declared,
+    arguments: &[Argument],
+    scopes: &[Scope],
+) -> Result<Typed, Refusal>
+    requires built { first_in (map written_unbuilt arguments.now) ≡ None }
+    ensures { AnswersTyped result
+        (call_declared declared.now.unit declared.now.number declared.now.what
+        (map (given scopes.now) arguments.now)) }
+{
+    match &declared.what {
+        Declaration::Function(parameters, _, host) => {
+            let given = typed_arguments(alloc, parameters.items(), arguments, scopes)?;
+            Typed::function(alloc, &declared.unit, declared.number, *host, given)
+        }
+        Declaration::Procedure(_) => Err(Refusal::Rule(rule::PROCEDURE)),
+        _ => Err(Refusal::Rule(rule::OTHER_THING)),
+    }
+}
+
+/// What is given for the formal parameters of a procedure or function of a unit, or a rule that fails in it. The forms of
+/// the arguments are all built, but for character strings.
+///
+/// `arg { "," arg }`
+#[cycle(typed)]
+pub fn typed_arguments(
+    alloc: Global,
+    parameters: &[FormalParameter],
+    arguments: &[Argument],
+    scopes: &[Scope],
+) -> Result<Taken, Refusal>
+    requires built { first_in (map written_unbuilt arguments.now) ≡ None }
+    ensures taken { AnswersJudged taken_of result
+        (arguments_judged parameters.now (map (given scopes.now) arguments.now)) }
+{
+    if parameters.len() != arguments.len() {
+        return Err(Refusal::Rule(rule::ARGUMENTS));
+    }
+    let mut taken = Taken::nothing(alloc);
+    for (place, one) in arguments.iter().enumerate() {
+        let parameter = &parameters[place];
+        let value = argument(alloc, one, scopes)?;
+        taken = taken.with(parameter, value)?;
+    }
+    Ok(taken)
+}
+
+/// `arg`, which is not written
 #[cycle(typed)]
 fn argument(alloc: Global, a: &Argument, scopes: &[Scope]) -> Result<Typed, Refusal>
-    requires built { argument_unbuilt a.now ≡ None }
+    requires built { written_unbuilt a.now ≡ None }
     ensures { AnswersGiven result (given scopes.now a.now) }
 {
     if a.width.is_some() {
         return Err(Refusal::Rule(rule::WIDTH));
     }
-    typed_expression(alloc, a.value.get(), scopes)
+    written_expression(alloc, a.value.get(), scopes)
 }

@@ -2,18 +2,23 @@
 
 ghost use Rattle.std.specs.Prelude.{◌≡◌, IsTrue, Some};
 ghost use Rattle.ep_typed.specs.Trees.{Constant};
-ghost use Rattle.ep_check_expr.specs.Answers.{typed_of, AnswersTyped, AnswersDepth};
+ghost use Rattle.ep_scope.specs.declared.kind.Kind.TheVariants as kind;
+ghost use Rattle.ep_check_expr.specs.Answers.{taken_of, typed_of, AnswersTyped, AnswersDepth};
+ghost use Rattle.ep_check_expr.specs.Arguments.{function_typed};
 ghost use Rattle.ep_check_expr.specs.Expressions.{spelled};
 ghost use Rattle.ep_check_expr.specs.Operators.{unary_typed, binary_typed, short_typed, unbuilt_typed};
 ghost use Rattle.ep_check_expr.specs.Functions.{step_typed};
-ghost use Rattle.ep_check_expr.specs.Names.{leaf, reading, value_form};
+ghost use Rattle.ep_check_expr.specs.Names.{leaf, parenthesized, reading, value_form};
+ghost use Rattle.ep_check_expr.specs.declared.access.Access.TheVariants as access;
 ghost use Rattle.ep_check_expr.specs.Hosts.{typed_host};
 ghost use Rattle.ep_typed.specs.Hosts as hosts;
 ghost use Rattle.ep_check_expr.specs.declared.forms.Refusal.TheVariants.{NoMemory};
-ghost use Rattle.ep_typed.specs.Viewed.{place_of};
+ghost use Rattle.ep_typed.specs.Viewed.{expr_of, place_of};
 ghost use Rattle.ep_typed.specs.Trees.{Read, Text};
 
-use ep_base::{Boxed, Bytes, NoMemory};
+use crate::access::Access;
+use crate::arguments::Taken;
+use ep_base::{Boxed, Bytes, Name, NoMemory};
 use ep_scope::{Host, Kind, rule};
 use ep_typed::{Binary, ShortOperation, TypedExpr, TypedPlace, Unary, Value};
 use std::alloc::{AllocError, Global};
@@ -21,8 +26,8 @@ use std::alloc::{AllocError, Global};
 /// The greatest number of typed nodes of an expression that stand one below the other.
 pub const DEPTH: u32 = 1000;
 
-/// An expression that is accepted: its typed form, where it is built, its kind, and how many typed nodes of it stand one
-/// below the other.
+/// An expression that is accepted: its typed form, where it is built, its kind, how many typed nodes of it stand one below
+/// the other, and what it is the bare name of.
 pub struct Typed {
     /// The typed form.
     pub form: Option<Boxed<TypedExpr>>,
@@ -30,6 +35,8 @@ pub struct Typed {
     pub kind: Kind,
     /// The depth.
     pub depth: u32,
+    /// What it is the bare name of.
+    pub access: Access,
 }
 
 impl Drop for Typed {
@@ -38,6 +45,7 @@ impl Drop for Typed {
             form: _,
             kind: _,
             depth: _,
+            access: _,
         } = self;
     }
 }
@@ -79,20 +87,48 @@ impl Typed {
             form,
             kind: _,
             depth: _,
+            access: _,
         } = self;
         form
     }
 
-    /// A constant of an ordinal type.
-    pub(crate) fn constant(alloc: Global, value: i64, kind: Kind) -> Result<Typed, Refusal>
-        ensures { AnswersTyped result (leaf (Constant value) kind) }
+    /// The same in parentheses, which is a value (ISO 10206, 6.5.1).
+    pub(crate) fn parenthesized(self) -> Typed
+        ensures { typed_of result ≡ parenthesized (typed_of self) }
     {
-        let form = Some(Boxed::new(alloc, TypedExpr::Constant(value))?);
+        let kind = self.kind;
+        let depth = self.depth;
+        Typed {
+            form: self.into_form(),
+            kind,
+            depth,
+            access: Access::Value,
+        }
+    }
+
+    /// A form without parts.
+    fn leaf(alloc: Global, form: TypedExpr, kind: Kind, access: Access) -> Result<Typed, Refusal>
+        ensures { AnswersTyped result (leaf (expr_of form) kind access) }
+    {
+        let form = Some(Boxed::new(alloc, form)?);
         Ok(Typed {
             form,
             kind,
             depth: 1,
+            access,
         })
+    }
+
+    /// A value of an ordinal type.
+    pub(crate) fn constant(
+        alloc: Global,
+        value: i64,
+        kind: Kind,
+        access: Access,
+    ) -> Result<Typed, Refusal>
+        ensures { AnswersTyped result (leaf (Constant value) kind access) }
+    {
+        Typed::leaf(alloc, TypedExpr::Constant(value), kind, access)
     }
 
     /// A number or a character as the text spells it.
@@ -100,41 +136,45 @@ impl Typed {
         requires { IsTrue (hosts.is_of_host (typed_host host) value) }
         ensures { AnswersTyped result (spelled host value) }
     {
-        Typed::constant(alloc, value, Kind::Ordinal(host))
+        Typed::constant(alloc, value, Kind::Ordinal(host), Access::Value)
     }
 
-    /// A text.
-    pub(crate) fn text(alloc: Global, bytes: &[u8], kind: Kind) -> Result<Typed, Refusal>
-        ensures { AnswersTyped result (leaf (Text bytes.now) kind) }
+    /// A text that is no char.
+    pub(crate) fn text(alloc: Global, bytes: &[u8]) -> Result<Typed, Refusal>
+        ensures { AnswersTyped result (leaf (Text bytes.now) kind.Text access.Value) }
     {
         let copy = Bytes::from_slice(alloc, bytes)?;
-        let form = Some(Boxed::new(alloc, TypedExpr::Text(copy))?);
-        Ok(Typed {
-            form,
-            kind,
-            depth: 1,
-        })
+        Typed::leaf(alloc, TypedExpr::Text(copy), Kind::Text, Access::Value)
     }
 
     /// The value of a constant.
     pub(crate) fn value(alloc: Global, value: &Value, kind: Kind) -> Result<Typed, Refusal>
-        ensures { AnswersTyped result (leaf (value_form value.now) kind) }
+        ensures { AnswersTyped result (leaf (value_form value.now) kind access.Constant) }
     {
         match value {
-            Value::Word(word) => Typed::constant(alloc, *word, kind),
-            Value::Text(bytes) => Typed::text(alloc, bytes.items(), kind),
+            Value::Word(word) => Typed::constant(alloc, *word, kind, Access::Constant),
+            Value::Text(bytes) => {
+                let copy = Bytes::from_slice(alloc, bytes.items())?;
+                Typed::leaf(alloc, TypedExpr::Text(copy), kind, Access::Constant)
+            }
         }
     }
 
     /// What is read of a place.
-    pub(crate) fn read(alloc: Global, place: TypedPlace, kind: Kind) -> Result<Typed, Refusal>
-        ensures { AnswersTyped result (reading (Read (place_of place)) kind) }
+    pub(crate) fn read(
+        alloc: Global,
+        place: TypedPlace,
+        kind: Kind,
+        access: Access,
+    ) -> Result<Typed, Refusal>
+        ensures { AnswersTyped result (reading (Read (place_of place)) kind access) }
     {
         let form = Some(Boxed::new(alloc, TypedExpr::Read(place))?);
         Ok(Typed {
             form,
             kind,
             depth: 2,
+            access,
         })
     }
 
@@ -152,7 +192,12 @@ impl Typed {
             None => None,
             Some(operand) => Some(Boxed::new(alloc, TypedExpr::Unary(operation, operand))?),
         };
-        Ok(Typed { form, kind, depth })
+        Ok(Typed {
+            form,
+            kind,
+            depth,
+            access: Access::Value,
+        })
     }
 
     /// An operation of two operands.
@@ -172,7 +217,12 @@ impl Typed {
             }
             _ => None,
         };
-        Ok(Typed { form, kind, depth })
+        Ok(Typed {
+            form,
+            kind,
+            depth,
+            access: Access::Value,
+        })
     }
 
     /// An operation of two operands, of which the right one may not be evaluated.
@@ -192,7 +242,12 @@ impl Typed {
             }
             _ => None,
         };
-        Ok(Typed { form, kind, depth })
+        Ok(Typed {
+            form,
+            kind,
+            depth,
+            access: Access::Value,
+        })
     }
 
     /// A form of two operands that has no code yet.
@@ -204,6 +259,33 @@ impl Typed {
             form: None,
             kind,
             depth,
+            access: Access::Value,
+        })
+    }
+
+    /// A call of the function of this number of a unit, whose result has this host.
+    pub(crate) fn function(
+        alloc: Global,
+        unit: &Name,
+        number: u32,
+        host: Host,
+        given: Taken,
+    ) -> Result<Typed, Refusal>
+        ensures { AnswersTyped result (function_typed unit.now number host (taken_of given)) }
+    {
+        let depth = above(given.depth)?;
+        let form = match given.into_actuals() {
+            None => None,
+            Some(actuals) => {
+                let unit = unit.copy(alloc)?;
+                Some(Boxed::new(alloc, TypedExpr::Function(unit, number, actuals))?)
+            }
+        };
+        Ok(Typed {
+            form,
+            kind: Kind::Ordinal(host),
+            depth,
+            access: Access::Value,
         })
     }
 
@@ -230,6 +312,7 @@ impl Typed {
             form,
             kind: Kind::Ordinal(host),
             depth,
+            access: Access::Value,
         })
     }
 }

@@ -4,6 +4,7 @@ ghost use Rattle.std.specs.Prelude.{◌≡◌};
 ghost use Rattle.ep_check_expr.specs.Answers.{typed_of, AnswersTyped};
 ghost use Rattle.ep_check_expr.specs.Functions.{takes, takes_count, of_integer, ordinal_by, stepped, applied_one, applied_two, one};
 
+use crate::access::Access;
 use crate::forms::{Refusal, Typed};
 use crate::operators::is_integer;
 use ep_scope::{Function, Host, Kind, rule};
@@ -68,7 +69,7 @@ fn stepped(alloc: Global, down: bool, x: Typed, count: Typed) -> Result<Typed, R
 fn stepped_by_one(alloc: Global, down: bool, x: Typed) -> Result<Typed, Refusal>
     ensures { AnswersTyped result (stepped down (typed_of x) one) }
 {
-    let count = Typed::constant(alloc, 1, Kind::Ordinal(Host::Integer))?;
+    let count = Typed::constant(alloc, 1, Kind::Ordinal(Host::Integer), Access::Value)?;
     stepped(alloc, down, x, count)
 }
 

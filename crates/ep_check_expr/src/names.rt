@@ -1,18 +1,21 @@
 //! Names as values.
 
-ghost use Rattle.std.specs.Prelude.{◌≡◌, IsTrue};
+ghost use Rattle.std.specs.Prelude.{◌≡◌, [], IsTrue};
 ghost use Rattle.ep_scope.specs.Meanings.{meant_by};
 ghost use Rattle.ep_scope.specs.Scopes.{meant};
 ghost use Rattle.ep_check_expr.specs.Answers.{AnswersTyped};
+ghost use Rattle.ep_check_expr.specs.Arguments.{function_called};
 ghost use Rattle.ep_check_expr.specs.Judgements.{breaks};
 ghost use Rattle.ep_check_expr.specs.Names as spec;
 ghost use Rattle.ep_check_expr.specs.Names.{value_declared, value_required, constant_required, value_named, qualified_value, is_nothing, undeclared, is_one_of};
 
+use crate::access::Access;
+use crate::arguments::Taken;
 use crate::forms::{Refusal, Typed};
 use ep_base::Name;
 use ep_scope::{
-    Declaration, Declared, Host, Kind, Meaning, Required, RequiredConstant, Scope, meaning_in,
-    meaning_of, rule,
+    Declaration, Declared, FormalParameter, Host, Kind, Meaning, Protection, Required,
+    RequiredConstant, Scope, meaning_in, meaning_of, rule,
 };
 use ep_typed::TypedPlace;
 use std::alloc::Global;
@@ -35,6 +38,21 @@ pub fn undeclared(name: &Name) -> u32
     }
 }
 
+/// A function of a unit with these formal parameters, without arguments (ISO 10206, 6.8.5).
+fn function_alone(
+    alloc: Global,
+    d: &Declared,
+    parameters: &[FormalParameter],
+    host: Host,
+) -> Result<Typed, Refusal>
+    ensures { AnswersTyped result (function_called d.now.unit d.now.number parameters.now host []) }
+{
+    match parameters {
+        [] => Typed::function(alloc, &d.unit, d.number, host, Taken::nothing(alloc)),
+        _ => Err(Refusal::Rule(rule::ARGUMENTS)),
+    }
+}
+
 /// A declared name as a value.
 fn declared_value(alloc: Global, d: &Declared) -> Result<Typed, Refusal>
     ensures { AnswersTyped result (value_declared d.now.unit d.now.number d.now.what) }
@@ -42,12 +60,19 @@ fn declared_value(alloc: Global, d: &Declared) -> Result<Typed, Refusal>
     match &d.what {
         Declaration::Constant(kind, value) => Typed::value(alloc, value, *kind),
         Declaration::Type(_, _) => Err(Refusal::Rule(rule::OTHER_THING)),
-        Declaration::Variable(_, kind) => {
+        Declaration::Variable(of, kind) => {
             let unit = d.unit.copy(alloc)?;
-            Typed::read(alloc, TypedPlace::Variable(unit, d.number), *kind)
+            let access = Access::Variable(*of, Protection::Unprotected);
+            Typed::read(alloc, TypedPlace::Variable(unit, d.number), *kind, access)
         }
-        Declaration::Own(_, kind, _) => Typed::read(alloc, TypedPlace::Own(d.number), *kind),
+        Declaration::Own(of, kind, guarded) => {
+            let access = Access::Variable(*of, *guarded);
+            Typed::read(alloc, TypedPlace::Own(d.number), *kind, access)
+        }
         Declaration::Procedure(_) => Err(Refusal::Rule(rule::PROCEDURE)),
+        Declaration::Function(parameters, _, host) => {
+            function_alone(alloc, d, parameters.items(), *host)
+        }
     }
 }
 
@@ -55,17 +80,13 @@ fn declared_value(alloc: Global, d: &Declared) -> Result<Typed, Refusal>
 fn required_constant(alloc: Global, constant: RequiredConstant) -> Result<Typed, Refusal>
     ensures { AnswersTyped result (constant_required constant) }
 {
-    let boolean = Kind::Ordinal(Host::Boolean);
-    match constant {
-        RequiredConstant::MaxInt => {
-            Typed::constant(alloc, i64::MAX, Kind::Ordinal(Host::Integer))
-        }
-        RequiredConstant::MaxChar => {
-            Typed::constant(alloc, u8::MAX as i64, Kind::Ordinal(Host::Char))
-        }
-        RequiredConstant::True => Typed::constant(alloc, 1, boolean),
-        RequiredConstant::False => Typed::constant(alloc, 0, boolean),
-    }
+    let (value, host) = match constant {
+        RequiredConstant::MaxInt => (i64::MAX, Host::Integer),
+        RequiredConstant::MaxChar => (u8::MAX as i64, Host::Char),
+        RequiredConstant::True => (1, Host::Boolean),
+        RequiredConstant::False => (0, Host::Boolean),
+    };
+    Typed::constant(alloc, value, Kind::Ordinal(host), Access::Constant)
 }
 
 /// A required name as a value.
@@ -86,7 +107,10 @@ fn value_of(alloc: Global, name: &Name, meaning: Meaning<'_>) -> Result<Typed, R
 {
     match meaning {
         Meaning::Declared(d) => declared_value(alloc, d),
-        Meaning::Standard(file) => Typed::read(alloc, TypedPlace::Standard(file), Kind::File),
+        Meaning::Standard(file) => {
+            let place = TypedPlace::Standard(file);
+            Typed::read(alloc, place, Kind::File, Access::File)
+        }
         Meaning::Required(required) => required_value(alloc, required),
         Meaning::Nothing => Err(Refusal::Rule(undeclared(name))),
     }

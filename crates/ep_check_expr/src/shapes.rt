@@ -2,13 +2,12 @@
 
 ghost use Rattle.std.specs.Prelude.{◌≡◌, None};
 ghost use Rattle.std.specs.Option.{option_copied, option_map};
-ghost use Rattle.ep_built.specs.Built.{written_value_unbuilt};
 ghost use Rattle.ep_tree.specs.Shapes.{bare};
 ghost use Rattle.ep_check_expr.specs.Answers.{AnswersTyped};
 ghost use Rattle.ep_check_expr.specs.Expressions.{judged};
 ghost use Rattle.ep_check_expr.specs.Qualified.{field_alone, qualified_name, unjudged, names_of};
 
-use crate::expressions::{string, typed_expression};
+use crate::expressions::typed_expression;
 use crate::forms::{Refusal, Typed};
 use crate::names::qualified;
 use ep_base::{Line, Name};
@@ -18,7 +17,7 @@ use ep_tree::{Access, Expression, Factor, Selector};
 use std::alloc::Global;
 
 /// The factor of an expression that is nothing more.
-fn bare(e: &Expression) -> Option<&Factor>
+pub(crate) fn bare(e: &Expression) -> Option<&Factor>
     ensures { option_copied result ≡ bare e.now }
 {
     if e.right.is_some() {
@@ -33,22 +32,6 @@ fn bare(e: &Expression) -> Option<&Factor>
         Some(term.first.get())
     } else {
         None
-    }
-}
-
-/// The typed form of what `write` and `writeln` write, which may be a character string of any length, or a rule that fails
-/// in it. The forms of the expression are otherwise all built.
-pub fn written_expression(
-    alloc: Global,
-    tree: &Expression,
-    scopes: &[Scope],
-) -> Result<Typed, Refusal>
-    requires { written_value_unbuilt tree.now ≡ None }
-    ensures typed { AnswersTyped result (judged scopes.now tree.now) }
-{
-    match bare(tree) {
-        Some(Factor::Text(_, bytes)) => string(alloc, bytes.items()),
-        _ => typed_expression(alloc, tree, scopes),
     }
 }
 

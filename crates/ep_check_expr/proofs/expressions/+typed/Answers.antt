@@ -1,15 +1,19 @@
-use Rattle.std.proofs.Common.{[], ◌∷◌, ◌∙◌, map, sym, rules}
+use Rattle.std.proofs.Common.{◌<◌, [], ◌∷◌, ◌∙◌, map, length, sym, arith, rules}
 use Rattle.std.proofs.lemmas.List.{length-map}
 use Rattle.ep_tree.specs.declared.expression.Simple.{out-Simple}
 use Rattle.ep_tree.specs.declared.expression.Term.{out-Term}
 use Rattle.ep_tree.specs.declared.expression.ComponentValue.TheViews.{the_lemmas}
-use Rattle.ep_built.specs.Built.{addend_belonging, multiplier_belonging}
-use Rattle.ep_check_expr.proofs.Breaking.{refused-exit, chained-first, when_accepted-part}
-use Rattle.ep_check_expr.proofs.Calls.{one-item, two-items, applied-one, applied-two, applied-fault, applied-number, fault-exit, first-fault, later-fault}
+use Rattle.ep_built.specs.Built.{addend_belonging, multiplier_belonging, written_unbuilt}
+use Rattle.ep_check_expr.proofs.Breaking.{part-exit, refused-exit, chained-first, when_accepted-part}
+use Rattle.ep_check_expr.proofs.Calls.{given-exit, one-item, two-items, applied-one, applied-two, applied-fault, applied-number, fault-exit, first-fault, later-fault}
 use Rattle.ep_check_expr.proofs.Folds.{addend_judged-is, multiplier_judged-is, addend_belonging-is, multiplier_belonging-is, simple_judged-is, term_judged-is, simple_unbuilt-is, term_unbuilt-is}
-use Rattle.ep_check_expr.proofs.Rows.{chained-operand, chained-operator, chained-step, operands-built, operator-built, operators-built, at_node-built, at_node-inner, or-first, or-second}
+use Rattle.ep_check_expr.proofs.Rows.{next-built, rest-built, chained-operand, chained-operator, chained-step, operands-built, operator-built, operators-built, at_node-built, at_node-inner, or-first, or-second}
 use Rattle.ep_check_expr.proofs.expressions.+typed.Goals as goal
-use Rattle.ep_check_expr.specs.Answers.{typed_of}
+use Rattle.ep_check_expr.specs.Answers.{taken_of, typed_of}
+use Rattle.ep_check_expr.specs.Arguments.{argument_taken}
+use Rattle.ep_check_expr.proofs.Gathering.{argument_fails, gathered, other_number, turned, value_fails}
+use Rattle.ep_check_expr.proofs.Reading.{argument-reads}
+use Rattle.ep_check_expr.proofs.Written.{all_written}
 use Rattle.ep_check_expr.specs.Expressions.{addend_judged, multiplier_judged, given}
 use Rattle.ep_check_expr.specs.Operators.{added, multiplied}
 
@@ -124,3 +128,47 @@ pub application-argument-requires-in-len2-2 : goal.application-argument-requires
 application-argument-requires-in-len2-2 t c =
     let all = two-items c.args.arguments.now c.one-item-then-arguments-lt3.result c.two-item.result c.in-len2.len_at_least c.in-len2.len_below c.one-item-then-arguments-lt3.is c.two-item.is in
     (search (rules, the_lemmas), or-first _ _ (or-second _ _ (rw all at c.requires.built)))
+
+pub call-application-requires : goal.call-application-requires
+call-application-requires t c = (search (rules, the_lemmas), all_written c.args.arguments.now c.requires.built)
+
+pub call-designator-requires : goal.call-designator-requires
+call-designator-requires t c = (search (rules, the_lemmas), all_written c.args.arguments.now c.requires.built)
+
+pub typed_arguments-returns-then-parameters-arguments : goal.typed_arguments-returns-then-parameters-arguments
+typed_arguments-returns-then-parameters-arguments t c =
+    record { taken = other_number c.args.parameters.now (map (given c.args.scopes.now) c.args.arguments.now) (λ e. grind (rules, e ∙ length-map c.args.arguments.now (given c.args.scopes.now), c.if-parameters-arguments.true)) }
+
+pub typed_arguments-argument-requires : goal.typed_arguments-argument-requires
+typed_arguments-argument-requires t c =
+    (search (rules, the_lemmas), next-built written_unbuilt c.args.arguments.now c.loop-place.place c.index-arguments-place.result c.loop-place-test.true c.index-arguments-place.is c.loop-place.invariant.built)
+
+pub typed_arguments-returns-in_err-value : goal.typed_arguments-returns-in_err-value
+typed_arguments-returns-in_err-value t c =
+    let within : c.loop-place.place < length c.args.parameters.now = grind (rules, arith, c.if-parameters-arguments.false, c.loop-place-test.true) in
+    record {
+      taken = given-exit taken_of c.from_residual.result c.in_err-value.field-0.0 (given c.args.scopes.now c.index-arguments-place.result) _ c.from_residual.ensures.1
+          (λ n h. rw (← c.loop-place.invariant.same) (argument_fails (given c.args.scopes.now) c.args.parameters.now c.args.arguments.now c.loop-place.place c.index-parameters-place.result c.index-arguments-place.result within c.index-parameters-place.is c.loop-place-test.true c.index-arguments-place.is n (taken_of c.loop-place.taken) h))
+          c.in_err-value.ensures;
+    }
+
+pub typed_arguments-returns-in_err-taken : goal.typed_arguments-returns-in_err-taken
+typed_arguments-returns-in_err-taken t c =
+    let within : c.loop-place.place < length c.args.parameters.now = grind (rules, arith, c.if-parameters-arguments.false, c.loop-place-test.true) in
+    let v = typed_of c.in_ok-value.value in
+    record {
+      taken = part-exit taken_of taken_of c.from_residual-in_err-taken.result c.in_err-taken.field-0.0 (gathered (taken_of c.loop-place.taken) (argument_taken c.index-parameters-place.result v)) _ c.from_residual-in_err-taken.ensures.1
+          (λ n h. rw (← c.loop-place.invariant.same) (value_fails (given c.args.scopes.now) c.args.parameters.now c.args.arguments.now c.loop-place.place c.index-parameters-place.result c.index-arguments-place.result within c.index-parameters-place.is c.loop-place-test.true c.index-arguments-place.is n (taken_of c.loop-place.taken) v c.in_ok-value.ensures.0 c.in_ok-value.ensures.1 h))
+          c.in_err-taken.ensures;
+    }
+
+pub typed_arguments-loop-place-preserved : goal.typed_arguments-loop-place-preserved
+typed_arguments-loop-place-preserved t c =
+    let within : c.loop-place.place < length c.args.parameters.now = grind (rules, arith, c.if-parameters-arguments.false, c.loop-place-test.true) in
+    record {
+      built = rest-built written_unbuilt c.args.arguments.now c.loop-place.place c.index-arguments-place.result c.loop-place-test.true c.index-arguments-place.is c.loop-place.invariant.built;
+      same = turned (given c.args.scopes.now) c.args.parameters.now c.args.arguments.now c.loop-place.place c.index-parameters-place.result c.index-arguments-place.result within c.index-parameters-place.is c.loop-place-test.true c.index-arguments-place.is (taken_of c.loop-place.taken) (taken_of c.in_ok-taken.taken) (typed_of c.in_ok-value.value) c.in_ok-value.ensures.0 c.in_ok-value.ensures.1 c.in_ok-taken.ensures ∙ c.loop-place.invariant.same;
+    }
+
+pub typed_arguments-with-requires : goal.typed_arguments-with-requires
+typed_arguments-with-requires t c = argument-reads c.args.scopes.now c.index-arguments-place.result (typed_of c.in_ok-value.value) c.in_ok-value.ensures.0

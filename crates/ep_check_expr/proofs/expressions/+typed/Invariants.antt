@@ -1,8 +1,10 @@
 use Rattle.std.proofs.Common.{◌≡◌, true, None, drop, map}
-use Rattle.ep_built.specs.Built.{addend_belonging, all_are_built, lines_in, multiplier_belonging}
+use Rattle.ep_built.specs.Built.{addend_belonging, all_are_built, first_in, lines_in, multiplier_belonging, written_unbuilt}
 use Rattle.ep_check_expr.proofs.expressions.+typed.Given as goal
-use Rattle.ep_check_expr.specs.Answers.{typed_of}
-use Rattle.ep_check_expr.specs.Expressions.{addend_judged, chained, multiplier_judged}
+use Rattle.ep_check_expr.specs.Answers.{taken_of, typed_of}
+use Rattle.ep_check_expr.specs.Arguments.{arguments_judged}
+use Rattle.ep_check_expr.proofs.Gathering.{gathered}
+use Rattle.ep_check_expr.specs.Expressions.{addend_judged, chained, given, multiplier_judged}
 use Rattle.ep_check_expr.specs.Judgements.{Accepts}
 use Rattle.ep_check_expr.specs.Operators.{added, multiplied}
 
@@ -20,4 +22,11 @@ invariant-multipliers-loop-multiplier l =
       judged : chained multiplied (Accepts (typed_of l.product)) (map (multiplier_judged l.scopes) (drop l.multiplier-index l.all)) ≡ chained multiplied (Accepts (typed_of l.fn.first)) (map (multiplier_judged l.scopes) l.all);
       operators : all_are_built (map multiplier_belonging (drop l.multiplier-index l.all)) ≡ true;
       operands : lines_in (map multiplier_belonging (drop l.multiplier-index l.all)) ≡ None;
+    }
+
+abbrev pub invariant-typed_arguments-loop-place : goal.invariant-typed_arguments-loop-place
+invariant-typed_arguments-loop-place l =
+    record {
+      built : first_in (map written_unbuilt (drop l.place l.arguments)) ≡ None;
+      same : gathered (taken_of l.taken) (arguments_judged (drop l.place l.parameters) (map (given l.scopes) (drop l.place l.arguments))) ≡ arguments_judged l.parameters (map (given l.scopes) l.arguments);
     }

@@ -1,0 +1,171 @@
+-- Arguments that the rules accept are valid for the formal parameters of the routine.
+use Rattle.std.proofs.Common.{◌≡◌, ℕ, suc, Bool, true, false, nat_le, List, [], ◌∷◌, ◌++◌, Option, Some, None, refl, sym, ◌∙◌, ap, subst}
+use Rattle.std.specs.Prelude.{⊤, if◌then◌else◌}
+use Rattle.std.specs.Option.{option_map}
+use Rattle.ep_typed.specs.Trees as tree
+use Rattle.ep_typed.specs.Trees.{Actual, Expr, Place, actuals}
+use Rattle.ep_typed.specs.Valid as valid
+use Rattle.ep_typed.specs.Valid.{Declarations, IsExpr, IsGiven}
+use Rattle.ep_typed.specs.declared.interface.Formal.{Formal}
+use Rattle.ep_typed.specs.declared.interface.FormalMode.{FormalMode}
+use Rattle.ep_typed.specs.declared.interface.FormalMode.TheVariants as mode
+use Rattle.ep_typed.specs.declared.unit.UnitType.{UnitType}
+use Rattle.ep_scope.specs.Kinds.{same_host}
+use Rattle.ep_scope.specs.Parameters.{same_type}
+use Rattle.ep_scope.specs.declared.kind.Host.{Host}
+use Rattle.ep_scope.specs.declared.kind.Host.TheVariants as host
+use Rattle.ep_scope.specs.declared.kind.Kind.{Kind}
+use Rattle.ep_scope.specs.declared.kind.Kind.TheVariants as kind
+use Rattle.ep_scope.specs.declared.parameter.FormalParameter.{FormalParameter}
+use Rattle.ep_scope.specs.declared.parameter.TypeName.{TypeName}
+use Rattle.ep_scope.specs.declared.rule.TheConstants as rule
+use Rattle.ep_check_expr.specs.declared.access.Access.{Access}
+use Rattle.ep_check_expr.specs.declared.access.Access.TheVariants as access
+use Rattle.ep_check_expr.specs.Agreement.{AreActuals, AreParameters, IsAccessOf, IsFormOf, IsFunctionOf, IsOfType, IsParameter, TypeValues}
+use Rattle.ep_check_expr.specs.Arguments.{Taken, accessed, actual_taken, argument_judged, argument_taken, arguments_judged, function_called, function_typed, given_to, joined, one_taken, threatened, value_taken, variable_taken}
+use Rattle.ep_check_expr.specs.Functions.{Given, given_faults, unless_faults}
+use Rattle.ep_check_expr.specs.Hosts.{typed_host}
+use Rattle.ep_check_expr.specs.Judgements.{Judged, Accepts, Breaks, Typed}
+use Rattle.ep_check_expr.specs.Operators.{map_both}
+use Rattle.ep_check_expr.specs.declared.forms.TheConstants as limit
+use Rattle.ep_check_expr.proofs.Keeping.{AreGiven, Satisfies, both-satisfies, if-satisfies, then-satisfies, weaker-satisfies}
+use Rattle.ep_check_expr.proofs.SameHost.{host_same}
+use Rattle.ep_check_expr.proofs.SameType.{type_same}
+
+-- a form has the property, where it is there
+abbrev pub IfForm : {A : Type 0} → (A → Type 0) → Option A → Type 0
+IfForm P None = ⊤
+IfForm P (Some a) = P a
+
+-- anything that is accepted
+abbrev Any : {A : Type 0} → A → Type 0
+Any a = ⊤
+
+any-satisfies : {A : Type 0} (J : Judged A) → Satisfies Any J
+any-satisfies (Accepts a) = tt
+any-satisfies (Breaks rules) = tt
+
+unless_faults-satisfies : (Q : Typed → Type 0) (rules : List ℕ) (J : Judged Typed) → Satisfies Q J → Satisfies Q (unless_faults rules J)
+unless_faults-satisfies Q [] J h = h
+unless_faults-satisfies Q (r ∷ rs) J h = tt
+
+-- ---- values that are given
+
+module _ (declared : Declarations) {A : Type 0} (P : A → Type 0) (form : Expr → A) (h : Host) (fits : (x : Expr) → IsExpr declared (valid.Ordinal (typed_host h)) x → P (form x)) where
+  given_form : (g : Host) (value : Option Expr) → same_host h g ≡ true → IsFormOf declared (kind.Ordinal g) value → IfForm P (option_map form value)
+  given_form g None s f = tt
+  given_form g (Some x) s f = fits x (subst (λ k. IsExpr declared (valid.Ordinal k) x) (host_same h g s) f.1)
+
+  given_if : (same : Bool) (g : Host) (value : Option Expr) → same_host h g ≡ same → IsFormOf declared (kind.Ordinal g) value → Satisfies (IfForm P) (if same then Accepts (option_map form value) else Breaks (rule.ASSIGNMENT ∷ []))
+  given_if true g value s f = given_form g value s f
+  given_if false g value s f = tt
+
+  -- what is made of a value that is given has the property, where its making gives it that
+  pub given-fits : (from : Kind) (value : Option Expr) → IsFormOf declared from value → Satisfies (IfForm P) (given_to form (kind.Ordinal h) from value)
+  given-fits (kind.Ordinal g) value f = given_if (same_host h g) g value refl f
+  given-fits kind.Text value f = text_fits h value
+    where
+      text_fits : (h : Host) (value : Option Expr) → Satisfies (IfForm P) (given_to form (kind.Ordinal h) kind.Text value)
+      text_fits host.Char value = tt
+      text_fits host.Integer value = tt
+      text_fits host.Boolean value = tt
+      text_fits (host.Enumeration e) value = tt
+  given-fits kind.File value f = file_fits h value
+    where
+      file_fits : (h : Host) (value : Option Expr) → Satisfies (IfForm P) (given_to form (kind.Ordinal h) kind.File value)
+      file_fits host.Char value = tt
+      file_fits host.Integer value = tt
+      file_fits host.Boolean value = tt
+      file_fits (host.Enumeration e) value = tt
+
+module _ (declared : Declarations) (types : TypeValues) where
+  -- a valid form of its kind, read of a variable of its type where it is the bare name of one
+  abbrev pub IsForm : Typed → Type 0
+  IsForm t = IsFormOf declared t.kind t.form × IsAccessOf declared types t.access t.form
+
+  module _ (list : List UnitType) where
+    module _ (p : FormalParameter) (f : Formal) (is : IsParameter types list p f) where
+      -- what may be given for a variable parameter
+      abbrev IsVariable : Actual → Type 0
+      IsVariable = IsGiven declared list mode.Variable f
+
+      -- ---- variables that are given
+
+      taken_if : (same : Bool) (of : TypeName) (form : Option Expr) (place : Place) → same_type p.of of ≡ same → form ≡ Some (tree.Read place) → IsOfType declared types place of
+          → Satisfies (IfForm IsVariable) (if same then Accepts (accessed form) else Breaks (rule.VARIABLE_ARGUMENT ∷ []))
+      taken_if true of form place s e x = subst (λ z. IfForm IsVariable (accessed z)) (sym e) (x.0, is.has_type ∙ (ap types (type_same p.of of s) ∙ x.1), x.2)
+      taken_if false of form place s e x = tt
+
+      variable-fits : (a : Access) (form : Option Expr) → IsAccessOf declared types a form → Satisfies (IfForm IsVariable) (variable_taken p.of a form)
+      variable-fits (access.Variable of guarded) form x = taken_if (same_type p.of of) of form x.0 refl x.1 x.2
+      variable-fits access.File form x = tt
+      variable-fits access.Constant form x = tt
+      variable-fits access.Value form x = tt
+
+      -- ---- arguments
+
+      value-fits : (v : Typed) → IsForm v → Satisfies (IfForm (IsGiven declared list mode.Value f)) (value_taken p.host v)
+      value-fits v x = given-fits declared (IsGiven declared list mode.Value f) tree.Evaluated p.host (λ e q. (typed_host p.host, is.has_host, q)) v.kind v.form x.0
+
+      -- what is protected is given alike
+      protected_value : (x : Option Actual) → IfForm (IsGiven declared list mode.Value f) x → IfForm (IsGiven declared list mode.ProtectedValue f) x
+      protected_value None h = tt
+      protected_value (Some (tree.Evaluated x)) h = h
+      protected_value (Some (tree.Accessed place)) h = absurd h
+
+      protected_variable : (x : Option Actual) → IfForm IsVariable x → IfForm (IsGiven declared list mode.ProtectedVariable f) x
+      protected_variable None h = tt
+      protected_variable (Some (tree.Evaluated x)) h = absurd h
+      protected_variable (Some (tree.Accessed place)) h = h
+
+      actual-fits : (m : FormalMode) (v : Typed) → IsForm v → Satisfies (IfForm (IsGiven declared list m f)) (actual_taken m p v)
+      actual-fits mode.Value v x = value-fits v x
+      actual-fits mode.ProtectedValue v x = weaker-satisfies (IfForm (IsGiven declared list mode.Value f)) (IfForm (IsGiven declared list mode.ProtectedValue f)) (value_taken p.host v) protected_value (value-fits v x)
+      actual-fits mode.Variable v x =
+          both-satisfies (IfForm IsVariable) Any (IfForm IsVariable) (λ actual done. Accepts actual) (variable_taken p.of v.access v.form) (threatened v.access) (variable-fits v.access v.form x.1) (any-satisfies (threatened v.access)) (λ a done y z. y)
+      actual-fits mode.ProtectedVariable v x = weaker-satisfies (IfForm IsVariable) (IfForm (IsGiven declared list mode.ProtectedVariable f)) (variable_taken p.of v.access v.form) protected_variable (variable-fits v.access v.form x.1)
+
+    -- what is given for these formal parameters
+    abbrev IsTaken : List Formal → Taken → Type 0
+    IsTaken fs t = AreActuals declared list fs t.actuals
+
+    one-fits : (f : Formal) (depth : ℕ) (a : Option Actual) → IfForm (IsGiven declared list f.mode f) a → IsTaken (f ∷ []) (one_taken depth a)
+    one-fits f depth None h = tt
+    one-fits f depth (Some a) h = (h, tt)
+
+    argument-fits : (p : FormalParameter) (f : Formal) → IsParameter types list p f → (g : Given) → Satisfies IsForm g.value → Satisfies (IsTaken (f ∷ [])) (argument_judged p g)
+    argument-fits p f is g h =
+        then-satisfies IsForm (IsTaken (f ∷ [])) (argument_taken p) (unless_faults (given_faults g) g.value) (unless_faults-satisfies IsForm (given_faults g) g.value h)
+        (λ v x. then-satisfies (IfForm (IsGiven declared list f.mode f)) (IsTaken (f ∷ [])) (λ actual. Accepts (one_taken v.depth actual)) (actual_taken p.mode p v)
+        (subst (λ m. Satisfies (IfForm (IsGiven declared list m f)) (actual_taken p.mode p v)) (sym is.mode) (actual-fits p f is p.mode v x)) (λ a y. one-fits f v.depth a y))
+
+    joined-form : (f : Formal) (fs : List Formal) (xs ys : Option (List Actual)) → AreActuals declared list (f ∷ []) xs → AreActuals declared list fs ys → AreActuals declared list (f ∷ fs) (map_both (λ us vs. us ++ vs) xs ys)
+    joined-form f fs None ys h g = tt
+    joined-form f fs (Some xs) None h g = tt
+    joined-form f fs (Some []) (Some ys) h g = absurd h
+    joined-form f fs (Some (a ∷ [])) (Some ys) h g = (h.0, g)
+    joined-form f fs (Some (a ∷ b ∷ more)) (Some ys) h g = absurd h.1
+
+    -- one for each formal parameter
+    pub arguments-fit : (ps : List FormalParameter) (fs : List Formal) (gs : List Given) → AreParameters types list ps fs → AreGiven IsForm gs → Satisfies (IsTaken fs) (arguments_judged ps gs)
+    arguments-fit [] [] [] h k = tt
+    arguments-fit [] [] (g ∷ gs) h k = tt
+    arguments-fit [] (f ∷ fs) gs h k = absurd h
+    arguments-fit (p ∷ ps) [] gs h k = absurd h
+    arguments-fit (p ∷ ps) (f ∷ fs) [] h k = tt
+    arguments-fit (p ∷ ps) (f ∷ fs) (g ∷ gs) h k =
+        both-satisfies (IsTaken (f ∷ [])) (IsTaken fs) (IsTaken (f ∷ fs)) (λ x xs. Accepts (joined x xs)) (argument_judged p g) (arguments_judged ps gs)
+        (argument-fits p f h.0 g k.0) (arguments-fit ps fs gs h.1 k.1) (λ x xs y ys. joined-form f fs x.actuals xs.actuals y ys)
+
+  -- ---- function designators
+
+  function-form : (unit : List ℕ) (number : ℕ) (ps : List FormalParameter) (h : Host) (s : IsFunctionOf declared types unit number ps h) (xs : Option (List Actual))
+      → AreActuals declared (declared.types unit) s.0.formals xs → IsFormOf declared (kind.Ordinal h) (option_map (λ zs. tree.Function unit number (actuals zs)) xs)
+  function-form unit number ps h s None x = s.3
+  function-form unit number ps h s (Some xs) x = (s.3, (typed_host h, refl, s.0, s.1, s.2, x))
+
+  -- a call of a function that is accepted is valid
+  pub function_called-fits : (unit : List ℕ) (number : ℕ) (ps : List FormalParameter) (h : Host) (gs : List Given) → IsFunctionOf declared types unit number ps h → AreGiven IsForm gs → Satisfies IsForm (function_called unit number ps h gs)
+  function_called-fits unit number ps h gs s k =
+      then-satisfies (IsTaken (declared.types unit) s.0.formals) IsForm (function_typed unit number h) (arguments_judged ps gs) (arguments-fit (declared.types unit) ps s.0.formals gs s.4 k)
+      (λ t x. if-satisfies IsForm (nat_le (suc t.depth) limit.DEPTH) (Accepts _) (Breaks (rule.TOO_DEEP ∷ [])) (λ e. (function-form unit number ps h s t.actuals x, tt)) tt)

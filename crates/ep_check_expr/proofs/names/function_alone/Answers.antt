@@ -1,0 +1,5 @@
+use Rattle.ep_check_expr.proofs.Gathering.{without_arguments}
+use Rattle.ep_check_expr.proofs.names.function_alone.Goals as goal
+
+pub returns-in_default : goal.returns-in_default
+returns-in_default c = without_arguments c.args.d.now.unit c.args.d.now.number c.args.parameters.now c.args.host c.in_default.len_at_least

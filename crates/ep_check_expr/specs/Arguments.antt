@@ -1,0 +1,118 @@
+-- What the static rules say of values that are given to variables, and of the arguments of a call of a procedure or function of a unit (ISO 10206, 6.4.6, 6.7.3 and 6.8.5).
+use Rattle.std.specs.Prelude.{◌≡◌, ⊤, ℕ, suc, max, List, [], ◌∷◌, ◌++◌, Option, Some, None, if◌then◌else◌}
+use Rattle.std.specs.Option.{option_map}
+use Rattle.ep_typed.specs.Trees as tree
+use Rattle.ep_typed.specs.Trees.{Actual, Expr, Place, actuals}
+use Rattle.ep_typed.specs.declared.interface.FormalMode.{FormalMode}
+use Rattle.ep_typed.specs.declared.interface.FormalMode.TheVariants as mode
+use Rattle.ep_scope.specs.Kinds.{same_host}
+use Rattle.ep_scope.specs.Parameters.{same_type}
+use Rattle.ep_scope.specs.declared.kind.Host.{Host}
+use Rattle.ep_scope.specs.declared.kind.Host.TheVariants as host
+use Rattle.ep_scope.specs.declared.kind.Kind.{Kind}
+use Rattle.ep_scope.specs.declared.kind.Kind.TheVariants as kind
+use Rattle.ep_scope.specs.declared.parameter.FormalParameter.{FormalParameter}
+use Rattle.ep_scope.specs.declared.parameter.Protection.{Protection}
+use Rattle.ep_scope.specs.declared.parameter.Protection.TheVariants as protection
+use Rattle.ep_scope.specs.declared.parameter.TypeName.{TypeName}
+use Rattle.ep_scope.specs.declared.rule.TheConstants as rule
+use Rattle.ep_check_expr.specs.declared.access.Access.{Access}
+use Rattle.ep_check_expr.specs.declared.access.Access.TheVariants as access
+use Rattle.ep_check_expr.specs.Functions.{Given, given_faults, unless_faults}
+use Rattle.ep_check_expr.specs.Judgements.{Judged, Accepts, Breaks, Typed, both, when_accepted}
+use Rattle.ep_check_expr.specs.Operators.{map_both, within_depth}
+
+-- ---- values that are given (ISO 10206, 6.4.6)
+
+-- What is made of a value that is given to something of a kind, whose hosts are the same; a text that is given to a char is not built.
+abbrev pub given_to : {A : Type 0} → (Expr → A) → Kind → Kind → Option Expr → Judged (Option A)
+given_to form (kind.Ordinal h) (kind.Ordinal g) value = if same_host h g then Accepts (option_map form value) else Breaks (rule.ASSIGNMENT ∷ [])
+given_to form (kind.Ordinal host.Char) kind.Text value = Accepts None
+given_to form kind.File from value = Breaks (rule.FILE_TYPE ∷ rule.ASSIGNMENT ∷ [])
+given_to form to kind.File value = Breaks (rule.FILE_TYPE ∷ rule.ASSIGNMENT ∷ [])
+given_to form to from value = Breaks (rule.ASSIGNMENT ∷ [])
+
+-- a value parameter of this host takes a value (ISO 10206, 6.7.3.2)
+abbrev pub value_taken : Host → Typed → Judged (Option Actual)
+value_taken h v = given_to tree.Evaluated (kind.Ordinal h) v.kind v.form
+
+-- ---- variables that are given (ISO 10206, 6.7.3.3)
+
+-- what is the bare name of a variable is read of a place
+abbrev pub IsReading : Access → Option Expr → Type 0
+IsReading (access.Variable of guarded) form = (place : Place) × (form ≡ Some (tree.Read place))
+IsReading access.File form = ⊤
+IsReading access.Constant form = ⊤
+IsReading access.Value form = ⊤
+
+-- the variable whose value is read
+abbrev pub accessed : Option Expr → Option Actual
+accessed (Some (tree.Read place)) = Some (tree.Accessed place)
+accessed _ = None
+
+-- a variable parameter takes a variable of its type; none has the type of text files so far
+abbrev pub variable_taken : TypeName → Access → Option Expr → Judged (Option Actual)
+variable_taken parameter (access.Variable of guarded) form = if same_type parameter of then Accepts (accessed form) else Breaks (rule.VARIABLE_ARGUMENT ∷ [])
+variable_taken parameter access.File form = Breaks (rule.VARIABLE_ARGUMENT ∷ [])
+variable_taken parameter access.Constant form = Breaks (rule.CONSTANT_THREATENED ∷ rule.VARIABLE_NEEDED ∷ [])
+variable_taken parameter access.Value form = Breaks (rule.VARIABLE_NEEDED ∷ [])
+
+-- what is protected is not threatened (ISO 10206, 6.9.4)
+abbrev pub unless_protected : Protection → Judged (Unit {0})
+unless_protected protection.Unprotected = Accepts tt
+unless_protected protection.Protected = Breaks (rule.PROTECTED ∷ [])
+
+-- a variable is not protected that is given for a variable parameter that is not
+abbrev pub threatened : Access → Judged (Unit {0})
+threatened (access.Variable of guarded) = unless_protected guarded
+threatened _ = Accepts tt
+
+-- ---- arguments (ISO 10206, 6.7.3.1)
+
+-- what is given for formal parameters: the actual parameters, where all are built, and how deep the deepest argument is
+pub record Taken : Type 0 where
+  pub actuals : Option (List Actual)
+  pub depth : ℕ
+
+-- what is given for no parameter
+abbrev pub nothing_taken : Taken
+nothing_taken = record { actuals = Some []; depth = 0 }
+
+-- and for one
+abbrev pub one_taken : ℕ → Option Actual → Taken
+one_taken depth actual = record { actuals = option_map (λ a. a ∷ []) actual; depth = depth }
+
+-- what is given for some parameters and then for others
+abbrev pub joined : Taken → Taken → Taken
+joined x y = record { actuals = map_both (λ xs ys. xs ++ ys) x.actuals y.actuals; depth = max x.depth y.depth }
+
+-- a value for a formal parameter that is given in this way
+abbrev pub actual_taken : FormalMode → FormalParameter → Typed → Judged (Option Actual)
+actual_taken mode.Value p v = value_taken p.host v
+actual_taken mode.ProtectedValue p v = value_taken p.host v
+actual_taken mode.Variable p v = both (λ actual done. Accepts actual) (variable_taken p.of v.access v.form) (threatened v.access)
+actual_taken mode.ProtectedVariable p v = variable_taken p.of v.access v.form
+
+-- a value that is accepted for a formal parameter
+abbrev pub argument_taken : FormalParameter → Typed → Judged Taken
+argument_taken p v = when_accepted (λ actual. Accepts (one_taken v.depth actual)) (actual_taken p.mode p v)
+
+-- an argument for a formal parameter: all rules that fail in it, or else that of its value
+abbrev pub argument_judged : FormalParameter → Given → Judged Taken
+argument_judged p g = when_accepted (argument_taken p) (unless_faults (given_faults g) g.value)
+
+-- one for each formal parameter, in order; where there are more of the ones or the others, their number is what fails
+abbrev pub arguments_judged : List FormalParameter → List Given → Judged Taken
+arguments_judged [] [] = Accepts nothing_taken
+arguments_judged (p ∷ ps) (g ∷ gs) = both (λ x xs. Accepts (joined x xs)) (argument_judged p g) (arguments_judged ps gs)
+arguments_judged ps gs = Breaks (rule.ARGUMENTS ∷ [])
+
+-- ---- function designators (ISO 10206, 6.8.5)
+
+-- the function of this number of a unit, with a result of this host, is called
+abbrev pub function_typed : List ℕ → ℕ → Host → Taken → Judged Typed
+function_typed unit number h given = within_depth (option_map (λ xs. tree.Function unit number (actuals xs)) given.actuals) (kind.Ordinal h) (suc given.depth)
+
+-- and has these formal parameters
+abbrev pub function_called : List ℕ → ℕ → List FormalParameter → Host → List Given → Judged Typed
+function_called unit number ps h gs = when_accepted (function_typed unit number h) (arguments_judged ps gs)

@@ -1,0 +1,16 @@
+//! What an expression is the bare name of.
+
+use ep_scope::{Protection, TypeName};
+
+/// What an expression is the bare name of (ISO 10206, 6.5.1). One with an operator or in parentheses is a value.
+#[derive(Clone, Copy, Drop)]
+pub enum Access {
+    /// A variable of this type, which may be protected.
+    Variable(TypeName, Protection),
+    /// A standard file.
+    File,
+    /// A constant.
+    Constant,
+    /// No name alone, or that of a function.
+    Value,
+}
