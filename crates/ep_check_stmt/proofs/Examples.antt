@@ -1,14 +1,9 @@
 -- What the rules say of small calls.
-use Rattle.std.proofs.Common.{◌≡◌, ℕ, pos, false, List, [], ◌∷◌, Option, Some, None, refl, sym, ap, ◌∙◌, codes}
+use Rattle.std.proofs.Common.{◌≡◌, ℕ, pos, false, List, [], ◌∷◌, Option, Some, None, refl, codes}
 use Rattle.ep_tree.specs.Nodes.{expression_node, simple_node, term_node, access_node, argument_node}
-use Rattle.ep_tree.specs.declared.expression.Access.{Access}
-use Rattle.ep_tree.specs.declared.expression.Argument.{Argument, out-roll-Argument}
-use Rattle.ep_tree.specs.declared.expression.ComponentValue.TheOpen.{Factor-F}
-use Rattle.ep_tree.specs.declared.expression.Expression.{out-roll-Expression}
-use Rattle.ep_tree.specs.declared.expression.Factor.{Factor, out-Factor, out-roll-Factor}
+use Rattle.ep_tree.specs.declared.expression.Argument.{Argument}
+use Rattle.ep_tree.specs.declared.expression.Factor.{Factor}
 use Rattle.ep_tree.specs.declared.expression.Factor.TheVariants as factor
-use Rattle.ep_tree.specs.declared.expression.Simple.{out-roll-Simple}
-use Rattle.ep_tree.specs.declared.expression.Term.{out-roll-Term}
 use Rattle.ep_typed.specs.Trees.{Stmt, Accessed, Constant, Evaluated, Procedure, Variable, actuals}
 use Rattle.ep_typed.specs.declared.denoter.RequiredType.{RequiredType}
 use Rattle.ep_typed.specs.declared.denoter.RequiredType.TheVariants as simple
@@ -24,7 +19,7 @@ use Rattle.ep_scope.specs.declared.thing.Declaration.{Declaration}
 use Rattle.ep_scope.specs.declared.thing.Declaration.TheVariants as declaration
 use Rattle.ep_scope.specs.declared.thing.Declared.{Declared}
 use Rattle.ep_scope.specs.declared.thing.Thing.TheVariants as thing
-use Rattle.ep_check_expr.proofs.Nodes.{expression-judged, simple-judged, term-judged, number-judged}
+use Rattle.ep_check_expr.proofs.Nodes.{argument-judged, expression-judged, simple-judged, term-judged, name-judged, number-judged}
 use Rattle.ep_check_expr.specs.Judgements.{Judged, Accepts, Breaks}
 use Rattle.ep_check_stmt.specs.Statements.{Context, declared_called}
 
@@ -61,23 +56,21 @@ context =
             qualified = [];
           } ∷ [];
       output = false;
+      result = None;
     }
 
 -- a call of p
 abbrev called : List Argument → Judged (Option Stmt)
 called arguments = declared_called context 1 (declares 0 (declaration.Procedure parameters)) (declaration.Procedure parameters) arguments
 
-factor-out : (a : Access) → out-Factor (factor.Access a) ≡ Factor-F.Access a
-factor-out a = ap out-Factor (sym (factor.rolls-Access a)) ∙ out-roll-Factor (Factor-F.Access a)
-
 -- p(3, x)
 value_and_variable : called (number 3 ∷ name (codes "x") ∷ []) ≡ Accepts (Some (Procedure 1 (codes "u") 0 (actuals (Evaluated (Constant (pos 3)) ∷ Accessed (Variable (codes "u") 0) ∷ []))))
-value_and_variable = simp (out-roll-Argument, out-roll-Expression, out-roll-Simple, out-roll-Term, factor-out, expression-judged, simple-judged, term-judged, number-judged) refl
+value_and_variable = simp (argument-judged, expression-judged, simple-judged, term-judged, number-judged, name-judged) refl
 
 -- p(3)
 one_argument : called (number 3 ∷ []) ≡ Breaks (rule.ARGUMENTS ∷ [])
-one_argument = simp (out-roll-Argument, expression-judged, simple-judged, term-judged, number-judged) refl
+one_argument = simp (argument-judged, expression-judged, simple-judged, term-judged, number-judged) refl
 
 -- p(3, c)
 other_type : called (number 3 ∷ name (codes "c") ∷ []) ≡ Breaks (rule.VARIABLE_ARGUMENT ∷ [])
-other_type = simp (out-roll-Argument, out-roll-Expression, out-roll-Simple, out-roll-Term, factor-out, expression-judged, simple-judged, term-judged, number-judged) refl
+other_type = simp (argument-judged, expression-judged, simple-judged, term-judged, number-judged, name-judged) refl

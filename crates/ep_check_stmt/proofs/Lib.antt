@@ -5,5 +5,4 @@ pub mod Examples
 pub mod Gathered
 pub mod judged
 pub mod Rows
-pub mod Taken
 pub mod valid

@@ -1,5 +1,3 @@
 pub mod Fits
 pub mod Refusing
 pub mod Rounds
-pub mod SameHost
-pub mod SameType

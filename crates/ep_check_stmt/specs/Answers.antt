@@ -3,11 +3,10 @@ use Rattle.std.specs.Prelude.{◌≡◌, ℕ, nat_eq, Bool, List, map, Option, R
 use Rattle.std.specs.List.{list_any}
 use Rattle.std.specs.Option.{option_map}
 use Rattle.ep_typed.specs.Trees.{Item, Stmts, stmts}
-use Rattle.ep_typed.specs.Viewed.{actual_of, expr_of, item_of, place_of, stmt_of, arm_of}
+use Rattle.ep_typed.specs.Viewed.{expr_of, item_of, place_of, stmt_of, arm_of}
 use Rattle.ep_tree.specs.declared.expression.Label.{Label}
 use Rattle.ep_tree.specs.declared.statement.Arm.{Arm, out-Arm}
 use Rattle.ep_typed.specs.Trees as tree
-use Rattle.ep_typed.specs.declared.tree.Actual.{Actual}
 use Rattle.ep_typed.specs.declared.tree.CaseArm.{CaseArm}
 use Rattle.ep_typed.specs.declared.operations.Print.{Print}
 use Rattle.ep_typed.specs.declared.tree.TypedExpr.{TypedExpr}
@@ -26,6 +25,7 @@ use Rattle.ep_check_stmt.specs.declared.outcome.CheckRefusal.TheVariants as refu
 use Rattle.ep_check_stmt.specs.declared.outcome.Outcome.{Outcome}
 use Rattle.ep_check_stmt.specs.declared.outcome.Outcome.TheVariants as outcome
 use Rattle.ep_check_stmt.specs.declared.statements.Context.{Context}
+use Rattle.ep_check_stmt.specs.declared.statements.FunctionResult.{FunctionResult}
 use Rattle.ep_check_stmt.specs.declared.statements.Target.{Target}
 
 -- whether the rule is one of these
@@ -63,9 +63,13 @@ abbrev pub AnswersRow : {T A : Type 0} → (T → A) → Result (Outcome T) Chec
 AnswersRow view (Ok found) row = row ≡ passed view found
 AnswersRow view (Err r) row = RefusesRow r row
 
+-- the function in whose block they are
+abbrev pub result_of : FunctionResult → rows.FunctionResult
+result_of r = record { function = r.function; unit = r.unit.now; variable = r.variable; host = r.host }
+
 -- what the statements of a block know
 abbrev pub context_of : Context → rows.Context
-context_of c = record { scopes = c.scopes.now; output = c.output }
+context_of c = record { scopes = c.scopes.now; output = c.output; result = option_map result_of c.result }
 
 -- what is assigned to
 abbrev pub target_of : Target → rows.Target
@@ -84,9 +88,6 @@ labels_of a = (out-Arm a).labels
 
 abbrev pub arms_of : List CaseArm → tree.Arms
 arms_of arms = tree.arms (map arm_of arms)
-
-abbrev pub actuals_of : List Actual → List tree.Actual
-actuals_of given = map actual_of given
 
 abbrev pub items_of : List WriteItem → List Item
 items_of is = map item_of is

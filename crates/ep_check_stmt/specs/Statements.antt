@@ -1,9 +1,10 @@
 -- What the static rules say of statements: their typed forms, or the first item that breaks a rule.
 --
 -- Items are taken in the order of the text: a statement without its inner statements is one, on the line of its first token. A form that is no form of a program that is built fails by no rule here.
-use Rattle.std.specs.Prelude.{ℕ, nat_eq, ◌==◌, ◌&&◌, Bool, true, false, List, [], ◌∷◌, map, Option, Some, None}
+use Rattle.std.specs.Prelude.{ℕ, nat_eq, ◌==◌, ◌&&◌, Bool, true, false, List, [], ◌∷◌, ◌++◌, map, Option, Some, None, if◌then◌else◌}
 use Rattle.std.specs.List.{list_any}
 use Rattle.std.specs.Option.{option_map}
+use Rattle.std.specs.Str.{bytes_eq}
 use Rattle.ep_tree.specs.declared.expression.Access.{out-Access}
 use Rattle.ep_tree.specs.declared.expression.Expression.{Expression}
 use Rattle.ep_tree.specs.declared.expression.Argument.{Argument, out-Argument}
@@ -36,11 +37,11 @@ use Rattle.ep_scope.specs.declared.rule.TheConstants as rule
 use Rattle.ep_scope.specs.declared.thing.Declaration.{Declaration}
 use Rattle.ep_scope.specs.declared.thing.Declaration.TheVariants as declaration
 use Rattle.ep_scope.specs.declared.thing.Declared.{Declared}
+use Rattle.ep_check_expr.specs.Arguments.{arguments_judged, given_to, unless_protected}
 use Rattle.ep_check_expr.specs.Judgements.{Judged, Accepts, Breaks, Typed, unbuilt, when_accepted, both}
 use Rattle.ep_check_expr.specs.Functions.{Given}
 use Rattle.ep_check_expr.specs.Names.{undeclared}
 use Rattle.ep_check_expr.specs.Expressions.{given, judged, judged_value}
-use Rattle.ep_check_stmt.specs.Arguments.{arguments_judged, given_to, one_more, unless_protected}
 use Rattle.ep_check_stmt.specs.Cases.{CaseSelector, own_ranges, selector_judged}
 
 -- ---- rows of items
@@ -91,13 +92,30 @@ pub record Target : Type 0 where
   pub place : Place
   pub kind : Kind
 
+-- the function in whose block the statements are, where its name is assigned to for the result: its number among the routines of its unit, the variable of the routine that has the result, and the host of that (ISO 10206, 6.7.2)
+pub record FunctionResult : Type 0 where
+  pub function : ℕ
+  pub unit : List ℕ
+  pub variable : ℕ
+  pub host : Host
+
+-- whether what is declared is this function
+abbrev pub has_result : Declared → FunctionResult → Bool
+has_result d r = nat_eq d.number r.function && bytes_eq d.unit r.unit
+
+-- the name of a function is assigned to in its own block alone (ISO 10206, 6.7.2)
+abbrev pub function_target : Declared → Option FunctionResult → Judged Target
+function_target d None = Breaks (rule.FUNCTION_ASSIGNED ∷ [])
+function_target d (Some r) = if has_result d r then Accepts (record { place = tree.Own r.variable; kind = kind.Ordinal r.host }) else Breaks (rule.FUNCTION_ASSIGNED ∷ [])
+
 -- a declared name that is assigned to
-abbrev pub declared_target : Declared → Declaration → Judged Target
-declared_target d (declaration.Variable of k) = Accepts (record { place = tree.Variable d.unit d.number; kind = k })
-declared_target d (declaration.Own of k guarded) = when_accepted (λ done. Accepts (record { place = tree.Own d.number; kind = k })) (unless_protected guarded)
-declared_target d (declaration.Constant k value) = Breaks (rule.CONSTANT_THREATENED ∷ rule.VARIABLE_NEEDED ∷ [])
-declared_target d (declaration.«Type» of h) = Breaks (rule.OTHER_THING ∷ rule.VARIABLE_NEEDED ∷ [])
-declared_target d (declaration.Procedure parameters) = Breaks (rule.OTHER_THING ∷ rule.VARIABLE_NEEDED ∷ [])
+abbrev pub declared_target : Option FunctionResult → Declared → Declaration → Judged Target
+declared_target result d (declaration.Variable of k) = Accepts (record { place = tree.Variable d.unit d.number; kind = k })
+declared_target result d (declaration.Own of k guarded) = when_accepted (λ done. Accepts (record { place = tree.Own d.number; kind = k })) (unless_protected guarded)
+declared_target result d (declaration.Constant k value) = Breaks (rule.CONSTANT_THREATENED ∷ rule.VARIABLE_NEEDED ∷ [])
+declared_target result d (declaration.«Type» of h) = Breaks (rule.OTHER_THING ∷ rule.VARIABLE_NEEDED ∷ [])
+declared_target result d (declaration.Procedure parameters) = Breaks (rule.OTHER_THING ∷ rule.VARIABLE_NEEDED ∷ [])
+declared_target result d (declaration.Function parameters of h) = function_target d result
 
 -- the rules that fail where a required identifier is assigned to
 abbrev pub target_rules : Required → List ℕ
@@ -107,11 +125,11 @@ target_rules (required.Function f) = rule.FUNCTION_ASSIGNED ∷ rule.VARIABLE_NE
 target_rules (required.Procedure p) = rule.OTHER_THING ∷ rule.VARIABLE_NEEDED ∷ []
 
 -- a name that means this
-abbrev pub place_named : List ℕ → Meant → Judged Target
-place_named name (Declares d) = declared_target d d.what
-place_named name (Standard f) = Accepts (record { place = tree.Standard f; kind = kind.File })
-place_named name (Requires r) = Breaks (target_rules r)
-place_named name Nothing = Breaks (undeclared name)
+abbrev pub place_named : Option FunctionResult → List ℕ → Meant → Judged Target
+place_named result name (Declares d) = declared_target result d d.what
+place_named result name (Standard f) = Accepts (record { place = tree.Standard f; kind = kind.File })
+place_named result name (Requires r) = Breaks (target_rules r)
+place_named result name Nothing = Breaks (undeclared name)
 
 abbrev pub assigned : ℕ → Target → Typed → Judged (Option Stmt)
 assigned line target value = given_to (tree.Assign line target.place) target.kind value.kind value.form
@@ -162,6 +180,18 @@ item_form how (Some x) (Some width) = option_map (tree.Wide how x) width
 abbrev pub item_judged : Given → Judged (Option Item)
 item_judged g = both (λ value width. Accepts (item_form value.print value.form width)) (when_accepted shown g.value) (width_judged g.width)
 
+-- one more in front, where all are built
+abbrev pub one_more : {A : Type 0} → Option A → Option (List A) → Option (List A)
+one_more None more = None
+one_more (Some x) more = option_map (λ xs. x ∷ xs) more
+
+-- one more at the end, where all are built
+abbrev pub one_after : {A : Type 0} → Option (List A) → Option A → Option (List A)
+one_after xs None = None
+one_after None (Some x) = None
+one_after (Some xs) (Some x) = Some (xs ++ x ∷ [])
+
+-- what is written for parameters, in order
 abbrev pub items_judged : List Given → Judged (Option (List Item))
 items_judged [] = Accepts (Some [])
 items_judged (g ∷ gs) = both (λ i is. Accepts (one_more i is)) (item_judged g) (items_judged gs)
@@ -240,10 +270,11 @@ abbrev pub halt_judged : ℕ → List Argument → Judged (Option Stmt)
 halt_judged line [] = Accepts (Some (tree.Halt line))
 halt_judged line (first ∷ more) = Breaks (rule.ARGUMENTS ∷ [])
 
--- what a block knows: its scopes, the innermost first, and whether `output` is a parameter or imported
+-- what a block knows: its scopes, the innermost first, whether `output` is a parameter or imported, and the function whose block it is, where that has a result without a name
 pub record Context : Type 0 where
   pub scopes : List Region
   pub output : Bool
+  pub result : Option FunctionResult
 
 -- the text file that a name means
 abbrev pub file_meant : Meant → Option StandardFile
@@ -294,11 +325,13 @@ module _ (context : Context) where
 
   -- a procedure of a unit is called (ISO 10206, 6.9.2.3)
   abbrev pub own_called : ℕ → Declared → List FormalParameter → List Argument → Judged (Option Stmt)
-  own_called line d parameters arguments = when_accepted (λ given. Accepts (option_map (λ xs. tree.Procedure line d.unit d.number (tree.actuals xs)) given)) (arguments_judged context.scopes parameters arguments)
+  own_called line d parameters arguments =
+      when_accepted (λ t. Accepts (option_map (λ xs. tree.Procedure line d.unit d.number (tree.actuals xs)) t.actuals)) (arguments_judged parameters (map (given context.scopes) arguments))
 
-  -- nothing else that is declared is a statement
+  -- nothing else that is declared is a statement; a function is none whatever its arguments
   abbrev pub declared_called : ℕ → Declared → Declaration → List Argument → Judged (Option Stmt)
   declared_called line d (declaration.Procedure parameters) arguments = own_called line d parameters arguments
+  declared_called line d (declaration.Function parameters of h) arguments = Breaks (rule.PROCEDURE ∷ [])
   declared_called line d (declaration.Constant k value) arguments = Breaks (rule.OTHER_THING ∷ [])
   declared_called line d (declaration.«Type» of h) arguments = Breaks (rule.OTHER_THING ∷ [])
   declared_called line d (declaration.Variable of k) arguments = Breaks (rule.OTHER_THING ∷ [])
@@ -317,7 +350,7 @@ module _ (context : Context) where
 
   -- a name without selectors is assigned to
   abbrev pub target_judged : List ℕ → List Selector → Judged Target
-  target_judged name [] = place_named name (meant context.scopes name)
+  target_judged name [] = place_named context.result name (meant context.scopes name)
   target_judged name _ = unbuilt
 
   -- a statement with this condition

@@ -5,7 +5,7 @@ ghost use Rattle.ep_check_stmt.specs.Laws.{StatementsAreSound};
 use ep_check_expr::laws_of_expressions;
 
 /// Does nothing: its contract states that the typed form of a compound statement that the static rules accept is valid
-/// under all declarations that hold what the scopes declare.
+/// under all declarations that hold what the scopes declare, and the variable of the result.
 pub fn laws_of_statements()
     ensures { StatementsAreSound }
 {

@@ -11,15 +11,17 @@ ghost use Rattle.ep_typed.specs.Viewed.{arm_of, expr_of, stmt_of};
 ghost use Rattle.ep_check_expr.specs.Answers.{typed_of};
 ghost use Rattle.ep_check_expr.specs.Expressions.{judged, judged_value};
 ghost use Rattle.ep_check_expr.specs.Judgements.{both};
-ghost use Rattle.ep_check_stmt.specs.Answers.{AnswersForm, AnswersRow, arms_of, context_of, fails_among, stmts_of, target_of};
+ghost use Rattle.ep_check_stmt.specs.Answers.{AnswersForm, AnswersRow, arms_of, context_of, fails_among, result_of, stmts_of, target_of};
 ghost use Rattle.ep_check_stmt.specs.Statements as spec;
-ghost use Rattle.ep_check_stmt.specs.Statements.{Judgement, after, arm_judged, arm_row, arms_in_order, assigned, compound_judged, condition_judged, declared_called, declared_target, formed, if_judged, in_order, name_called, own_called, repeat_judged, place_named, required_called, statement_judged, target_judged, target_rules, tested};
+ghost use Rattle.ep_check_stmt.specs.Statements.{Judgement, after, arm_judged, arm_row, arms_in_order, assigned, compound_judged, condition_judged, declared_called, declared_target, formed, function_target, has_result, if_judged, in_order, name_called, own_called, repeat_judged, place_named, required_called, statement_judged, target_judged, target_rules, tested};
 
-use crate::arguments::{given_value, unless_protected};
 use crate::cases::{arm_form, case_form, no_otherwise, otherwise_form};
 use crate::outcome::{CheckRefusal, Outcome, item_at, refused_at};
 use ep_base::{Boxed, Line, List, Name};
-use ep_check_expr::{Refusal, Typed, typed_expression, typed_value, undeclared};
+use ep_check_expr::{
+    Refusal, Typed, given_value, typed_arguments, typed_expression, typed_value, undeclared,
+    unless_protected,
+};
 use ep_scope::{
     Declaration, Declared, FormalParameter, Host, Kind, Meaning, Procedure, Required, Scope,
     meaning_of, rule,
@@ -27,6 +29,19 @@ use ep_scope::{
 use ep_tree::{Access, Argument, Arm, ComponentValue, Compound, Expression, Selector, Statement};
 use ep_typed::{CaseArm, CaseArms, TypedExpr, TypedPlace, TypedStmt, TypedStmts};
 use std::alloc::{AllocError, Global};
+
+/// The function in whose block the statements are, where its name is assigned to for the result (ISO 10206, 6.7.2).
+#[derive(Clone, Copy)]
+pub struct FunctionResult<'a> {
+    /// Its number among the routines of its unit.
+    pub function: u32,
+    /// Its unit.
+    pub unit: &'a Name,
+    /// The number of the variable of the routine that has the result.
+    pub variable: u32,
+    /// The host of the result.
+    pub host: Host,
+}
 
 /// What the statements of a block know.
 #[derive(Clone, Copy)]
@@ -37,6 +52,8 @@ pub struct Context<'a> {
     pub scopes: &'a [Scope],
     /// Whether `output` is a parameter or imported.
     pub output: bool,
+    /// The function whose block it is, where that has a result without a name.
+    pub result: Option<FunctionResult<'a>>,
 }
 
 /// What is assigned to, and its kind.
@@ -63,9 +80,38 @@ impl Target {
     }
 }
 
-/// A declared name as what is assigned to.
-fn declared_target(alloc: Global, declared: &Declared) -> Result<Target, Refusal>
-    ensures { AnswersForm target_of result (declared_target declared.now declared.now.what) }
+/// Whether what is declared is this function.
+fn has_result(declared: &Declared, function: FunctionResult<'_>) -> bool
+    ensures { result ≡ has_result declared.now (result_of function.entry) }
+{
+    declared.number == function.function && declared.unit.bytes() == function.unit.bytes()
+}
+
+/// The name of a function as what is assigned to.
+fn function_target(
+    declared: &Declared,
+    function: Option<FunctionResult<'_>>,
+) -> Result<Target, Refusal>
+    ensures { AnswersForm target_of result
+        (function_target declared.now (option_map result_of function.entry)) }
+{
+    match function {
+        Some(function) if has_result(declared, function) => Ok(Target {
+            place: TypedPlace::Own(function.variable),
+            kind: Kind::Ordinal(function.host),
+        }),
+        _ => Err(Refusal::Rule(rule::FUNCTION_ASSIGNED)),
+    }
+}
+
+/// A declared name as what is assigned to, in the block of this function.
+fn declared_target(
+    alloc: Global,
+    declared: &Declared,
+    function: Option<FunctionResult<'_>>,
+) -> Result<Target, Refusal>
+    ensures { AnswersForm target_of result
+        (declared_target (option_map result_of function.entry) declared.now declared.now.what) }
 {
     match &declared.what {
         Declaration::Variable(_, kind) => {
@@ -81,6 +127,7 @@ fn declared_target(alloc: Global, declared: &Declared) -> Result<Target, Refusal
         Declaration::Constant(_, _) => Err(Refusal::Rule(rule::CONSTANT_THREATENED)),
         Declaration::Type(_, _) => Err(Refusal::Rule(rule::OTHER_THING)),
         Declaration::Procedure(_) => Err(Refusal::Rule(rule::OTHER_THING)),
+        Declaration::Function(_, _, _) => function_target(declared, function),
     }
 }
 
@@ -371,10 +418,11 @@ impl Context<'_> {
 
     /// A name that is assigned to.
     fn target(&self, name: &Name) -> Result<Target, Refusal>
-        ensures { AnswersForm target_of result (place_named name.now (meant self.now.scopes.now name.now)) }
+        ensures { AnswersForm target_of result
+            (place_named (context_of self.now).result name.now (meant self.now.scopes.now name.now)) }
     {
         match &meaning_of(self.scopes, name) {
-            Meaning::Declared(declared) => declared_target(self.alloc, declared),
+            Meaning::Declared(declared) => declared_target(self.alloc, declared, self.result),
             Meaning::Standard(file) => Ok(Target {
                 place: TypedPlace::Standard(*file),
                 kind: Kind::File,
@@ -415,6 +463,7 @@ impl Context<'_> {
             Declaration::Procedure(parameters) => {
                 self.call_own(line, declared, parameters.items(), arguments)
             }
+            Declaration::Function(_, _, _) => Err(Refusal::Rule(rule::PROCEDURE)),
             Declaration::Constant(_, _) => Err(Refusal::Rule(rule::OTHER_THING)),
             Declaration::Type(_, _) => Err(Refusal::Rule(rule::OTHER_THING)),
             Declaration::Variable(_, _) => Err(Refusal::Rule(rule::OTHER_THING)),
@@ -434,7 +483,8 @@ impl Context<'_> {
         ensures { AnswersForm (option_map stmt_of) result
             (own_called (context_of self.now) line declared.now parameters.now arguments.now) }
     {
-        let Some(actuals) = self.arguments(parameters, arguments)? else {
+        let taken = typed_arguments(self.alloc, parameters, arguments, self.scopes)?;
+        let Some(actuals) = taken.into_actuals() else {
             return Ok(None);
         };
         let unit = declared.unit.copy(self.alloc)?;

@@ -10,9 +10,8 @@ ghost use Rattle.ep_check_expr.specs.Answers.{typed_of};
 ghost use Rattle.ep_check_expr.specs.Expressions.{given, judged};
 ghost use Rattle.ep_check_expr.specs.Judgements.{Accepts, when_accepted};
 ghost use Rattle.ep_check_stmt.specs.Answers.{AnswersForm, context_of, items_of, shown_of};
-ghost use Rattle.ep_check_stmt.specs.Arguments.{one_after};
 ghost use Rattle.ep_check_stmt.specs.Statements as spec;
-ghost use Rattle.ep_check_stmt.specs.Statements.{file_given, item_form, item_judged, items_judged, printed, shown, width_judged, write_judged, written};
+ghost use Rattle.ep_check_stmt.specs.Statements.{file_given, item_form, item_judged, items_judged, one_after, printed, shown, width_judged, write_judged, written};
 
 use crate::statements::Context;
 use ep_base::{Boxed, Line, List, Name, NoMemory};
@@ -59,10 +58,7 @@ fn item_form(
 }
 
 /// The list with one more at the end, where all are built.
-pub(crate) fn added<T: Drop>(
-    list: Option<List<T>>,
-    one: Option<T>,
-) -> Result<Option<List<T>>, NoMemory>
+fn added<T: Drop>(list: Option<List<T>>, one: Option<T>) -> Result<Option<List<T>>, NoMemory>
     ensures { IfOk result (λ now. now ≡ one_after list one) }
 {
     let Some(mut list) = list else {
@@ -76,7 +72,7 @@ pub(crate) fn added<T: Drop>(
 }
 
 /// The name that an expression is, where it is nothing more.
-pub(crate) fn identifier(e: &Expression) -> Option<&Name>
+fn identifier(e: &Expression) -> Option<&Name>
     ensures { option_copied result ≡ as_identifier e.now }
 {
     if e.right.is_some() || e.left.sign.is_some() {

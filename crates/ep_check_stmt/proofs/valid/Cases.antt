@@ -26,12 +26,13 @@ use Rattle.ep_check_expr.specs.Hosts.{typed_host}
 use Rattle.ep_check_expr.specs.Judgements.{Judged, Accepts, Breaks, when_accepted}
 use Rattle.ep_check_expr.specs.Laws.{LabelsAreSound}
 use Rattle.ep_check_expr.specs.declared.constants.ConstantForm.{ConstantForm}
+use Rattle.ep_check_expr.proofs.Passing.{IfForm}
+use Rattle.ep_check_expr.proofs.SameHost.{host_same}
 use Rattle.ep_check_stmt.specs.Cases.{CaseSelector, added, arms_taken, at_least_one, end_judged, fitting, label_taken, labelled, labels_taken, no_labels, own_ranges, range_judged, ranges_formed, ranging}
 use Rattle.ep_check_stmt.specs.Statements.{ArmJudged, Judgement, after, arm_row, arms_in_order, at_item, case_row}
 use Rattle.ep_check_stmt.specs.declared.cases.Labels.{Labels}
 use Rattle.ep_check_stmt.proofs.judged.Fits.{Fits, fits_both, fits_then}
-use Rattle.ep_check_stmt.proofs.judged.SameHost.{host_same}
-use Rattle.ep_check_stmt.proofs.valid.Passing.{FitsRow, IfForm, after_fits, item_fits}
+use Rattle.ep_check_stmt.proofs.valid.Passing.{FitsRow, after_fits, item_fits}
 
 -- ---- ranges that are apart
 

@@ -2,6 +2,7 @@
 use Rattle.std.proofs.Common.{ℕ, Option, Some, None}
 use Rattle.std.specs.Prelude.{⊤}
 use Rattle.ep_check_expr.specs.Judgements.{Judged, Accepts, Breaks}
+use Rattle.ep_check_expr.proofs.Passing.{IfForm}
 use Rattle.ep_check_stmt.specs.Statements.{Judgement, Passes, Waits, Fails, after, at_item, formed, waiting}
 use Rattle.ep_check_stmt.proofs.judged.Fits.{Fits}
 
@@ -10,11 +11,6 @@ abbrev pub FitsRow : {A : Type 0} → (A → Type 0) → Judgement A → Type 0
 FitsRow P (Passes a) = P a
 FitsRow P (Waits line) = ⊤
 FitsRow P (Fails line rules) = ⊤
-
--- a form has it, where it is there
-abbrev pub IfForm : {A : Type 0} → (A → Type 0) → Option A → Type 0
-IfForm P None = ⊤
-IfForm P (Some a) = P a
 
 pub item_fits : {A : Type 0} (P : A → Type 0) (line : ℕ) (j : Judged (Option A)) → Fits (IfForm P) j → FitsRow P (at_item line j)
 item_fits P line (Accepts None) h = tt

@@ -1,12 +1,11 @@
 -- Statements that the rules accept are valid under declarations that hold what the scopes declare.
 use Rattle.std.proofs.Common.{◌≡◌, ℕ, Bool, true, false, List, [], ◌∷◌, map, Option, Some, None, refl, sym, ap, ◌∙◌, subst}
-use Rattle.std.specs.Prelude.{⊤}
+use Rattle.std.specs.Prelude.{⊤, if◌then◌else◌}
 use Rattle.std.specs.Option.{option_map}
 use Rattle.ep_tree.specs.Nodes.{argument_node}
 use Rattle.ep_tree.specs.declared.expression.Access.{out-Access}
 use Rattle.ep_tree.specs.declared.expression.Argument.{Argument, out-Argument, roll-out-Argument}
 use Rattle.ep_tree.specs.declared.expression.ComponentValue.{ComponentValue}
-use Rattle.ep_tree.specs.declared.expression.ComponentValue.TheFolds.{fold-roll-Argument}
 use Rattle.ep_tree.specs.declared.expression.Expression.{Expression}
 use Rattle.ep_tree.specs.declared.expression.Selector.{Selector}
 use Rattle.ep_tree.specs.declared.expression.Label.{Label}
@@ -34,34 +33,36 @@ use Rattle.ep_scope.specs.declared.required.Procedure.{Procedure}
 use Rattle.ep_scope.specs.declared.required.Procedure.TheVariants as procedure
 use Rattle.ep_scope.specs.declared.required.Required.{Required}
 use Rattle.ep_scope.specs.declared.required.Required.TheVariants as required
+use Rattle.ep_scope.specs.declared.rule.TheConstants as rule
 use Rattle.ep_scope.specs.declared.thing.Declaration.{Declaration}
 use Rattle.ep_scope.specs.declared.thing.Declaration.TheVariants as declaration
 use Rattle.ep_scope.specs.declared.thing.Declared.{Declared}
-use Rattle.ep_check_expr.specs.Agreement.{Agrees, IsDeclaration, IsFormOf, IsProcedureOf, IsStoredIn}
+use Rattle.ep_check_expr.specs.Agreement.{Agrees, AreActuals, IsDeclaration, IsFormOf, IsProcedureOf, IsStoredIn}
+use Rattle.ep_check_expr.specs.Arguments.{Taken, arguments_judged, given_to, unless_protected}
 use Rattle.ep_check_expr.specs.Expressions.{given, judged, judged_value}
 use Rattle.ep_check_expr.specs.Functions.{Given}
 use Rattle.ep_check_expr.specs.Hosts.{typed_host}
 use Rattle.ep_check_expr.specs.Judgements.{Judged, Accepts, Breaks, Typed, both, when_accepted}
-use Rattle.ep_check_expr.specs.Laws.{ExpressionsAreSound, LabelsAreSound, ValuesAreSound}
+use Rattle.ep_check_expr.specs.Laws.{ArgumentsAreSound, ExpressionsAreSound, LabelsAreSound, ValuesAreSound}
 use Rattle.ep_check_expr.proofs.Meant.{IsMeant, meant-declared}
-use Rattle.ep_check_stmt.specs.Arguments.{arguments_judged, given_to, one_more, unless_protected}
+use Rattle.ep_check_expr.proofs.Nodes.{argument-judged, wide-judged}
+use Rattle.ep_check_expr.proofs.Passing.{IfForm, given-fits}
 use Rattle.ep_check_stmt.specs.Cases.{CaseSelector, labelled, selecting, selector_judged}
-use Rattle.ep_check_stmt.specs.Laws.{StatementsAreSound}
-use Rattle.ep_check_stmt.specs.Statements.{ArmJudged, Context, Judgement, Passes, Shown, after, arm_judged, arm_row, arms_in_order, assigned, at_arm, at_compound, at_item, at_otherwise, at_statement, available, call_arguments, call_judged, case_judged, compound_judged, condition, condition_judged, declared_called, declared_target, file_given, formed, if_judged, in_order, item_form, item_judged, items_judged, measured, name_called, own_called, otherwise_judged, place_named, procedure_called, required_called, shown, something, statement_judged, target_judged, tested, to_file, usually_written, width_judged, write_judged, written, written_or}
-use Rattle.ep_check_stmt.proofs.judged.Fits.{Any, Fits, fits_any, fits_both, fits_is, fits_then, fits_weaker}
-use Rattle.ep_check_stmt.proofs.valid.Arguments.{AreTaken, arguments_fit, given_fits}
-use Rattle.ep_check_stmt.proofs.valid.Passing.{FitsRow, IfForm, after_fits, formed_fits, item_fits}
+use Rattle.ep_check_stmt.specs.Laws.{ResultIsThere, StatementsAreSound}
+use Rattle.ep_check_stmt.specs.Statements.{ArmJudged, Context, FunctionResult, Judgement, Passes, Shown, Target, after, arm_judged, arm_row, arms_in_order, assigned, at_arm, at_compound, at_item, at_otherwise, at_statement, available, call_arguments, call_judged, case_judged, compound_judged, condition, condition_judged, declared_called, declared_target, file_given, formed, function_target, has_result, if_judged, in_order, item_form, item_judged, items_judged, measured, name_called, one_more, own_called, otherwise_judged, place_named, procedure_called, required_called, shown, something, statement_judged, target_judged, tested, to_file, usually_written, width_judged, write_judged, written, written_or}
+use Rattle.ep_check_stmt.proofs.judged.Fits.{Any, Fits, fits_any, fits_both, fits_is, fits_pair, fits_then, fits_weaker}
+use Rattle.ep_check_stmt.proofs.valid.Passing.{FitsRow, after_fits, formed_fits, item_fits}
 use Rattle.ep_check_stmt.proofs.valid.Cases.{BodiesFit, IsSelected, labelled_fits, row_fits as arms_row_fits}
 
 -- the two parts of an argument of a call
 node_is : (scopes : List Region) (line : ℕ) (e : Expression) (w : Option Expression) → given scopes (argument_node line e w) ≡ record { value = judged scopes e; width = option_map (judged scopes) w }
-node_is scopes line e None = simp fold-roll-Argument
-node_is scopes line e (Some w) = simp fold-roll-Argument
+node_is scopes line e None = argument-judged scopes line e
+node_is scopes line e (Some w) = wide-judged scopes line e w
 
 argument_is : (scopes : List Region) (a : Argument) → given scopes a ≡ record { value = judged scopes (out-Argument a).value; width = option_map (judged scopes) (out-Argument a).width }
 argument_is scopes a = ap (given scopes) (sym (roll-out-Argument a)) ∙ node_is scopes (out-Argument a).line (out-Argument a).value (out-Argument a).width
 
-module _ (declared : Declarations) (expressions : ExpressionsAreSound) (values : ValuesAreSound) (labels : LabelsAreSound) (scopes : List Region) (agrees : Agrees declared scopes) where
+module _ (declared : Declarations) (expressions : ExpressionsAreSound) (passed : ArgumentsAreSound) (values : ValuesAreSound) (labels : LabelsAreSound) (scopes : List Region) (agrees : Agrees declared scopes) where
   -- a typed form is valid
   abbrev IsSoundForm : Typed → Type 0
   IsSoundForm t = IsFormOf declared t.kind t.form
@@ -111,36 +112,46 @@ module _ (declared : Declarations) (expressions : ExpressionsAreSound) (values :
   variable_fits place kind.Text x = absurd x
   variable_fits place kind.File x = tt
 
-  declared_fits : (d : Declared) (what : Declaration) → IsDeclaration declared agrees.0 d.unit d.number what → Fits (λ t. IsTarget t.kind t.place) (declared_target d what)
-  declared_fits d (declaration.Variable of k) x = variable_fits (tree.Variable d.unit d.number) k x.0
-  declared_fits d (declaration.Own of k guarded) x =
+  -- so is the variable of the result
+  function_fits : (d : Declared) (result : Option FunctionResult) → ResultIsThere declared result → Fits (λ t. IsTarget t.kind t.place) (function_target d result)
+  function_fits d None there = tt
+  function_fits d (Some r) there = go (has_result d r)
+    where
+      go : (own : Bool) → Fits (λ (t : Target). IsTarget t.kind t.place) (if own then Accepts (record { place = tree.Own r.variable; kind = kind.Ordinal r.host }) else Breaks (rule.FUNCTION_ASSIGNED ∷ []))
+      go true = there.1
+      go false = tt
+
+  declared_fits : (result : Option FunctionResult) → ResultIsThere declared result → (d : Declared) (what : Declaration) → IsDeclaration declared agrees.0 d.unit d.number what → Fits (λ t. IsTarget t.kind t.place) (declared_target result d what)
+  declared_fits result there d (declaration.Variable of k) x = variable_fits (tree.Variable d.unit d.number) k x.0
+  declared_fits result there d (declaration.Own of k guarded) x =
       fits_then Any (λ t. IsTarget t.kind t.place) (λ done. Accepts (record { place = tree.Own d.number; kind = k })) (unless_protected guarded) (fits_any (unless_protected guarded)) (λ a i. variable_fits (tree.Own d.number) k x.0)
-  declared_fits d (declaration.Constant k v) x = tt
-  declared_fits d (declaration.«Type» of h) x = tt
-  declared_fits d (declaration.Procedure parameters) x = tt
+  declared_fits result there d (declaration.Constant k v) x = tt
+  declared_fits result there d (declaration.«Type» of h) x = tt
+  declared_fits result there d (declaration.Procedure parameters) x = tt
+  declared_fits result there d (declaration.Function parameters of h) x = function_fits d result there
 
-  place_fits : (name : List ℕ) (m : Meant) → IsMeant declared agrees.0 m → Fits (λ t. IsTarget t.kind t.place) (place_named name m)
-  place_fits name (Declares d) x = declared_fits d d.what x
-  place_fits name (Standard f) x = tt
-  place_fits name (Requires r) x = tt
-  place_fits name Nothing x = tt
+  place_fits : (result : Option FunctionResult) → ResultIsThere declared result → (name : List ℕ) (m : Meant) → IsMeant declared agrees.0 m → Fits (λ t. IsTarget t.kind t.place) (place_named result name m)
+  place_fits result there name (Declares d) x = declared_fits result there d d.what x
+  place_fits result there name (Standard f) x = tt
+  place_fits result there name (Requires r) x = tt
+  place_fits result there name Nothing x = tt
 
-  target_fits : (c : Context) → c.scopes ≡ scopes → (name : List ℕ) (selectors : List Selector) → Fits (λ t. IsTarget t.kind t.place) (target_judged c name selectors)
-  target_fits c is name [] = subst (λ s. Fits (λ t. IsTarget t.kind t.place) (place_named name (meant s name))) (sym is) (place_fits name (meant scopes name) (meant-declared declared agrees.0 scopes name agrees.1))
-  target_fits c is name (s ∷ ss) = tt
+  target_fits : (c : Context) → c.scopes ≡ scopes → ResultIsThere declared c.result → (name : List ℕ) (selectors : List Selector) → Fits (λ t. IsTarget t.kind t.place) (target_judged c name selectors)
+  target_fits c is there name [] = subst (λ s. Fits (λ t. IsTarget t.kind t.place) (place_named c.result name (meant s name))) (sym is) (place_fits c.result there name (meant scopes name) (meant-declared declared agrees.0 scopes name agrees.1))
+  target_fits c is there name (s ∷ ss) = tt
 
   assign_fits : (to from : Kind) (line : ℕ) (place : Place) (form : Option Expr) → IsTarget to place → IsFormOf declared from form → Fits (IfForm (IsStmt declared)) (given_to (tree.Assign line place) to from form)
-  assign_fits (kind.Ordinal h) from line place form p f = given_fits declared (IsStmt declared) (tree.Assign line place) h (λ x q. (typed_host h, p, q)) from form f
+  assign_fits (kind.Ordinal h) from line place form p f = given-fits declared (IsStmt declared) (tree.Assign line place) h (λ x q. (typed_host h, p, q)) from form f
   assign_fits kind.Text from line place form p f = absurd p
   assign_fits kind.File (kind.Ordinal g) line place form p f = tt
   assign_fits kind.File kind.Text line place form p f = tt
   assign_fits kind.File kind.File line place form p f = tt
 
-  assignment_fits : (c : Context) → c.scopes ≡ scopes → (line : ℕ) (name : List ℕ) (selectors : List Selector) (v : ComponentValue)
+  assignment_fits : (c : Context) → c.scopes ≡ scopes → ResultIsThere declared c.result → (line : ℕ) (name : List ℕ) (selectors : List Selector) (v : ComponentValue)
       → FitsRow (IsStmt declared) (at_item line (both (assigned line) (target_judged c name selectors) (judged_value c.scopes v)))
-  assignment_fits c is line name selectors v =
+  assignment_fits c is there line name selectors v =
       item_fits (IsStmt declared) line _
-      (fits_both (λ t. IsTarget t.kind t.place) IsSoundForm (IfForm (IsStmt declared)) (assigned line) (target_judged c name selectors) (judged_value c.scopes v) (target_fits c is name selectors)
+      (fits_both (λ t. IsTarget t.kind t.place) IsSoundForm (IfForm (IsStmt declared)) (assigned line) (target_judged c name selectors) (judged_value c.scopes v) (target_fits c is there name selectors)
       (subst (λ s. Fits IsSoundForm (judged_value s v)) (sym is) (value_fits v)) (λ t x p f. assign_fits t.kind x.kind line t.place x.form p f))
 
   -- ---- `write` and `writeln`
@@ -236,16 +247,12 @@ module _ (declared : Declarations) (expressions : ExpressionsAreSound) (values :
   file_fits file.Output line ends_line gs a None e f l = tt
   file_fits file.Output line ends_line gs a (Some items) e f l = (f, something_written ends_line gs items a e l)
 
-  pair_fits : {A : Type 0} (P Q : A → Type 0) (j : Judged A) → Fits P j → Fits Q j → Fits (λ x. P x × Q x) j
-  pair_fits P Q (Accepts a) p q = (p, q)
-  pair_fits P Q (Breaks rules) p q = tt
-
   written_fits : (f : StandardFile) (line : ℕ) (ends_line : Bool) (arguments : List Argument) → Fits (IfForm (IsStmt declared)) (written f line ends_line (map (given scopes) arguments))
   written_fits f line ends_line arguments =
       let gs = map (given scopes) arguments in
       fits_both (λ a. something ends_line gs ≡ Accepts a) (λ items. IfForm (AreItems declared) items × IsAsLong gs items) (IfForm (IsStmt declared)) _ (something ends_line gs) (items_judged gs)
       (fits_is (something ends_line gs))
-      (pair_fits (IfForm (AreItems declared)) (IsAsLong gs) (items_judged gs) (items_fit arguments) (items_long gs))
+      (fits_pair (IfForm (AreItems declared)) (IsAsLong gs) (items_judged gs) (items_fit arguments) (items_long gs))
       (λ a items e p. file_fits f line ends_line gs a items e p.0 p.1)
 
   usually_fits : (c : Context) → c.scopes ≡ scopes → (line : ℕ) (ends_line : Bool) (arguments : List Argument) → Fits (IfForm (IsStmt declared)) (usually_written c line ends_line arguments)
@@ -318,19 +325,31 @@ module _ (declared : Declarations) (expressions : ExpressionsAreSound) (values :
 
   -- a call of a procedure with arguments that are valid for its formal parameters
   call_form : (line : ℕ) (d : Declared) (parameters : List FormalParameter) (x : IsProcedureOf declared agrees.0 d.unit d.number parameters) (given : Option (List Actual))
-      → IfForm (AreTaken declared (declared.types d.unit) x.0.formals) given → IfForm (IsStmt declared) (option_map (λ xs. tree.Procedure line d.unit d.number (tree.actuals xs)) given)
+      → AreActuals declared (declared.types d.unit) x.0.formals given → IfForm (IsStmt declared) (option_map (λ xs. tree.Procedure line d.unit d.number (tree.actuals xs)) given)
   call_form line d parameters x None h = tt
   call_form line d parameters x (Some given) h = (x.0, x.1, x.2, h)
 
   own_fits : (c : Context) → c.scopes ≡ scopes → (line : ℕ) (d : Declared) (parameters : List FormalParameter) (arguments : List Argument) → IsProcedureOf declared agrees.0 d.unit d.number parameters
       → Fits (IfForm (IsStmt declared)) (own_called c line d parameters arguments)
   own_fits c is line d parameters arguments x =
-      subst (λ s. Fits (IfForm (IsStmt declared)) (when_accepted (λ given. Accepts (option_map (λ xs. tree.Procedure line d.unit d.number (tree.actuals xs)) given)) (arguments_judged s parameters arguments))) (sym is)
-      (fits_then (IfForm (AreTaken declared (declared.types d.unit) x.0.formals)) (IfForm (IsStmt declared)) (λ given. Accepts (option_map (λ xs. tree.Procedure line d.unit d.number (tree.actuals xs)) given)) (arguments_judged scopes parameters arguments)
-      (arguments_fit declared agrees.0 scopes agrees.1 expression_fits (declared.types d.unit) parameters x.0.formals arguments x.3) (λ given h. call_form line d parameters x given h))
+      subst (λ s. Fits (IfForm (IsStmt declared)) (when_accepted form (arguments_judged parameters (map (given s) arguments)))) (sym is)
+      (fits_then IsTaken (IfForm (IsStmt declared)) form (arguments_judged parameters (map (given scopes) arguments)) taken (λ t h. call_form line d parameters x t.actuals h))
+    where
+      form : Taken → Judged (Option Stmt)
+      form t = Accepts (option_map (λ xs. tree.Procedure line d.unit d.number (tree.actuals xs)) t.actuals)
+
+      -- what is given is valid for the formal parameters of the procedure
+      IsTaken : Taken → Type 0
+      IsTaken t = AreActuals declared (declared.types d.unit) x.0.formals t.actuals
+
+      taken : Fits IsTaken (arguments_judged parameters (map (given scopes) arguments))
+      taken =
+          fits_weaker (λ t. arguments_judged parameters (map (given scopes) arguments) ≡ Accepts t) IsTaken (arguments_judged parameters (map (given scopes) arguments))
+          (λ t e. passed scopes parameters arguments t e declared agrees.0 agrees.1 (declared.types d.unit) x.0.formals x.3) (fits_is (arguments_judged parameters (map (given scopes) arguments)))
 
   declared_call_fits : (c : Context) → c.scopes ≡ scopes → (line : ℕ) (d : Declared) (what : Declaration) (arguments : List Argument) → IsDeclaration declared agrees.0 d.unit d.number what → Fits (IfForm (IsStmt declared)) (declared_called c line d what arguments)
   declared_call_fits c is line d (declaration.Procedure parameters) arguments x = own_fits c is line d parameters arguments x
+  declared_call_fits c is line d (declaration.Function parameters of h) arguments x = tt
   declared_call_fits c is line d (declaration.Constant k v) arguments x = tt
   declared_call_fits c is line d (declaration.«Type» of h) arguments x = tt
   declared_call_fits c is line d (declaration.Variable of k) arguments x = tt
@@ -348,7 +367,7 @@ module _ (declared : Declarations) (expressions : ExpressionsAreSound) (values :
 
   -- ---- statements
 
-  module _ (c : Context) (is : c.scopes ≡ scopes) where
+  module _ (c : Context) (is : c.scopes ≡ scopes) (there : ResultIsThere declared c.result) where
     abbrev IsStatement : Statement → Type 0
     IsStatement s = FitsRow (IsStmt declared) (statement_judged c s)
 
@@ -415,7 +434,7 @@ module _ (declared : Declarations) (expressions : ExpressionsAreSound) (values :
     -- each statement, where those in it are valid
     statement_step : (y : Statement-F ValidStatement ValidArm ValidCompound ValidOtherwise) → IsStatement (roll-Statement (statement_layer y))
     statement_step (Statement-F.Empty line) = rolled (Statement-F.Empty line) tt
-    statement_step (Statement-F.Assignment line access v) = rolled (Statement-F.Assignment line access v) (assignment_fits c is line (out-Access access).name (out-Access access).selectors v)
+    statement_step (Statement-F.Assignment line access v) = rolled (Statement-F.Assignment line access v) (assignment_fits c is there line (out-Access access).name (out-Access access).selectors v)
     statement_step (Statement-F.Call line access) =
         rolled (Statement-F.Call line access)
         (item_fits (IsStmt declared) line (name_called c line (out-Access access).name (call_arguments (out-Access access).selectors)) (called_fits c is line (out-Access access).name (call_arguments (out-Access access).selectors)))
@@ -449,5 +468,6 @@ module _ (declared : Declarations) (expressions : ExpressionsAreSound) (values :
         (λ x y e. subst (λ z. IsOtherwise (roll-Otherwise z)) e (rolled_otherwise (otherwise_layer y) (row_fits y.statements)))
 
 -- the law
-pub statements_are_sound : ExpressionsAreSound → ValuesAreSound → LabelsAreSound → StatementsAreSound
-statements_are_sound expressions values labels context c ss is declared agrees = subst (FitsRow (AreStmts declared)) is (compound_fits declared expressions values labels context.scopes agrees context refl c)
+pub statements_are_sound : ExpressionsAreSound → ArgumentsAreSound → ValuesAreSound → LabelsAreSound → StatementsAreSound
+statements_are_sound expressions passed values labels context c ss is declared agrees there =
+    subst (FitsRow (AreStmts declared)) is (compound_fits declared expressions passed values labels context.scopes agrees context refl there c)

@@ -1,0 +1,164 @@
+-- Whether statements give a function its result (ISO 10206, 6.7.2): whether they threaten the variable that has it, and whether they assign to the name of the function.
+use Rattle.std.specs.Prelude.{ℕ, Bool, true, false, ◌==◌, ◌||◌, ◌&&◌, List, [], ◌∷◌, slice_get, Option, Some, None}
+use Rattle.std.specs.Str.{bytes_eq}
+use Rattle.ep_tree.specs.declared.expression.Access.{Access, out-Access}
+use Rattle.ep_tree.specs.declared.expression.Selector.{Selector}
+use Rattle.ep_tree.specs.declared.statement.Statement.TheOpen.{Statement-F, Arm-F, Compound-F, Otherwise-F}
+use Rattle.ep_tree.specs.declared.statement.Statement.{Statement, fold-Statement}
+use Rattle.ep_tree.specs.declared.statement.Arm.{Arm, fold-Arm}
+use Rattle.ep_tree.specs.declared.statement.Compound.{Compound, fold-Compound}
+use Rattle.ep_typed.specs.Trees.{Place, Variable, Own, Standard, Expr, Constant, Text, Read, One, Two, Short, Step, Function, Actual, Evaluated, Accessed, Actuals, no_actual, next_actual, Item, Plain, Wide, Stmt, Stmts, Empty, Assign, If, While, Repeat, Procedure, Case, Halt, Write, none, next, Arms, no_arm, next_arm, Other, no_other, otherwise_do}
+use Rattle.ep_typed.specs.Trees as tree
+use Rattle.ep_typed.specs.declared.interface.Formal.{Formal}
+use Rattle.ep_typed.specs.declared.interface.FormalMode.{FormalMode}
+use Rattle.ep_typed.specs.declared.interface.FormalMode.TheVariants as mode
+use Rattle.ep_typed.specs.declared.unit.UnitRoutine.{UnitRoutine}
+use Rattle.ep_typed.specs.declared.unit.UnitRoutine.TheViews.{out-UnitRoutine}
+
+-- ---- threats to a variable, by typed statements (ISO 10206, 6.9.4)
+
+-- whether what is given for a parameter of this mode is threatened: a variable parameter that is not protected
+abbrev pub mode_threatens : FormalMode → Bool
+mode_threatens mode.Value = false
+mode_threatens mode.Variable = true
+mode_threatens mode.ProtectedValue = false
+mode_threatens mode.ProtectedVariable = false
+
+-- the formal parameters of a routine, where there is one
+abbrev pub formals_if : Option UnitRoutine → List Formal
+formals_if None = []
+formals_if (Some r) = (out-UnitRoutine r).formals
+
+-- the formal parameters of the routine of this number of a unit, of which there is one so far, so that its name is not asked for
+abbrev pub formals_in : List UnitRoutine → List ℕ → ℕ → List Formal
+formals_in routines unit number = formals_if (slice_get routines number)
+
+-- whether a place is the variable of this number of the routine
+abbrev pub is_variable : ℕ → Place → Bool
+is_variable variable (Variable unit number) = false
+is_variable variable (Own number) = number == variable
+is_variable variable (Standard file) = false
+
+-- by the formal parameters of each routine, for the variable of this number of the routine in whose block the statements stand
+module _ (formals_of : List ℕ → ℕ → List Formal) (variable : ℕ) where
+  abbrev mutual
+    -- whether an expression has a function designator that threatens the variable
+    pub expr_threatens : Expr → Bool
+    expr_threatens (Constant value) = false
+    expr_threatens (Text bytes) = false
+    expr_threatens (Read place) = false
+    expr_threatens (One operation x) = expr_threatens x
+    expr_threatens (Two operation x y) = expr_threatens x || expr_threatens y
+    expr_threatens (Short operation x y) = expr_threatens x || expr_threatens y
+    expr_threatens (Step down low high x y) = expr_threatens x || expr_threatens y
+    expr_threatens (Function unit number given) = actuals_threaten (formals_of unit number) given
+
+    -- whether what is given for a parameter of this mode threatens the variable: it is the variable itself, or an expression that threatens it
+    pub actual_threatens : FormalMode → Actual → Bool
+    actual_threatens m (Evaluated x) = expr_threatens x
+    actual_threatens m (Accessed place) = mode_threatens m && is_variable variable place
+
+    -- whether what is given for these formal parameters does, one for one
+    pub actuals_threaten : List Formal → Actuals → Bool
+    actuals_threaten formals no_actual = false
+    actuals_threaten [] (next_actual a more) = false
+    actuals_threaten (f ∷ fs) (next_actual a more) = actual_threatens f.mode a || actuals_threaten fs more
+
+  -- whether an expression that is written, or its width, threatens the variable
+  abbrev pub item_threatens : Item → Bool
+  item_threatens (Plain print x) = expr_threatens x
+  item_threatens (Wide print x width) = expr_threatens x || expr_threatens width
+
+  -- whether one of these does
+  abbrev pub items_threaten : List Item → Bool
+  items_threaten [] = false
+  items_threaten (i ∷ is) = item_threatens i || items_threaten is
+
+  abbrev mutual
+    -- whether a statement, or one inside of it, assigns to the variable or gives it for a variable parameter that is not protected
+    pub threatens : Stmt → Bool
+    threatens Empty = false
+    threatens (tree.Compound ss) = stmts_threaten ss
+    threatens (Assign line place x) = is_variable variable place || expr_threatens x
+    threatens (If line x a b) = expr_threatens x || (threatens a || threatens b)
+    threatens (While line x s) = expr_threatens x || threatens s
+    threatens (Repeat line ss x) = stmts_threaten ss || expr_threatens x
+    threatens (Procedure line unit number given) = actuals_threaten (formals_of unit number) given
+    threatens (Case line x arms other) = expr_threatens x || (arms_threaten arms || other_threatens other)
+    threatens (Halt line) = false
+    threatens (Write line items ends_line) = items_threaten items
+
+    -- whether one of these does
+    pub stmts_threaten : Stmts → Bool
+    stmts_threaten none = false
+    stmts_threaten (next s ss) = threatens s || stmts_threaten ss
+
+    -- whether the statement of one of these arms does
+    pub arms_threaten : Arms → Bool
+    arms_threaten no_arm = false
+    arms_threaten (next_arm ranges s arms) = threatens s || arms_threaten arms
+
+    -- whether one of the statements behind `otherwise` does
+    pub other_threatens : Other → Bool
+    other_threatens no_other = false
+    other_threatens (otherwise_do ss) = stmts_threaten ss
+
+-- ---- assignments to a name, by the text (ISO 10206, 6.9.2.2)
+
+-- whether there is a statement that assigns
+abbrev pub assigns_if : Option Bool → Bool
+assigns_if None = false
+assigns_if (Some b) = b
+
+-- whether one of these assigns
+abbrev pub any_assigns : List Bool → Bool
+any_assigns [] = false
+any_assigns (b ∷ bs) = b || any_assigns bs
+
+module _ (name : List ℕ) where
+  -- whether another name with these selectors is the name alone
+  abbrev pub stands_alone : List ℕ → List Selector → Bool
+  stands_alone other [] = bytes_eq other name
+  stands_alone other _ = false
+
+  -- whether an access is the name without selectors
+  abbrev pub is_bare : Access → Bool
+  is_bare a = stands_alone (out-Access a).name (out-Access a).selectors
+
+  -- an assignment to the name, or a statement with one inside of it, whatever its form
+  abbrev pub in_statement : Statement-F Bool Bool Bool Bool → Bool
+  in_statement (Statement-F.Empty line) = false
+  in_statement (Statement-F.Assignment line access value) = is_bare access
+  in_statement (Statement-F.Call line access) = false
+  in_statement (Statement-F.Compound compound) = compound
+  in_statement (Statement-F.If line condition then other) = then || assigns_if other
+  in_statement (Statement-F.Case line selector arms other) = any_assigns arms || assigns_if other
+  in_statement (Statement-F.While line condition body) = body
+  in_statement (Statement-F.Repeat line statements condition) = any_assigns statements
+  in_statement (Statement-F.For line variable start direction end body) = body
+  in_statement (Statement-F.ForIn line variable members body) = body
+  in_statement (Statement-F.With line accesses body) = body
+
+  -- the statement of an arm
+  abbrev pub in_arm : Arm-F Bool Bool Bool Bool → Bool
+  in_arm a = a.body
+
+  -- the statements between `begin` and `end`
+  abbrev pub in_compound : Compound-F Bool Bool Bool Bool → Bool
+  in_compound c = any_assigns c.statements
+
+  -- the statements behind `otherwise`
+  abbrev pub in_otherwise : Otherwise-F Bool Bool Bool Bool → Bool
+  in_otherwise o = any_assigns o.statements
+
+  -- whether a statement, or one inside of it, assigns to the name
+  abbrev pub statement_assigns : Statement → Bool
+  statement_assigns = fold-Statement Bool Bool Bool Bool in_statement in_arm in_compound in_otherwise
+
+  -- whether an arm does
+  abbrev pub arm_assigns : Arm → Bool
+  arm_assigns = fold-Arm Bool Bool Bool Bool in_statement in_arm in_compound in_otherwise
+
+  -- whether a statement part has an assignment to the name (ISO 10206, 6.7.2)
+  abbrev pub assigns : Compound → Bool
+  assigns = fold-Compound Bool Bool Bool Bool in_statement in_arm in_compound in_otherwise

@@ -1,0 +1,299 @@
+//! Whether statements give a function its result, as specs/Threats.antt says. Nothing here takes memory.
+
+ghost use Rattle.std.specs.Prelude.{◌≡◌, map, slice_get};
+ghost use Rattle.ep_typed.specs.Trees as tree;
+ghost use Rattle.ep_typed.specs.Trees.{stmts};
+ghost use Rattle.ep_typed.specs.Viewed.{actual_of, arm_of, expr_of, item_of, place_of, stmt_of};
+ghost use Rattle.ep_check_stmt.specs.Threats as spec;
+ghost use Rattle.ep_check_stmt.specs.Threats.{any_assigns, arm_assigns, formals_if, formals_in, statement_assigns, stmts_threaten};
+
+use ep_base::Name;
+use ep_tree::{Access, Arm, Compound, Statement};
+use ep_typed::{
+    Actual, CaseArm, Formal, FormalMode, TypedExpr, TypedPlace, TypedStmt, UnitRoutine, WriteItem,
+};
+
+/// Whether statements threaten the variable of this number of the routine in whose block they stand: it is assigned to,
+/// or given for a variable parameter that is not protected (ISO 10206, 6.9.4). The routines are those of the unit, of
+/// which there is one so far, so that a call is looked up by its number alone.
+pub fn threatens(routines: &[UnitRoutine], variable: u32, statements: &[TypedStmt]) -> bool
+    ensures { result ≡
+        stmts_threaten (formals_in routines.now) variable (stmts (map stmt_of statements.now)) }
+{
+    stmts_threaten(statements, routines, variable)
+}
+
+// Below, the tree stands before the routines, since a walk is shown to end by its first parameter whose type contains
+// itself.
+
+/// Whether one of these statements threatens the variable.
+#[cycle(threats)]
+fn stmts_threaten(all: &[TypedStmt], routines: &[UnitRoutine], variable: u32) -> bool
+    ensures { result ≡
+        stmts_threaten (formals_in routines.now) variable (stmts (map stmt_of all.now)) }
+{
+    for s in all {
+        if statement_threatens(s, routines, variable) {
+            return true;
+        }
+    }
+    false
+}
+
+/// Whether a statement, or one inside of it, threatens the variable.
+#[cycle(threats)]
+fn statement_threatens(s: &TypedStmt, routines: &[UnitRoutine], variable: u32) -> bool
+    ensures { result ≡ spec.threatens (formals_in routines.now) variable (stmt_of s.now) }
+{
+    match s {
+        TypedStmt::Empty | TypedStmt::Halt(_) => false,
+        TypedStmt::Compound(all) => stmts_threaten(all.items(), routines, variable),
+        TypedStmt::Assign(_, place, value) => {
+            is_variable(variable, place) || expr_threatens(value.get(), routines, variable)
+        }
+        TypedStmt::If(_, condition, then_part, else_part) => {
+            expr_threatens(condition.get(), routines, variable)
+                || statement_threatens(then_part.get(), routines, variable)
+                || statement_threatens(else_part.get(), routines, variable)
+        }
+        TypedStmt::While(_, condition, body) => {
+            expr_threatens(condition.get(), routines, variable)
+                || statement_threatens(body.get(), routines, variable)
+        }
+        TypedStmt::Repeat(_, all, condition) => {
+            stmts_threaten(all.items(), routines, variable)
+                || expr_threatens(condition.get(), routines, variable)
+        }
+        TypedStmt::Procedure(_, _, number, given) => {
+            let formals = formals_of(routines, *number);
+            actuals_threaten(formals, given.items(), routines, variable)
+        }
+        TypedStmt::Case(_, selector, arms, None) => {
+            expr_threatens(selector.get(), routines, variable)
+                || arms_threaten(arms.items(), routines, variable)
+        }
+        TypedStmt::Case(_, selector, arms, Some(other)) => {
+            expr_threatens(selector.get(), routines, variable)
+                || arms_threaten(arms.items(), routines, variable)
+                || stmts_threaten(other.items(), routines, variable)
+        }
+        TypedStmt::Write(_, items, _) => items_threaten(items.items(), routines, variable),
+    }
+}
+
+/// Whether the statement of one of these arms does.
+#[cycle(threats)]
+fn arms_threaten(all: &[CaseArm], routines: &[UnitRoutine], variable: u32) -> bool
+    ensures { result ≡
+        spec.arms_threaten (formals_in routines.now) variable (tree.arms (map arm_of all.now)) }
+{
+    for a in all {
+        if arm_threatens(a, routines, variable) {
+            return true;
+        }
+    }
+    false
+}
+
+/// Whether the statement of an arm does.
+#[cycle(threats)]
+fn arm_threatens(a: &CaseArm, routines: &[UnitRoutine], variable: u32) -> bool
+    ensures { result ≡ spec.threatens (formals_in routines.now) variable (arm_of a.now).1 }
+{
+    statement_threatens(a.body.get(), routines, variable)
+}
+
+/// Whether one of these expressions that are written does.
+fn items_threaten(all: &[WriteItem], routines: &[UnitRoutine], variable: u32) -> bool
+    ensures { result ≡
+        spec.items_threaten (formals_in routines.now) variable (map item_of all.now) }
+{
+    for i in all {
+        if item_threatens(i, routines, variable) {
+            return true;
+        }
+    }
+    false
+}
+
+/// Whether an expression that is written, or its width, does.
+fn item_threatens(i: &WriteItem, routines: &[UnitRoutine], variable: u32) -> bool
+    ensures { result ≡ spec.item_threatens (formals_in routines.now) variable (item_of i.now) }
+{
+    match &i.width {
+        None => expr_threatens(i.value.get(), routines, variable),
+        Some(width) => {
+            expr_threatens(i.value.get(), routines, variable)
+                || expr_threatens(width.get(), routines, variable)
+        }
+    }
+}
+
+/// Whether an expression has a function designator that does.
+#[cycle(threats_in_expressions)]
+fn expr_threatens(x: &TypedExpr, routines: &[UnitRoutine], variable: u32) -> bool
+    ensures { result ≡ spec.expr_threatens (formals_in routines.now) variable (expr_of x.now) }
+{
+    match x {
+        TypedExpr::Constant(_) | TypedExpr::Text(_) | TypedExpr::Read(_) => false,
+        TypedExpr::Unary(_, operand) => expr_threatens(operand.get(), routines, variable),
+        TypedExpr::Binary(_, left, right) => {
+            expr_threatens(left.get(), routines, variable)
+                || expr_threatens(right.get(), routines, variable)
+        }
+        TypedExpr::Short(_, left, right) => {
+            expr_threatens(left.get(), routines, variable)
+                || expr_threatens(right.get(), routines, variable)
+        }
+        TypedExpr::Step(_, _, _, value, count) => {
+            expr_threatens(value.get(), routines, variable)
+                || expr_threatens(count.get(), routines, variable)
+        }
+        TypedExpr::Function(_, number, given) => {
+            let formals = formals_of(routines, *number);
+            actuals_threaten(formals, given.items(), routines, variable)
+        }
+    }
+}
+
+/// Whether what is given for these formal parameters threatens the variable, one for one.
+#[cycle(threats_in_expressions)]
+fn actuals_threaten(
+    formals: &[Formal],
+    given: &[Actual],
+    routines: &[UnitRoutine],
+    variable: u32,
+) -> bool
+    ensures { result ≡ spec.actuals_threaten (formals_in routines.now) variable formals.now
+        (tree.actuals (map actual_of given.now)) }
+{
+    for (place, a) in given.iter().enumerate() {
+        let Some(formal) = formals.get(place) else {
+            return false;
+        };
+        if actual_threatens(formal.mode, a, routines, variable) {
+            return true;
+        }
+    }
+    false
+}
+
+/// Whether what is given for a parameter of this mode does: the variable itself, or an expression.
+#[cycle(threats_in_expressions)]
+fn actual_threatens(mode: FormalMode, a: &Actual, routines: &[UnitRoutine], variable: u32) -> bool
+    ensures { result ≡
+        spec.actual_threatens (formals_in routines.now) variable mode (actual_of a.now) }
+{
+    match a {
+        Actual::Value(value) => expr_threatens(value.get(), routines, variable),
+        Actual::Variable(place) => mode_threatens(mode) && is_variable(variable, place),
+    }
+}
+
+/// Whether what is given for a parameter of this mode is threatened.
+fn mode_threatens(mode: FormalMode) -> bool
+    ensures { result ≡ spec.mode_threatens mode }
+{
+    match mode {
+        FormalMode::Variable => true,
+        FormalMode::Value | FormalMode::ProtectedValue | FormalMode::ProtectedVariable => false,
+    }
+}
+
+/// Whether a place is the variable of this number of the routine.
+fn is_variable(variable: u32, place: &TypedPlace) -> bool
+    ensures { result ≡ spec.is_variable variable (place_of place.now) }
+{
+    match place {
+        TypedPlace::Own(number) => *number == variable,
+        TypedPlace::Variable(_, _) | TypedPlace::Standard(_) => false,
+    }
+}
+
+/// The formal parameters of the routine of this number, where there is one.
+fn formals_of(routines: &[UnitRoutine], number: u32) -> &[Formal]
+    ensures { result.now ≡ formals_if (slice_get routines.now number) }
+{
+    match routines.get(number as usize) {
+        None => &[],
+        Some(routine) => routine.formals.items(),
+    }
+}
+
+/// Whether a statement part has an assignment to this name, by the text: the name alone, in the statements or in any
+/// statement inside of them (ISO 10206, 6.7.2 and 6.9.2.2).
+#[cycle(assignments)]
+pub fn assigns(name: &Name, statements: &Compound) -> bool
+    ensures { result ≡ spec.assigns name.now statements.now }
+{
+    any_assigns(name, statements.statements.items())
+}
+
+/// Whether one of these statements assigns to the name.
+#[cycle(assignments)]
+fn any_assigns(name: &Name, all: &[Statement]) -> bool
+    ensures { result ≡ any_assigns (map (statement_assigns name.now) all.now) }
+{
+    for s in all {
+        if statement_assigns(name, s) {
+            return true;
+        }
+    }
+    false
+}
+
+/// Whether a statement, or one inside of it, assigns to the name.
+#[cycle(assignments)]
+fn statement_assigns(name: &Name, s: &Statement) -> bool
+    ensures { result ≡ statement_assigns name.now s.now }
+{
+    match s {
+        Statement::Empty(_) | Statement::Call(_, _) => false,
+        Statement::Assignment(_, access, _) => is_bare(name, access),
+        Statement::Compound(c) => assigns(name, c),
+        Statement::If(_, _, then, None) => statement_assigns(name, then.get()),
+        Statement::If(_, _, then, Some(other)) => {
+            statement_assigns(name, then.get()) || statement_assigns(name, other.get())
+        }
+        Statement::Case(_, _, arms, None) => any_arm_assigns(name, arms.items()),
+        Statement::Case(_, _, arms, Some(other)) => {
+            any_arm_assigns(name, arms.items()) || any_assigns(name, other.statements.items())
+        }
+        Statement::Repeat(_, all, _) => any_assigns(name, all.items()),
+        Statement::While(_, _, body) => statement_assigns(name, body.get()),
+        Statement::For(_, _, _, _, _, body) => statement_assigns(name, body.get()),
+        Statement::ForIn(_, _, _, body) => statement_assigns(name, body.get()),
+        Statement::With(_, _, body) => statement_assigns(name, body.get()),
+    }
+}
+
+/// Whether the statement of one of these arms does.
+#[cycle(assignments)]
+fn any_arm_assigns(name: &Name, all: &[Arm]) -> bool
+    ensures { result ≡ any_assigns (map (arm_assigns name.now) all.now) }
+{
+    for a in all {
+        if arm_assigns(name, a) {
+            return true;
+        }
+    }
+    false
+}
+
+/// Whether the statement of an arm does.
+#[cycle(assignments)]
+fn arm_assigns(name: &Name, a: &Arm) -> bool
+    ensures { result ≡ arm_assigns name.now a.now }
+{
+    statement_assigns(name, a.body.get())
+}
+
+/// Whether an access is this name without selectors.
+fn is_bare(name: &Name, access: &Access) -> bool
+    ensures { result ≡ spec.is_bare name.now access.now }
+{
+    match access.selectors.items() {
+        [] => access.name.bytes() == name.bytes(),
+        _ => false,
+    }
+}
