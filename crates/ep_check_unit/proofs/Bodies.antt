@@ -1,33 +1,45 @@
--- The block of a procedure, by the steps of its function.
-use Rattle.std.proofs.Common.{◌≡◌, ℕ, List, Result, sym, subst}
+-- The block of a routine, by the steps of its functions.
+use Rattle.std.proofs.Common.{◌≡◌, ℕ, Bool, false, not, ◌||◌, List, map, Some, sym, ap, ◌∙◌, subst}
 use Rattle.ep_tree.specs.declared.routine.Part.{Part}
 use Rattle.ep_tree.specs.declared.statement.Compound.{Compound}
 use Rattle.ep_typed.specs.Trees.{Stmts}
 use Rattle.ep_typed.specs.declared.tree.TypedStmt.{TypedStmt}
-use Rattle.ep_check_stmt.specs.Answers.{RefusesRow, passed, stmts_of}
-use Rattle.ep_check_stmt.specs.Statements.{Judgement, Passes, Waits, Fails, compound_judged}
-use Rattle.ep_check_stmt.specs.declared.outcome.CheckRefusal.{CheckRefusal}
-use Rattle.ep_check_stmt.specs.declared.outcome.CheckRefusal.TheVariants as refusal
-use Rattle.ep_check_stmt.specs.declared.outcome.Outcome.{Outcome}
-use Rattle.ep_check_unit.specs.Answers.{AnswersStanding, RefusesItems}
-use Rattle.ep_check_unit.specs.Blocks.{Block}
+use Rattle.ep_typed.specs.declared.unit.UnitRoutine.{UnitRoutine}
+use Rattle.ep_scope.specs.Scopes.{Row, opened}
+use Rattle.ep_check_expr.specs.Judgements.{Accepts}
+use Rattle.ep_check_expr.specs.declared.forms.Refusal.{Refusal}
+use Rattle.ep_check_stmt.specs.Answers.{Refuses, stmts_of}
+use Rattle.ep_check_stmt.specs.Outcomes.{refused_at}
+use Rattle.ep_check_stmt.specs.Threats.{formals_in, stmts_threaten}
+use Rattle.ep_check_stmt.specs.Statements.{Judgement, Passes}
+use Rattle.ep_check_unit.specs.Answers.{RefusesItems}
+use Rattle.ep_check_unit.specs.Blocks.{Block, routine_form}
+use Rattle.ep_check_unit.specs.declared.block.OwnResult.{OwnResult}
 use Rattle.ep_check_unit.specs.declared.block.OwnVariables.{OwnVariables}
-use Rattle.ep_check_unit.specs.Declarations.{Stands, and_then, body_declared, body_ended, context_of, local_parts_declared}
+use Rattle.ep_check_unit.specs.Declarations.{at_line}
+use Rattle.ep_check_unit.specs.Functions.{formals_at, is_threatened, row_gives}
+use Rattle.ep_check_unit.specs.Routines.{Headed, block_declared, heading_entered, inside_declared, own_variables, scope_opened}
+use Rattle.ep_check_unit.proofs.Forms.{formals_are}
+use Rattle.ep_check_unit.proofs.Refusing.{line_refused, then_refused}
+use Rattle.ep_check_unit.proofs.Subranges.{accepted_same}
 
--- statements that are refused
-row_falls : (line number : ℕ) (before : OwnVariables) (b : Block) (row : Judgement Stmts) (r : CheckRefusal) → RefusesRow r row → RefusesItems r (body_ended line number before b row)
-row_falls line number before b row refusal.NoMemory h = tt
-row_falls line number before b row (refusal.NotBuilt at) h = absurd h
-row_falls line number before b (Passes ss) (refusal.Broken x) h = cc
-row_falls line number before b (Waits at) (refusal.Broken x) h = cc
-row_falls line number before b (Fails at rules) (refusal.Broken x) h = h
+-- typed statements that give a result with a name of its own, or do not
+pub threatening : (b : Block) (rs : List UnitRoutine) (r : OwnResult) (ss : List TypedStmt) (row : Judgement Stmts) (answer : Bool) → b.own.result ≡ Some r → b.routines ≡ map routine_form rs → row ≡ Passes (stmts_of ss) → not r.named ≡ false
+    → answer ≡ stmts_threaten (formals_in rs) r.variable (stmts_of ss) → answer ≡ row_gives b row
+threatening b rs r ss row answer own routines passes named e =
+    e
+    ∙ (ap (λ f. stmts_threaten f r.variable (stmts_of ss)) (formals_are rs)
+    ∙ sym
+    (ap (row_gives b) passes
+    ∙ (ap (λ o. is_threatened o b.routines (stmts_of ss)) own
+    ∙ (ap (λ fs. is_threatened (Some r) fs (stmts_of ss)) routines ∙ ap (λ n. n || stmts_threaten (formals_at (map routine_form rs)) r.variable (stmts_of ss)) named))))
 
-module _ (line number : ℕ) (before : OwnVariables) (ps : List Part) (c : Compound) (first after : Block) (e : local_parts_declared ps first ≡ Stands after) where
-  pub block_refused : (r : CheckRefusal) → RefusesRow r (compound_judged (context_of after) c) → RefusesItems r (and_then (body_declared line number before c) (local_parts_declared ps first))
-  block_refused r h = subst (λ s. RefusesItems r (and_then (body_declared line number before c) s)) (sym e) (row_falls line number before after (compound_judged (context_of after) c) r h)
-
-  -- and what else comes of them
-  pub block_answers : (result : Result (Unit {0}) CheckRefusal) (new : Block) (found : Outcome (List TypedStmt)) → compound_judged (context_of after) c ≡ passed stmts_of found
-      → AnswersStanding result new (body_ended line number before after (passed stmts_of found)) → AnswersStanding result new (and_then (body_declared line number before c) (local_parts_declared ps first))
-  block_answers result new found f h =
-      subst (λ s. AnswersStanding result new (and_then (body_declared line number before c) s)) (sym e) (subst (λ row. AnswersStanding result new (body_ended line number before after row)) (sym f) h)
+-- a heading that is refused in the block of its routine
+pub heading_refused : (line : ℕ) (name : List ℕ) (ps : List Part) (c : Compound) (h : Headed) (scopes : Row) (own now : OwnVariables) (e : Refusal)
+    → scopes ≡ opened h.block.scopes → now ≡ own → Accepts (own_variables h.number h.parameters h.result) ≡ Accepts own → Refuses e (heading_entered h (record h.block { scopes = scopes; own = now })) → RefusesItems (refused_at line e) (block_declared line name ps c h)
+heading_refused line name ps c h scopes own now e inner is begun refused =
+    let b : Block = h.block in
+    let there : now ≡ own_variables h.number h.parameters h.result = is ∙ accepted_same (own_variables h.number h.parameters h.result) own begun in
+    let same : record b { scopes = scopes; own = now } ≡ scope_opened h b = ap (λ s. record b { scopes = s; own = now }) inner ∙ ap (λ o. record b { scopes = opened b.scopes; own = o }) there in
+    then_refused (inside_declared line name h.number b.own ps c) (refused_at line e) (at_line line (heading_entered h (scope_opened h b)))
+    (line_refused line e (heading_entered h (scope_opened h b)) (subst (λ k. Refuses e (heading_entered h k)) same refused))

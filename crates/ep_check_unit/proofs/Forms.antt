@@ -1,29 +1,67 @@
 -- Lists of routines that change, by the forms of the routines.
-use Rattle.std.proofs.Common.{◌≡◌, ℕ, List, [], ◌∷◌, ◌++◌, map, length, Some, slice_get, option_map, sym, ap, ◌∙◌, subst}
-use Rattle.std.proofs.lemmas.List.{map-set}
-use Rattle.std.proofs.lemmas.Option.{slice_get-map}
-use Rattle.std.specs.Prelude.{slice_set}
+use Rattle.std.proofs.Common.{◌≡◌, ℕ, zero, suc, ◌<◌, List, [], ◌∷◌, ◌++◌, map, length, Option, Some, None, slice_get, get_or, refl, sym, ap, ◌∙◌, subst, arith}
+use Rattle.std.proofs.lemmas.List.Elements.{All-cons, All-head, All-tail}
+use Rattle.std.specs.Prelude.{All, slice_set}
 use Rattle.ep_typed.specs.declared.unit.UnitRoutine.{UnitRoutine}
 use Rattle.ep_scope.specs.declared.parameter.FormalParameter.{FormalParameter}
-use Rattle.ep_scope.specs.declared.thing.Declaration.TheVariants as declaration
+use Rattle.ep_scope.specs.declared.thing.Declaration.{Declaration}
 use Rattle.ep_scope.specs.declared.thing.Thing.{Thing}
 use Rattle.ep_check_expr.specs.Judgements.{Accepts, when_accepted}
+use Rattle.ep_check_stmt.specs.Threats.{formals_in}
 use Rattle.ep_check_unit.specs.Blocks.{Block, RoutineForm, routine_form}
-use Rattle.ep_check_unit.specs.Declarations.{entered, headed_first, own_thing, procedure_form, set_to, with_procedure}
+use Rattle.ep_check_unit.specs.Declarations.{entered, own_thing}
+use Rattle.ep_check_unit.specs.Functions.{formals_at, routine_declaration}
+use Rattle.ep_check_unit.specs.Routines.{headed_first, headed_form, set_to, with_routine}
+use Rattle.ep_check_unit.specs.declared.functions.HeadingResult.{HeadingResult}
+
+-- what holds of all items holds where one of them is replaced
+pub all_set : {X : Type 0} (P : X → Type 0) (xs : List X) (n : ℕ) (x : X) → All P xs → P x → All P (slice_set xs n x)
+all_set P [] n x h p = h
+all_set P (y ∷ ys) zero x h p = All-cons P x ys p (All-tail P y ys h)
+all_set P (y ∷ ys) (suc n) x h p = All-cons P y (slice_set ys n x) (All-head P y ys h) (all_set P ys n x (All-tail P y ys h) p)
+
+map_push : {X Y : Type 0} (f : X → Y) (xs : List X) (x : X) → map f (xs ++ x ∷ []) ≡ map f xs ++ f x ∷ []
+map_push f [] x = refl
+map_push f (y ∷ ys) x = ap (λ zs. f y ∷ zs) (map_push f ys x)
+
+pub length_forms : (rs : List UnitRoutine) → length (map routine_form rs) ≡ length rs
+length_forms [] = refl
+length_forms (r ∷ rs) = ap suc (length_forms rs)
+
+-- what a list has at a place of its own
+pub get_there : {X : Type 0} (xs : List X) (n : ℕ) (x : X) → n < length xs → ((d : X) → x ≡ get_or xs n d) → slice_get xs n ≡ Some x
+get_there [] n x lt h = absurd (omega (arith, lt))
+get_there (y ∷ ys) zero x lt h = ap Some (sym (h x))
+get_there (y ∷ ys) (suc n) x lt h = get_there ys n x (omega (arith, lt)) h
 
 -- one routine in another form
-pub form_set : (f : RoutineForm → RoutineForm) (rs : List UnitRoutine) (n : ℕ) (r new : UnitRoutine) → slice_get rs n ≡ Some r → routine_form new ≡ f (routine_form r)
-    → map routine_form (slice_set rs n new) ≡ set_to (map routine_form rs) n f (slice_get (map routine_form rs) n)
-form_set f rs n r new h e =
-    map-set routine_form rs n new ∙ ap (slice_set (map routine_form rs) n) e ∙ ap (set_to (map routine_form rs) n f) (sym (slice_get-map routine_form rs n ∙ ap (option_map routine_form) h))
+module _ (f : RoutineForm → RoutineForm) where
+  pub form_set : (rs : List UnitRoutine) (n : ℕ) (r new : UnitRoutine) → slice_get rs n ≡ Some r → routine_form new ≡ f (routine_form r) → map routine_form (slice_set rs n new) ≡ set_to (map routine_form rs) n f (slice_get (map routine_form rs) n)
+  form_set [] n r new h e = cc
+  form_set (x ∷ rs) zero r new h e = let same : x ≡ r = cc in rw same (ap (λ y. y ∷ map routine_form rs) e)
+  form_set (x ∷ rs) (suc n) r new h e = at (slice_get (map routine_form rs) n) (form_set rs n r new h e)
+    where
+      at : (o : Option RoutineForm) → map routine_form (slice_set rs n new) ≡ set_to (map routine_form rs) n f o → routine_form x ∷ map routine_form (slice_set rs n new) ≡ set_to (routine_form x ∷ map routine_form rs) (suc n) f o
+      at None e = ap (λ xs. routine_form x ∷ xs) e
+      at (Some y) e = ap (λ xs. routine_form x ∷ xs) e
 
--- the first declaration of a procedure, by the steps of its function
-pub first_headed : (name : List ℕ) (line : ℕ) (ps : List FormalParameter) (b middle : Block) (form : RoutineForm) (number : ℕ) (t : Thing) (new : Block)
-    → middle ≡ record b { routines = b.routines ++ form ∷ [] } → form ≡ procedure_form name line ps → number ≡ length b.routines → t ≡ own_thing middle number (declaration.Procedure ps) → entered name t middle ≡ Accepts new
-    → headed_first name line ps b ≡ Accepts (record { number = number; parameters = ps; block = new })
-first_headed name line ps b middle form number t new is formed count thing h =
-    let same : middle ≡ with_procedure name line ps b = is ∙ ap (λ f. record b { routines = b.routines ++ f ∷ [] }) formed in
-    let named : t ≡ own_thing b (length b.routines) (declaration.Procedure ps) = thing ∙ (ap (λ k. own_thing k number (declaration.Procedure ps)) same ∙ ap (λ n. own_thing b n (declaration.Procedure ps)) count) in
-    let there : entered name (own_thing b (length b.routines) (declaration.Procedure ps)) (with_procedure name line ps b) ≡ Accepts new = subst (λ x. entered name x (with_procedure name line ps b) ≡ Accepts new) named (subst (λ k. entered name t k ≡ Accepts new) same h) in
-    ap (when_accepted (λ c. Accepts (record { number = length b.routines; parameters = ps; block = c }))) there
-    ∙ ap (λ n. Accepts (record { number = n; parameters = ps; block = new })) (sym count)
+-- the first declaration of a routine, by the steps of its function
+pub first_headed : (name : List ℕ) (line : ℕ) (ps : List FormalParameter) (r : Option HeadingResult) (b middle : Block) (form : RoutineForm) (number : ℕ) (t : Thing) (new : Block)
+    → middle ≡ record b { routines = b.routines ++ form ∷ [] } → form ≡ headed_form name line ps r → number ≡ length b.routines → t ≡ own_thing middle number (routine_declaration ps r) → entered name t middle ≡ Accepts new
+    → headed_first name line ps r b ≡ Accepts (record { number = number; parameters = ps; result = r; block = new })
+first_headed name line ps r b middle form number t new is formed count thing h =
+    let d : Declaration = routine_declaration ps r in
+    let same : middle ≡ with_routine name line ps r b = is ∙ ap (λ f. record b { routines = b.routines ++ f ∷ [] }) formed in
+    let named : t ≡ own_thing b (length b.routines) d = thing ∙ (ap (λ k. own_thing k number d) same ∙ ap (λ n. own_thing b n d) count) in
+    let there : entered name (own_thing b (length b.routines) d) (with_routine name line ps r b) ≡ Accepts new = subst (λ x. entered name x (with_routine name line ps r b) ≡ Accepts new) named (subst (λ k. entered name t k ≡ Accepts new) same h) in
+    ap (when_accepted (λ c. Accepts (record { number = length b.routines; parameters = ps; result = r; block = c }))) there
+    ∙ ap (λ n. Accepts (record { number = n; parameters = ps; result = r; block = new })) (sym count)
+
+-- the formal parameters of routines, by their forms
+formals_same : (rs : List UnitRoutine) (unit : List ℕ) (number : ℕ) → formals_in rs unit number ≡ formals_at (map routine_form rs) unit number
+formals_same [] unit number = refl
+formals_same (r ∷ rs) unit zero = refl
+formals_same (r ∷ rs) unit (suc n) = formals_same rs unit n
+
+pub formals_are : (rs : List UnitRoutine) → formals_in rs ≡ formals_at (map routine_form rs)
+formals_are rs = λ i. λ unit number. formals_same rs unit number i

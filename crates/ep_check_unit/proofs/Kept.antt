@@ -1,11 +1,9 @@
 -- A block stays that of its unit.
 use Rattle.std.proofs.Common.{◌≡◌, ℕ, pos, suc, Bool, true, false, not, ◌&&◌, ◌||◌, List, [], ◌∷◌, length, Option, Some, None, subst}
-use Rattle.std.specs.Prelude.{⊤, if◌then◌else◌}
+use Rattle.std.specs.Prelude.{⊤, is_none, if◌then◌else◌}
 use Rattle.ep_tree.specs.declared.declaration.ConstantDefinition.{ConstantDefinition}
 use Rattle.ep_tree.specs.declared.declaration.TypeDefinition.{TypeDefinition}
 use Rattle.ep_tree.specs.declared.declaration.VariableDeclaration.{VariableDeclaration}
-use Rattle.ep_tree.specs.declared.declaration.FormalSection.{FormalSection}
-use Rattle.ep_tree.specs.declared.declaration.RoutineHeading.{RoutineHeading}
 use Rattle.ep_tree.specs.declared.declaration.RoutineHeading.TheVariants as heading
 use Rattle.ep_tree.specs.declared.routine.Part.TheOpen.{Part-F, RoutineBody-F}
 use Rattle.ep_tree.specs.declared.routine.Part.{Part, out-Part}
@@ -28,6 +26,7 @@ use Rattle.ep_scope.specs.declared.kind.Host.{Host}
 use Rattle.ep_scope.specs.declared.kind.Kind.{Kind}
 use Rattle.ep_scope.specs.declared.kind.Kind.TheVariants as kind
 use Rattle.ep_scope.specs.declared.parameter.FormalParameter.{FormalParameter}
+use Rattle.ep_scope.specs.declared.parameter.Protection.TheVariants as protection
 use Rattle.ep_scope.specs.declared.parameter.TypeName.{TypeName}
 use Rattle.ep_scope.specs.declared.required.Required.TheVariants as required
 use Rattle.ep_scope.specs.declared.rule.TheConstants as rule
@@ -42,9 +41,13 @@ use Rattle.ep_check_expr.specs.Names.{undeclared}
 use Rattle.ep_check_expr.specs.declared.constants.ConstantForm.{ConstantForm}
 use Rattle.ep_check_stmt.proofs.judged.Fits.{Any, Fits, fits_then, fits_both, fits_any}
 use Rattle.ep_check_stmt.specs.Statements.{Judgement, Passes, Waits, Fails, compound_judged}
-use Rattle.ep_check_unit.specs.Declarations.{Headed, block_declared, body_declared, body_ended, context_of, declared_procedure, formals_entered, forwarded, has_body, inside_declared, is_repeated, headed_again, headed_first, headed_over, headed_then, heading_declared, local_part_declared, local_parts_declared, procedure_declared, procedure_headed, sections_judged, procedure_there, scope_opened, start_declared, with_procedure, all_variables_declared, and_then, at_line, common_host, constant_definition, constant_entered, constants_declared, core_of, core_written, declaration_ended, declared_type, entered, enumerated, enumeration, next_enumeration, noted, ordered, part_declared, parts_declared, range, scopes_of, settled, settled_type, Standing, Stands, Falls, subrange, type_definition, type_definitions, type_entered, type_meant, type_named, type_written, unused, variable_declaration, variable_entered, variables_declared, variables_entered, with_constant, with_name, with_type, is_outermost, with_own_variable, with_unit_variable, with_variable, own_thing, Written}
+use Rattle.ep_check_unit.specs.Declarations.{all_variables_declared, and_then, at_line, common_host, constant_definition, constant_entered, constants_declared, core_of, core_written, declaration_ended, declared_type, entered, enumerated, enumeration, next_enumeration, noted, ordered, range, scopes_of, settled, settled_type, Standing, Stands, Falls, subrange, type_definition, type_definitions, type_entered, type_meant, type_named, type_written, unused, variable_declaration, variable_entered, variables_declared, variables_entered, with_constant, with_name, with_type, is_outermost, with_own_variable, with_unit_variable, with_variable, own_thing, Written}
+use Rattle.ep_check_unit.specs.Functions.{if_given, in_block, is_assigned, is_in_view, own_name_entered, result_entered, routine_declaration, row_gives, same_result}
+use Rattle.ep_check_unit.specs.Routines.{Headed, block_declared, body_closed, body_declared, body_ended, body_of_declared, context_of, declared_routine, formals_entered, forwarded, has_body, heading_entered, inside_declared, is_repeated, headed_again, headed_first, headed_over, headed_then, identified_again, identified_over, local_part_declared, local_parts_declared, result_headed, result_judged, routine_there, sections_judged, scope_opened, start_headed, start_name, part_declared, parts_declared, with_routine}
+use Rattle.ep_check_unit.specs.declared.functions.HeadingResult.{HeadingResult}
 use Rattle.ep_check_unit.specs.Units.{parameter_entered, parameters_entered, standard_file}
 use Rattle.ep_check_unit.specs.Blocks.{Block}
+use Rattle.ep_check_unit.specs.declared.block.OwnResult.{OwnResult}
 use Rattle.ep_check_unit.specs.declared.block.OwnVariables.{OwnVariables}
 
 module _ (n : List ℕ) where
@@ -77,6 +80,7 @@ module _ (n : List ℕ) where
   declared_type-kept d (declaration.Variable of k) b i = tt
   declared_type-kept d (declaration.Own of k guarded) b i = tt
   declared_type-kept d (declaration.Procedure ps) b i = tt
+  declared_type-kept d (declaration.Function ps of h) b i = tt
 
   type_meant-kept : (missing : List ℕ) (m : Meant) (b : Block) → IsOf b → Fits IsIn (type_meant missing m b)
   type_meant-kept missing (Declares d) b h = declared_type-kept d d.what b h
@@ -181,55 +185,79 @@ module _ (n : List ℕ) where
   variables-kept [] b i = i
   variables-kept (d ∷ ds) b i = then-kept (all_variables_declared ds) (at_line d.line (variable_declaration d b)) (line-kept d.line (variable_declaration d b) (variable_declaration-kept d b i)) (λ c j. variables-kept ds c j)
 
-  -- ---- procedures
+  -- ---- routines
 
   abbrev IsHeaded : Headed → Type 0
   IsHeaded h = IsOf h.block
 
-  headed_first-kept : (name : List ℕ) (line : ℕ) (ps : List FormalParameter) (b : Block) → IsOf b → Fits IsHeaded (headed_first name line ps b)
-  headed_first-kept name line ps b i =
-      let t = own_thing b (length b.routines) (declaration.Procedure ps) in
-      fits_then IsOf IsHeaded (λ c. Accepts (record { number = length b.routines; parameters = ps; block = c })) (entered name t (with_procedure name line ps b)) (entered-kept name t (with_procedure name line ps b) i) (λ c k. k)
+  headed_first-kept : (name : List ℕ) (line : ℕ) (ps : List FormalParameter) (r : Option HeadingResult) (b : Block) → IsOf b → Fits IsHeaded (headed_first name line ps r b)
+  headed_first-kept name line ps r b i =
+      let t = own_thing b (length b.routines) (routine_declaration ps r) in
+      fits_then IsOf IsHeaded (λ c. Accepts (record { number = length b.routines; parameters = ps; result = r; block = c })) (entered name t (with_routine name line ps r b)) (entered-kept name t (with_routine name line ps r b) i) (λ c k. k)
 
-  declared_procedure-kept : (number : ℕ) (d : Declaration) (b : Block) → IsOf b → Fits IsHeaded (declared_procedure number d b)
-  declared_procedure-kept number (declaration.Procedure ps) b i = i
-  declared_procedure-kept number (declaration.Constant k v) b i = tt
-  declared_procedure-kept number (declaration.«Type» of h) b i = tt
-  declared_procedure-kept number (declaration.Variable of k) b i = tt
-  declared_procedure-kept number (declaration.Own of k guarded) b i = tt
+  declared_routine-kept : (number : ℕ) (d : Declaration) (b : Block) → IsOf b → Fits IsHeaded (declared_routine number d b)
+  declared_routine-kept number (declaration.Procedure ps) b i = i
+  declared_routine-kept number (declaration.Function ps of h) b i = i
+  declared_routine-kept number (declaration.Constant k v) b i = tt
+  declared_routine-kept number (declaration.«Type» of h) b i = tt
+  declared_routine-kept number (declaration.Variable of k) b i = tt
+  declared_routine-kept number (declaration.Own of k guarded) b i = tt
 
-  procedure_there-kept : (t : Thing) (b : Block) → IsOf b → Fits IsHeaded (procedure_there t b)
-  procedure_there-kept (thing.Declared d) b i = declared_procedure-kept d.number d.what b i
-  procedure_there-kept (thing.Standard file) b i = tt
+  routine_there-kept : (t : Thing) (b : Block) → IsOf b → Fits IsHeaded (routine_there t b)
+  routine_there-kept (thing.Declared d) b i = declared_routine-kept d.number d.what b i
+  routine_there-kept (thing.Standard file) b i = tt
 
   again_if-kept : (repeated : Bool) (h : Headed) → IsHeaded h → Fits IsHeaded (if repeated then Breaks (rule.REPEATED_HEADING ∷ []) else Accepts h)
   again_if-kept true h i = tt
   again_if-kept false h i = i
 
-  headed_over-kept : (is_forward : Bool) (name : List ℕ) (line : ℕ) (o : Option Thing) (b : Block) (ps : List FormalParameter) → IsOf b → Fits IsHeaded (headed_over is_forward name line o b ps)
-  headed_over-kept is_forward name line None b ps i = headed_first-kept name line ps b i
-  headed_over-kept is_forward name line (Some t) b ps i =
-      fits_then IsHeaded IsHeaded (headed_again is_forward ps) (procedure_there t b) (procedure_there-kept t b i) (λ h k. again_if-kept (is_forward || has_body h.number h.block || not (is_repeated ps h.parameters)) h k)
+  headed_over-kept : (is_forward : Bool) (name : List ℕ) (line : ℕ) (o : Option Thing) (b : Block) (r : Option HeadingResult) (ps : List FormalParameter) → IsOf b → Fits IsHeaded (headed_over is_forward name line o b r ps)
+  headed_over-kept is_forward name line None b r ps i = headed_first-kept name line ps r b i
+  headed_over-kept is_forward name line (Some t) b r ps i =
+      fits_then IsHeaded IsHeaded (headed_again is_forward ps r) (routine_there t b) (routine_there-kept t b i)
+      (λ h k. again_if-kept (is_forward || has_body h.number h.block || not (is_repeated ps h.parameters) || not (same_result r h.result)) h k)
 
-  headed-kept : (is_forward : Bool) (name : List ℕ) (line : ℕ) (sections : List FormalSection) (b : Block) → IsOf b → Fits IsHeaded (procedure_headed is_forward name line sections b)
-  headed-kept is_forward name line sections b i =
-      fits_then Any IsHeaded (headed_over is_forward name line (look_up b.scopes.inner.entries name) b) (sections_judged name 0 sections b []) (fits_any (sections_judged name 0 sections b []))
-      (λ ps k. headed_over-kept is_forward name line (look_up b.scopes.inner.entries name) b ps i)
+  identified_over-kept : (is_forward : Bool) (o : Option Thing) (b : Block) → IsOf b → Fits IsHeaded (identified_over is_forward o b)
+  identified_over-kept is_forward None b i = tt
+  identified_over-kept is_forward (Some t) b i =
+      fits_then IsHeaded IsHeaded (identified_again is_forward) (routine_there t b) (routine_there-kept t b i) (λ h k. again_if-kept (is_forward || has_body h.number h.block || is_none h.result) h k)
+
+  start-kept : (is_forward : Bool) (line : ℕ) (s : RoutineStart) (b : Block) → IsOf b → Fits IsHeaded (start_headed is_forward line s b)
+  start-kept is_forward line (start.Heading (heading.Procedure at name sections)) b i =
+      fits_then Any IsHeaded (headed_over is_forward name line (look_up b.scopes.inner.entries name) b None) (sections_judged name 0 sections b []) (fits_any (sections_judged name 0 sections b []))
+      (λ ps k. headed_over-kept is_forward name line (look_up b.scopes.inner.entries name) b None ps i)
+  start-kept is_forward line (start.Heading (heading.Function at name sections own of)) b i =
+      fits_then Any IsHeaded (result_headed is_forward line name own of b) (sections_judged name 0 sections b []) (fits_any (sections_judged name 0 sections b []))
+      (λ ps k. fits_then Any IsHeaded (λ r. headed_over is_forward name line (look_up b.scopes.inner.entries name) b (Some r) ps) (result_judged name own of b) (fits_any (result_judged name own of b))
+      (λ r j. headed_over-kept is_forward name line (look_up b.scopes.inner.entries name) b (Some r) ps i))
+  start-kept is_forward line (start.Function at name) b i = identified_over-kept is_forward (look_up b.scopes.inner.entries name) b i
 
   headed_then-kept : (line : ℕ) (more : Headed → Standing) (j : Judged Headed) → Fits IsHeaded j → ((h : Headed) → IsHeaded h → Remains (more h)) → Remains (headed_then line more j)
   headed_then-kept line more (Accepts h) p g = g h p
   headed_then-kept line more (Breaks rules) p g = tt
 
-  body_ended-kept : (line number : ℕ) (before : OwnVariables) (b : Block) (row : Judgement Stmts) → IsOf b → Remains (body_ended line number before b row)
-  body_ended-kept line number before b (Passes ss) i = i
-  body_ended-kept line number before b (Waits at) i = i
-  body_ended-kept line number before b (Fails at rules) i = tt
+  if_given-kept : (line : ℕ) (given : Bool) (s : Standing) → Remains s → Remains (if_given line given s)
+  if_given-kept line true s h = h
+  if_given-kept line false s h = tt
+
+  body_closed-kept : (line number : ℕ) (before : OwnVariables) (b : Block) (row : Judgement Stmts) → IsOf b → Remains (body_closed line number before b row)
+  body_closed-kept line number before b (Passes ss) i = i
+  body_closed-kept line number before b (Waits at) i = i
+  body_closed-kept line number before b (Fails at rules) i = tt
 
   formals-kept : (number : ℕ) (ps : List FormalParameter) (b : Block) → IsOf b → Fits IsOf (formals_entered number ps b)
   formals-kept number [] b i = i
   formals-kept number (p ∷ ps) b i =
       let t = own_thing b number (declaration.Own p.of (kind.Ordinal p.host) (protection_of p.mode)) in
       fits_then IsOf IsOf (formals_entered (suc number) ps) (entered p.name t b) (entered-kept p.name t b i) (λ c j. formals-kept (suc number) ps c j)
+
+  own_name-kept : (own : OwnResult) (name : Option (List ℕ)) (b : Block) → IsOf b → Fits IsOf (own_name_entered own name b)
+  own_name-kept own None b i = i
+  own_name-kept own (Some name) b i = entered-kept name (own_thing b own.variable (declaration.Own own.of (kind.Ordinal own.host) protection.Unprotected)) b i
+
+  result-kept : (number variable : ℕ) (r : Option HeadingResult) (b : Block) → IsOf b → Fits IsOf (result_entered number variable r b)
+  result-kept number variable None b i = i
+  result-kept number variable (Some r) b i = own_name-kept (in_block number variable r) r.name b i
 
   local_part-kept : {A B C : Type 0} (p : Part-F A B C) (b : Block) → IsOf b → Remains (local_part_declared p b)
   local_part-kept (Part-F.Constants c) b i = constants-kept c.definitions b i
@@ -241,29 +269,27 @@ module _ (n : List ℕ) where
   local_parts-kept [] b i = i
   local_parts-kept (p ∷ ps) b i = then-kept (local_parts_declared ps) (local_part_declared (out-Part p) b) (local_part-kept (out-Part p) b i) (λ c j. local_parts-kept ps c j)
 
-  inside-kept : (line number : ℕ) (before : OwnVariables) (ps : List Part) (c : Compound) (b : Block) → IsOf b → Remains (inside_declared line number before ps c b)
-  inside-kept line number before ps c b i =
-      then-kept (body_declared line number before c) (local_parts_declared ps b) (local_parts-kept ps b i) (λ d k. body_ended-kept line number before d (compound_judged (context_of d) c) k)
+  body-kept : (line : ℕ) (name : List ℕ) (number : ℕ) (before : OwnVariables) (c : Compound) (b : Block) → IsOf b → Remains (body_declared line name number before c b)
+  body-kept line name number before c b i =
+      let row = compound_judged (context_of b) c in
+      if_given-kept line (is_in_view b.own.result name b) (body_ended line number before b row) (if_given-kept line (row_gives b row) (body_closed line number before b row) (body_closed-kept line number before b row i))
 
-  block-kept : (line : ℕ) (ps : List Part) (c : Compound) (h : Headed) → IsHeaded h → Remains (block_declared line ps c h)
-  block-kept line ps c h i =
-      let b : Block = scope_opened h.parameters h.block in
-      then-kept (inside_declared line h.number h.block.own ps c) (at_line line (formals_entered 0 h.parameters b)) (line-kept line (formals_entered 0 h.parameters b) (formals-kept 0 h.parameters b i))
-      (λ d k. inside-kept line h.number h.block.own ps c d k)
+  inside-kept : (line : ℕ) (name : List ℕ) (number : ℕ) (before : OwnVariables) (ps : List Part) (c : Compound) (b : Block) → IsOf b → Remains (inside_declared line name number before ps c b)
+  inside-kept line name number before ps c b i =
+      if_given-kept line (is_assigned b.own.result name c) (and_then (body_declared line name number before c) (local_parts_declared ps b))
+      (then-kept (body_declared line name number before c) (local_parts_declared ps b) (local_parts-kept ps b i) (λ d k. body-kept line name number before c d k))
 
-  procedure-kept : {A C : Type 0} (line : ℕ) (name : List ℕ) (sections : List FormalSection) (body : RoutineBody-F Part A C) (b : Block) → IsOf b → Remains (procedure_declared line name sections body b)
-  procedure-kept line name sections (RoutineBody-F.Forward at) b i =
-      headed_then-kept line (λ h. Stands (forwarded line h)) (procedure_headed true name line sections b) (headed-kept true name line sections b i) (λ h j. j)
-  procedure-kept line name sections (RoutineBody-F.Block at ps c) b i =
-      headed_then-kept line (block_declared line ps c) (procedure_headed false name line sections b) (headed-kept false name line sections b i) (λ h j. block-kept line ps c h j)
+  block-kept : (line : ℕ) (name : List ℕ) (ps : List Part) (c : Compound) (h : Headed) → IsHeaded h → Remains (block_declared line name ps c h)
+  block-kept line name ps c h i =
+      let b : Block = scope_opened h h.block in
+      then-kept (inside_declared line name h.number h.block.own ps c) (at_line line (heading_entered h b))
+      (line-kept line (heading_entered h b) (fits_then IsOf IsOf (result_entered h.number (length h.parameters) h.result) (formals_entered 0 h.parameters b) (formals-kept 0 h.parameters b i) (λ d k. result-kept h.number (length h.parameters) h.result d k)))
+      (λ d k. inside-kept line name h.number h.block.own ps c d k)
 
-  heading-kept : {A C : Type 0} (line : ℕ) (h : RoutineHeading) (body : RoutineBody-F Part A C) (b : Block) → IsOf b → Remains (heading_declared line h body b)
-  heading-kept line (heading.Procedure at name sections) body b i = procedure-kept line name sections body b i
-  heading-kept line (heading.Function at name formals result type) body b i = tt
-
-  start-kept : {A C : Type 0} (line : ℕ) (s : RoutineStart) (body : RoutineBody-F Part A C) (b : Block) → IsOf b → Remains (start_declared line s body b)
-  start-kept line (start.Heading h) body b i = heading-kept line h body b i
-  start-kept line (start.Function at name) body b i = tt
+  routine-kept : {A C : Type 0} (line : ℕ) (s : RoutineStart) (body : RoutineBody-F Part A C) (b : Block) → IsOf b → Remains (body_of_declared line s body b)
+  routine-kept line s (RoutineBody-F.Forward at) b i = headed_then-kept line (λ h. Stands (forwarded line h)) (start_headed true line s b) (start-kept true line s b i) (λ h j. j)
+  routine-kept line s (RoutineBody-F.Block at ps c) b i =
+      headed_then-kept line (block_declared line (start_name s) ps c) (start_headed false line s b) (start-kept false line s b i) (λ h j. block-kept line (start_name s) ps c h j)
 
   -- ---- all parts
 
@@ -271,7 +297,7 @@ module _ (n : List ℕ) where
   part-kept (Part-F.Constants c) b i = constants-kept c.definitions b i
   part-kept (Part-F.Types t) b i = line-kept t.line (type_definitions t.line t.definitions b) (type_definitions-kept t.line t.definitions b i)
   part-kept (Part-F.Variables v) b i = variables-kept v.declarations b i
-  part-kept (Part-F.Routine r) b i = start-kept (out-Routine r).line (out-Routine r).start (out-RoutineBody (out-Routine r).body) b i
+  part-kept (Part-F.Routine r) b i = routine-kept (out-Routine r).line (out-Routine r).start (out-RoutineBody (out-Routine r).body) b i
 
   parts-kept : (ps : List Part) (b : Block) → IsOf b → Remains (parts_declared ps b)
   parts-kept [] b i = i

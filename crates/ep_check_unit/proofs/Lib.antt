@@ -1,5 +1,6 @@
 pub mod Bodies
 pub mod Defined
+pub mod Examples
 pub mod Forms
 pub mod Kept
 pub mod Parameters

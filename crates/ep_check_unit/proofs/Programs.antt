@@ -20,7 +20,8 @@ use Rattle.ep_check_stmt.specs.declared.outcome.Outcome.{Outcome}
 use Rattle.ep_check_stmt.specs.declared.outcome.Outcome.TheVariants as outcome
 use Rattle.ep_check_unit.specs.Answers.{RefusesItems}
 use Rattle.ep_check_unit.specs.Checks.{AnswersBuilt, AnswersMissing, IsRefusalOf, IsUnitWith}
-use Rattle.ep_check_unit.specs.Declarations.{Standing, Stands, Falls, and_then, at_line, context_of, parts_declared}
+use Rattle.ep_check_unit.specs.Declarations.{Standing, Stands, Falls, and_then, at_line}
+use Rattle.ep_check_unit.specs.Routines.{context_of, parts_declared}
 use Rattle.ep_check_unit.specs.Units.{IsTypedProgram, ProgramForm, body_judged, declarations_wait, first_missing, imports_of, parameters_entered, program_block, program_form, program_judged, unless_missing}
 use Rattle.ep_check_unit.specs.Blocks.{Block}
 use Rattle.ep_check_unit.proofs.Kept.{parameters-remain, parts-remain}

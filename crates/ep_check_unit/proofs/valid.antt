@@ -5,5 +5,5 @@ pub mod Meant
 pub mod Constants
 pub mod Types
 pub mod Items
-pub mod Procedures
+pub mod Routines
 pub mod Units

@@ -1,5 +1,5 @@
 -- What the functions answer of what is judged: the form, or a rule that fails first; want of memory is free.
-use Rattle.std.specs.Prelude.{◌≡◌, ℕ, List, [], ◌∷◌, ◌++◌, length, Option, Result, Ok, Err, IsTrue, ⊤}
+use Rattle.std.specs.Prelude.{◌≡◌, ℕ, Bool, true, List, [], ◌∷◌, ◌++◌, length, Option, Result, Ok, Err, IsTrue, ⊤}
 use Rattle.ep_typed.specs.declared.denoter.Denoter.{Denoter}
 use Rattle.ep_typed.specs.declared.value.Value.{Value}
 use Rattle.ep_scope.specs.declared.kind.Host.{Host}
@@ -12,7 +12,9 @@ use Rattle.ep_check_stmt.specs.declared.outcome.CheckRefusal.TheVariants as refu
 use Rattle.ep_check_unit.specs.Declarations as spec
 use Rattle.ep_check_unit.specs.Declarations.{Standing, Stands, falls_at}
 use Rattle.ep_check_unit.specs.Blocks.{Block}
-use Rattle.ep_check_unit.specs.declared.procedures.Heading.{Heading}
+use Rattle.ep_check_unit.specs.Functions.{if_given}
+use Rattle.ep_check_unit.specs.Routines.{Headed}
+use Rattle.ep_check_unit.specs.declared.headings.Heading.{Heading}
 use Rattle.ep_check_unit.specs.declared.types.NamedType.{NamedType}
 use Rattle.ep_check_unit.specs.declared.types.Written.{Written}
 
@@ -38,6 +40,11 @@ abbrev pub AnswersStanding : Result (Unit {0}) CheckRefusal → Block → Standi
 AnswersStanding (Ok done) new standing = standing ≡ Stands new
 AnswersStanding (Err r) new standing = RefusesItems r standing
 
+-- a result that is given, or a rule that fails in its place
+abbrev pub AnswersGiven : ℕ → Bool → Result (Unit {0}) CheckRefusal → Type 0
+AnswersGiven line given (Ok done) = given ≡ true
+AnswersGiven line given (Err r) = (s : Standing) → RefusesItems r (if_given line given s)
+
 -- types that are written, in a block
 abbrev pub named_in : Block → NamedType → spec.Written
 named_in b t = record { denoter = spec.type_denoter t.name; of = t.of; host = t.host; block = b }
@@ -45,9 +52,9 @@ named_in b t = record { denoter = spec.type_denoter t.name; of = t.of; host = t.
 abbrev pub written_in : Block → Written → spec.Written
 written_in b w = record { denoter = w.denoter; of = w.of; host = w.host; block = b }
 
--- a procedure that is declared, in a block
-abbrev pub headed_in : Block → Heading → spec.Headed
-headed_in b h = record { number = h.number; parameters = h.parameters; block = b }
+-- a routine that is declared, in a block
+abbrev pub headed_in : Block → Heading → Headed
+headed_in b h = record { number = h.number; parameters = h.parameters; result = h.result; block = b }
 
 -- a constant's entry more
 abbrev pub with_constant_entry : List ℕ → Host → Value → Block → Block

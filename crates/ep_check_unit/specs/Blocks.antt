@@ -1,5 +1,5 @@
 -- What has been declared in a block, as plain data.
-use Rattle.std.specs.Prelude.{ℕ, Bool, List, map, Option}
+use Rattle.std.specs.Prelude.{ℕ, ◌+◌, Bool, List, map, length, Option, Some, None}
 use Rattle.ep_typed.specs.Trees.{Stmt}
 use Rattle.ep_typed.specs.Viewed.{stmt_of}
 use Rattle.ep_typed.specs.declared.interface.ConstantEntry.{ConstantEntry}
@@ -12,6 +12,7 @@ use Rattle.ep_typed.specs.declared.unit.UnitVariable.{UnitVariable}
 use Rattle.ep_scope.specs.Scopes.{Row}
 use Rattle.ep_check_unit.specs.declared.block.Block as declared
 use Rattle.ep_check_unit.specs.declared.block.Forward.{Forward}
+use Rattle.ep_check_unit.specs.declared.block.OwnResult.{OwnResult}
 use Rattle.ep_check_unit.specs.declared.block.OwnVariables.{OwnVariables}
 
 -- a routine, whose block is a statement as plain data
@@ -37,6 +38,15 @@ routine_form r =
       routines = parts.routines;
       block = stmt_of parts.block;
     }
+
+-- how many variables have the result: one in the block of a function
+abbrev pub result_count : Option OwnResult → ℕ
+result_count None = 0
+result_count (Some r) = 1
+
+-- how many variables the routine has so far whose block is under way, which is the number of the next one
+abbrev pub own_count : OwnVariables → ℕ
+own_count own = length own.parameters + result_count own.result + length own.variables
 
 -- what has been declared so far in the block of a unit
 pub record Block : Type 0 where

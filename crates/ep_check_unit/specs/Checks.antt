@@ -47,7 +47,7 @@ IsRefusalOf row (refusal.Broken b) = IsTrue (fails_at b.rule b.line row)
 IsRefusalOf row (refusal.NotBuilt line) = row ≡ Waits line
 IsRefusalOf row refusal.NoMemory = ⊤
 
--- what is answered of the first `forward` declaration whose procedure has no body
+-- what is answered of the first `forward` declaration whose routine has no body
 abbrev pub AnswersMissing : Option ℕ → Result (Unit {0}) CheckRefusal → Type 0
 AnswersMissing None result = result ≡ Ok tt
 AnswersMissing (Some line) result = result ≡ Err (refusal.Broken (record { rule = rule.NO_BODY; line = line }))

@@ -1,9 +1,8 @@
 -- What the static rules say of declarations, item by item: what has been declared so far, or the first item that breaks a rule.
 --
--- Items are taken in the order of the text. A constant definition and a variable declaration are items, on the line of their first token, a type part is one, on the line of the word `type`, and the declaration of a procedure without its block, on the line of the word `procedure`. A name means what is declared before its use, or outside of the block: a later declaration of it plays no part (own).
+-- Items are taken in the order of the text. A constant definition and a variable declaration are items, on the line of their first token, and a type part is one, on the line of the word `type`. A name means what is declared before its use, or outside of the block: a later declaration of it plays no part (own).
 use Rattle.std.specs.List.{list_any}
-use Rattle.std.specs.Prelude.{ℕ, nat_eq, ◌+◌, ◌==◌, ℤ, pos, suc, int_le, Bool, true, false, not, ◌&&◌, ◌||◌, List, [], ◌∷◌, ◌++◌, map, length, slice_get, slice_set, Option, Some, None, if◌then◌else◌}
-use Rattle.std.specs.Str.{bytes_eq}
+use Rattle.std.specs.Prelude.{ℕ, nat_eq, ◌==◌, ℤ, pos, suc, int_le, Bool, true, false, ◌&&◌, List, [], ◌∷◌, ◌++◌, length, Option, Some, None, if◌then◌else◌}
 use Rattle.std.specs.Option.{option_or}
 use Rattle.ep_tree.specs.declared.types.Core.TheOpen.{Core-F}
 use Rattle.ep_tree.specs.declared.types.Core.{Core, out-Core}
@@ -12,40 +11,21 @@ use Rattle.ep_tree.specs.declared.types.TypeDenoter.{TypeDenoter, out-TypeDenote
 use Rattle.ep_tree.specs.declared.declaration.ConstantDefinition.{ConstantDefinition}
 use Rattle.ep_tree.specs.declared.declaration.TypeDefinition.{TypeDefinition}
 use Rattle.ep_tree.specs.declared.declaration.VariableDeclaration.{VariableDeclaration}
-use Rattle.ep_tree.specs.declared.declaration.FormalSection.{FormalSection}
-use Rattle.ep_tree.specs.declared.declaration.FormalType.{FormalType}
-use Rattle.ep_tree.specs.declared.declaration.FormalType.TheVariants as formal_type
-use Rattle.ep_tree.specs.declared.declaration.RoutineHeading.{RoutineHeading}
-use Rattle.ep_tree.specs.declared.declaration.RoutineHeading.TheVariants as heading
-use Rattle.ep_tree.specs.declared.routine.Part.TheOpen.{Part-F, RoutineBody-F}
-use Rattle.ep_tree.specs.declared.routine.Part.{Part, out-Part}
-use Rattle.ep_tree.specs.declared.routine.Routine.{Routine, out-Routine}
-use Rattle.ep_tree.specs.declared.routine.RoutineBody.{out-RoutineBody}
-use Rattle.ep_tree.specs.declared.routine.RoutineStart.{RoutineStart}
-use Rattle.ep_tree.specs.declared.routine.RoutineStart.TheVariants as start
-use Rattle.ep_tree.specs.declared.statement.Compound.{Compound}
-use Rattle.ep_typed.specs.Trees as tree
-use Rattle.ep_typed.specs.Trees.{Stmt, Stmts}
 use Rattle.ep_typed.specs.declared.denoter.Bound.TheVariants.{Constant as Fixed}
 use Rattle.ep_typed.specs.declared.denoter.Denoter.{Denoter}
 use Rattle.ep_typed.specs.declared.denoter.Denoter.TheVariants as denoter
 use Rattle.ep_typed.specs.declared.denoter.RequiredType.{RequiredType}
 use Rattle.ep_typed.specs.declared.denoter.RequiredType.TheVariants as simple
-use Rattle.ep_typed.specs.declared.interface.Formal.{Formal}
-use Rattle.ep_typed.specs.declared.interface.FormalMode.{FormalMode}
-use Rattle.ep_typed.specs.declared.interface.FormalMode.TheVariants as mode
 use Rattle.ep_typed.specs.declared.unit.UnitVariable.{UnitVariable}
 use Rattle.ep_typed.specs.declared.value.Value.{Value}
 use Rattle.ep_typed.specs.declared.value.Value.TheVariants as value
 use Rattle.ep_scope.specs.Kinds.{same_host}
-use Rattle.ep_scope.specs.Parameters.{protection_of, same_parameters}
 use Rattle.ep_scope.specs.Required.{look_up}
-use Rattle.ep_scope.specs.Scopes.{Region, in_view, with_inner, opened, closed, Meant, Declares, Standard, Requires, Nothing, meant, meant_in}
+use Rattle.ep_scope.specs.Scopes.{Region, in_view, with_inner, Meant, Declares, Standard, Requires, Nothing, meant, meant_in}
 use Rattle.ep_scope.specs.declared.kind.Host.{Host}
 use Rattle.ep_scope.specs.declared.kind.Host.TheVariants as host
 use Rattle.ep_scope.specs.declared.kind.Kind.{Kind}
 use Rattle.ep_scope.specs.declared.kind.Kind.TheVariants as kind
-use Rattle.ep_scope.specs.declared.parameter.FormalParameter.{FormalParameter}
 use Rattle.ep_scope.specs.declared.parameter.Protection.TheVariants as protection
 use Rattle.ep_scope.specs.declared.parameter.TypeName.{TypeName}
 use Rattle.ep_scope.specs.declared.parameter.TypeName.TheVariants as type_name
@@ -60,9 +40,7 @@ use Rattle.ep_check_expr.specs.Judgements.{Judged, Accepts, Breaks, unbuilt, whe
 use Rattle.ep_check_expr.specs.Constants.{constant_judged, bound_judged}
 use Rattle.ep_check_expr.specs.declared.constants.ConstantForm.{ConstantForm}
 use Rattle.ep_check_expr.specs.Names.{undeclared}
-use Rattle.ep_check_stmt.specs.Statements.{Context, Judgement, Passes, Waits, Fails, compound_judged}
-use Rattle.ep_check_unit.specs.Blocks.{Block, RoutineForm}
-use Rattle.ep_check_unit.specs.declared.block.OwnVariables.{OwnVariables}
+use Rattle.ep_check_unit.specs.Blocks.{Block, own_count}
 
 -- ---- names
 
@@ -103,6 +81,11 @@ host_denoter host.Integer = denoter.Required simple.Integer
 host_denoter host.Char = denoter.Required simple.Char
 host_denoter host.Boolean = denoter.Required simple.Boolean
 host_denoter (host.Enumeration e) = denoter.Named e.number []
+
+-- a type as a denoter
+abbrev pub type_denoter : TypeName → Denoter
+type_denoter (type_name.Required r) = denoter.Required r
+type_denoter (type_name.Entry number) = denoter.Named number []
 
 -- the host of a required type (ISO 10206, 6.4.2.2)
 abbrev pub required_host : RequiredType → Host
@@ -277,11 +260,11 @@ with_unit_variable line d of h name b =
     with_name name (own_thing b (length b.variables) (declaration.Variable of (kind.Ordinal h)))
     (record b { variables = b.variables ++ new_variable line d name b ∷ [] })
 
--- it is one of the routine whose block is under way, where it comes behind the formal parameters
+-- it is one of the routine whose block is under way, where it comes behind the formal parameters and the result
 abbrev pub with_own_variable : ℕ → Denoter → TypeName → Host → List ℕ → Block → Block
 with_own_variable line d of h name b =
-    with_name name (own_thing b (length b.own.parameters + length b.own.variables) (declaration.Own of (kind.Ordinal h) protection.Unprotected))
-    (record b { own = record { parameters = b.own.parameters; variables = b.own.variables ++ new_variable line d name b ∷ [] } })
+    with_name name (own_thing b (own_count b.own) (declaration.Own of (kind.Ordinal h) protection.Unprotected))
+    (record b { own = record { parameters = b.own.parameters; result = b.own.result; variables = b.own.variables ++ new_variable line d name b ∷ [] } })
 
 -- whether the scopes are those of the unit alone, and of no routine
 abbrev pub is_outermost : List Region → Bool
@@ -342,220 +325,3 @@ constants_declared (d ∷ ds) b = and_then (constants_declared ds) (at_line d.li
 abbrev pub all_variables_declared : List VariableDeclaration → Block → Standing
 all_variables_declared [] b = Stands b
 all_variables_declared (d ∷ ds) b = and_then (all_variables_declared ds) (at_line d.line (variable_declaration d b))
-
--- ---- formal parameters (ISO 10206, 6.7.3)
-
--- a type as a denoter
-abbrev pub type_denoter : TypeName → Denoter
-type_denoter (type_name.Required r) = denoter.Required r
-type_denoter (type_name.Entry number) = denoter.Named number []
-
--- how the parameters of a section are given: by the words `protected` and `var`
-abbrev pub section_mode : Bool → Bool → FormalMode
-section_mode false false = mode.Value
-section_mode false true = mode.Variable
-section_mode true false = mode.ProtectedValue
-section_mode true true = mode.ProtectedVariable
-
--- whether a parameter has the name
-abbrev pub is_parameter : List ℕ → List FormalParameter → Bool
-is_parameter name ps = list_any (λ p. bytes_eq p.name name) ps
-
--- In a list of parameters the name of the procedure and those of the parameters before hide what they mean outside; none of them is a type or has a constituent.
-abbrev pub hidden_type : Option (List ℕ) → Judged Written
-hidden_type None = misnamed
-hidden_type (Some name) = Breaks (rule.UNDECLARED ∷ [])
-
-abbrev pub parameter_type : List ℕ → List FormalParameter → List ℕ → Option (List ℕ) → Block → Judged Written
-parameter_type procedure before first second b = if bytes_eq procedure first || is_parameter first before then hidden_type second else type_named first second b
-
--- the type of a section; the type of a variable is not built
-abbrev pub section_type : List ℕ → List FormalParameter → FormalType → Block → Judged Written
-section_type procedure before (formal_type.Named name) b = parameter_type procedure before name.first name.second b
-section_type procedure before (formal_type.TypeOf line name) b = unbuilt
-
--- no name stands twice in a list of parameters
-abbrev pub parameter_added : FormalParameter → List FormalParameter → Judged (List FormalParameter)
-parameter_added p before = if is_parameter p.name before then Breaks (rule.TWICE ∷ []) else Accepts (before ++ p ∷ [])
-
--- the parameters of these names, of a section with this number
-abbrev pub parameters_added : FormalMode → ℕ → TypeName → Host → List (List ℕ) → List FormalParameter → Judged (List FormalParameter)
-parameters_added m section of h [] before = Accepts before
-parameters_added m section of h (name ∷ names) before =
-    when_accepted (parameters_added m section of h names) (parameter_added (record { name = name; mode = m; section = section; of = of; host = h }) before)
-
-abbrev pub section_judged : List ℕ → ℕ → FormalSection → Block → List FormalParameter → Judged (List FormalParameter)
-section_judged procedure section s b before =
-    when_accepted (λ w. parameters_added (section_mode s.protected s.variable) section w.of w.host s.names before) (section_type procedure before s.of b)
-
--- all sections from this number on
-abbrev pub sections_judged : List ℕ → ℕ → List FormalSection → Block → List FormalParameter → Judged (List FormalParameter)
-sections_judged procedure section [] b before = Accepts before
-sections_judged procedure section (s ∷ ss) b before = when_accepted (sections_judged procedure (suc section) ss b) (section_judged procedure section s b before)
-
--- ---- procedures (ISO 10206, 6.7.1)
-
--- a formal parameter of a typed routine
-abbrev pub formal_of : FormalParameter → Formal
-formal_of p = record { name = p.name; mode = p.mode; section = p.section; denoter = type_denoter p.of }
-
--- a procedure with these formal parameters, which has no block so far and does nothing
-abbrev pub procedure_form : List ℕ → ℕ → List FormalParameter → RoutineForm
-procedure_form name line ps = record { name = name; line = line; formals = map formal_of ps; result = None; variables = []; routines = []; block = tree.Empty }
-
--- one more
-abbrev pub with_procedure : List ℕ → ℕ → List FormalParameter → Block → Block
-with_procedure name line ps b = record b { routines = b.routines ++ procedure_form name line ps ∷ [] }
-
--- a procedure that is declared: its number and its formal parameters, and what has been declared with it
-pub record Headed : Type 0 where
-  pub number : ℕ
-  pub parameters : List FormalParameter
-  pub block : Block
-
--- Its first declaration. The name is there before the block of the procedure is, so the procedure may call itself.
-abbrev pub headed_first : List ℕ → ℕ → List FormalParameter → Block → Judged Headed
-headed_first name line ps b =
-    when_accepted (λ c. Accepts (record { number = length b.routines; parameters = ps; block = c }))
-    (entered name (own_thing b (length b.routines) (declaration.Procedure ps)) (with_procedure name line ps b))
-
--- the procedure that is declared under a name already; a name that stands for something else is declared twice
-abbrev pub declared_procedure : ℕ → Declaration → Block → Judged Headed
-declared_procedure number (declaration.Procedure ps) b = Accepts (record { number = number; parameters = ps; block = b })
-declared_procedure number (declaration.Constant k v) b = Breaks (rule.TWICE ∷ [])
-declared_procedure number (declaration.«Type» of h) b = Breaks (rule.TWICE ∷ [])
-declared_procedure number (declaration.Variable of k) b = Breaks (rule.TWICE ∷ [])
-declared_procedure number (declaration.Own of k guarded) b = Breaks (rule.TWICE ∷ [])
-
-abbrev pub procedure_there : Thing → Block → Judged Headed
-procedure_there (thing.Declared d) b = declared_procedure d.number d.what b
-procedure_there (thing.Standard file) b = Breaks (rule.TWICE ∷ [])
-
--- whether a list has a number
-abbrev pub has_number : ℕ → List ℕ → Bool
-has_number number numbers = list_any (λ n. nat_eq n number) numbers
-
--- whether the procedure of this number has a body
-abbrev pub has_body : ℕ → Block → Bool
-has_body number b = has_number number b.bodies
-
--- A heading that is given again has no parameters, or those of the first one.
-abbrev pub is_repeated : List FormalParameter → List FormalParameter → Bool
-is_repeated [] first = true
-is_repeated (p ∷ ps) first = same_parameters (p ∷ ps) first
-
--- another declaration of a procedure is its body, where it has none yet
-abbrev pub headed_again : Bool → List FormalParameter → Headed → Judged Headed
-headed_again is_forward ps h =
-    if is_forward || has_body h.number h.block || not (is_repeated ps h.parameters) then Breaks (rule.REPEATED_HEADING ∷ []) else Accepts h
-
--- a declaration by what its name stands for in the scope
-abbrev pub headed_over : Bool → List ℕ → ℕ → Option Thing → Block → List FormalParameter → Judged Headed
-headed_over is_forward name line None b ps = headed_first name line ps b
-headed_over is_forward name line (Some t) b ps = when_accepted (headed_again is_forward ps) (procedure_there t b)
-
-abbrev pub procedure_headed : Bool → List ℕ → ℕ → List FormalSection → Block → Judged Headed
-procedure_headed is_forward name line sections b =
-    when_accepted (headed_over is_forward name line (look_up b.scopes.inner.entries name) b) (sections_judged name 0 sections b [])
-
--- and then more
-abbrev pub headed_then : ℕ → (Headed → Standing) → Judged Headed → Standing
-headed_then line more (Accepts h) = more h
-headed_then line more (Breaks rules) = Falls line rules
-
--- a `forward` declaration, whose body comes later
-abbrev pub forwarded : ℕ → Headed → Block
-forwarded line h = let b = h.block in record b { forwards = b.forwards ++ record { number = h.number; line = line } ∷ [] }
-
--- The block of a procedure is a scope of its own inside of that of the program (ISO 10206, 6.2.2), with variables of its own, of which its formal parameters are the first.
-abbrev pub scope_opened : List FormalParameter → Block → Block
-scope_opened ps b = record b { scopes = opened b.scopes; own = record { parameters = ps; variables = [] } }
-
--- the formal parameters as variables, from this number on
-abbrev pub formals_entered : ℕ → List FormalParameter → Block → Judged Block
-formals_entered number [] b = Accepts b
-formals_entered number (p ∷ ps) b = when_accepted (formals_entered (suc number) ps) (entered p.name (own_thing b number (declaration.Own p.of (kind.Ordinal p.host) (protection_of p.mode))) b)
-
--- behind it those that were there before
-abbrev pub scope_closed : OwnVariables → Block → Block
-scope_closed before b = record b { scopes = closed b.scopes; own = before }
-
--- what the statements of a block know
-abbrev pub context_of : Block → Context
-context_of b = record { scopes = scopes_of b; output = b.output }
-
--- a routine with the block that a declaration on this line has, and the variables that are declared there
-abbrev pub with_its_block : ℕ → List UnitVariable → Stmt → RoutineForm → RoutineForm
-with_its_block line variables s r = record r { line = line; variables = variables; block = s }
-
--- the item of a number in another form, where there is one
-abbrev pub set_to : {A : Type 0} → List A → ℕ → (A → A) → Option A → List A
-set_to xs n f None = xs
-set_to xs n f (Some x) = slice_set xs n (f x)
-
--- what the procedure of this number does, with the variables that it has declared
-abbrev pub with_block : ℕ → ℕ → List UnitVariable → Stmt → Block → Block
-with_block line number variables s b = record b { routines = set_to b.routines number (with_its_block line variables s) (slice_get b.routines number) }
-
--- it has its body
-abbrev pub with_body : ℕ → Block → Block
-with_body number b = record b { bodies = b.bodies ++ number ∷ [] }
-
--- the end of a body by its statements, behind which these variables are those of the routine around it
-abbrev pub body_ended : ℕ → ℕ → OwnVariables → Block → Judgement Stmts → Standing
-body_ended line number before b (Passes ss) = Stands (scope_closed before (with_body number (with_block line number b.own.variables (tree.Compound ss) b)))
-body_ended line number before b (Waits at) = Stands (scope_closed before (with_body number (noted false at b)))
-body_ended line number before b (Fails at rules) = Falls at rules
-
--- a part of the block of a procedure; no other one is built
-abbrev pub local_part_declared : {A B C : Type 0} → Part-F A B C → Block → Standing
-local_part_declared (Part-F.Constants c) b = constants_declared c.definitions b
-local_part_declared (Part-F.Types t) b = at_line t.line (type_definitions t.line t.definitions b)
-local_part_declared (Part-F.Variables v) b = all_variables_declared v.declarations b
-local_part_declared (Part-F.Routine r) b = Falls 0 []
-
-abbrev pub local_parts_declared : List Part → Block → Standing
-local_parts_declared [] b = Stands b
-local_parts_declared (p ∷ ps) b = and_then (local_parts_declared ps) (local_part_declared (out-Part p) b)
-
--- the statements of the procedure of this number
-abbrev pub body_declared : ℕ → ℕ → OwnVariables → Compound → Block → Standing
-body_declared line number before c b = body_ended line number before b (compound_judged (context_of b) c)
-
--- its parts, and then its statements
-abbrev pub inside_declared : ℕ → ℕ → OwnVariables → List Part → Compound → Block → Standing
-inside_declared line number before ps c b = and_then (body_declared line number before c) (local_parts_declared ps b)
-
--- its block: its formal parameters, and then what is inside
-abbrev pub block_declared : ℕ → List Part → Compound → Headed → Standing
-block_declared line ps c h =
-    and_then (inside_declared line h.number h.block.own ps c) (at_line line (formals_entered 0 h.parameters (scope_opened h.parameters h.block)))
-
--- a procedure with its body
-abbrev pub procedure_declared : {A C : Type 0} → ℕ → List ℕ → List FormalSection → RoutineBody-F Part A C → Block → Standing
-procedure_declared line name sections (RoutineBody-F.Forward at) b = headed_then line (λ h. Stands (forwarded line h)) (procedure_headed true name line sections b)
-procedure_declared line name sections (RoutineBody-F.Block at ps c) b = headed_then line (block_declared line ps c) (procedure_headed false name line sections b)
-
--- no function is built
-abbrev pub heading_declared : {A C : Type 0} → ℕ → RoutineHeading → RoutineBody-F Part A C → Block → Standing
-heading_declared line (heading.Procedure at name sections) body b = procedure_declared line name sections body b
-heading_declared line (heading.Function at name formals result type) body b = Falls 0 []
-
-abbrev pub start_declared : {A C : Type 0} → ℕ → RoutineStart → RoutineBody-F Part A C → Block → Standing
-start_declared line (start.Heading h) body b = heading_declared line h body b
-start_declared line (start.Function at name) body b = Falls 0 []
-
-abbrev pub routine_declared : Routine → Block → Standing
-routine_declared r b = start_declared (out-Routine r).line (out-Routine r).start (out-RoutineBody (out-Routine r).body) b
-
--- ---- all parts
-
-abbrev pub part_declared : {A B : Type 0} → Part-F A B Routine → Block → Standing
-part_declared (Part-F.Constants c) b = constants_declared c.definitions b
-part_declared (Part-F.Types t) b = at_line t.line (type_definitions t.line t.definitions b)
-part_declared (Part-F.Variables v) b = all_variables_declared v.declarations b
-part_declared (Part-F.Routine r) b = routine_declared r b
-
-abbrev pub parts_declared : List Part → Block → Standing
-parts_declared [] b = Stands b
-parts_declared (p ∷ ps) b = and_then (parts_declared ps) (part_declared (out-Part p) b)

@@ -2,5 +2,7 @@ pub mod Answers
 pub mod Blocks
 pub mod Checks
 pub mod Declarations
+pub mod Functions
 pub mod Laws
+pub mod Routines
 pub mod Units

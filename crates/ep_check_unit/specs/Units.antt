@@ -16,7 +16,8 @@ use Rattle.ep_scope.specs.declared.rule.TheConstants as rule
 use Rattle.ep_scope.specs.declared.thing.Thing.TheVariants as thing
 use Rattle.ep_check_expr.specs.Judgements.{Judged, Accepts, unbuilt, when_accepted}
 use Rattle.ep_check_stmt.specs.Statements.{Judgement, Passes, Waits, Fails, fails_at, after, compound_judged}
-use Rattle.ep_check_unit.specs.Declarations.{Standing, Stands, Falls, at_line, and_then, context_of, entered, has_number, parts_declared}
+use Rattle.ep_check_unit.specs.Declarations.{Standing, Stands, Falls, at_line, and_then, entered}
+use Rattle.ep_check_unit.specs.Routines.{context_of, has_number, parts_declared}
 use Rattle.ep_check_unit.specs.Blocks.{Block, routine_form}
 use Rattle.ep_check_unit.specs.declared.block.Forward.{Forward}
 
@@ -38,7 +39,7 @@ parameters_entered (name ∷ names) b = when_accepted (parameters_entered names)
 -- nothing is declared yet in the block of a unit, which has `output` as a parameter or has not
 abbrev pub first_block : List ℕ → Bool → Block
 first_block name output =
-    record { unit = name; output = output; scopes = row_of []; types = []; constants = []; variables = []; declarations = 0; own = record { parameters = []; variables = [] }; routines = []; forwards = []; bodies = []; waits = None }
+    record { unit = name; output = output; scopes = row_of []; types = []; constants = []; variables = []; declarations = 0; own = record { parameters = []; result = None; variables = [] }; routines = []; forwards = []; bodies = []; waits = None }
 
 -- ---- programs
 
@@ -55,12 +56,12 @@ has_name name names = list_any (λ other. bytes_eq other name) names
 abbrev pub program_block : Program → Block
 program_block p = first_block p.name (has_name (codes "output") p.parameters)
 
--- the line of the first `forward` declaration whose procedure has no body
+-- the line of the first `forward` declaration whose routine has no body
 abbrev pub first_missing : List Forward → List ℕ → Option ℕ
 first_missing [] bodies = None
 first_missing (f ∷ fs) bodies = if has_number f.number bodies then first_missing fs bodies else Some f.line
 
--- A procedure that is declared `forward` has a body (ISO 10206, 6.7.1). It is tested only where all items break no other rule (own).
+-- A routine that is declared `forward` has a body (ISO 10206, 6.7.1 and 6.7.2). It is tested only where all items break no other rule (own).
 abbrev pub unless_missing : {A : Type 0} → Option ℕ → Judgement A → Judgement A
 unless_missing None row = row
 unless_missing (Some line) (Passes form) = Fails line (rule.NO_BODY ∷ [])

@@ -1,10 +1,11 @@
 //! What has been declared in a block.
 
-ghost use Rattle.std.specs.Prelude.{◌≡◌, ◌+◌, [], IfOk, OnOk, length};
+ghost use Rattle.std.specs.Prelude.{◌≡◌, [], IfOk, OnOk};
 ghost use Rattle.std.specs.Option.{option_map};
 ghost use Rattle.ep_check_unit.specs.Answers.{AnswersBlock, AnswersNumber, AnswersType, with_constant_entry};
-ghost use Rattle.ep_check_unit.specs.Blocks.{block_of};
-ghost use Rattle.ep_check_unit.specs.Declarations.{constant_entered, entered, has_number, noted, own_thing, with_type};
+ghost use Rattle.ep_check_unit.specs.Blocks.{block_of, own_count, result_count};
+ghost use Rattle.ep_check_unit.specs.Declarations.{constant_entered, entered, noted, own_thing, with_type};
+ghost use Rattle.ep_check_unit.specs.Routines.{has_number};
 ghost use Rattle.ep_check_unit.specs.Checks.{IsUnitWith};
 ghost use Rattle.ep_check_unit.specs.Units.{first_block};
 
@@ -12,7 +13,8 @@ use crate::types::{host_type, type_denoter};
 use ep_base::{Line, List, Name, NoMemory};
 use ep_check_expr::Refusal;
 use ep_scope::{
-    Declaration, Declared, FormalParameters, Host, Kind, ScopeRefusal, Scopes, Thing, rule,
+    Declaration, Declared, FormalParameters, Host, Kind, ScopeRefusal, Scopes, Thing, TypeName,
+    rule,
 };
 use ep_typed::{
     ConstantEntries, ConstantEntry, Denoter, ImportSpecs, TypeEntry, TypedStmt, TypedStmts, Unit,
@@ -40,7 +42,7 @@ pub(crate) struct Block {
     pub(crate) own: OwnVariables,
     /// The routines, by number, each of which gets its block in place. One whose body is still to come does nothing.
     pub(crate) routines: Vec<UnitRoutine>,
-    /// The procedures that are declared `forward`.
+    /// The routines that are declared `forward`.
     pub(crate) forwards: List<Forward>,
     /// The numbers of the routines that have a body.
     pub(crate) bodies: List<u32>,
@@ -67,10 +69,27 @@ impl Drop for Block {
     }
 }
 
+/// The result of the function whose block is under way.
+#[derive(Clone, Copy, Drop)]
+pub(crate) struct OwnResult {
+    /// The number of the function among the routines.
+    pub(crate) function: u32,
+    /// The number of the variable that has the result, among those of the function.
+    pub(crate) variable: u32,
+    /// Its type.
+    pub(crate) of: TypeName,
+    /// The host of the type.
+    pub(crate) host: Host,
+    /// Whether it has a name of its own.
+    pub(crate) named: bool,
+}
+
 /// The variables of the routine whose block is under way.
 pub(crate) struct OwnVariables {
     /// Its formal parameters, which come first.
     pub(crate) parameters: FormalParameters,
+    /// Its result, which comes next.
+    pub(crate) result: Option<OwnResult>,
     /// Those that it has declared so far.
     pub(crate) variables: UnitVariables,
 }
@@ -79,28 +98,37 @@ impl Drop for OwnVariables {
     fn drop(self) {
         let OwnVariables {
             parameters: _,
+            result: _,
             variables: _,
         } = self;
     }
 }
 
 impl OwnVariables {
-    /// Those of a routine with these formal parameters, which has declared none yet. It takes no memory.
-    pub(crate) fn new(alloc: Global, parameters: FormalParameters) -> OwnVariables
-        ensures { result ≡ record { parameters = parameters; variables = [] } }
+    /// Those of a routine with these formal parameters and this result, which has declared none yet. It takes no memory.
+    pub(crate) fn new(
+        alloc: Global,
+        parameters: FormalParameters,
+        given: Option<OwnResult>,
+    ) -> OwnVariables
+        ensures { result ≡ record { parameters = parameters; result = given; variables = [] } }
     {
         OwnVariables {
             parameters,
+            result: given,
             variables: List::new(alloc),
         }
     }
 
     /// Their number, which the next one has.
     pub(crate) fn count(&self) -> Result<u32, Refusal>
-        ensures { AnswersNumber (length self.now.parameters + length self.now.variables) result }
+        ensures { AnswersNumber (own_count self.now) result }
     {
         let parameters = self.parameters.items().len();
-        match parameters.checked_add(self.variables.items().len()) {
+        let Some(front) = parameters.checked_add(result_count(self.result)) else {
+            return Err(Refusal::NoMemory);
+        };
+        match front.checked_add(self.variables.items().len()) {
             None => Err(Refusal::NoMemory),
             Some(count) => number(count),
         }
@@ -112,13 +140,24 @@ impl OwnVariables {
     {
         let OwnVariables {
             parameters: _,
+            result: _,
             variables,
         } = self;
         variables
     }
 }
 
-/// A procedure that is declared `forward` (ISO 10206, 6.7.1).
+/// How many variables have the result.
+fn result_count(given: Option<OwnResult>) -> usize
+    ensures { result ≡ result_count given }
+{
+    match given {
+        None => 0,
+        Some(_) => 1,
+    }
+}
+
+/// A routine that is declared `forward` (ISO 10206, 6.7.1 and 6.7.2).
 #[derive(Clone, Copy, Drop)]
 pub(crate) struct Forward {
     /// Its number.
@@ -158,7 +197,7 @@ impl Block {
             constants: List::new(alloc),
             variables: List::new(alloc),
             declarations: 0,
-            own: OwnVariables::new(alloc, List::new(alloc)),
+            own: OwnVariables::new(alloc, List::new(alloc), None),
             routines: Vec::new(alloc),
             forwards: List::new(alloc),
             bodies: List::new(alloc),

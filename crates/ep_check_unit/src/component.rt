@@ -14,7 +14,7 @@ use crate::block::{Block, Forward, has_number};
 use crate::laws::laws_of_typed_units;
 use ep_base::{Line, List, Name, NameRefusal, NoMemory};
 use ep_check_expr::Refusal;
-use ep_check_stmt::{CheckRefusal, Context, Outcome, refused_at};
+use ep_check_stmt::{CheckRefusal, Outcome, refused_at};
 use ep_scope::{Thing, rule};
 use ep_tree::{Component, Program};
 use ep_typed::{ConstantEntry, ImportSpec, ImportSpecs, Interface, StandardFile, TypedStmts, Unit};
@@ -92,19 +92,14 @@ fn check_program(alloc: Global, p: &Program) -> Result<Unit, CheckRefusal>
         return Err(refused_at(p.line, refusal));
     }
     block.declare(alloc, p.parts.items())?;
-    let context = Context {
-        alloc,
-        scopes: block.scopes.in_view(),
-        output: block.output,
-    };
-    let found = context.compound(&p.body)?;
+    let found = block.statements(alloc, &p.body)?;
     all_there(block.forwards.items(), block.bodies.items())?;
     let statements = all_built(block.waits, found)?;
     let imports = imports(alloc, p.parameters.items())?;
     Ok(block.into_unit(imports, statements))
 }
 
-/// Each procedure that is declared `forward` has a body.
+/// Each routine that is declared `forward` has a body.
 fn all_there(forwards: &[Forward], bodies: &[u32]) -> Result<(), CheckRefusal>
     ensures { AnswersMissing (first_missing forwards.now bodies.now) result }
 {

@@ -8,8 +8,8 @@ ghost use Rattle.ep_check_expr.specs.Judgements.{when_accepted};
 ghost use Rattle.ep_check_stmt.specs.Answers.{AnswersForm};
 ghost use Rattle.ep_check_unit.specs.Answers.{AnswersBlock, AnswersStanding, named_in};
 ghost use Rattle.ep_check_unit.specs.Blocks.{block_of};
-ghost use Rattle.ep_check_unit.specs.Declarations as spec;
-ghost use Rattle.ep_check_unit.specs.Declarations.{all_variables_declared, at_line, constant_definition, constants_declared, new_variable, part_declared, parts_declared, settled_type, type_definition, type_definitions, type_denoter, variable_declaration, variable_entered, variable_placed, variables_entered, with_own_variable, with_unit_variable};
+ghost use Rattle.ep_check_unit.specs.Declarations.{all_variables_declared, at_line, constant_definition, constants_declared, new_variable, settled_type, type_definition, type_definitions, type_denoter, variable_declaration, variable_entered, variable_placed, variables_entered, with_own_variable, with_unit_variable};
+ghost use Rattle.ep_check_unit.specs.Routines.{part_declared, parts_declared};
 
 use crate::block::{Block, number};
 use crate::types::{NamedType, type_denoter};

@@ -5,8 +5,8 @@ ghost use Rattle.ep_built.specs.Built.{first_in, section_unbuilt};
 ghost use Rattle.ep_check_stmt.specs.Answers.{AnswersForm};
 ghost use Rattle.ep_check_unit.specs.Answers.{AnswersBlock, named_in};
 ghost use Rattle.ep_check_unit.specs.Blocks.{block_of};
-ghost use Rattle.ep_check_unit.specs.Declarations as spec;
-ghost use Rattle.ep_check_unit.specs.Declarations.{formal_of, formals_entered, is_parameter, is_repeated, parameters_added, section_judged, section_mode, sections_judged};
+ghost use Rattle.ep_check_unit.specs.Routines as spec;
+ghost use Rattle.ep_check_unit.specs.Routines.{formal_of, formals_entered, is_parameter, is_repeated, parameters_added, section_judged, section_mode, sections_judged};
 
 use crate::block::{Block, number};
 use crate::types::{NamedType, type_denoter};
@@ -90,20 +90,20 @@ pub(crate) fn formals(alloc: Global, parameters: &[FormalParameter]) -> Result<F
 }
 
 impl Block {
-    /// The formal parameters of a procedure of this name with these sections.
+    /// The formal parameters of a routine of this name with these sections.
     pub(crate) fn parameters(
         &self,
         alloc: Global,
-        procedure: &Name,
+        routine: &Name,
         sections: &[FormalSection],
     ) -> Result<FormalParameters, Refusal>
         requires { first_in (map section_unbuilt sections.now) ≡ None }
         ensures { AnswersForm (λ ps. ps) result
-            (sections_judged procedure.now 0 sections.now (block_of self.now) []) }
+            (sections_judged routine.now 0 sections.now (block_of self.now) []) }
     {
         let mut all = List::new(alloc);
         for (place, section) in sections.iter().enumerate() {
-            all = self.add_section(alloc, procedure, number(place)?, section, all)?;
+            all = self.add_section(alloc, routine, number(place)?, section, all)?;
         }
         Ok(all)
     }
@@ -112,34 +112,34 @@ impl Block {
     fn add_section(
         &self,
         alloc: Global,
-        procedure: &Name,
+        routine: &Name,
         number: u32,
         section: &FormalSection,
         before: FormalParameters,
     ) -> Result<FormalParameters, Refusal>
         requires { section_unbuilt section.now ≡ None }
         ensures { AnswersForm (λ ps. ps) result
-            (section_judged procedure.now number section.now (block_of self.now) before) }
+            (section_judged routine.now number section.now (block_of self.now) before) }
     {
         let FormalType::Named(name) = &section.of else {
             unreachable!()
         };
-        let named = self.parameter_type(procedure, before.items(), name)?;
+        let named = self.parameter_type(routine, before.items(), name)?;
         let mode = section_mode(section.protected, section.variable);
         with_names(alloc, mode, number, named, section.names.items(), before)
     }
 
-    /// A type by its name, behind the name of the procedure and these parameters.
-    fn parameter_type(
+    /// A type by its name, behind the name of the routine and these parameters.
+    pub(crate) fn parameter_type(
         &self,
-        procedure: &Name,
+        routine: &Name,
         before: &[FormalParameter],
         name: &QualifiedName,
     ) -> Result<NamedType, Refusal>
-        ensures { AnswersForm (named_in (block_of self.now)) result (spec.parameter_type procedure.now
+        ensures { AnswersForm (named_in (block_of self.now)) result (spec.parameter_type routine.now
             before.now name.now.first name.now.second (block_of self.now)) }
     {
-        if procedure.bytes() == name.first.bytes() || is_parameter(&name.first, before) {
+        if routine.bytes() == name.first.bytes() || is_parameter(&name.first, before) {
             match &name.second {
                 None => Err(Refusal::Rule(rule::OTHER_THING)),
                 Some(_) => Err(Refusal::Rule(rule::UNDECLARED)),

@@ -1,17 +1,20 @@
 //! The static rules of a whole program.
 //!
 //! `check` answers the typed unit that a component is, or the first item that breaks a rule. specs/Declarations.antt
-//! says which rules fail where in declarations, in the order of the text; specs/Units.antt says which unit a component
-//! is. Names are those of ep_scope, expressions those of ep_check_expr, statements those of ep_check_stmt. By
-//! `laws_of_typed_units` the unit is valid.
+//! says which rules fail where in declarations, in the order of the text, specs/Routines.antt in those of routines, and
+//! specs/Functions.antt what gives a function its result; specs/Units.antt says which unit a component is. Names are
+//! those of ep_scope, expressions those of ep_check_expr, statements those of ep_check_stmt. By `laws_of_typed_units` the
+//! unit is valid.
 #![tactic(auto)]
 
 mod block;
 mod component;
 mod declarations;
 mod formals;
+mod functions;
+mod headings;
 mod laws;
-mod procedures;
+mod routines;
 mod types;
 
 pub use component::{Checked, check};

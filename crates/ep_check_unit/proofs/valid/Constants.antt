@@ -28,9 +28,9 @@ use Rattle.ep_check_unit.proofs.valid.Holds.{Holds, Lists, ListsKind, constant_v
 use Rattle.ep_check_unit.proofs.valid.Leading.{Grows, Leads, Enters, enters_refl, enters_then, heading_in, length_push, noted_leads, prefix_length, prefix_more, prefix_refl}
 
 constant_grows : (name : List ℕ) (k : Kind) (v : Value) (b : Block) → Grows b (with_constant name k v b)
-constant_grows name (kind.Ordinal h) v b = record { types = prefix_refl b.types; constants = prefix_more b.constants _; variables = prefix_refl b.variables; own = prefix_refl b.own.variables; parameters = refl; outer = refl; alone = λ e. refl; headings = prefix_refl (map heading_in b.routines); waits = λ w. w }
-constant_grows name kind.Text v b = record { types = prefix_refl b.types; constants = prefix_refl b.constants; variables = prefix_refl b.variables; own = prefix_refl b.own.variables; parameters = refl; outer = refl; alone = λ e. refl; headings = prefix_refl (map heading_in b.routines); waits = λ w. w }
-constant_grows name kind.File v b = record { types = prefix_refl b.types; constants = prefix_refl b.constants; variables = prefix_refl b.variables; own = prefix_refl b.own.variables; parameters = refl; outer = refl; alone = λ e. refl; headings = prefix_refl (map heading_in b.routines); waits = λ w. w }
+constant_grows name (kind.Ordinal h) v b = record { types = prefix_refl b.types; constants = prefix_more b.constants _; variables = prefix_refl b.variables; own = prefix_refl b.own.variables; parameters = refl; result = refl; outer = refl; alone = λ e. refl; headings = prefix_refl (map heading_in b.routines); waits = λ w. w }
+constant_grows name kind.Text v b = record { types = prefix_refl b.types; constants = prefix_refl b.constants; variables = prefix_refl b.variables; own = prefix_refl b.own.variables; parameters = refl; result = refl; outer = refl; alone = λ e. refl; headings = prefix_refl (map heading_in b.routines); waits = λ w. w }
+constant_grows name kind.File v b = record { types = prefix_refl b.types; constants = prefix_refl b.constants; variables = prefix_refl b.variables; own = prefix_refl b.own.variables; parameters = refl; result = refl; outer = refl; alone = λ e. refl; headings = prefix_refl (map heading_in b.routines); waits = λ w. w }
 
 constant_types : (name : List ℕ) (k : Kind) (v : Value) (b : Block) → (with_constant name k v b).types ≡ b.types
 constant_types name (kind.Ordinal h) v b = refl
@@ -50,6 +50,7 @@ module _ (u : TypedUnit) (o : List UnitVariable) where
     constants = All-push (IsConstant u.types) b.constants (record { name = name; denoter = host_denoter h; value = value.Word z }) x.constants (constant_valid u i name h z le l s.1);
     variables = x.variables;
     parameters = x.parameters;
+    result = x.result;
     owned = x.owned;
   }
   constant_holds i name (kind.Ordinal h) (value.Text bytes) b le s l x = absurd s
@@ -64,6 +65,7 @@ module _ (u : TypedUnit) (o : List UnitVariable) where
     constants = x.constants;
     variables = x.variables;
     parameters = x.parameters;
+    result = x.result;
     owned = x.owned;
   }
   constant_holds i name kind.File v b le s l x = absurd s

@@ -1,5 +1,5 @@
 -- What a unit holds of the declarations of a block: each name stands for what the unit has under its number, and what stands in the block's lists is valid in the unit.
-use Rattle.std.proofs.Common.{◌≡◌, ℕ, ℤ, suc, ◌<◌, ◌≤◌, true, List, [], ◌∷◌, ◌++◌, map, length, Some, None, slice_get, bytes_eq, IsTrue, inl, inr, refl, sym, ap, ◌∙◌, subst, arith}
+use Rattle.std.proofs.Common.{◌≡◌, ℕ, ℤ, suc, ◌<◌, ◌≤◌, true, List, [], ◌∷◌, ◌++◌, map, length, Option, Some, None, slice_get, bytes_eq, IsTrue, inl, inr, refl, sym, ap, ◌∙◌, subst, arith}
 use Rattle.std.proofs.lemmas.List.Elements.{All-cons, All-head, All-nil, All-tail}
 use Rattle.std.proofs.lemmas.Slice.Eq.{bytes_eq-Decides}
 use Rattle.std.specs.Prelude.{All, ⊤, if◌then◌else◌}
@@ -7,7 +7,8 @@ use Rattle.ep_typed.specs.Denoters.{definition_of, host_of, type_of}
 use Rattle.ep_typed.specs.Hosts as typed
 use Rattle.ep_typed.specs.Hosts.{is_of_host}
 use Rattle.ep_typed.specs.Trees as tree
-use Rattle.ep_typed.specs.Valid.{IsConstant, IsDenoter, IsFormal, IsPlace, IsProcedure, IsStmt, IsType, IsVariable, formal_variable, heading_of, in_routine, own}
+use Rattle.ep_typed.specs.Valid.{IsConstant, IsDenoter, IsFormal, IsFunction, IsPlace, IsProcedure, IsResult, IsStmt, IsType, IsVariable, formal_variable, heading_of, in_routine, own}
+use Rattle.ep_typed.specs.Routines.{result_variable}
 use Rattle.ep_typed.specs.Viewed.{bound_of, denoter_of, denoter_step}
 use Rattle.ep_typed.specs.declared.denoter.Bound.{Bound}
 use Rattle.ep_typed.specs.declared.denoter.Denoter.{Denoter}
@@ -38,8 +39,10 @@ use Rattle.ep_scope.specs.declared.thing.Thing.TheVariants as thing
 use Rattle.ep_check_expr.specs.Agreement.{Agrees, AgreesBy, AreInterfaces, AreParameters, AreThings, IsConstantOf, IsDeclaration, IsHost, IsOfType, IsThing, TypeValues}
 use Rattle.ep_check_expr.specs.Hosts.{typed_host}
 use Rattle.ep_check_expr.specs.Origins.{IsKnownHost, IsKnownKind, IsRequiredHost, HasHost, DeclaresHost, ThingHasHost, EntriesHaveHost, InterfacesHaveHost, ScopesHaveHost}
-use Rattle.ep_check_unit.specs.Declarations.{formal_of, host_denoter, scopes_of, type_denoter}
+use Rattle.ep_check_unit.specs.Declarations.{host_denoter, scopes_of, type_denoter}
+use Rattle.ep_check_unit.specs.Routines.{formal_of}
 use Rattle.ep_check_unit.specs.Blocks.{Block, RoutineForm}
+use Rattle.ep_check_unit.specs.declared.block.OwnResult.{OwnResult}
 use Rattle.ep_check_unit.proofs.valid.Denoting.{Denotes, IsSmall, full_type, denotes_more, denotes_required, denotes_named, denotes_enumeration, denotes_valid}
 
 -- ---- denoters as plain data
@@ -178,13 +181,34 @@ module _ (u : TypedUnit) where
     pub formals : heading.formals ≡ map formal_of ps
     pub parameters : All (HoldsParameter i) ps
 
-  -- The routine is a procedure without routines of its own. Its formal parameters and variables are valid, and so is what it does with them.
+  -- the routine of this number is a function with these formal parameters, whose result has this type
+  pub record HoldsFunction (i number : ℕ) (ps : List FormalParameter) (of : TypeName) (h : Host) : Type 0 where
+    pub heading : RoutineEntry
+    pub at : slice_get (map heading_of u.routines) number ≡ Some heading
+    pub name : Option (List ℕ)
+    pub result : heading.result ≡ Some (record { name = name; denoter = type_denoter of })
+    pub formals : heading.formals ≡ map formal_of ps
+    pub parameters : All (HoldsParameter i) ps
+    pub lists : Lists i h
+    pub denotes : HasHostHere i (named_tree of) h
+
+  -- The routine has no routines of its own. Its formal parameters, its result and its variables are valid, and so is what it does with them.
   pub record HoldsRoutine (r : RoutineForm) : Type 0 where
-    pub procedure : r.result ≡ None
+    pub result : IsResult u.types r.result
     pub alone : r.routines ≡ []
     pub formals : All (IsFormal u.types) r.formals
     pub variables : All (IsVariable u.types) r.variables
-    pub block : IsStmt (in_routine (map (formal_variable r.line) r.formals ++ r.variables) u.types (own u)) r.block
+    pub block : IsStmt (in_routine (map (formal_variable r.line) r.formals ++ (result_variable r.name r.line r.result ++ r.variables)) u.types (own u)) r.block
+
+  -- the result of the function under way has a type, and its variable comes behind these formal parameters
+  pub record HoldsOwnResult (i : ℕ) (ps : List FormalParameter) (r : OwnResult) : Type 0 where
+    pub lists : Lists i r.host
+    pub denotes : HasHostHere i (named_tree r.of) r.host
+    pub variable : r.variable ≡ length ps
+
+  abbrev pub HoldsResult : ℕ → List FormalParameter → Option OwnResult → Type 0
+  HoldsResult i ps None = ⊤
+  HoldsResult i ps (Some r) = HoldsOwnResult i ps r
 
   has_type_more : (i j : ℕ) (d : tree.Denoter) (of : TypeName) (h : Host) → i ≤ j → HasTypeHere i d of h → HasTypeHere j d of h
   has_type_more i j d of h le x = (x.0, denotes_more u.types i j d (typed_host h) x.0 le x.1, denotes_more u.types i j (named_tree of) (typed_host h) x.0 le x.2)
@@ -198,6 +222,25 @@ module _ (u : TypedUnit) where
 
   pub procedure_more : (i j number : ℕ) (ps : List FormalParameter) → i ≤ j → HoldsProcedure i number ps → HoldsProcedure j number ps
   procedure_more i j number ps le x = record { heading = x.heading; at = x.at; is_procedure = x.is_procedure; formals = x.formals; parameters = parameters_more i j ps le x.parameters }
+
+  has_host_more : (i j : ℕ) (d : tree.Denoter) (h : Host) → i ≤ j → HasHostHere i d h → HasHostHere j d h
+  has_host_more i j d h le x = (x.0, denotes_more u.types i j d (typed_host h) x.0 le x.1)
+
+  pub function_more : (i j number : ℕ) (ps : List FormalParameter) (of : TypeName) (h : Host) → i ≤ j → HoldsFunction i number ps of h → HoldsFunction j number ps of h
+  function_more i j number ps of h le x = record {
+    heading = x.heading;
+    at = x.at;
+    name = x.name;
+    result = x.result;
+    formals = x.formals;
+    parameters = parameters_more i j ps le x.parameters;
+    lists = lists_more i j h le x.lists;
+    denotes = has_host_more i j (named_tree of) h le x.denotes;
+  }
+
+  pub result_more : (i j : ℕ) (ps : List FormalParameter) (r : Option OwnResult) → i ≤ j → HoldsResult i ps r → HoldsResult j ps r
+  result_more i j ps None le x = tt
+  result_more i j ps (Some r) le x = record { lists = lists_more i j r.host le x.lists; denotes = has_host_more i j (named_tree r.of) r.host le x.denotes; variable = x.variable }
 
   -- a formal parameter that has a type is valid
   formal_valid : (i : ℕ) (p : FormalParameter) → i ≤ length u.types → HoldsParameter i p → IsFormal u.types (formal_of p)
@@ -246,7 +289,7 @@ module _ (u : TypedUnit) where
   variable_place i number unit of h le e x =
       (x.variable, variables_own unit number e ∙ x.at, ap (λ ts. host_of ts (denoter_of x.variable.denoter)) (types_own unit e) ∙ x.denotes.1.has_host (suc (length u.types)) (omega (arith, le)))
 
-  own_place : (o : List UnitVariable) (i number : ℕ) (of : TypeName) (h : Host) → i ≤ length u.types → HoldsOwn o i number of h → IsPlace (in_routine o u.types (own u)) (typed_host h) (tree.Own number)
+  pub own_place : (o : List UnitVariable) (i number : ℕ) (of : TypeName) (h : Host) → i ≤ length u.types → HoldsOwn o i number of h → IsPlace (in_routine o u.types (own u)) (typed_host h) (tree.Own number)
   own_place o i number of h le x = (x.variable, x.at, x.denotes.1.has_host (suc (length u.types)) (omega (arith, le)))
 
   -- it has its type
@@ -293,6 +336,7 @@ module _ (u : TypedUnit) (o : List UnitVariable) where
   HoldsDeclaration i number (declaration.Own of kind.Text guarded) = ⊥
   HoldsDeclaration i number (declaration.Own of kind.File guarded) = ⊥
   HoldsDeclaration i number (declaration.Procedure ps) = HoldsProcedure u i number ps
+  HoldsDeclaration i number (declaration.Function ps of h) = HoldsFunction u i number ps of h
 
   abbrev pub HoldsThing : ℕ → Thing → Type 0
   HoldsThing i (thing.Declared d) = (d.unit ≡ u.name) × HoldsDeclaration i d.number d.what
@@ -319,6 +363,7 @@ module _ (u : TypedUnit) (o : List UnitVariable) where
   declaration_more i j number (declaration.Own of kind.Text guarded) le x = x
   declaration_more i j number (declaration.Own of kind.File guarded) le x = x
   declaration_more i j number (declaration.Procedure ps) le x = procedure_more u i j number ps le x
+  declaration_more i j number (declaration.Function ps of h) le x = function_more u i j number ps of h le x
 
   thing_more : (i j : ℕ) (t : Thing) → i ≤ j → HoldsThing i t → HoldsThing j t
   thing_more i j (thing.Declared d) le x = (x.0, declaration_more i j d.number d.what le x.1)
@@ -349,6 +394,7 @@ module _ (u : TypedUnit) (o : List UnitVariable) where
   declaration_listed i number (declaration.Own of kind.Text guarded) h x e = absurd x
   declaration_listed i number (declaration.Own of kind.File guarded) h x e = absurd x
   declaration_listed i number (declaration.Procedure ps) h x e = absurd e
+  declaration_listed i number (declaration.Function ps of g) h x e = subst (Lists u i) e x.lists
 
   thing_listed : (i : ℕ) (t : Thing) (h : Host) → HoldsThing i t → ThingHasHost t h → Lists u i h
   thing_listed i (thing.Declared d) h x e = declaration_listed i d.number d.what h x.1 e
@@ -388,6 +434,17 @@ module _ (u : TypedUnit) (o : List UnitVariable) (ts : List UnitType) (there : (
     x.is_procedure,
     subst (λ types. AreParameters (type_values u) types ps x.heading.formals) (sym (types_own u unit e)) (subst (AreParameters (type_values u) u.types ps) (sym x.formals) (parameters_hold u i ps le x.parameters)),
   )
+  declared_holds i number unit (declaration.Function ps of h) le e x = (
+    x.heading,
+    ap (λ rs. slice_get rs number) (routines_own u unit e) ∙ x.at,
+    subst (λ types. IsFunction types (typed_host h) x.heading) (sym (types_own u unit e)) (record {
+      result = record { name = x.name; denoter = type_denoter of };
+      has_result = x.result;
+      has_host = ap (host_of u.types) (name_denotes of) ∙ x.denotes.1.has_host (suc (length u.types)) (omega (arith, le));
+    }),
+    lists_small u i h x.lists,
+    subst (λ types. AreParameters (type_values u) types ps x.heading.formals) (sym (types_own u unit e)) (subst (AreParameters (type_values u) u.types ps) (sym x.formals) (parameters_hold u i ps le x.parameters)),
+  )
 
   thing_holds : (i : ℕ) (t : Thing) → i ≤ length u.types → HoldsThing u o i t → IsThing (in_routine o ts (own u)) (type_values u) t
   thing_holds i (thing.Declared d) le x = declared_holds i d.number d.unit d.what le x.0 x.1
@@ -418,6 +475,7 @@ module _ (u : TypedUnit) (o : List UnitVariable) where
   declaration_wider i number (declaration.Own of kind.Text guarded) x = x
   declaration_wider i number (declaration.Own of kind.File guarded) x = x
   declaration_wider i number (declaration.Procedure ps) x = x
+  declaration_wider i number (declaration.Function ps of h) x = x
 
   thing_wider : (i : ℕ) (t : Thing) → HoldsThing u [] i t → HoldsThing u o i t
   thing_wider i (thing.Declared d) x = (x.0, declaration_wider i d.number d.what x.1)
@@ -445,11 +503,12 @@ module _ (u : TypedUnit) (o : List UnitVariable) where
     pub constants : All (IsConstant u.types) b.constants
     pub variables : All (IsVariable u.types) b.variables
     pub parameters : All (HoldsParameter u i) b.own.parameters
+    pub result : HoldsResult u i b.own.parameters b.own.result
     pub owned : All (IsVariable u.types) b.own.variables
     pub routines : All (HoldsRoutine u) b.routines
 
   pub holds_more : (i j : ℕ) (b : Block) → i ≤ j → Holds i b → Holds j b
-  holds_more i j b le x = record { unit = x.unit; things = things_more u o i j b.scopes.inner.entries le x.things; plain = x.plain; outer = scopes_more u [] i j b.scopes.outer le x.outer; routines = x.routines; types = x.types; constants = x.constants; variables = x.variables; parameters = parameters_more u i j b.own.parameters le x.parameters; owned = x.owned }
+  holds_more i j b le x = record { unit = x.unit; things = things_more u o i j b.scopes.inner.entries le x.things; plain = x.plain; outer = scopes_more u [] i j b.scopes.outer le x.outer; routines = x.routines; types = x.types; constants = x.constants; variables = x.variables; parameters = parameters_more u i j b.own.parameters le x.parameters; result = result_more u i j b.own.parameters b.own.result le x.result; owned = x.owned }
 
   -- the scopes in view
   pub holds_scopes : (i : ℕ) (b : Block) → Holds i b → HoldsScopes u o i (scopes_of b)

@@ -29,31 +29,38 @@ use Rattle.ep_check_expr.specs.Hosts.{typed_host}
 use Rattle.ep_check_expr.specs.Judgements.{Judged, Accepts, Breaks}
 use Rattle.ep_check_expr.specs.Laws.{BoundsAreKnown, BoundsAreSound, ConstantsAreKnown, ConstantsAreSound}
 use Rattle.ep_check_stmt.proofs.judged.Fits.{Any, Fits, fits_any, fits_then}
-use Rattle.ep_check_unit.specs.Declarations.{Standing, Stands, Falls, Written, all_variables_declared, and_then, at_line, constant_definition, constants_declared, core_of, core_written, declaration_ended, formal_of, is_outermost, new_variable, own_thing, settled, settled_type, type_definition, type_definitions, type_entered, type_written, unused, variable_declaration, variable_entered, variables_declared, variables_entered, with_name, with_own_variable, with_type, with_unit_variable, with_variable}
+use Rattle.ep_check_unit.specs.Declarations.{Standing, Stands, Falls, Written, all_variables_declared, and_then, at_line, constant_definition, constants_declared, core_of, core_written, declaration_ended, is_outermost, new_variable, own_thing, settled, settled_type, type_definition, type_definitions, type_entered, type_written, unused, variable_declaration, variable_entered, variables_declared, variables_entered, with_name, with_own_variable, with_type, with_unit_variable, with_variable}
+use Rattle.ep_check_unit.specs.Routines.{formal_of}
 use Rattle.ep_check_unit.specs.Units.{parameter_entered, parameters_entered, standard_file}
-use Rattle.ep_check_unit.specs.Blocks.{Block}
+use Rattle.ep_check_unit.specs.Blocks.{Block, own_count, result_count}
+use Rattle.ep_check_unit.specs.declared.block.OwnResult.{OwnResult}
 use Rattle.ep_check_unit.specs.declared.block.OwnVariables.{OwnVariables}
 use Rattle.ep_check_unit.proofs.valid.Constants.{constant_definition-leads}
 use Rattle.ep_check_unit.proofs.valid.Denoting.{Denotes, denotes_named, denotes_valid}
 use Rattle.ep_check_unit.proofs.valid.Holds.{HasTypeHere, Holds, Lists, named_is, things_push}
-use Rattle.ep_check_unit.proofs.valid.Leading.{Enters, Extends, Grows, Leads, enters_refl, enters_then, entered_leads, extends_before, grows_refl, grows_trans, heading_in, leads_refl, leads_then, leads_trans, length_push, named_holds, prefix_last, prefix_length, prefix_more, prefix_refl, variables_in}
+use Rattle.ep_check_unit.proofs.valid.Leading.{Enters, Extends, Grows, Leads, enters_refl, enters_then, entered_leads, extends_before, grows_refl, grows_trans, heading_in, leads_refl, leads_then, leads_trans, length_push, named_holds, prefix_last, prefix_length, prefix_more, prefix_refl, result_in, variables_in}
 use Rattle.ep_check_unit.proofs.valid.Types.{IsNext, Names, Writes, core_written-writes, type_named-names}
 
 -- the entry of a type that is added
 abbrev new_entry : Option (List ℕ) → ℕ → Denoter → Block → UnitType
 new_entry name line d b = record { entry = record { «module» = b.unit; number = length b.types; name = name; formals = []; denoter = d }; line = Some line }
 
-own_length : (line : ℕ) (ps : List FormalParameter) (vs : List UnitVariable) → length (map (formal_variable line) (map formal_of ps) ++ vs) ≡ length ps + length vs
-own_length line [] vs = omega arith
-own_length line (p ∷ ps) vs = omega (arith, own_length line ps vs)
+own_length : (line : ℕ) (name : List ℕ) (ps : List FormalParameter) (r : Option OwnResult) (vs : List UnitVariable)
+    → length (map (formal_variable line) (map formal_of ps) ++ (result_in line name r ++ vs)) ≡ length ps + result_count r + length vs
+own_length line name [] None vs = omega arith
+own_length line name [] (Some r) vs = omega arith
+own_length line name (p ∷ ps) r vs = omega (arith, own_length line name ps r vs)
 
 -- the variable of a routine that was added last, by its number
-own_last : (own : OwnVariables) (v : UnitVariable) (line : ℕ) (o : List UnitVariable) → IsPrefix (variables_in line (record { parameters = own.parameters; variables = own.variables ++ v ∷ [] })) o
-    → slice_get o (length own.parameters + length own.variables) ≡ Some v
-own_last own v line o p =
+own_last : (own : OwnVariables) (v : UnitVariable) (line : ℕ) (name : List ℕ) (o : List UnitVariable)
+    → IsPrefix (variables_in line name (record { parameters = own.parameters; result = own.result; variables = own.variables ++ v ∷ [] })) o → slice_get o (own_count own) ≡ Some v
+own_last own v line name o p =
     let front : List UnitVariable = map (formal_variable line) (map formal_of own.parameters) in
-    subst (λ n. slice_get o n ≡ Some v) (own_length line own.parameters own.variables)
-    (prefix_last (front ++ own.variables) v o (subst (λ l. IsPrefix l o) (sym (append_assoc front own.variables (v ∷ []))) p))
+    let result : List UnitVariable = result_in line name own.result in
+    let last : front ++ (result ++ (own.variables ++ v ∷ [])) ≡ (front ++ (result ++ own.variables)) ++ v ∷ [] =
+    ap (λ l. front ++ l) (sym (append_assoc result own.variables (v ∷ []))) ∙ sym (append_assoc front (result ++ own.variables) (v ∷ [])) in
+    subst (λ n. slice_get o n ≡ Some v) (own_length line name own.parameters own.result own.variables)
+    (prefix_last (front ++ (result ++ own.variables)) v o (subst (λ l. IsPrefix l o) last p))
 
 -- in a routine there are scopes around the innermost one
 inner_has_outer : (rs : List Region) → is_outermost rs ≡ false → rs ≡ [] → ⊥
@@ -91,7 +98,7 @@ module _ (u : TypedUnit) (o : List UnitVariable) where
   with_entry_of name line w = record { denoter = denoter.Named (length w.block.types) []; of = w.of; host = w.host; block = with_type name line w.denoter w.block }
 
   type_grows : (name : Option (List ℕ)) (line : ℕ) (d : Denoter) (b : Block) → Grows b (with_type name line d b)
-  type_grows name line d b = record { types = prefix_more b.types _; constants = prefix_refl b.constants; variables = prefix_refl b.variables; own = prefix_refl b.own.variables; parameters = refl; outer = refl; alone = λ e. refl; headings = prefix_refl (map heading_in b.routines); waits = λ w. w }
+  type_grows name line d b = record { types = prefix_more b.types _; constants = prefix_refl b.constants; variables = prefix_refl b.variables; own = prefix_refl b.own.variables; parameters = refl; result = refl; outer = refl; alone = λ e. refl; headings = prefix_refl (map heading_in b.routines); waits = λ w. w }
 
   pub written_settles : (name : Option (List ℕ)) (line : ℕ) (b : Block) (w : Written) → Writes u o b w → Settles b (with_entry_of name line w)
   written_settles name line b w wr = record {
@@ -115,6 +122,7 @@ module _ (u : TypedUnit) (o : List UnitVariable) where
           constants = y.block.constants;
           variables = y.block.variables;
           parameters = y.block.parameters;
+          result = y.block.result;
           owned = y.block.owned;
         } in
         let named : Denotes u.types (suc i) (denoter_of (denoter.Named (length w.block.types) [])) (typed_host w.host) y.denotes.0 =
@@ -136,9 +144,9 @@ module _ (u : TypedUnit) (o : List UnitVariable) where
       let t = own_thing w.block (length w.block.types) (declaration.«Type» w.of w.host) in
       fits_then Any (Leads u o b) (λ _. Accepts (with_name d.name t c)) (unused d.name c) (fits_any (unused d.name c))
       (λ a k. record {
-        grows = grows_trans b c (with_name d.name t c) s.grows (record { types = prefix_refl c.types; constants = prefix_refl c.constants; variables = prefix_refl c.variables; own = prefix_refl c.own.variables; parameters = refl; outer = refl; alone = λ e. refl; headings = prefix_refl (map heading_in c.routines); waits = λ free. free });
+        grows = grows_trans b c (with_name d.name t c) s.grows (record { types = prefix_refl c.types; constants = prefix_refl c.constants; variables = prefix_refl c.variables; own = prefix_refl c.own.variables; parameters = refl; result = refl; outer = refl; alone = λ e. refl; headings = prefix_refl (map heading_in c.routines); waits = λ free. free });
         holds = λ ext free x.
-            let y = s.holds (record { types = ext.types; constants = ext.constants; variables = ext.variables; line = ext.line; own = ext.own; headings = ext.headings }) free x in
+            let y = s.holds (record { types = ext.types; constants = ext.constants; variables = ext.variables; line = ext.line; name = ext.name; own = ext.own; headings = ext.headings }) free x in
             named_holds u o (length c.types) d.name t c (
               y.block.unit,
               record {
@@ -217,7 +225,7 @@ module _ (u : TypedUnit) (o : List UnitVariable) where
         let t = own_thing b (length b.variables) (declaration.Variable of (kind.Ordinal h)) in
         let v = new_variable line d name b in
         record {
-          grows = record { types = prefix_refl b.types; constants = prefix_refl b.constants; variables = prefix_more b.variables (v ∷ []); own = prefix_refl b.own.variables; parameters = refl; outer = refl; alone = λ e. refl; headings = prefix_refl (map heading_in b.routines); waits = λ free. free };
+          grows = record { types = prefix_refl b.types; constants = prefix_refl b.constants; variables = prefix_more b.variables (v ∷ []); own = prefix_refl b.own.variables; parameters = refl; result = refl; outer = refl; alone = λ e. refl; headings = prefix_refl (map heading_in b.routines); waits = λ free. free };
           same = refl;
           holds = λ p ext x. record {
             unit = x.unit;
@@ -229,6 +237,7 @@ module _ (u : TypedUnit) (o : List UnitVariable) where
             constants = x.constants;
             variables = All-push (IsVariable u.types) b.variables v x.variables (record { denoter = denotes_valid u.types i (denoter_of d) (typed_host h) p.1.0 p.0 p.1.1; tuple = refl });
             parameters = x.parameters;
+            result = x.result;
             owned = x.owned;
           };
         }
@@ -236,14 +245,14 @@ module _ (u : TypedUnit) (o : List UnitVariable) where
     -- a variable of the routine
     own_variable_enters : (i line : ℕ) (d : Denoter) (of : TypeName) (h : Host) (name : List ℕ) (b : Block) → is_outermost b.scopes.outer ≡ false → Enters u o (IsStanding i d of h) i b (with_own_variable line d of h name b)
     own_variable_enters i line d of h name b inside =
-        let t = own_thing b (length b.own.parameters + length b.own.variables) (declaration.Own of (kind.Ordinal h) protection.Unprotected) in
+        let t = own_thing b (own_count b.own) (declaration.Own of (kind.Ordinal h) protection.Unprotected) in
         let v = new_variable line d name b in
         record {
-          grows = record { types = prefix_refl b.types; constants = prefix_refl b.constants; variables = prefix_refl b.variables; own = prefix_more b.own.variables (v ∷ []); parameters = refl; outer = refl; alone = λ e. absurd (inner_has_outer b.scopes.outer inside e); headings = prefix_refl (map heading_in b.routines); waits = λ free. free };
+          grows = record { types = prefix_refl b.types; constants = prefix_refl b.constants; variables = prefix_refl b.variables; own = prefix_more b.own.variables (v ∷ []); parameters = refl; result = refl; outer = refl; alone = λ e. absurd (inner_has_outer b.scopes.outer inside e); headings = prefix_refl (map heading_in b.routines); waits = λ free. free };
           same = refl;
           holds = λ p ext x. record {
             unit = x.unit;
-            things = things_push u o i b.scopes.inner.entries name t x.things (x.unit, record { lists = p.2; variable = v; at = own_last b.own v ext.line o ext.own; denotes = p.1 });
+            things = things_push u o i b.scopes.inner.entries name t x.things (x.unit, record { lists = p.2; variable = v; at = own_last b.own v ext.line ext.name o ext.own; denotes = p.1 });
             plain = x.plain;
             outer = x.outer;
             routines = x.routines;
@@ -251,6 +260,7 @@ module _ (u : TypedUnit) (o : List UnitVariable) where
             constants = x.constants;
             variables = x.variables;
             parameters = x.parameters;
+            result = x.result;
             owned = All-push (IsVariable u.types) b.own.variables v x.owned (record { denoter = denotes_valid u.types i (denoter_of d) (typed_host h) p.1.0 p.0 p.1.1; tuple = refl });
           };
         }
@@ -272,14 +282,14 @@ module _ (u : TypedUnit) (o : List UnitVariable) where
 
     ended_leads : (b c : Block) (w : Written) → Settles b w → Enters u o (IsStanding (length w.block.types) w.denoter w.of w.host) (length w.block.types) w.block c → Leads u o b (declaration_ended c)
     ended_leads b c w s e = record {
-      grows = grows_trans b w.block (declaration_ended c) s.grows (record { types = e.grows.types; constants = e.grows.constants; variables = e.grows.variables; own = e.grows.own; parameters = e.grows.parameters; outer = e.grows.outer; alone = e.grows.alone; headings = e.grows.headings; waits = e.grows.waits });
+      grows = grows_trans b w.block (declaration_ended c) s.grows (record { types = e.grows.types; constants = e.grows.constants; variables = e.grows.variables; own = e.grows.own; parameters = e.grows.parameters; result = e.grows.result; outer = e.grows.outer; alone = e.grows.alone; headings = e.grows.headings; waits = e.grows.waits });
       holds = λ ext free x.
-          let there : Extends u o c = record { types = ext.types; constants = ext.constants; variables = ext.variables; line = ext.line; own = ext.own; headings = ext.headings } in
+          let there : Extends u o c = record { types = ext.types; constants = ext.constants; variables = ext.variables; line = ext.line; name = ext.name; own = ext.own; headings = ext.headings } in
           let before : Extends u o w.block = extends_before u o w.block c e.grows there in
           let y = s.holds before (e.grows.waits free) x in
           let z : Holds u o (length w.block.types) c = e.holds (prefix_length w.block.types u.types before.types, y.denotes, y.lists) there y.block in
           let count : length c.types ≡ length w.block.types = ap length e.same in
-          subst (λ n. Holds u o n (declaration_ended c)) (sym count) (record { unit = z.unit; things = z.things; plain = z.plain; outer = z.outer; routines = z.routines; types = z.types; constants = z.constants; variables = z.variables; parameters = z.parameters; owned = z.owned });
+          subst (λ n. Holds u o n (declaration_ended c)) (sym count) (record { unit = z.unit; things = z.things; plain = z.plain; outer = z.outer; routines = z.routines; types = z.types; constants = z.constants; variables = z.variables; parameters = z.parameters; result = z.result; owned = z.owned });
     }
 
     variable_declaration-leads : (d : VariableDeclaration) (b : Block) → Fits (Leads u o b) (variable_declaration d b)

@@ -10,8 +10,10 @@ use Rattle.ep_typed.specs.declared.unit.UnitVariable.{UnitVariable}
 use Rattle.ep_scope.specs.declared.thing.Thing.{Thing}
 use Rattle.ep_check_expr.specs.Judgements.{Judged, Accepts, Breaks, when_accepted}
 use Rattle.ep_check_stmt.proofs.judged.Fits.{Any, Fits, fits_any, fits_then}
-use Rattle.ep_check_unit.specs.Declarations.{entered, formal_of, noted, unused, with_name}
+use Rattle.ep_check_unit.specs.Declarations.{entered, noted, type_denoter, unused, with_name}
+use Rattle.ep_check_unit.specs.Routines.{formal_of}
 use Rattle.ep_check_unit.specs.Blocks.{Block, RoutineForm}
+use Rattle.ep_check_unit.specs.declared.block.OwnResult.{OwnResult}
 use Rattle.ep_check_unit.specs.declared.block.OwnVariables.{OwnVariables}
 use Rattle.ep_check_unit.proofs.valid.Holds.{Holds, HoldsThing, things_push}
 
@@ -51,14 +53,21 @@ prefix_front front xs ys p = record { rest = p.rest; is = ap (λ l. front ++ l) 
 abbrev pub heading_in : RoutineForm → RoutineEntry
 heading_in r = record { name = r.name; formals = r.formals; result = r.result }
 
--- the variables of a routine that is declared on this line
-abbrev pub variables_in : ℕ → OwnVariables → List UnitVariable
-variables_in line own = map (formal_variable line) (map formal_of own.parameters) ++ own.variables
+-- the variable of this name that has the result of a function, which is declared on this line
+abbrev pub result_in : ℕ → List ℕ → Option OwnResult → List UnitVariable
+result_in line name None = []
+result_in line name (Some r) = record { name = name; line = line; declaration = 0; denoter = type_denoter r.of; tuple = []; parameter = false } ∷ []
 
-own_prefix : (line : ℕ) (a b : OwnVariables) → b.parameters ≡ a.parameters → IsPrefix a.variables b.variables → IsPrefix (variables_in line a) (variables_in line b)
-own_prefix line a b same p =
-    subst (λ ps. IsPrefix (variables_in line a) (map (formal_variable line) (map formal_of ps) ++ b.variables)) (sym same)
-    (prefix_front (map (formal_variable line) (map formal_of a.parameters)) a.variables b.variables p)
+-- the variables of a routine that is declared on this line, where that of its result has this name
+abbrev pub variables_in : ℕ → List ℕ → OwnVariables → List UnitVariable
+variables_in line name own = map (formal_variable line) (map formal_of own.parameters) ++ (result_in line name own.result ++ own.variables)
+
+own_prefix : (line : ℕ) (name : List ℕ) (a b : OwnVariables) → b.parameters ≡ a.parameters → b.result ≡ a.result → IsPrefix a.variables b.variables → IsPrefix (variables_in line name a) (variables_in line name b)
+own_prefix line name a b same same_result p =
+    let front = map (formal_variable line) (map formal_of a.parameters) in
+    subst (λ ps. IsPrefix (variables_in line name a) (map (formal_variable line) (map formal_of ps) ++ (result_in line name b.result ++ b.variables))) (sym same)
+    (subst (λ r. IsPrefix (variables_in line name a) (front ++ (result_in line name r ++ b.variables))) (sym same_result)
+    (prefix_front front (result_in line name a.result ++ a.variables) (result_in line name a.result ++ b.variables) (prefix_front (result_in line name a.result) a.variables b.variables p)))
 
 -- the block's lists have grown, and an item that waited waits
 pub record Grows (b c : Block) : Type 0 where
@@ -67,6 +76,7 @@ pub record Grows (b c : Block) : Type 0 where
   pub variables : IsPrefix b.variables c.variables
   pub own : IsPrefix b.own.variables c.own.variables
   pub parameters : c.own.parameters ≡ b.own.parameters
+  pub result : c.own.result ≡ b.own.result
   -- no scope around this one changes
   pub outer : c.scopes.outer ≡ b.scopes.outer
   -- outside of routines no variable of a routine is added
@@ -76,7 +86,7 @@ pub record Grows (b c : Block) : Type 0 where
   pub waits : c.waits ≡ None → b.waits ≡ None
 
 pub grows_refl : (b : Block) → Grows b b
-grows_refl b = record { types = prefix_refl b.types; constants = prefix_refl b.constants; variables = prefix_refl b.variables; own = prefix_refl b.own.variables; parameters = refl; outer = refl; alone = λ e. refl; headings = prefix_refl (map heading_in b.routines); waits = λ w. w }
+grows_refl b = record { types = prefix_refl b.types; constants = prefix_refl b.constants; variables = prefix_refl b.variables; own = prefix_refl b.own.variables; parameters = refl; result = refl; outer = refl; alone = λ e. refl; headings = prefix_refl (map heading_in b.routines); waits = λ w. w }
 
 pub grows_trans : (b c d : Block) → Grows b c → Grows c d → Grows b d
 grows_trans b c d p q = record {
@@ -85,6 +95,7 @@ grows_trans b c d p q = record {
   variables = prefix_trans b.variables c.variables d.variables p.variables q.variables;
   own = prefix_trans b.own.variables c.own.variables d.own.variables p.own q.own;
   parameters = q.parameters ∙ p.parameters;
+  result = q.result ∙ p.result;
   outer = q.outer ∙ p.outer;
   alone = λ e. q.alone (p.outer ∙ e) ∙ p.alone e;
   headings = prefix_trans (map heading_in b.routines) (map heading_in c.routines) (map heading_in d.routines) p.headings q.headings;
@@ -104,7 +115,9 @@ module _ (u : TypedUnit) (o : List UnitVariable) where
     pub variables : IsPrefix c.variables u.variables
     -- the line of the routine's declaration
     pub line : ℕ
-    pub own : IsPrefix (variables_in line c.own) o
+    -- the name of the variable that has its result
+    pub name : List ℕ
+    pub own : IsPrefix (variables_in line name c.own) o
     pub headings : IsPrefix (map heading_in c.routines) (map heading_of u.routines)
 
   -- so it has what was in them before
@@ -114,7 +127,8 @@ module _ (u : TypedUnit) (o : List UnitVariable) where
     constants = prefix_trans b.constants c.constants u.constants g.constants e.constants;
     variables = prefix_trans b.variables c.variables u.variables g.variables e.variables;
     line = e.line;
-    own = prefix_trans (variables_in e.line b.own) (variables_in e.line c.own) o (own_prefix e.line b.own c.own g.parameters g.own) e.own;
+    name = e.name;
+    own = prefix_trans (variables_in e.line e.name b.own) (variables_in e.line e.name c.own) o (own_prefix e.line e.name b.own c.own g.parameters g.result g.own) e.own;
     headings = prefix_trans (map heading_in b.routines) (map heading_in c.routines) (map heading_of u.routines) g.headings e.headings;
   }
 
@@ -145,16 +159,16 @@ module _ (u : TypedUnit) (o : List UnitVariable) where
   pub noted_leads : (built : Bool) (line : ℕ) (b c : Block) → (built ≡ true → Leads b c) → Grows b c → Leads b (noted built line c)
   noted_leads true line b c h g = h refl
   noted_leads false line b c h g = record {
-    grows = record { types = g.types; constants = g.constants; variables = g.variables; own = g.own; parameters = g.parameters; outer = g.outer; alone = g.alone; headings = g.headings; waits = λ w. absurd (waits_some c.waits line w) };
+    grows = record { types = g.types; constants = g.constants; variables = g.variables; own = g.own; parameters = g.parameters; result = g.result; outer = g.outer; alone = g.alone; headings = g.headings; waits = λ w. absurd (waits_some c.waits line w) };
     holds = λ e w x. absurd (waits_some c.waits line w);
   }
 
   named_grows : (name : List ℕ) (t : Thing) (b : Block) → Grows b (with_name name t b)
-  named_grows name t b = record { types = prefix_refl b.types; constants = prefix_refl b.constants; variables = prefix_refl b.variables; own = prefix_refl b.own.variables; parameters = refl; outer = refl; alone = λ e. refl; headings = prefix_refl (map heading_in b.routines); waits = λ w. w }
+  named_grows name t b = record { types = prefix_refl b.types; constants = prefix_refl b.constants; variables = prefix_refl b.variables; own = prefix_refl b.own.variables; parameters = refl; result = refl; outer = refl; alone = λ e. refl; headings = prefix_refl (map heading_in b.routines); waits = λ w. w }
 
   -- a name for something that the unit holds
   pub named_holds : (i : ℕ) (name : List ℕ) (t : Thing) (b : Block) → HoldsThing u o i t → Holds u o i b → Holds u o i (with_name name t b)
-  named_holds i name t b h x = record { unit = x.unit; things = things_push u o i b.scopes.inner.entries name t x.things h; plain = x.plain; outer = x.outer; routines = x.routines; types = x.types; constants = x.constants; variables = x.variables; parameters = x.parameters; owned = x.owned }
+  named_holds i name t b h x = record { unit = x.unit; things = things_push u o i b.scopes.inner.entries name t x.things h; plain = x.plain; outer = x.outer; routines = x.routines; types = x.types; constants = x.constants; variables = x.variables; parameters = x.parameters; result = x.result; owned = x.owned }
 
   pub entered_leads : (name : List ℕ) (t : Thing) (b : Block) → (Extends b → Holds u o (length b.types) b → HoldsThing u o (length b.types) t) → Fits (Leads b) (entered name t b)
   entered_leads name t b h =

@@ -43,7 +43,7 @@ use Rattle.ep_check_expr.specs.Judgements.{Accepts, Breaks}
 use Rattle.ep_check_expr.specs.Laws.{BoundsAreSound, BoundsAreKnown}
 use Rattle.ep_check_expr.specs.Names.{undeclared}
 use Rattle.ep_check_expr.specs.declared.constants.ConstantForm.{ConstantForm}
-use Rattle.ep_check_stmt.proofs.judged.SameHost.{host_same}
+use Rattle.ep_check_expr.proofs.SameHost.{host_same}
 use Rattle.ep_check_stmt.proofs.judged.Fits.{Fits, fits_both, fits_is, fits_pair, fits_then, fits_weaker}
 use Rattle.ep_check_unit.specs.Declarations.{Written, common_host, core_written, declared_type, enumerated, enumeration, host_denoter, next_enumeration, next_type, noted, number_in, ordered, range, required_host, scopes_of, subrange, subrange_denoter, type_meant, type_named}
 use Rattle.ep_check_unit.specs.Blocks.{Block}
@@ -84,6 +84,7 @@ module _ (u : TypedUnit) (o : List UnitVariable) where
   declared_names d (declaration.Variable of k) b held = tt
   declared_names d (declaration.Own of k guarded) b held = tt
   declared_names d (declaration.Procedure ps) b held = tt
+  declared_names d (declaration.Function ps of h) b held = tt
 
   meant_names : (missing : List ℕ) (m : Meant) (b : Block) → HeldThroughout b m → Fits (Names b) (type_meant missing m b)
   meant_names missing (Declares d) b held = declared_names d d.what b (λ i x. (held i x).1)
@@ -206,7 +207,7 @@ module _ (u : TypedUnit) (o : List UnitVariable) where
         };
   }
   subrange_writes false line h low high b e k = record {
-    grows = record { types = prefix_refl b.types; constants = prefix_refl b.constants; variables = prefix_refl b.variables; own = prefix_refl b.own.variables; parameters = refl; outer = refl; alone = λ e. refl; headings = prefix_refl (map heading_in b.routines); waits = λ w. absurd (waits_some b.waits line w) };
+    grows = record { types = prefix_refl b.types; constants = prefix_refl b.constants; variables = prefix_refl b.variables; own = prefix_refl b.own.variables; parameters = refl; result = refl; outer = refl; alone = λ e. refl; headings = prefix_refl (map heading_in b.routines); waits = λ w. absurd (waits_some b.waits line w) };
     same = refl;
     holds = λ ext free next x. absurd (waits_some b.waits line free);
   }

@@ -1,31 +1,30 @@
 -- A typed unit that the rules give is valid.
-use Rattle.std.proofs.Common.{◌≡◌, ◌∙◌, ℕ, ◌≤◌, List, [], ◌∷◌, ◌++◌, map, length, Option, Some, None, refl, sym, ap, subst, arith}
+use Rattle.std.proofs.Common.{◌≡◌, ◌∙◌, ℕ, ◌≤◌, List, [], ◌∷◌, map, length, Option, Some, None, refl, sym, ap, subst, arith}
 use Rattle.std.proofs.lemmas.List.Elements.{All-cons, All-head, All-nil, All-same, All-tail}
 use Rattle.std.specs.Prelude.{All}
 use Rattle.ep_outside.specs.Known.{IsPrefix}
 use Rattle.ep_tree.specs.declared.component.Component.TheVariants as component_is
 use Rattle.ep_tree.specs.declared.component.Program.{Program}
 use Rattle.ep_typed.specs.Operations.{maxint}
-use Rattle.ep_typed.specs.Routines.{formal_variable, heading_of, result_variable}
 use Rattle.ep_typed.specs.Trees.{Stmts}
-use Rattle.ep_typed.specs.Valid.{IsConstant, IsResult, IsRoutine, IsStmt, IsType, IsValid, IsVariable, in_routine, own}
-use Rattle.ep_typed.specs.Viewed.{stmt_of}
+use Rattle.ep_typed.specs.Valid.{IsConstant, IsRoutine, IsStmt, IsType, IsValid, IsVariable, heading_of, own}
 use Rattle.ep_typed.specs.declared.unit.Unit.{Unit as TypedUnit}
 use Rattle.ep_typed.specs.declared.unit.UnitRoutine.{UnitRoutine}
-use Rattle.ep_typed.specs.declared.unit.UnitRoutine.TheViews.{out-UnitRoutine}
 use Rattle.ep_check_expr.specs.Judgements.{Judged, Accepts, Breaks}
 use Rattle.ep_check_expr.specs.Laws.{BoundsAreKnown, BoundsAreSound, ConstantsAreKnown, ConstantsAreSound}
-use Rattle.ep_check_stmt.specs.Laws.{StatementsAreSound}
+use Rattle.ep_check_stmt.specs.Laws.{ResultIsThere, StatementsAreSound}
 use Rattle.ep_check_stmt.specs.Statements.{Judgement, Passes, Waits, Fails, after, compound_judged}
 use Rattle.ep_check_stmt.proofs.judged.Fits.{Fits}
-use Rattle.ep_check_unit.specs.Declarations.{Standing, Stands, Falls, and_then, at_line, context_of, parts_declared}
+use Rattle.ep_check_unit.specs.Declarations.{Standing, Stands, Falls, and_then, at_line}
+use Rattle.ep_check_unit.specs.Functions.{assigned_function}
+use Rattle.ep_check_unit.specs.Routines.{context_of, parts_declared}
 use Rattle.ep_check_unit.specs.Laws.{UnitsAreValid}
 use Rattle.ep_check_unit.specs.Units.{IsTypedProgram, IsUnitOf, ProgramForm, body_judged, declarations_wait, first_missing, parameters_entered, program_block, program_form, program_judged, unless_missing}
 use Rattle.ep_check_unit.specs.Blocks.{Block, routine_form}
 use Rattle.ep_check_unit.proofs.valid.Holds.{Holds, HoldsParameter, HoldsRoutine, holds_agrees_outside}
 use Rattle.ep_check_unit.proofs.valid.Items.{LeadsOn, parameters_lead}
 use Rattle.ep_check_unit.proofs.valid.Leading.{Leads, heading_in, leads_trans, prefix_refl, variables_in}
-use Rattle.ep_check_unit.proofs.valid.Procedures.{parts_lead}
+use Rattle.ep_check_unit.proofs.valid.Routines.{parts_lead}
 
 -- a program that passes, by its parts
 record IsMade (p : Program) (form : ProgramForm) : Type 0 where
@@ -81,35 +80,37 @@ routines_valid : (u : TypedUnit) (rs : List UnitRoutine) → All (HoldsRoutine u
 routines_valid u [] g = All-nil (IsRoutine (own u) u.types)
 routines_valid u (r ∷ rs) g =
     let held = All-head (HoldsRoutine u) (routine_form r) (map routine_form rs) g in
-    let parts = out-UnitRoutine r in
-    All-cons (IsRoutine (own u) u.types) r rs
-    (record {
-      formals = held.formals;
-      result = subst (IsResult u.types) (sym held.procedure) tt;
-      variables = held.variables;
-      routines = held.alone;
-      block = subst (λ o. IsStmt (in_routine (map (formal_variable parts.line) parts.formals ++ (result_variable parts.name parts.line o ++ parts.variables)) u.types (own u)) (stmt_of parts.block)) (sym held.procedure) held.block;
-    })
+    All-cons (IsRoutine (own u) u.types) r rs (record { result = held.result; formals = held.formals; variables = held.variables; routines = held.alone; block = held.block })
     (routines_valid u rs (All-tail (HoldsRoutine u) (routine_form r) (map routine_form rs) g))
 
 module _ (statements : StatementsAreSound) (constants : ConstantsAreSound) (bounds : BoundsAreSound) (constant_hosts : ConstantsAreKnown) (bound_hosts : BoundsAreKnown) where
+  -- all declarations lead to its block
+  block_leads : (p : Program) (u : TypedUnit) (form : ProgramForm) → IsMade p form → length u.constants ≤ maxint → Leads u [] (program_block p) form.block
+  block_leads p u form made few =
+      let entered : Leads u [] (program_block p) made.first = subst (Fits (Leads u [] (program_block p))) made.entered (parameters_lead u [] p.parameters (program_block p)) in
+      let declared : Leads u [] made.first form.block = subst (LeadsOn u [] made.first) made.declared (parts_lead u few statements constants bounds constant_hosts bound_hosts p.parts made.first) in
+      leads_trans u [] (program_block p) made.first form.block entered declared
+
+  -- which is the block of no function
+  no_result : (p : Program) (u : TypedUnit) (form : ProgramForm) → IsMade p form → length u.constants ≤ maxint → ResultIsThere (own u) (context_of form.block).result
+  no_result p u form made few = subst (λ o. ResultIsThere (own u) (assigned_function form.block.unit o.result)) (sym ((block_leads p u form made few).grows.alone refl)) tt
+
   -- the unit holds its block
   block_held : (p : Program) (u : TypedUnit) (form : ProgramForm) → IsMade p form → length u.constants ≤ maxint → IsUnitOf p form u → Holds u [] (length form.block.types) form.block
   block_held p u form made few is =
-      let entered : Leads u [] (program_block p) made.first = subst (Fits (Leads u [] (program_block p))) made.entered (parameters_lead u [] p.parameters (program_block p)) in
-      let declared : Leads u [] made.first form.block = subst (LeadsOn u [] made.first) made.declared (parts_lead u few statements constants bounds constant_hosts bound_hosts p.parts made.first) in
-      let all = leads_trans u [] (program_block p) made.first form.block entered declared in
+      let all = block_leads p u form made few in
       all.holds
       (record {
         types = subst (IsPrefix form.block.types) (sym is.types) (prefix_refl form.block.types);
         constants = subst (IsPrefix form.block.constants) (sym is.constants) (prefix_refl form.block.constants);
         variables = subst (IsPrefix form.block.variables) (sym is.variables) (prefix_refl form.block.variables);
         line = 0;
-        own = subst (λ vs. IsPrefix (variables_in 0 vs) []) (sym (all.grows.alone refl)) (prefix_refl []);
+        name = [];
+        own = subst (λ vs. IsPrefix (variables_in 0 [] vs) []) (sym (all.grows.alone refl)) (prefix_refl []);
         headings = subst (IsPrefix (map heading_in form.block.routines)) (ap (map heading_in) (sym is.routines) ∙ forms_headings u.routines) (prefix_refl (map heading_in form.block.routines));
       })
       made.waits
-      (record { unit = sym is.name; things = tt; plain = refl; outer = tt; types = All-nil (IsType u.types); constants = All-nil (IsConstant u.types); variables = All-nil (IsVariable u.types); parameters = All-nil (HoldsParameter u 0); owned = All-nil (IsVariable u.types); routines = All-nil (HoldsRoutine u) })
+      (record { unit = sym is.name; things = tt; plain = refl; outer = tt; types = All-nil (IsType u.types); constants = All-nil (IsConstant u.types); variables = All-nil (IsVariable u.types); parameters = All-nil (HoldsParameter u 0); result = tt; owned = All-nil (IsVariable u.types); routines = All-nil (HoldsRoutine u) })
 
   program_valid : (p : Program) (u : TypedUnit) → IsTypedProgram p u → length u.constants ≤ maxint → IsValid u
   program_valid p u t few =
@@ -123,7 +124,7 @@ module _ (statements : StatementsAreSound) (constants : ConstantsAreSound) (boun
         variables = All-same (IsVariable u.types) u.variables t.form.block.variables t.unit.variables held.variables;
         routines = routines_valid u u.routines (All-same (HoldsRoutine u) (map routine_form u.routines) t.form.block.routines t.unit.routines held.routines);
         start = subst (IsStmt (own u)) (sym t.unit.start)
-            (statements (context_of t.form.block) p.body t.form.statements made.statements (own u) (holds_agrees_outside u (length t.form.block.types) t.form.block le held));
+            (statements (context_of t.form.block) p.body t.form.statements made.statements (own u) (holds_agrees_outside u (length t.form.block.types) t.form.block le held) (no_result p u t.form made few));
         stop = t.unit.stop;
       }
 

@@ -15,7 +15,7 @@ returns-in_err-found-clause-refused c =
     (statements_refused c.args.p.now (block_of c.enter_parameters.new.self) (block_of c.declare.new.self) c.in_err-found.field-0.0
     (rw (c.items-2.ensures, c.in_ok-block.ensures, c.in_ok-copy.ensures, c.has_name-output.ensures, c.items.ensures) at c.in_default.ensures)
     (rw c.items-3.ensures at c.in_ok-declare.ensures)
-    (rw c.in_view.ensures at c.in_err-found.ensures))
+    c.in_err-found.ensures)
 
 pub returns-in_err-statements-clause-refused : goal.returns-in_err-statements-clause-refused
 returns-in_err-statements-clause-refused c =
@@ -24,7 +24,7 @@ returns-in_err-statements-clause-refused c =
     (waits_refused c.args.p.now (block_of c.enter_parameters.new.self) (block_of c.declare.new.self) c.in_ok-found.found c.in_err-statements.field-0.0
     (rw (c.items-2.ensures, c.in_ok-block.ensures, c.in_ok-copy.ensures, c.has_name-output.ensures, c.items.ensures) at c.in_default.ensures)
     (rw c.items-3.ensures at c.in_ok-declare.ensures)
-    (rw c.in_view.ensures at c.in_ok-found.ensures)
+    c.in_ok-found.ensures
     (rw (c.items-4.ensures, c.items-5.ensures) at c.in_ok-all_there.ensures)
     c.in_err-statements.ensures)
 
@@ -33,7 +33,7 @@ returns-clause-typed c =
     program_typed c.args.p.now (block_of c.enter_parameters.new.self) (block_of c.declare.new.self) c.in_ok-found.found c.in_ok-statements.statements c.into_unit.result
     (rw (c.items-2.ensures, c.in_ok-block.ensures, c.in_ok-copy.ensures, c.has_name-output.ensures, c.items.ensures) at c.in_default.ensures)
     (rw c.items-3.ensures at c.in_ok-declare.ensures)
-    (rw c.in_view.ensures at c.in_ok-found.ensures)
+    c.in_ok-found.ensures
     (rw (c.items-4.ensures, c.items-5.ensures) at c.in_ok-all_there.ensures)
     c.in_ok-statements.ensures
     (rw (c.in_ok-imports.ensures, c.items-6.ensures) at c.into_unit.ensures)
@@ -45,5 +45,5 @@ returns-in_err-all_there-clause-refused c =
     (missing_refused c.args.p.now (block_of c.enter_parameters.new.self) (block_of c.declare.new.self) c.in_ok-found.found c.in_err-all_there.field-0.0
     (rw (c.items-2.ensures, c.in_ok-block.ensures, c.in_ok-copy.ensures, c.has_name-output.ensures, c.items.ensures) at c.in_default.ensures)
     (rw c.items-3.ensures at c.in_ok-declare.ensures)
-    (rw c.in_view.ensures at c.in_ok-found.ensures)
+    c.in_ok-found.ensures
     (rw (c.items-4.ensures, c.items-5.ensures) at c.in_err-all_there.ensures))

@@ -1,5 +1,5 @@
 use Rattle.std.proofs.Common.{◌≡◌, map, take}
-use Rattle.ep_check_unit.specs.Declarations.{formal_of}
+use Rattle.ep_check_unit.specs.Routines.{formal_of}
 use Rattle.ep_check_unit.proofs.formals.formals.Given as goal
 
 abbrev pub invariant-loop-parameter : goal.invariant-loop-parameter

@@ -1,5 +1,5 @@
 use Rattle.std.proofs.Common.{◌≡◌, drop}
-use Rattle.ep_check_unit.specs.Declarations.{parameters_added}
+use Rattle.ep_check_unit.specs.Routines.{parameters_added}
 use Rattle.ep_check_unit.proofs.formals.with_names.Given as goal
 
 abbrev pub invariant-loop-name : goal.invariant-loop-name

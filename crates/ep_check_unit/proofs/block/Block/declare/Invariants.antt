@@ -1,6 +1,6 @@
 use Rattle.std.proofs.Common.{◌≡◌, None, map, drop}
 use Rattle.ep_built.specs.Built.{first_in, part_unbuilt}
-use Rattle.ep_check_unit.specs.Declarations.{parts_declared}
+use Rattle.ep_check_unit.specs.Routines.{parts_declared}
 use Rattle.ep_check_unit.specs.Blocks.{block_of}
 use Rattle.ep_check_unit.proofs.block.Block.declare.Given as goal
 

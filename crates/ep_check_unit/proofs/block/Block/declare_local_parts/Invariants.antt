@@ -1,7 +1,7 @@
 use Rattle.std.proofs.Common.{◌≡◌, None, map, drop}
 use Rattle.ep_built.specs.Built.{first_in, local_part_unbuilt}
 use Rattle.ep_check_unit.specs.Blocks.{block_of}
-use Rattle.ep_check_unit.specs.Declarations.{local_parts_declared}
+use Rattle.ep_check_unit.specs.Routines.{local_parts_declared}
 use Rattle.ep_check_unit.proofs.block.Block.declare_local_parts.Given as goal
 
 abbrev pub invariant-loop-part : goal.invariant-loop-part

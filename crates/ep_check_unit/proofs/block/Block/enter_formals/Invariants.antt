@@ -1,6 +1,6 @@
 use Rattle.std.proofs.Common.{◌≡◌, drop}
 use Rattle.ep_check_unit.specs.Blocks.{block_of}
-use Rattle.ep_check_unit.specs.Declarations.{formals_entered}
+use Rattle.ep_check_unit.specs.Routines.{formals_entered}
 use Rattle.ep_check_unit.proofs.block.Block.enter_formals.Given as goal
 
 abbrev pub invariant-loop-place : goal.invariant-loop-place

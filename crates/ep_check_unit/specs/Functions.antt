@@ -1,0 +1,126 @@
+-- Functions: their results, and what gives these a value.
+use Rattle.std.specs.Prelude.{ℕ, ◌==◌, Bool, true, false, not, ◌&&◌, ◌||◌, List, [], ◌∷◌, Option, Some, None, is_some, slice_get, if◌then◌else◌}
+use Rattle.std.specs.Str.{bytes_eq}
+use Rattle.ep_tree.specs.declared.statement.Compound.{Compound}
+use Rattle.ep_typed.specs.Trees.{Stmts}
+use Rattle.ep_typed.specs.declared.interface.Formal.{Formal}
+use Rattle.ep_typed.specs.declared.interface.RoutineResult.{RoutineResult}
+use Rattle.ep_scope.specs.Parameters.{same_type}
+use Rattle.ep_scope.specs.Scopes.{Meant, Declares, meant}
+use Rattle.ep_scope.specs.declared.kind.Kind.TheVariants as kind
+use Rattle.ep_scope.specs.declared.parameter.FormalParameter.{FormalParameter}
+use Rattle.ep_scope.specs.declared.parameter.Protection.TheVariants as protection
+use Rattle.ep_scope.specs.declared.rule.TheConstants as rule
+use Rattle.ep_scope.specs.declared.thing.Declaration.{Declaration}
+use Rattle.ep_scope.specs.declared.thing.Declaration.TheVariants as declaration
+use Rattle.ep_check_expr.specs.Judgements.{Judged, Accepts}
+use Rattle.ep_check_stmt.specs.Statements.{FunctionResult, Judgement, Passes, Waits, Fails}
+use Rattle.ep_check_stmt.specs.Threats.{assigns, stmts_threaten}
+use Rattle.ep_check_unit.specs.Blocks.{Block, RoutineForm}
+use Rattle.ep_check_unit.specs.Declarations.{Standing, Falls, entered, own_thing, scopes_of, type_denoter}
+use Rattle.ep_check_unit.specs.declared.block.OwnResult.{OwnResult}
+use Rattle.ep_check_unit.specs.declared.functions.HeadingResult.{HeadingResult}
+
+-- ---- results in headings (ISO 10206, 6.7.2)
+
+-- the result of a typed routine
+abbrev pub typed_result : Option HeadingResult → Option RoutineResult
+typed_result None = None
+typed_result (Some r) = Some (record { name = r.name; denoter = type_denoter r.of })
+
+-- what the name of a routine with these formal parameters and this result stands for
+abbrev pub routine_declaration : List FormalParameter → Option HeadingResult → Declaration
+routine_declaration ps None = declaration.Procedure ps
+routine_declaration ps (Some r) = declaration.Function ps r.of r.host
+
+-- the name of its own that the result of a routine has, where there is one
+abbrev pub result_own_name : Option RoutineResult → Option (List ℕ)
+result_own_name None = None
+result_own_name (Some r) = r.name
+
+-- that of a routine in a list
+abbrev pub own_name_at : Option RoutineForm → Option (List ℕ)
+own_name_at None = None
+own_name_at (Some r) = result_own_name r.result
+
+-- both have no name of their own, or the same one
+abbrev pub same_own_name : Option (List ℕ) → Option (List ℕ) → Bool
+same_own_name None None = true
+same_own_name (Some name) (Some other) = bytes_eq name other
+same_own_name _ _ = false
+
+-- a heading that is given again has the result of the first one, or none as the first one
+abbrev pub same_result : Option HeadingResult → Option HeadingResult → Bool
+same_result None None = true
+same_result (Some r) (Some s) = same_own_name r.name s.name && same_type r.of s.of
+same_result _ _ = false
+
+-- ---- results in blocks
+
+-- the result of the function of this number in its block, by the number of the variable that has it
+abbrev pub in_block : ℕ → ℕ → HeadingResult → OwnResult
+in_block number variable r = record { function = number; variable = variable; of = r.of; host = r.host; named = is_some r.name }
+
+abbrev pub own_result : ℕ → ℕ → Option HeadingResult → Option OwnResult
+own_result number variable None = None
+own_result number variable (Some r) = Some (in_block number variable r)
+
+-- a name of its own stands for the variable that has the result
+abbrev pub own_name_entered : OwnResult → Option (List ℕ) → Block → Judged Block
+own_name_entered own None b = Accepts b
+own_name_entered own (Some name) b = entered name (own_thing b own.variable (declaration.Own own.of (kind.Ordinal own.host) protection.Unprotected)) b
+
+abbrev pub result_entered : ℕ → ℕ → Option HeadingResult → Block → Judged Block
+result_entered number variable None b = Accepts b
+result_entered number variable (Some r) b = own_name_entered (in_block number variable r) r.name b
+
+-- the function to whose name its block assigns, where the result has no name of its own (ISO 10206, 6.9.2.2)
+abbrev pub assigned_function : List ℕ → Option OwnResult → Option FunctionResult
+assigned_function unit None = None
+assigned_function unit (Some r) = if r.named then None else Some (record { unit = unit; function = r.function; variable = r.variable; host = r.host })
+
+-- ---- what gives a result (ISO 10206, 6.7.2)
+
+-- The text of the statements assigns to the name of the function, where its result has no other one. Of a procedure nothing is asked, here and below.
+abbrev pub is_assigned : Option OwnResult → List ℕ → Compound → Bool
+is_assigned None name c = true
+is_assigned (Some r) name c = r.named || assigns name c
+
+abbrev pub is_function : Declaration → Bool
+is_function (declaration.Function ps of h) = true
+is_function _ = false
+
+-- the function of this number of a unit
+abbrev pub is_that_function : List ℕ → ℕ → Meant → Bool
+is_that_function unit number (Declares d) = is_function d.what && bytes_eq d.unit unit && d.number == number
+is_that_function unit number _ = false
+
+-- and the name means the function there
+abbrev pub is_in_view : Option OwnResult → List ℕ → Block → Bool
+is_in_view None name b = true
+is_in_view (Some r) name b = r.named || is_that_function b.unit r.function (meant (scopes_of b) name)
+
+-- the formal parameters of the routine of a number, where there is one
+abbrev pub formals_if : Option RoutineForm → List Formal
+formals_if None = []
+formals_if (Some r) = r.formals
+
+-- so of each routine of the unit, which is the only one
+abbrev pub formals_at : List RoutineForm → List ℕ → ℕ → List Formal
+formals_at routines unit number = formals_if (slice_get routines number)
+
+-- the statements threaten the variable that has the result, where this has a name of its own (ISO 10206, 6.9.4)
+abbrev pub is_threatened : Option OwnResult → List RoutineForm → Stmts → Bool
+is_threatened None routines ss = true
+is_threatened (Some r) routines ss = not r.named || stmts_threaten (formals_at routines) r.variable ss
+
+-- statements that break a rule, or wait for what is not built, count as those that do
+abbrev pub row_gives : Block → Judgement Stmts → Bool
+row_gives b (Passes ss) = is_threatened b.own.result b.routines ss
+row_gives b (Waits line) = true
+row_gives b (Fails line rules) = true
+
+-- the result is given, or else a rule fails at the declaration on this line, before all that is inside
+abbrev pub if_given : ℕ → Bool → Standing → Standing
+if_given line true s = s
+if_given line false s = Falls line (rule.NO_RESULT ∷ [])

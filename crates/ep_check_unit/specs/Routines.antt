@@ -1,0 +1,303 @@
+-- What the static rules say of routines, and of all parts of a block (ISO 10206, 6.2.1 and 6.7). The declaration of a routine without its block is an item, on the line of the word `procedure` or `function`.
+use Rattle.std.specs.List.{list_any}
+use Rattle.std.specs.Prelude.{ℕ, nat_eq, suc, Bool, true, false, not, ◌||◌, List, [], ◌∷◌, ◌++◌, map, length, slice_get, slice_set, Option, Some, None, is_none, if◌then◌else◌}
+use Rattle.std.specs.Str.{bytes_eq}
+use Rattle.ep_tree.specs.declared.declaration.FormalSection.{FormalSection}
+use Rattle.ep_tree.specs.declared.declaration.FormalType.{FormalType}
+use Rattle.ep_tree.specs.declared.declaration.FormalType.TheVariants as formal_type
+use Rattle.ep_tree.specs.declared.declaration.RoutineHeading.{RoutineHeading}
+use Rattle.ep_tree.specs.declared.declaration.RoutineHeading.TheVariants as heading
+use Rattle.ep_tree.specs.declared.routine.Part.TheOpen.{Part-F, RoutineBody-F}
+use Rattle.ep_tree.specs.declared.routine.Part.{Part, out-Part}
+use Rattle.ep_tree.specs.declared.routine.Routine.{Routine, out-Routine}
+use Rattle.ep_tree.specs.declared.routine.RoutineBody.{out-RoutineBody}
+use Rattle.ep_tree.specs.declared.routine.RoutineStart.{RoutineStart}
+use Rattle.ep_tree.specs.declared.routine.RoutineStart.TheVariants as start
+use Rattle.ep_tree.specs.declared.statement.Compound.{Compound}
+use Rattle.ep_typed.specs.Trees as tree
+use Rattle.ep_typed.specs.Trees.{Stmt, Stmts}
+use Rattle.ep_typed.specs.declared.interface.Formal.{Formal}
+use Rattle.ep_typed.specs.declared.interface.FormalMode.{FormalMode}
+use Rattle.ep_typed.specs.declared.interface.FormalMode.TheVariants as mode
+use Rattle.ep_typed.specs.declared.unit.UnitVariable.{UnitVariable}
+use Rattle.ep_scope.specs.Parameters.{protection_of, same_parameters}
+use Rattle.ep_scope.specs.Required.{look_up}
+use Rattle.ep_scope.specs.Scopes.{opened, closed}
+use Rattle.ep_scope.specs.declared.kind.Host.{Host}
+use Rattle.ep_scope.specs.declared.kind.Kind.TheVariants as kind
+use Rattle.ep_scope.specs.declared.parameter.FormalParameter.{FormalParameter}
+use Rattle.ep_scope.specs.declared.parameter.TypeName.{TypeName}
+use Rattle.ep_scope.specs.declared.rule.TheConstants as rule
+use Rattle.ep_scope.specs.declared.thing.Declaration.{Declaration}
+use Rattle.ep_scope.specs.declared.thing.Declaration.TheVariants as declaration
+use Rattle.ep_scope.specs.declared.thing.Thing.{Thing}
+use Rattle.ep_scope.specs.declared.thing.Thing.TheVariants as thing
+use Rattle.ep_check_expr.specs.Judgements.{Judged, Accepts, Breaks, unbuilt, when_accepted}
+use Rattle.ep_check_stmt.specs.Statements.{Context, Judgement, Passes, Waits, Fails, compound_judged}
+use Rattle.ep_check_unit.specs.Blocks.{Block, RoutineForm}
+use Rattle.ep_check_unit.specs.declared.block.OwnVariables.{OwnVariables}
+use Rattle.ep_tree.specs.declared.operator.QualifiedName.{QualifiedName}
+use Rattle.ep_check_unit.specs.Declarations.{Written, Standing, Stands, Falls, all_variables_declared, and_then, at_line, constants_declared, entered, misnamed, noted, own_thing, scopes_of, type_definitions, type_denoter, type_named}
+use Rattle.ep_check_unit.specs.Functions.{assigned_function, if_given, is_assigned, is_in_view, own_name_at, own_result, result_entered, routine_declaration, row_gives, same_result, typed_result}
+use Rattle.ep_check_unit.specs.declared.functions.HeadingResult.{HeadingResult}
+
+-- ---- formal parameters (ISO 10206, 6.7.3)
+
+-- how the parameters of a section are given: by the words `protected` and `var`
+abbrev pub section_mode : Bool → Bool → FormalMode
+section_mode false false = mode.Value
+section_mode false true = mode.Variable
+section_mode true false = mode.ProtectedValue
+section_mode true true = mode.ProtectedVariable
+
+-- whether a parameter has the name
+abbrev pub is_parameter : List ℕ → List FormalParameter → Bool
+is_parameter name ps = list_any (λ p. bytes_eq p.name name) ps
+
+-- In a list of parameters the name of the routine and those of the parameters before hide what they mean outside; none of them is a type or has a constituent.
+abbrev pub hidden_type : Option (List ℕ) → Judged Written
+hidden_type None = misnamed
+hidden_type (Some name) = Breaks (rule.UNDECLARED ∷ [])
+
+abbrev pub parameter_type : List ℕ → List FormalParameter → List ℕ → Option (List ℕ) → Block → Judged Written
+parameter_type routine before first second b = if bytes_eq routine first || is_parameter first before then hidden_type second else type_named first second b
+
+-- the type of a section; the type of a variable is not built
+abbrev pub section_type : List ℕ → List FormalParameter → FormalType → Block → Judged Written
+section_type routine before (formal_type.Named name) b = parameter_type routine before name.first name.second b
+section_type routine before (formal_type.TypeOf line name) b = unbuilt
+
+-- no name stands twice in a list of parameters
+abbrev pub parameter_added : FormalParameter → List FormalParameter → Judged (List FormalParameter)
+parameter_added p before = if is_parameter p.name before then Breaks (rule.TWICE ∷ []) else Accepts (before ++ p ∷ [])
+
+-- the parameters of these names, of a section with this number
+abbrev pub parameters_added : FormalMode → ℕ → TypeName → Host → List (List ℕ) → List FormalParameter → Judged (List FormalParameter)
+parameters_added m section of h [] before = Accepts before
+parameters_added m section of h (name ∷ names) before =
+    when_accepted (parameters_added m section of h names) (parameter_added (record { name = name; mode = m; section = section; of = of; host = h }) before)
+
+abbrev pub section_judged : List ℕ → ℕ → FormalSection → Block → List FormalParameter → Judged (List FormalParameter)
+section_judged routine section s b before =
+    when_accepted (λ w. parameters_added (section_mode s.protected s.variable) section w.of w.host s.names before) (section_type routine before s.of b)
+
+-- all sections from this number on
+abbrev pub sections_judged : List ℕ → ℕ → List FormalSection → Block → List FormalParameter → Judged (List FormalParameter)
+sections_judged routine section [] b before = Accepts before
+sections_judged routine section (s ∷ ss) b before = when_accepted (sections_judged routine (suc section) ss b) (section_judged routine section s b before)
+
+-- ---- headings (ISO 10206, 6.7.1 and 6.7.2)
+
+-- a formal parameter of a typed routine
+abbrev pub formal_of : FormalParameter → Formal
+formal_of p = record { name = p.name; mode = p.mode; section = p.section; denoter = type_denoter p.of }
+
+-- a routine with these formal parameters and this result, which has no block so far and does nothing
+abbrev pub headed_form : List ℕ → ℕ → List FormalParameter → Option HeadingResult → RoutineForm
+headed_form name line ps r = record { name = name; line = line; formals = map formal_of ps; result = typed_result r; variables = []; routines = []; block = tree.Empty }
+
+-- one more
+abbrev pub with_routine : List ℕ → ℕ → List FormalParameter → Option HeadingResult → Block → Block
+with_routine name line ps r b = record b { routines = b.routines ++ headed_form name line ps r ∷ [] }
+
+-- a routine that is declared: its number, its formal parameters and its result, and what has been declared with it
+pub record Headed : Type 0 where
+  pub number : ℕ
+  pub parameters : List FormalParameter
+  pub result : Option HeadingResult
+  pub block : Block
+
+-- Its first declaration. The name is there before the block of the routine is, so the routine may call itself.
+abbrev pub headed_first : List ℕ → ℕ → List FormalParameter → Option HeadingResult → Block → Judged Headed
+headed_first name line ps r b =
+    when_accepted (λ c. Accepts (record { number = length b.routines; parameters = ps; result = r; block = c }))
+    (entered name (own_thing b (length b.routines) (routine_declaration ps r)) (with_routine name line ps r b))
+
+-- The routine that is declared under a name already; a name that stands for something else is declared twice. Only its first heading says which name of its own the result of a function has.
+abbrev pub declared_routine : ℕ → Declaration → Block → Judged Headed
+declared_routine number (declaration.Procedure ps) b = Accepts (record { number = number; parameters = ps; result = None; block = b })
+declared_routine number (declaration.Function ps of h) b =
+    Accepts (record { number = number; parameters = ps; result = Some (record { name = own_name_at (slice_get b.routines number); of = of; host = h }); block = b })
+declared_routine number (declaration.Constant k v) b = Breaks (rule.TWICE ∷ [])
+declared_routine number (declaration.«Type» of h) b = Breaks (rule.TWICE ∷ [])
+declared_routine number (declaration.Variable of k) b = Breaks (rule.TWICE ∷ [])
+declared_routine number (declaration.Own of k guarded) b = Breaks (rule.TWICE ∷ [])
+
+abbrev pub routine_there : Thing → Block → Judged Headed
+routine_there (thing.Declared d) b = declared_routine d.number d.what b
+routine_there (thing.Standard file) b = Breaks (rule.TWICE ∷ [])
+
+-- whether a list has a number
+abbrev pub has_number : ℕ → List ℕ → Bool
+has_number number numbers = list_any (λ n. nat_eq n number) numbers
+
+-- whether the routine of this number has a body
+abbrev pub has_body : ℕ → Block → Bool
+has_body number b = has_number number b.bodies
+
+-- A heading that is given again has no parameters, or those of the first one.
+abbrev pub is_repeated : List FormalParameter → List FormalParameter → Bool
+is_repeated [] first = true
+is_repeated (p ∷ ps) first = same_parameters (p ∷ ps) first
+
+-- another declaration of a routine is its body, where it has none yet
+abbrev pub headed_again : Bool → List FormalParameter → Option HeadingResult → Headed → Judged Headed
+headed_again is_forward ps r h =
+    if is_forward || has_body h.number h.block || not (is_repeated ps h.parameters) || not (same_result r h.result) then Breaks (rule.REPEATED_HEADING ∷ []) else Accepts h
+
+-- a declaration by what its name stands for in the scope
+abbrev pub headed_over : Bool → List ℕ → ℕ → Option Thing → Block → Option HeadingResult → List FormalParameter → Judged Headed
+headed_over is_forward name line None b r ps = headed_first name line ps r b
+headed_over is_forward name line (Some t) b r ps = when_accepted (headed_again is_forward ps r) (routine_there t b)
+
+abbrev pub procedure_headed : Bool → ℕ → List ℕ → List FormalSection → Block → Judged Headed
+procedure_headed is_forward line name sections b =
+    when_accepted (headed_over is_forward name line (look_up b.scopes.inner.entries name) b None) (sections_judged name 0 sections b [])
+
+-- the result of a function; in the heading the function's name hides what it means outside
+abbrev pub result_judged : List ℕ → Option (List ℕ) → QualifiedName → Block → Judged HeadingResult
+result_judged function own of b = when_accepted (λ w. Accepts (record { name = own; of = w.of; host = w.host })) (parameter_type function [] of.first of.second b)
+
+-- a function by its formal parameters
+abbrev pub result_headed : Bool → ℕ → List ℕ → Option (List ℕ) → QualifiedName → Block → List FormalParameter → Judged Headed
+result_headed is_forward line name own of b ps =
+    when_accepted (λ r. headed_over is_forward name line (look_up b.scopes.inner.entries name) b (Some r) ps) (result_judged name own of b)
+
+abbrev pub function_headed : Bool → ℕ → List ℕ → List FormalSection → Option (List ℕ) → QualifiedName → Block → Judged Headed
+function_headed is_forward line name sections own of b = when_accepted (result_headed is_forward line name own of b) (sections_judged name 0 sections b [])
+
+-- the name alone is a function's body, where it has none yet
+abbrev pub identified_again : Bool → Headed → Judged Headed
+identified_again is_forward h = if is_forward || has_body h.number h.block || is_none h.result then Breaks (rule.REPEATED_HEADING ∷ []) else Accepts h
+
+abbrev pub identified_over : Bool → Option Thing → Block → Judged Headed
+identified_over is_forward None b = Breaks (rule.UNDECLARED ∷ [])
+identified_over is_forward (Some t) b = when_accepted (identified_again is_forward) (routine_there t b)
+
+abbrev pub function_identified : Bool → List ℕ → Block → Judged Headed
+function_identified is_forward name b = identified_over is_forward (look_up b.scopes.inner.entries name) b
+
+abbrev pub heading_headed : Bool → ℕ → RoutineHeading → Block → Judged Headed
+heading_headed is_forward line (heading.Procedure at name sections) b = procedure_headed is_forward line name sections b
+heading_headed is_forward line (heading.Function at name sections own of) b = function_headed is_forward line name sections own of b
+
+-- a routine by the start of its declaration
+abbrev pub start_headed : Bool → ℕ → RoutineStart → Block → Judged Headed
+start_headed is_forward line (start.Heading h) b = heading_headed is_forward line h b
+start_headed is_forward line (start.Function at name) b = function_identified is_forward name b
+
+abbrev pub heading_name : RoutineHeading → List ℕ
+heading_name (heading.Procedure at name sections) = name
+heading_name (heading.Function at name sections own of) = name
+
+-- its name
+abbrev pub start_name : RoutineStart → List ℕ
+start_name (start.Heading h) = heading_name h
+start_name (start.Function at name) = name
+
+-- and then more
+abbrev pub headed_then : ℕ → (Headed → Standing) → Judged Headed → Standing
+headed_then line more (Accepts h) = more h
+headed_then line more (Breaks rules) = Falls line rules
+
+-- a `forward` declaration, whose body comes later
+abbrev pub forwarded : ℕ → Headed → Block
+forwarded line h = let b = h.block in record b { forwards = b.forwards ++ record { number = h.number; line = line } ∷ [] }
+
+-- ---- blocks of routines (ISO 10206, 6.2.1)
+
+-- The variables with which the block of the routine of this number begins: its formal parameters are the first ones, and its result comes next.
+abbrev pub own_variables : ℕ → List FormalParameter → Option HeadingResult → OwnVariables
+own_variables number ps r = record { parameters = ps; result = own_result number (length ps) r; variables = [] }
+
+-- The block of a routine is a scope of its own inside of that of the program (ISO 10206, 6.2.2), with variables of its own.
+abbrev pub scope_opened : Headed → Block → Block
+scope_opened h b = record b { scopes = opened b.scopes; own = own_variables h.number h.parameters h.result }
+
+-- the formal parameters as variables, from this number on
+abbrev pub formals_entered : ℕ → List FormalParameter → Block → Judged Block
+formals_entered number [] b = Accepts b
+formals_entered number (p ∷ ps) b = when_accepted (formals_entered (suc number) ps) (entered p.name (own_thing b number (declaration.Own p.of (kind.Ordinal p.host) (protection_of p.mode))) b)
+
+-- and a name of its own that the result has
+abbrev pub heading_entered : Headed → Block → Judged Block
+heading_entered h b = when_accepted (result_entered h.number (length h.parameters) h.result) (formals_entered 0 h.parameters b)
+
+-- behind it those that were there before
+abbrev pub scope_closed : OwnVariables → Block → Block
+scope_closed before b = record b { scopes = closed b.scopes; own = before }
+
+-- what the statements of a block know
+abbrev pub context_of : Block → Context
+context_of b = record { scopes = scopes_of b; output = b.output; result = assigned_function b.unit b.own.result }
+
+-- a routine with the block that a declaration on this line has, and the variables that are declared there
+abbrev pub with_its_block : ℕ → List UnitVariable → Stmt → RoutineForm → RoutineForm
+with_its_block line variables s r = record r { line = line; variables = variables; block = s }
+
+-- the item of a number in another form, where there is one
+abbrev pub set_to : {A : Type 0} → List A → ℕ → (A → A) → Option A → List A
+set_to xs n f None = xs
+set_to xs n f (Some x) = slice_set xs n (f x)
+
+-- what the routine of this number does, with the variables that it has declared
+abbrev pub with_block : ℕ → ℕ → List UnitVariable → Stmt → Block → Block
+with_block line number variables s b = record b { routines = set_to b.routines number (with_its_block line variables s) (slice_get b.routines number) }
+
+-- it has its body
+abbrev pub with_body : ℕ → Block → Block
+with_body number b = record b { bodies = b.bodies ++ number ∷ [] }
+
+-- the end of a body by its statements, behind which these variables are those of the routine around it
+abbrev pub body_closed : ℕ → ℕ → OwnVariables → Block → Judgement Stmts → Standing
+body_closed line number before b (Passes ss) = Stands (scope_closed before (with_body number (with_block line number b.own.variables (tree.Compound ss) b)))
+body_closed line number before b (Waits at) = Stands (scope_closed before (with_body number (noted false at b)))
+body_closed line number before b (Fails at rules) = Falls at rules
+
+-- where they give the result
+abbrev pub body_ended : ℕ → ℕ → OwnVariables → Block → Judgement Stmts → Standing
+body_ended line number before b row = if_given line (row_gives b row) (body_closed line number before b row)
+
+-- a part of the block of a routine; no other one is built
+abbrev pub local_part_declared : {A B C : Type 0} → Part-F A B C → Block → Standing
+local_part_declared (Part-F.Constants c) b = constants_declared c.definitions b
+local_part_declared (Part-F.Types t) b = at_line t.line (type_definitions t.line t.definitions b)
+local_part_declared (Part-F.Variables v) b = all_variables_declared v.declarations b
+local_part_declared (Part-F.Routine r) b = Falls 0 []
+
+abbrev pub local_parts_declared : List Part → Block → Standing
+local_parts_declared [] b = Stands b
+local_parts_declared (p ∷ ps) b = and_then (local_parts_declared ps) (local_part_declared (out-Part p) b)
+
+-- the statements of the routine of this name and number, in whose block the name means the routine
+abbrev pub body_declared : ℕ → List ℕ → ℕ → OwnVariables → Compound → Block → Standing
+body_declared line name number before c b = if_given line (is_in_view b.own.result name b) (body_ended line number before b (compound_judged (context_of b) c))
+
+-- its parts, and then its statements, whose text assigns the result
+abbrev pub inside_declared : ℕ → List ℕ → ℕ → OwnVariables → List Part → Compound → Block → Standing
+inside_declared line name number before ps c b = if_given line (is_assigned b.own.result name c) (and_then (body_declared line name number before c) (local_parts_declared ps b))
+
+-- its block: its formal parameters and its result, and then what is inside
+abbrev pub block_declared : ℕ → List ℕ → List Part → Compound → Headed → Standing
+block_declared line name ps c h =
+    and_then (inside_declared line name h.number h.block.own ps c) (at_line line (heading_entered h (scope_opened h h.block)))
+
+-- a routine with its body
+abbrev pub body_of_declared : {A C : Type 0} → ℕ → RoutineStart → RoutineBody-F Part A C → Block → Standing
+body_of_declared line s (RoutineBody-F.Forward at) b = headed_then line (λ h. Stands (forwarded line h)) (start_headed true line s b)
+body_of_declared line s (RoutineBody-F.Block at ps c) b = headed_then line (block_declared line (start_name s) ps c) (start_headed false line s b)
+
+abbrev pub routine_declared : Routine → Block → Standing
+routine_declared r b = body_of_declared (out-Routine r).line (out-Routine r).start (out-RoutineBody (out-Routine r).body) b
+
+-- ---- all parts
+
+abbrev pub part_declared : {A B : Type 0} → Part-F A B Routine → Block → Standing
+part_declared (Part-F.Constants c) b = constants_declared c.definitions b
+part_declared (Part-F.Types t) b = at_line t.line (type_definitions t.line t.definitions b)
+part_declared (Part-F.Variables v) b = all_variables_declared v.declarations b
+part_declared (Part-F.Routine r) b = routine_declared r b
+
+abbrev pub parts_declared : List Part → Block → Standing
+parts_declared [] b = Stands b
+parts_declared (p ∷ ps) b = and_then (parts_declared ps) (part_declared (out-Part p) b)

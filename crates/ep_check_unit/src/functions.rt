@@ -1,0 +1,268 @@
+//! Results of functions, and what gives them a value.
+
+ghost use Rattle.std.specs.Option.{option_map};
+ghost use Rattle.std.specs.Prelude.{◌≡◌, IfOk};
+ghost use Rattle.ep_check_stmt.specs.Answers.{AnswersForm, passed, result_of, stmts_of};
+ghost use Rattle.ep_check_unit.specs.Answers.{AnswersBlock, AnswersGiven};
+ghost use Rattle.ep_check_unit.specs.Blocks.{block_of};
+ghost use Rattle.ep_check_unit.specs.Functions as spec;
+ghost use Rattle.ep_check_unit.specs.Functions.{in_block, is_function, is_that_function, own_name_entered, own_result, routine_declaration, row_gives, same_own_name, same_result, typed_result};
+ghost use Rattle.ep_check_unit.specs.Routines.{result_judged};
+ghost use Rattle.ep_scope.specs.Meanings.{meant_by};
+
+use crate::block::{Block, OwnResult};
+use crate::types::type_denoter;
+use ep_base::{Line, Name, NoMemory};
+use ep_check_expr::Refusal;
+use ep_check_stmt::{CheckRefusal, FunctionResult, Outcome, assigns, refused_at, threatens};
+use ep_scope::{
+    Declaration, FormalParameters, Host, Kind, Meaning, Protection, TypeName, meaning_of, rule,
+    same_type,
+};
+use ep_tree::{Compound, QualifiedName};
+use ep_typed::{RoutineResult, TypedStmts};
+use std::alloc::Global;
+
+/// The result of a function, as its heading gives it.
+pub(crate) struct HeadingResult {
+    /// The name of its own, where it has one.
+    pub(crate) name: Option<Name>,
+    /// Its type.
+    pub(crate) of: TypeName,
+    /// The host of the type.
+    pub(crate) host: Host,
+}
+
+impl Drop for HeadingResult {
+    fn drop(self) {
+        let HeadingResult {
+            name: _,
+            of: _,
+            host: _,
+        } = self;
+    }
+}
+
+/// An equal name, where there is one.
+pub(crate) fn copied_name(alloc: Global, name: &Option<Name>) -> Result<Option<Name>, NoMemory>
+    ensures { IfOk result (λ copy. copy ≡ name.now) }
+{
+    match name {
+        None => Ok(None),
+        Some(name) => Ok(Some(name.copy(alloc)?)),
+    }
+}
+
+/// Whether both have no name of their own, or the same one.
+fn same_own_name(left: &Option<Name>, right: &Option<Name>) -> bool
+    ensures { result ≡ same_own_name left.now right.now }
+{
+    match (left, right) {
+        (None, None) => true,
+        (Some(name), Some(other)) => name.bytes() == other.bytes(),
+        _ => false,
+    }
+}
+
+/// Whether a heading that is given again has the result of the first one, or none as the first one.
+pub(crate) fn same_result(given: &Option<HeadingResult>, first: &Option<HeadingResult>) -> bool
+    ensures { result ≡ same_result given.now first.now }
+{
+    match (given, first) {
+        (None, None) => true,
+        (Some(left), Some(right)) => {
+            same_own_name(&left.name, &right.name) && same_type(left.of, right.of)
+        }
+        _ => false,
+    }
+}
+
+/// The result of a typed routine.
+pub(crate) fn typed_result(
+    alloc: Global,
+    given: &Option<HeadingResult>,
+) -> Result<Option<RoutineResult>, NoMemory>
+    ensures { IfOk result (λ r. r ≡ typed_result given.now) }
+{
+    match given {
+        None => Ok(None),
+        Some(given) => Ok(Some(RoutineResult {
+            name: copied_name(alloc, &given.name)?,
+            denoter: type_denoter(alloc, given.of),
+        })),
+    }
+}
+
+/// What the name of a routine with these formal parameters and this result stands for.
+pub(crate) fn routine_declaration(
+    parameters: FormalParameters,
+    given: &Option<HeadingResult>,
+) -> Declaration
+    ensures { result ≡ routine_declaration parameters given.now }
+{
+    match given {
+        None => Declaration::Procedure(parameters),
+        Some(given) => Declaration::Function(parameters, given.of, given.host),
+    }
+}
+
+/// The result of the function of this number in its block, by the number of the variable that has it.
+pub(crate) fn in_block(function: u32, variable: u32, given: &HeadingResult) -> OwnResult
+    ensures { result ≡ in_block function variable given.now }
+{
+    OwnResult {
+        function,
+        variable,
+        of: given.of,
+        host: given.host,
+        named: given.name.is_some(),
+    }
+}
+
+/// The same of a routine, which may have no result.
+pub(crate) fn own_result(
+    function: u32,
+    variable: u32,
+    given: &Option<HeadingResult>,
+) -> Option<OwnResult>
+    ensures { result ≡ own_result function variable given.now }
+{
+    match given {
+        None => None,
+        Some(given) => Some(in_block(function, variable, given)),
+    }
+}
+
+/// A rule fails at the declaration of a function on this line, unless its block gives the result.
+pub(crate) fn if_given(line: Line, given: bool) -> Result<(), CheckRefusal>
+    ensures { AnswersGiven line given result }
+{
+    if given {
+        Ok(())
+    } else {
+        Err(refused_at(line, Refusal::Rule(rule::NO_RESULT)))
+    }
+}
+
+fn is_function(what: &Declaration) -> bool
+    ensures { result ≡ is_function what.now }
+{
+    match what {
+        Declaration::Function(_, _, _) => true,
+        _ => false,
+    }
+}
+
+/// Whether a name means the function of this number of a unit.
+fn is_that_function(unit: &Name, number: u32, meaning: &Meaning<'_>) -> bool
+    ensures { result ≡ is_that_function unit.now number (meant_by meaning.now) }
+{
+    match meaning {
+        Meaning::Declared(declared) => {
+            is_function(&declared.what)
+                && declared.unit.bytes() == unit.bytes()
+                && declared.number == number
+        }
+        _ => false,
+    }
+}
+
+impl Block {
+    /// `[ "=" id ] ":" name`, behind the name of a function and its formal parameters.
+    pub(crate) fn result(
+        &self,
+        alloc: Global,
+        function: &Name,
+        own: &Option<Name>,
+        of: &QualifiedName,
+    ) -> Result<HeadingResult, Refusal>
+        ensures { AnswersForm (λ r. r) result
+            (result_judged function.now own.now of.now (block_of self.now)) }
+    {
+        let named = self.parameter_type(function, &[], of)?;
+        Ok(HeadingResult {
+            name: copied_name(alloc, own)?,
+            of: named.of,
+            host: named.host,
+        })
+    }
+
+    /// A name of its own that the result has is entered.
+    pub(crate) fn enter_result(
+        &mut self,
+        alloc: Global,
+        own: OwnResult,
+        name: &Option<Name>,
+    ) -> Result<(), Refusal>
+        ensures { AnswersBlock result (block_of self.new)
+            (own_name_entered own name.now (block_of self.old)) }
+    {
+        let Some(name) = name else {
+            return Ok(());
+        };
+        let what = Declaration::Own(own.of, Kind::Ordinal(own.host), Protection::Unprotected);
+        let thing = self.own_thing(alloc, own.variable, what)?;
+        self.enter(alloc, name, thing)
+    }
+
+    /// Whether the text of the statements assigns to the name of a function, where its result has no other one.
+    pub(crate) fn is_assigned(&self, name: &Name, body: &Compound) -> bool
+        ensures { result ≡ spec.is_assigned (block_of self.now).own.result name.now body.now }
+    {
+        match self.own.result {
+            None => true,
+            Some(own) => own.named || assigns(name, body),
+        }
+    }
+
+    /// Whether its name means the function there.
+    pub(crate) fn is_in_view(&self, name: &Name) -> bool
+        ensures { result ≡ spec.is_in_view (block_of self.now).own.result name.now
+            (block_of self.now) }
+    {
+        match self.own.result {
+            None => true,
+            Some(own) => {
+                own.named
+                    || {
+                        let meaning = meaning_of(self.scopes.in_view(), name);
+                        is_that_function(&self.unit, own.function, &meaning)
+                    }
+            }
+        }
+    }
+
+    /// Whether its statements threaten the variable that has the result, where this has a name of its own.
+    pub(crate) fn gives_result(&self, found: &Outcome<TypedStmts>) -> bool
+        ensures { result ≡ row_gives (block_of self.now) (passed stmts_of found.now) }
+    {
+        match (self.own.result, found) {
+            (Some(own), Outcome::Passes(statements)) => {
+                !own.named || threatens(&self.routines, own.variable, statements.items())
+            }
+            _ => true,
+        }
+    }
+
+    /// The function to whose name the block assigns.
+    pub(crate) fn assigned_function(&self) -> Option<FunctionResult<'_>>
+        ensures { option_map result_of result
+            ≡ spec.assigned_function (block_of self.now).unit (block_of self.now).own.result }
+    {
+        match self.own.result {
+            None => None,
+            Some(own) => {
+                if own.named {
+                    None
+                } else {
+                    Some(FunctionResult {
+                        unit: &self.unit,
+                        function: own.function,
+                        variable: own.variable,
+                        host: own.host,
+                    })
+                }
+            }
+        }
+    }
+}

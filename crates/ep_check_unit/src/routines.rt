@@ -1,0 +1,244 @@
+//! Declarations of procedures and functions.
+
+ghost use Rattle.std.specs.Prelude.{◌≡◌, None, true, false, map};
+ghost use Rattle.ep_built.specs.Built.{body_unbuilt, compound_unbuilt, first_in, local_part_unbuilt, start_unbuilt};
+ghost use Rattle.ep_tree.specs.declared.routine.Part.{out-Part};
+ghost use Rattle.ep_tree.specs.declared.routine.Routine.{out-Routine};
+ghost use Rattle.ep_typed.specs.Viewed.{stmt_of};
+ghost use Rattle.ep_check_stmt.specs.Answers.{AnswersRow, passed, stmts_of};
+ghost use Rattle.ep_check_stmt.specs.Statements.{compound_judged};
+ghost use Rattle.ep_check_unit.specs.Answers.{AnswersStanding, headed_in};
+ghost use Rattle.ep_check_unit.specs.Blocks.{block_of, routine_form};
+ghost use Rattle.ep_check_unit.specs.Declarations.{Stands};
+ghost use Rattle.ep_check_unit.specs.Routines.{block_declared, body_closed, body_declared, context_of, forwarded, headed_then, inside_declared, local_part_declared, local_parts_declared, routine_declared, start_headed, start_name, with_block, with_its_block};
+
+use crate::block::{Block, Forward, OwnVariables};
+use crate::functions::if_given;
+use crate::headings::{Heading, start_name};
+use ep_base::{Line, Name};
+use ep_check_stmt::{CheckRefusal, Context, Outcome, refused_at};
+use ep_tree::{Compound, Part, Routine, RoutineBody, RoutineStart};
+use ep_typed::{TypedStmt, TypedStmts, UnitRoutine, UnitVariables};
+use std::alloc::Global;
+use std::mem;
+
+/// A routine gets the block of a declaration on this line, with the variables that are declared there.
+fn take_block(routine: &mut UnitRoutine, line: Line, variables: UnitVariables, block: TypedStmt)
+    ensures { routine_form routine.new
+        ≡ with_its_block line variables (stmt_of block) (routine_form routine.old) }
+{
+    // What was there goes by a call each, since the walk over all forms of a statement takes longer to check.
+    drop(mem::replace(&mut routine.block, block));
+    drop(mem::replace(&mut routine.variables, variables));
+    routine.line = line;
+}
+
+impl Block {
+    /// `rdecl`
+    pub(crate) fn declare_routine(&mut self, alloc: Global, r: &Routine) -> Result<(), CheckRefusal>
+        requires start { start_unbuilt (out-Routine r.now).start ≡ None }
+        requires body { body_unbuilt (out-Routine r.now).body ≡ None }
+        ensures { AnswersStanding result (block_of self.new)
+            (routine_declared r.now (block_of self.old)) }
+    {
+        match &r.body {
+            RoutineBody::Forward(_) => self.declare_forward(alloc, r.line, &r.start),
+            RoutineBody::Block(_, parts, body) => {
+                self.declare_with_block(alloc, r.line, &r.start, parts.items(), body)
+            }
+        }
+    }
+
+    /// A routine whose body comes later.
+    fn declare_forward(
+        &mut self,
+        alloc: Global,
+        line: Line,
+        start: &RoutineStart,
+    ) -> Result<(), CheckRefusal>
+        requires { start_unbuilt start.now ≡ None }
+        ensures { AnswersStanding result (block_of self.new) (headed_then line
+            (λ h. Stands (forwarded line h))
+            (start_headed true line start.now (block_of self.old))) }
+    {
+        match self.head(alloc, line, start, true) {
+            Err(refusal) => Err(refused_at(line, refusal)),
+            Ok(heading) => {
+                let number = heading.number;
+                self.forwards.push(Forward { number, line })?;
+                Ok(())
+            }
+        }
+    }
+
+    /// A routine with its block.
+    fn declare_with_block(
+        &mut self,
+        alloc: Global,
+        line: Line,
+        start: &RoutineStart,
+        parts: &[Part],
+        body: &Compound,
+    ) -> Result<(), CheckRefusal>
+        requires start { start_unbuilt start.now ≡ None }
+        requires parts { first_in (map local_part_unbuilt parts.now) ≡ None }
+        requires body { compound_unbuilt body.now ≡ None }
+        ensures { AnswersStanding result (block_of self.new) (headed_then line
+            (block_declared line (start_name start.now) parts.now body.now)
+            (start_headed false line start.now (block_of self.old))) }
+    {
+        match self.head(alloc, line, start, false) {
+            Err(refusal) => Err(refused_at(line, refusal)),
+            Ok(heading) => {
+                self.declare_block(alloc, line, start_name(start), heading, parts, body)
+            }
+        }
+    }
+
+    /// The block of a routine of this name, in a scope of its own.
+    fn declare_block(
+        &mut self,
+        alloc: Global,
+        line: Line,
+        name: &Name,
+        heading: Heading,
+        parts: &[Part],
+        body: &Compound,
+    ) -> Result<(), CheckRefusal>
+        requires parts { first_in (map local_part_unbuilt parts.now) ≡ None }
+        requires body { compound_unbuilt body.now ≡ None }
+        ensures { AnswersStanding result (block_of self.new)
+            (block_declared line name.now parts.now body.now
+            (headed_in (block_of self.old) heading)) }
+    {
+        let own = match heading.own_variables(alloc) {
+            Ok(own) => own,
+            Err(refusal) => return Err(refused_at(line, refusal)),
+        };
+        self.scopes.open()?;
+        let before = mem::replace(&mut self.own, own);
+        if let Err(refusal) = self.enter_heading(alloc, &heading) {
+            return Err(refused_at(line, refusal));
+        }
+        self.declare_inside(alloc, line, name, heading.number, before, parts, body)
+    }
+
+    /// The parts of the routine of this name and number, and then its statements, whose text assigns the result.
+    fn declare_inside(
+        &mut self,
+        alloc: Global,
+        line: Line,
+        name: &Name,
+        number: u32,
+        before: OwnVariables,
+        parts: &[Part],
+        body: &Compound,
+    ) -> Result<(), CheckRefusal>
+        requires parts { first_in (map local_part_unbuilt parts.now) ≡ None }
+        requires body { compound_unbuilt body.now ≡ None }
+        ensures { AnswersStanding result (block_of self.new)
+            (inside_declared line name.now number before parts.now body.now (block_of self.old)) }
+    {
+        if_given(line, self.is_assigned(name, body))?;
+        self.declare_local_parts(alloc, parts)?;
+        self.declare_body(alloc, line, name, number, before, body)
+    }
+
+    /// The statements of the routine of this name and number, in whose block the name means the routine.
+    fn declare_body(
+        &mut self,
+        alloc: Global,
+        line: Line,
+        name: &Name,
+        number: u32,
+        before: OwnVariables,
+        body: &Compound,
+    ) -> Result<(), CheckRefusal>
+        requires { compound_unbuilt body.now ≡ None }
+        ensures { AnswersStanding result (block_of self.new)
+            (body_declared line name.now number before body.now (block_of self.old)) }
+    {
+        if_given(line, self.is_in_view(name))?;
+        let found = self.statements(alloc, body)?;
+        if_given(line, self.gives_result(&found))?;
+        self.end_body(line, number, before, found)
+    }
+
+    /// The statements of a block.
+    pub(crate) fn statements(
+        &self,
+        alloc: Global,
+        body: &Compound,
+    ) -> Result<Outcome<TypedStmts>, CheckRefusal>
+        requires { compound_unbuilt body.now ≡ None }
+        ensures { AnswersRow stmts_of result
+            (compound_judged (context_of (block_of self.now)) body.now) }
+    {
+        let context = Context {
+            alloc,
+            scopes: self.scopes.in_view(),
+            output: self.output,
+            result: self.assigned_function(),
+        };
+        context.compound(body)
+    }
+
+    /// The parts of the block of a routine, in order.
+    fn declare_local_parts(&mut self, alloc: Global, parts: &[Part]) -> Result<(), CheckRefusal>
+        requires { first_in (map local_part_unbuilt parts.now) ≡ None }
+        ensures { AnswersStanding result (block_of self.new)
+            (local_parts_declared parts.now (block_of self.old)) }
+    {
+        for part in parts {
+            self.declare_local_part(alloc, part)?;
+        }
+        Ok(())
+    }
+
+    fn declare_local_part(&mut self, alloc: Global, part: &Part) -> Result<(), CheckRefusal>
+        requires { local_part_unbuilt part.now ≡ None }
+        ensures { AnswersStanding result (block_of self.new)
+            (local_part_declared (out-Part part.now) (block_of self.old)) }
+    {
+        match part {
+            Part::Constants(c) => self.define_constants(alloc, c.definitions.items()),
+            Part::Types(t) => self.define_type_part(alloc, t),
+            Part::Variables(v) => self.declare_all(alloc, v.declarations.items()),
+            Part::Routine(_) => unreachable!(),
+        }
+    }
+
+    /// The end of the body of the routine of this number, and of its scope. These variables were there before.
+    fn end_body(
+        &mut self,
+        line: Line,
+        number: u32,
+        before: OwnVariables,
+        found: Outcome<TypedStmts>,
+    ) -> Result<(), CheckRefusal>
+        ensures { AnswersStanding result (block_of self.new)
+            (body_closed line number before (block_of self.old) (passed stmts_of found)) }
+    {
+        let own = mem::replace(&mut self.own, before);
+        match found {
+            Outcome::Passes(statements) => {
+                let block = TypedStmt::Compound(statements);
+                self.set_block(line, number, own.into_variables(), block);
+            }
+            Outcome::Waits(at) => self.note(false, at),
+        }
+        self.bodies.push(number)?;
+        self.scopes.close();
+        Ok(())
+    }
+
+    /// What the routine of this number does, with the variables that it has declared.
+    fn set_block(&mut self, line: Line, number: u32, variables: UnitVariables, block: TypedStmt)
+        ensures { block_of self.new
+            ≡ with_block line number variables (stmt_of block) (block_of self.old) }
+    {
+        if let Some(routine) = self.routines.get_mut(number as usize) {
+            take_block(routine, line, variables, block);
+        }
+    }
+}
