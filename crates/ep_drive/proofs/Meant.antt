@@ -1,5 +1,5 @@
 -- What a run of an image within its budget says by the meaning of the units that the image implements.
-use Rattle.std.proofs.Common.{◌≡◌, length, ℕ, ◌+◌, ◌-◌, ◌*◌, ◌≤◌, zero, suc, false, if◌then◌else◌, slice_get, None, IsTrue, List, [], ◌∷◌, ◌⊎◌, inl, inr, refl, sym, ap, ◌∙◌, subst, arith, Bool, true, map, Option, Some}
+use Rattle.std.proofs.Common.{◌≡◌, length, ℕ, ◌+◌, ◌-◌, ◌*◌, ◌≤◌, zero, suc, false, if◌then◌else◌, slice_get, None, IsTrue, List, [], ◌∷◌, ◌++◌, ◌⊎◌, inl, inr, refl, sym, ap, ◌∙◌, subst, arith, Bool, true, map, Option, Some}
 use Rattle.std.specs.Option.{option_map}
 use Rattle.std.specs.Str.{bytes_eq}
 use Rattle.ep_object.specs.Follows.{end_of}
@@ -9,10 +9,11 @@ use Rattle.ep_typed.proofs.Lasting.{meanings_last}
 use Rattle.ep_typed.specs.Calls.{Argument, Handler, in_call}
 use Rattle.ep_typed.specs.Events.{Trace, Does}
 use Rattle.ep_typed.specs.Laws.{IsLonger}
-use Rattle.ep_typed.specs.Meaning.{activation, takes_all, make_all_own, found_among, routine_does, routine_of, meaning, make_all, exec}
+use Rattle.ep_typed.specs.Meaning.{activation, takes_all, make_all_own, results_given, found_among, routine_does, routine_of, meaning, make_all, exec}
 use Rattle.ep_typed.specs.Printing.{Result}
+use Rattle.ep_typed.specs.Routines.{result_variable}
 use Rattle.ep_typed.specs.Viewed.{stmt_of}
-use Rattle.ep_typed.specs.Steps.{Outcome, Gives, Ends, Cut, Computation, State, state_of, cut, give, stop, go_on, bind, spend, first_state}
+use Rattle.ep_typed.specs.Steps.{Outcome, Gives, Ends, Cut, Computation, State, state_of, cut, stop, go_on, bind, spend, first_state}
 use Rattle.ep_typed.specs.Steps as meant
 use Rattle.ep_typed.specs.declared.unit.Unit.{Unit as TypedUnit}
 use Rattle.ep_typed.specs.declared.unit.UnitRoutine.{UnitRoutine}
@@ -158,7 +159,9 @@ abbrev form_does : Handler → ℕ → List ℕ → ℕ → List ℕ → List Un
 form_does call g from line unit types None xs = cut
 form_does call g from line unit types (Some f) xs =
     in_call (activation f.name from line)
-    (spend 1 (bind (bind (takes_all call g unit types f.line 0 f.formals xs) (λ _. bind (make_all_own call g unit types (length f.formals) f.variables) (λ _. exec call g unit f.block))) (λ _. give [])))
+    (spend 1 (bind (takes_all call g unit types f.line 0 f.formals xs)
+    (λ _. bind (make_all_own call g unit types (length f.formals) (result_variable f.name f.line f.result ++ f.variables))
+    (λ _. bind (exec call g unit f.block) (λ _. results_given unit f.line (length f.formals) f.result)))))
 
 does_form : (call : Handler) (g : ℕ) (from : List ℕ) (line : ℕ) (unit : List ℕ) (types : List UnitType) (o : Option UnitRoutine) (xs : List Argument)
     → routine_does call g from line unit (found_among types o) xs ≡ form_does call g from line unit types (option_map routine_form o) xs
