@@ -71,16 +71,19 @@ main()
         "primes by trial division",
         """program p(output);
 var n, found: integer;
-procedure try(n: integer; var found: integer);
+function prime(n: integer): Boolean;
 var d: integer;
 begin
   d := 2;
   while (d * d <= n) and_then (n mod d <> 0) do d := d + 1;
-  if d * d > n then found := found + 1
+  prime := d * d > n
 end;
 begin
   n := 2; found := 0;
-  while n < 60000 do begin try(n, found); n := n + 1 end;
+  while n < 60000 do begin
+    if prime(n) then found := found + 1;
+    n := n + 1
+  end;
   writeln(found: 1)
 end.""",
         """def prime(n):
@@ -100,36 +103,30 @@ main()
 """,
     ),
     (
-        "Fibonacci numbers, 24 by recursion",
+        "fib(30) by recursion",
         """program p(output);
-var r: integer;
-procedure fib(n: integer; var r: integer);
-var a, b: integer;
+function fib(n: integer): integer;
 begin
-  if n < 2 then r := n
-  else begin fib(n - 1, a); fib(n - 2, b); r := a + b end
+  if n < 2 then fib := n else fib := fib(n - 1) + fib(n - 2)
 end;
-begin fib(24, r); writeln(r: 1) end.""",
+begin writeln(fib(30): 1) end.""",
         """def fib(n):
     if n < 2:
         return n
-    a = fib(n - 1)
-    b = fib(n - 2)
-    return a + b
-print(fib(24))
+    return fib(n - 1) + fib(n - 2)
+print(fib(30))
 """,
     ),
     (
         "Ackermann(2, 150)",
         """program p(output);
-var r: integer;
-procedure ackermann(m, n: integer; var r: integer);
+function ackermann(m, n: integer): integer;
 begin
-  if m = 0 then r := n + 1
-  else if n = 0 then ackermann(m - 1, 1, r)
-  else begin ackermann(m, n - 1, r); ackermann(m - 1, r, r) end
+  if m = 0 then ackermann := n + 1
+  else if n = 0 then ackermann := ackermann(m - 1, 1)
+  else ackermann := ackermann(m - 1, ackermann(m, n - 1))
 end;
-begin ackermann(2, 150, r); writeln(r: 1) end.""",
+begin writeln(ackermann(2, 150): 1) end.""",
         """import sys
 sys.setrecursionlimit(100000)
 def ackermann(m, n):
