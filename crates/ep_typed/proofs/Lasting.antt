@@ -1,16 +1,17 @@
 -- With more steps, and more turns of its loops, a computation comes to the same, or goes on from where it was cut.
 use Rattle.std.proofs.Common.{◌≡◌, ℕ, ℤ, pos, negsuc, zero, suc, ◌+◌, List, [], ◌∷◌, Option, Some, None, Bool, true, false, length, refl, ap, arith}
 use Rattle.std.specs.Prelude.{if◌then◌else◌}
+use Rattle.ep_typed.specs.Controls.{in_order, next_value}
 use Rattle.ep_typed.specs.Denoters.{type_of}
-use Rattle.ep_typed.specs.Meaning.{argument, arguments, one_result, weight_of, results_given, initialized, takes_by, takes_all, elaborate, answered, place, eval, write_piece, write_wide, write_item, write_items, assign, turns, turns_until, exec, exec_all, elaborated, make, make_all, make_own, make_all_own, start_of, starts_of, Found, routine_in, runs_routine, routine_does, routine_of, read, assign_living, tried, exec_arms, exec_other}
-use Rattle.ep_typed.specs.Operations.{Answer, Number, Fault, is_true, decides, is_in}
+use Rattle.ep_typed.specs.Meaning.{argument, arguments, one_result, weight_of, results_given, initialized, takes_by, takes_all, elaborate, answered, place, eval, write_piece, write_wide, write_item, write_items, assign, turns, turns_until, assigns, undefines, turns_to, counts, exec, exec_all, elaborated, make, make_all, make_own, make_all_own, start_of, starts_of, Found, routine_in, runs_routine, routine_does, routine_of, read, assign_living, tried, exec_arms, exec_other}
+use Rattle.ep_typed.specs.Operations.{Answer, Number, Fault, is_same, is_true, decides, is_in}
 use Rattle.ep_typed.specs.Printing.{Result, number_of, plain_text, wide_text, piece_events}
 use Rattle.ep_typed.specs.Printing as result
 use Rattle.ep_typed.specs.Calls.{Argument, Value, Handler, entered, given_back, in_call}
 use Rattle.ep_typed.specs.Calls as argument_is
 use Rattle.ep_typed.specs.Steady.{Grows, Steady, IsSteadyHandler}
-use Rattle.ep_typed.specs.Steps.{Call, End, Normal, Halted, Error, Word, State, Outcome, Gives, Ends, Cut, state_of, Computation, give, cut, stop, go_on, bind, spend, change, found, fetch, assigned, type_at, is_within, size_of, with_type, counted, made, made_own, allocate, allocate_own, newest_assigned, with_own_bound, standard_file, first_state, using, has_ended, own_variable, word_at}
-use Rattle.ep_typed.specs.Trees.{Place, Variable, Own, Standard, Expr, Constant, Text, Read, One, Two, Short, Step, Function, Actual, Evaluated, Accessed, Actuals, no_actual, next_actual, Item, Plain, Wide, Stmt, Stmts, Empty, Compound, Assign, If, While, Repeat, Procedure, Halt, Write, none, next, Case, Arms, no_arm, next_arm, Other, no_other, otherwise_do}
+use Rattle.ep_typed.specs.Steps.{Call, End, Normal, Halted, Error, Word, Undefined, State, Outcome, Gives, Ends, Cut, state_of, Computation, give, cut, stop, go_on, bind, spend, change, found, fetch, assigned, type_at, is_within, size_of, with_type, counted, made, made_own, allocate, allocate_own, newest_assigned, with_own_bound, standard_file, first_state, using, has_ended, own_variable, word_at}
+use Rattle.ep_typed.specs.Trees.{Place, Variable, Own, Standard, Expr, Constant, Text, Read, One, Two, Short, Step, Function, Actual, Evaluated, Accessed, Actuals, no_actual, next_actual, Item, Plain, Wide, Stmt, Stmts, Empty, Compound, Assign, If, While, Repeat, Control, For, Procedure, Halt, Write, none, next, Case, Arms, no_arm, next_arm, Other, no_other, otherwise_do}
 use Rattle.ep_typed.specs.Routines.{made_variables}
 use Rattle.ep_typed.specs.Viewed.{denoter_of, stmt_of}
 use Rattle.ep_typed.specs.declared.interface.Formal.{Formal}
@@ -25,7 +26,7 @@ use Rattle.ep_typed.specs.declared.unit.UnitVariable.{UnitVariable}
 use Rattle.ep_typed.specs.declared.tree.CaseRange.{CaseRange}
 use Rattle.ep_typed.specs.declared.value.TypeValue.{TypeValue}
 use Rattle.ep_typed.specs.Laws.{IsLonger, MeaningsLast}
-use Rattle.ep_typed.proofs.Steady.{grows_refl, grows_trans, grows_quiet, grows_events, grows_type, grows_counted, grows_made, grows_made_own, steady_give, steady_cut, steady_stop, steady_bind, steady_spend, steady_change, steady_fetch, steady_turns, steady_turns_until, steady_in_call, steady_routine_of, steady_using, steady_assign_living}
+use Rattle.ep_typed.proofs.Steady.{grows_refl, grows_trans, grows_quiet, grows_events, grows_type, grows_counted, grows_made, grows_made_own, steady_give, steady_cut, steady_stop, steady_bind, steady_spend, steady_change, steady_fetch, steady_turns, steady_turns_until, steady_turns_to, steady_undefined, steady_in_call, steady_routine_of, steady_using, steady_assign_living}
 use Rattle.ep_typed.specs.declared.run_error.TheConstants as run_error
 
 -- What one computation comes to, another one comes to with more steps.
@@ -223,15 +224,39 @@ module _ (call other : Handler) (lasts : IsLastingHandler call other) (g j : ℕ
   lasting_assign : (line n : ℕ) (z : ℤ) → Lasting (assign call g unit line n z) (assign other (g + j) unit line n z)
   lasting_assign line n z = lasting_using _ n (lasting_assign_living line n z)
 
+  lasting_assigns : (line : ℕ) (p : Place) (x : Expr) → Lasting (assigns call g unit line p x) (assigns other (g + j) unit line p x)
+  lasting_assigns line p x = lasting_bind (lasting_place line p) (λ n. lasting_bind (lasting_eval line x) (λ r. lasting_assign line n (number_of r)))
+
+  -- a variable that becomes undefined
+  lasting_undefines : (line : ℕ) (p : Place) → Lasting (undefines call g unit line p) (undefines other (g + j) unit line p)
+  lasting_undefines line p = lasting_bind (lasting_place line p) (λ n. lasting_using _ n (lasting_spend 1 (lasting_change (λ s. grows_quiet s (assigned n Undefined s) refl refl))))
+
+  -- the turns of a `for`, of which there may be more
+  lasting_turns_to : (turns line : ℕ) (c : Control) (last : ℤ) {body body2 : Computation (Unit {0})} → Lasting body body2 → Lasting (turns_to call g unit turns line c last body) (turns_to other (g + j) unit (turns + j) line c last body2)
+  lasting_turns_to zero line c last x =
+      let z = steady_turns_to other lasts.steady (g + j) unit (zero + j) line c last x.steady in
+      record { steady = z; by = λ m k s. z.by (m + k) s }
+  lasting_turns_to (suc turns) line c last x =
+      let one : suc turns + j ≡ suc (turns + j) = omega arith in
+      rw one (lasting_bind x (λ _. lasting_bind (lasting_eval line (Read c.variable)) (λ r. lasting_spend 1 (lasting_if (is_same last (number_of r)) (lasting_give tt) (lasting_bind (lasting_assigns line c.variable (next_value c)) (λ _. lasting_turns_to turns line c last x))))))
+
+  lasting_counts : (line : ℕ) (c : Control) {body body2 : Computation (Unit {0})} → Lasting body body2 → Lasting (counts call g unit line c body) (counts other (g + j) unit line c body2)
+  lasting_counts line c x =
+      lasting_bind (lasting_eval line (Read c.last)) (λ b. lasting_bind (lasting_assigns line c.variable (Read c.last)) (λ _. lasting_bind (lasting_assigns line c.variable (Read c.initial)) (λ _. lasting_turns_to g line c (number_of b) x)))
+
   mutual
     lasting_exec : (x : Stmt) → Lasting (exec call g unit x) (exec other (g + j) unit x)
     lasting_exec Empty = lasting_give tt
     lasting_exec (Compound ss) = lasting_exec_all ss
-    lasting_exec (Assign line p x) = lasting_bind (lasting_place line p) (λ n. lasting_bind (lasting_eval line x) (λ r. lasting_assign line n (number_of r)))
+    lasting_exec (Assign line p x) = lasting_assigns line p x
     lasting_exec (If line x a b) =
         lasting_bind (lasting_eval line x) (λ r. lasting_if (is_true (number_of r)) (lasting_bind (lasting_exec a) (λ _. lasting_spend 1 (lasting_give tt))) (lasting_bind (lasting_exec b) (λ _. lasting_spend 1 (lasting_give tt))))
     lasting_exec (While line x s) = lasting_turns call other g (g + j) g j unit (lasting_eval line x) (lasting_exec s)
     lasting_exec (Repeat line ss x) = lasting_turns_until call other g (g + j) g j unit (lasting_exec_all ss) (lasting_eval line x)
+    lasting_exec (For line c x y s) =
+        lasting_bind (lasting_assigns line c.initial x) (λ _. lasting_bind (lasting_assigns line c.last y) (λ _.
+        lasting_bind (lasting_bind (lasting_eval line (in_order c)) (λ r. lasting_if (is_true (number_of r)) (lasting_counts line c (lasting_exec s)) (lasting_give tt))) (λ _.
+        lasting_bind (lasting_undefines line c.variable) (λ _. lasting_spend 1 (lasting_give tt)))))
     lasting_exec (Procedure line of_unit number given) =
         lasting_bind (lasting_arguments line given) (λ xs. lasting_bind (lasts.by unit line of_unit number xs) (λ results. lasting_spend 1 (lasting_give tt)))
     lasting_exec (Case line x arms o) = lasting_bind (lasting_eval line x) (λ r. lasting_exec_arms (number_of r) arms (lasting_exec_other line o))

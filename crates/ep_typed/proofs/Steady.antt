@@ -3,17 +3,18 @@ use Rattle.std.proofs.Common.{◌≡◌, ℕ, ℤ, pos, negsuc, zero, suc, ◌+�
 use Rattle.std.specs.Prelude.{if◌then◌else◌}
 use Rattle.std.specs.List.{list_any}
 use Rattle.ep_outside.specs.Known.{IsPrefix}
+use Rattle.ep_typed.specs.Controls.{in_order, next_value}
 use Rattle.ep_typed.specs.Denoters.{type_of}
 use Rattle.ep_typed.specs.Events.{Trace}
-use Rattle.ep_typed.specs.Meaning.{argument, arguments, one_result, weight_of, result_at, results_given, initialized, takes_by, takes_all, elaborate, answered, place, eval, write_piece, write_wide, write_item, write_items, assign, turns, turns_until, exec, exec_all, elaborated, make, make_all, make_own, make_all_own, start_of, starts_of, Found, routine_in, runs_routine, routine_does, routine_of, read, assign_living, tried, exec_arms, exec_other}
-use Rattle.ep_typed.specs.Operations.{Answer, Number, Fault, is_true, decides, is_in}
+use Rattle.ep_typed.specs.Meaning.{argument, arguments, one_result, weight_of, result_at, results_given, initialized, takes_by, takes_all, elaborate, answered, place, eval, write_piece, write_wide, write_item, write_items, assign, turns, turns_until, assigns, undefines, turns_to, counts, exec, exec_all, elaborated, make, make_all, make_own, make_all_own, start_of, starts_of, Found, routine_in, runs_routine, routine_does, routine_of, read, assign_living, tried, exec_arms, exec_other}
+use Rattle.ep_typed.specs.Operations.{Answer, Number, Fault, is_same, is_true, decides, is_in}
 use Rattle.ep_typed.specs.Printing.{Result, number_of, plain_text, wide_text, piece_events}
 use Rattle.ep_typed.specs.Printing as result
 use Rattle.ep_typed.specs.Calls.{Argument, Value, Handler, entered, given_back, in_call}
 use Rattle.ep_typed.specs.Calls as argument_is
 use Rattle.ep_typed.specs.Steady.{Grows, Steady, IsSteadyHandler}
-use Rattle.ep_typed.specs.Steps.{Call, End, Normal, Halted, Error, Word, State, Outcome, Gives, Ends, Cut, state_of, Computation, give, cut, stop, go_on, bind, spend, change, found, fetch, with_events, assigned, type_at, is_within, size_of, same_type, Resources, watched, words_of_type, met, with_type, counted, made, made_own, allocate, allocate_own, newest_assigned, with_own_bound, standard_file, using, has_ended, own_variable, word_at}
-use Rattle.ep_typed.specs.Trees.{Place, Variable, Own, Standard, Expr, Constant, Text, Read, One, Two, Short, Step, Function, Actual, Evaluated, Accessed, Actuals, no_actual, next_actual, Item, Plain, Wide, Stmt, Stmts, Empty, Compound, Assign, If, While, Repeat, Procedure, Halt, Write, none, next, Case, Arms, no_arm, next_arm, Other, no_other, otherwise_do}
+use Rattle.ep_typed.specs.Steps.{Call, End, Normal, Halted, Error, Word, Undefined, State, Outcome, Gives, Ends, Cut, state_of, Computation, give, cut, stop, go_on, bind, spend, change, found, fetch, with_events, assigned, type_at, is_within, size_of, same_type, Resources, watched, words_of_type, met, with_type, counted, made, made_own, allocate, allocate_own, newest_assigned, with_own_bound, standard_file, using, has_ended, own_variable, word_at}
+use Rattle.ep_typed.specs.Trees.{Place, Variable, Own, Standard, Expr, Constant, Text, Read, One, Two, Short, Step, Function, Actual, Evaluated, Accessed, Actuals, no_actual, next_actual, Item, Plain, Wide, Stmt, Stmts, Empty, Compound, Assign, If, While, Repeat, Control, For, Procedure, Halt, Write, none, next, Case, Arms, no_arm, next_arm, Other, no_other, otherwise_do}
 use Rattle.ep_typed.specs.Routines.{made_variables}
 use Rattle.ep_typed.specs.Viewed.{denoter_of, stmt_of}
 use Rattle.ep_typed.specs.declared.interface.Formal.{Formal}
@@ -253,15 +254,39 @@ module _ (call : Handler) (steady : IsSteadyHandler call) (g : ℕ) (unit : List
   pub steady_assign : (line n : ℕ) (z : ℤ) → Steady (assign call g unit line n z)
   steady_assign line n z = steady_using _ n (steady_assign_living line n z)
 
+  pub steady_assigns : (line : ℕ) (p : Place) (x : Expr) → Steady (assigns call g unit line p x)
+  steady_assigns line p x = steady_bind (steady_place line p) (λ n. steady_bind (steady_eval line x) (λ r. steady_assign line n (number_of r)))
+
+  -- a variable that becomes undefined
+  pub steady_undefined : (n : ℕ) → Steady (spend 1 (change (assigned n Undefined)))
+  steady_undefined n = steady_spend 1 (steady_change (λ s. grows_quiet s (assigned n Undefined s) refl refl))
+
+  pub steady_undefines : (line : ℕ) (p : Place) → Steady (undefines call g unit line p)
+  steady_undefines line p = steady_bind (steady_place line p) (λ n. steady_using _ n (steady_undefined n))
+
+  -- the turns of a `for`
+  pub steady_turns_to : (turns line : ℕ) (c : Control) (last : ℤ) {body : Computation (Unit {0})} → Steady body → Steady (turns_to call g unit turns line c last body)
+  steady_turns_to zero line c last x = steady_cut
+  steady_turns_to (suc turns) line c last x =
+      steady_bind x (λ _. steady_bind (steady_eval line (Read c.variable)) (λ r. steady_spend 1 (steady_if (is_same last (number_of r)) (steady_give tt) (steady_bind (steady_assigns line c.variable (next_value c)) (λ _. steady_turns_to turns line c last x)))))
+
+  pub steady_counts : (line : ℕ) (c : Control) {body : Computation (Unit {0})} → Steady body → Steady (counts call g unit line c body)
+  steady_counts line c x =
+      steady_bind (steady_eval line (Read c.last)) (λ b. steady_bind (steady_assigns line c.variable (Read c.last)) (λ _. steady_bind (steady_assigns line c.variable (Read c.initial)) (λ _. steady_turns_to g line c (number_of b) x)))
+
   mutual
     pub steady_exec : (x : Stmt) → Steady (exec call g unit x)
     steady_exec Empty = steady_give tt
     steady_exec (Compound ss) = steady_exec_all ss
-    steady_exec (Assign line p x) = steady_bind (steady_place line p) (λ n. steady_bind (steady_eval line x) (λ r. steady_assign line n (number_of r)))
+    steady_exec (Assign line p x) = steady_assigns line p x
     steady_exec (If line x a b) =
         steady_bind (steady_eval line x) (λ r. steady_if (is_true (number_of r)) (steady_bind (steady_exec a) (λ _. steady_spend 1 (steady_give tt))) (steady_bind (steady_exec b) (λ _. steady_spend 1 (steady_give tt))))
     steady_exec (While line x s) = steady_turns call g g unit (steady_eval line x) (steady_exec s)
     steady_exec (Repeat line ss x) = steady_turns_until call g g unit (steady_exec_all ss) (steady_eval line x)
+    steady_exec (For line c x y s) =
+        steady_bind (steady_assigns line c.initial x) (λ _. steady_bind (steady_assigns line c.last y) (λ _.
+        steady_bind (steady_bind (steady_eval line (in_order c)) (λ r. steady_if (is_true (number_of r)) (steady_counts line c (steady_exec s)) (steady_give tt))) (λ _.
+        steady_bind (steady_undefines line c.variable) (λ _. steady_spend 1 (steady_give tt)))))
     steady_exec (Procedure line of_unit number given) =
         steady_bind (steady_arguments line given) (λ xs. steady_bind (steady unit line of_unit number xs) (λ results. steady_spend 1 (steady_give tt)))
     steady_exec (Case line x arms o) = steady_bind (steady_eval line x) (λ r. steady_exec_arms (number_of r) arms (steady_exec_other line o))

@@ -1,4 +1,5 @@
 pub mod Calls
+pub mod Controls
 pub mod Denoters
 pub mod Events
 pub mod Hosts

@@ -3,12 +3,13 @@ use Rattle.std.specs.Str.{bytes_eq}
 use Rattle.std.specs.Prelude.{ℕ, ℤ, pos, negsuc, zero, suc, Bool, true, false, List, [], ◌∷◌, length, slice_get, Option, Some, None, if◌then◌else◌}
 use Rattle.ep_typed.specs.Calls.{Argument, Value, Handler, in_call}
 use Rattle.ep_typed.specs.Calls as argument_is
+use Rattle.ep_typed.specs.Controls.{in_order, next_value}
 use Rattle.ep_typed.specs.Denoters.{type_of}
-use Rattle.ep_typed.specs.Trees.{Denoter, Place, Variable, Own, Standard, Expr, Constant, Text, Read, One, Two, Short, Step, Function, Actual, Evaluated, Accessed, Actuals, no_actual, next_actual, Item, Plain, Wide, Stmt, Stmts, Empty, Compound, Assign, If, While, Repeat, Procedure, Halt, Write, none, next, Case, Arms, no_arm, next_arm, Other, no_other, otherwise_do}
+use Rattle.ep_typed.specs.Trees.{Denoter, Place, Variable, Own, Standard, Expr, Constant, Text, Read, One, Two, Short, Step, Function, Actual, Evaluated, Accessed, Actuals, no_actual, next_actual, Item, Plain, Wide, Stmt, Stmts, Empty, Compound, Assign, If, While, Repeat, Control, For, Procedure, Halt, Write, none, next, Case, Arms, no_arm, next_arm, Other, no_other, otherwise_do}
 use Rattle.ep_typed.specs.Routines.{made_variables}
 use Rattle.ep_typed.specs.Viewed.{denoter_of, stmt_of}
-use Rattle.ep_typed.specs.Steps.{Call, Normal, Halted, Error, Word, Outcome, Computation, give, cut, stop, bind, spend, change, fetch, with_events, word_at, assigned, type_at, is_within, with_type, allocate, allocate_own, own_variable, newest_assigned, with_own_bound, standard_file, first_state, using}
-use Rattle.ep_typed.specs.Operations.{Answer, Number, Fault, unary_answer, binary_answer, step_answer, is_true, decides, is_in}
+use Rattle.ep_typed.specs.Steps.{Call, Normal, Halted, Error, Word, Undefined, Outcome, Computation, give, cut, stop, bind, spend, change, fetch, with_events, word_at, assigned, type_at, is_within, with_type, allocate, allocate_own, own_variable, newest_assigned, with_own_bound, standard_file, first_state, using}
+use Rattle.ep_typed.specs.Operations.{Answer, Number, Fault, unary_answer, binary_answer, step_answer, is_same, is_true, decides, is_in}
 use Rattle.ep_typed.specs.Printing.{Result, Bytes, number_of, line_end, plain_text, wide_text, piece_events}
 use Rattle.ep_typed.specs.Printing as result
 use Rattle.ep_typed.specs.declared.interface.Formal.{Formal}
@@ -104,6 +105,14 @@ module _ (call : Handler) (g : ℕ) (unit : List ℕ) where
   abbrev pub assign : ℕ → ℕ → ℤ → Computation (Unit {0})
   assign line n z = using (Error run_error.DISPOSED unit line) n (assign_living line n z)
 
+  -- an assignment: the place, and then the value
+  abbrev pub assigns : ℕ → Place → Expr → Computation (Unit {0})
+  assigns line p x = bind (place line p) (λ n. bind (eval line x) (λ r. assign line n (number_of r)))
+
+  -- a variable becomes undefined: an error where it has ended
+  abbrev pub undefines : ℕ → Place → Computation (Unit {0})
+  undefines line p = bind (place line p) (λ n. using (Error run_error.DISPOSED unit line) n (spend 1 (change (assigned n Undefined))))
+
   -- at most so many turns; a turn spends a step, and so does the statement in the end
   abbrev pub turns : ℕ → Computation Result → Computation (Unit {0}) → Computation (Unit {0})
   turns zero test body = cut
@@ -113,6 +122,21 @@ module _ (call : Handler) (g : ℕ) (unit : List ℕ) where
   abbrev pub turns_until : ℕ → Computation (Unit {0}) → Computation Result → Computation (Unit {0})
   turns_until zero body test = cut
   turns_until (suc g) body test = bind body (λ _. bind test (λ r. spend 1 (if is_true (number_of r) then spend 1 (give tt) else turns_until g body test)))
+
+  -- The turns of a `for` whose final value is this, from the value that the control variable has, and at most so many: the
+  -- body, and then the next value and the turns from that one on, unless it was the last. A turn spends a step.
+  abbrev pub turns_to : ℕ → ℕ → Control → ℤ → Computation (Unit {0}) → Computation (Unit {0})
+  turns_to zero line c last body = cut
+  turns_to (suc g) line c last body =
+      bind body (λ _. bind (eval line (Read c.variable)) (λ r.
+      spend 1 (if is_same last (number_of r) then give tt else bind (assigns line c.variable (next_value c)) (λ _. turns_to g line c last body))))
+
+  -- A `for` that has a turn, with its body: both bounds are values of the control variable's type, which has the initial
+  -- one at first. The final value is the one that the auxiliary variable has then, since a `for` in the body has the same variables.
+  abbrev pub counts : ℕ → Control → Computation (Unit {0}) → Computation (Unit {0})
+  counts line c body =
+      bind (eval line (Read c.last)) (λ b. bind (assigns line c.variable (Read c.last)) (λ _. bind (assigns line c.variable (Read c.initial)) (λ _.
+      turns_to g line c (number_of b) body)))
 
   -- The ranges of an arm are tried in order, up to the first one that has the value. One that is tried spends a step.
   abbrev pub tried : ℤ → List CaseRange → Computation (Unit {0}) → Computation (Unit {0}) → Computation (Unit {0})
@@ -124,10 +148,15 @@ module _ (call : Handler) (g : ℕ) (unit : List ℕ) where
     pub exec : Stmt → Computation (Unit {0})
     exec Empty = give tt
     exec (Compound ss) = exec_all ss
-    exec (Assign line p x) = bind (place line p) (λ n. bind (eval line x) (λ r. assign line n (number_of r)))
+    exec (Assign line p x) = assigns line p x
     exec (If line x a b) = bind (eval line x) (λ r. if is_true (number_of r) then bind (exec a) (λ _. spend 1 (give tt)) else bind (exec b) (λ _. spend 1 (give tt)))
     exec (While line x s) = turns g (eval line x) (exec s)
     exec (Repeat line ss x) = turns_until g (exec_all ss) (eval line x)
+    -- both bounds are evaluated once, and the control variable is undefined in the end, as it is where there is no turn
+    exec (For line c x y s) =
+        bind (assigns line c.initial x) (λ _. bind (assigns line c.last y) (λ _.
+        bind (bind (eval line (in_order c)) (λ r. if is_true (number_of r) then counts line c (exec s) else give tt)) (λ _.
+        bind (undefines line c.variable) (λ _. spend 1 (give tt)))))
     exec (Procedure line of_unit number given) =
         bind (arguments line given) (λ xs. bind (call unit line of_unit number xs) (λ results. spend 1 (give tt)))
     exec (Case line x arms o) = bind (eval line x) (λ r. exec_arms (number_of r) arms (exec_other line o))

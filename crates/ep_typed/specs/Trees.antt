@@ -62,6 +62,16 @@ pub data Item : Type 0 where
   Plain : (print : Print) (value : Expr) → Item
   Wide : (print : Print) (value width : Expr) → Item
 
+-- What a `for` statement counts with (ISO 10206, 6.9.3.9.2): the control variable, the auxiliary variables that have the
+-- initial and the final value, whether the values fall, and the least and the greatest value of the control variable's host.
+pub record Control : Type 0 where
+  pub variable : Place
+  pub initial : Place
+  pub last : Place
+  pub falls : Bool
+  pub low : ℤ
+  pub high : ℤ
+
 mutual
   -- a statement, with the line of its first token
   pub data Stmt : Type 0 where
@@ -72,6 +82,8 @@ mutual
     While : (line : ℕ) (condition : Expr) (body : Stmt) → Stmt
     -- the statements, and then the condition
     Repeat : (line : ℕ) (body : Stmts) (condition : Expr) → Stmt
+    -- the control, the initial and the final value, and the body
+    For : (line : ℕ) (control : Control) (initial last : Expr) (body : Stmt) → Stmt
     -- the procedure of this number of the unit of this name is called with these parameters
     Procedure : (line : ℕ) (unit : List ℕ) (number : ℕ) (given : Actuals) → Stmt
     -- the selector, the arms, and what is done where no range of theirs has its value

@@ -6,7 +6,7 @@ use Rattle.ep_typed.specs.Hosts.{Host, least, greatest, is_of_host}
 use Rattle.ep_typed.specs.Hosts as host
 use Rattle.ep_typed.specs.Operations.{is_integer, is_apart}
 use Rattle.ep_typed.specs.Steps.{is_within}
-use Rattle.ep_typed.specs.Trees.{Denoter, Place, Variable, Own, Standard, Expr, Constant, Text, Read, One, Two, Short, Step, Function, Actual, Evaluated, Accessed, Actuals, no_actual, next_actual, Item, Plain, Wide, Stmt, Stmts, Empty, Compound, Assign, If, While, Repeat, Procedure, Halt, Write, none, next, Case, Arms, no_arm, next_arm, Other, no_other, otherwise_do}
+use Rattle.ep_typed.specs.Trees.{Denoter, Place, Variable, Own, Standard, Expr, Constant, Text, Read, One, Two, Short, Step, Function, Actual, Evaluated, Accessed, Actuals, no_actual, next_actual, Item, Plain, Wide, Stmt, Stmts, Empty, Compound, Assign, If, While, Repeat, Control, For, Procedure, Halt, Write, none, next, Case, Arms, no_arm, next_arm, Other, no_other, otherwise_do}
 pub use Rattle.ep_typed.specs.Routines.{heading_of, formal_variable, variables_of}
 use Rattle.ep_typed.specs.Viewed.{denoter_of, stmt_of}
 use Rattle.ep_typed.specs.declared.operations.Unary.{Unary}
@@ -182,6 +182,14 @@ module _ (declared : Declarations) where
   HasRange [] = ⊥
   HasRange (r ∷ rs) = ⊤
 
+  -- The control variable has this host, whose least and greatest values those are, and the auxiliary variables are integers.
+  pub record IsControl (h : Host) (c : Control) : Type 0 where
+    pub variable : IsPlace h c.variable
+    pub initial : IsPlace host.Integer c.initial
+    pub last : IsPlace host.Integer c.last
+    pub low : c.low ≡ least h
+    pub high : c.high ≡ greatest h
+
   abbrev mutual
     pub IsStmt : Stmt → Type 0
     IsStmt Empty = ⊤
@@ -190,6 +198,7 @@ module _ (declared : Declarations) where
     IsStmt (If line x a b) = IsExpr (Ordinal host.Boolean) x × IsStmt a × IsStmt b
     IsStmt (While line x s) = IsExpr (Ordinal host.Boolean) x × IsStmt s
     IsStmt (Repeat line ss x) = AreStmts ss × IsExpr (Ordinal host.Boolean) x
+    IsStmt (For line c x y s) = ((h : Host) × IsControl h c × IsExpr (Ordinal h) x × IsExpr (Ordinal h) y) × IsStmt s
     IsStmt (Procedure line unit number given) =
         (r : RoutineEntry) × (slice_get (declared.routines unit) number ≡ Some r) × IsProcedure r × AreGiven (declared.types unit) r.formals given
     IsStmt (Case line x arms o) = ((h : Host) × IsExpr (Ordinal h) x × AreArms h arms) × IsOther o × AreApart (ranges_of arms)

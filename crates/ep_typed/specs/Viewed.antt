@@ -17,6 +17,7 @@ use Rattle.ep_typed.specs.declared.tree.Actual.TheOpen as expr
 use Rattle.ep_typed.specs.declared.tree.Actual.TheOpen.{Actual-F, TypedExpr-F}
 use Rattle.ep_typed.specs.declared.tree.Actual.TheFolds.{fold-Actual, fold-TypedExpr}
 use Rattle.ep_typed.specs.declared.tree.WriteItem.{WriteItem}
+use Rattle.ep_typed.specs.declared.tree.ForControl.{ForControl}
 use Rattle.ep_typed.specs.declared.tree.TypedStmt.{TypedStmt}
 use Rattle.ep_typed.specs.declared.tree.TypedStmt.TheOpen as stmt
 use Rattle.ep_typed.specs.declared.tree.TypedStmt.TheOpen.{TypedStmt-F, CaseArm-F}
@@ -67,6 +68,10 @@ wide print value (Some width) = tree.Wide print (expr_of value) (expr_of width)
 abbrev pub item_of : WriteItem → tree.Item
 item_of i = wide i.print i.value i.width
 
+abbrev pub control_of : ForControl → tree.Control
+control_of c =
+    record { variable = place_of c.variable; initial = place_of c.initial; last = place_of c.last; falls = c.falls; low = c.low; high = c.high }
+
 abbrev pub stmt_step : TypedStmt-F tree.Stmt tree.Arm → tree.Stmt
 stmt_step stmt.Empty = tree.Empty
 stmt_step (stmt.Compound statements) = tree.Compound (tree.stmts statements)
@@ -74,6 +79,7 @@ stmt_step (stmt.Assign line place value) = tree.Assign line (place_of place) (ex
 stmt_step (stmt.If line condition then_part else_part) = tree.If line (expr_of condition) then_part else_part
 stmt_step (stmt.While line condition body) = tree.While line (expr_of condition) body
 stmt_step (stmt.Repeat line body condition) = tree.Repeat line (tree.stmts body) (expr_of condition)
+stmt_step (stmt.For line control initial last body) = tree.For line (control_of control) (expr_of initial) (expr_of last) body
 stmt_step (stmt.Procedure line unit number given) = tree.Procedure line unit number (tree.actuals (map actual_of given))
 stmt_step (stmt.Case line selector arms other) = tree.Case line (expr_of selector) (tree.arms arms) (tree.other other)
 stmt_step (stmt.Halt line) = tree.Halt line

@@ -180,6 +180,13 @@ fn statement(s: &TypedStmt) -> u64
                 .saturating_add(expression(condition.get()))
                 .saturating_add(1)
         }
+        TypedStmt::For(_, control, initial, last, body) => {
+            place(&control.variable)
+                .saturating_add(expression(initial.get()))
+                .saturating_add(expression(last.get()))
+                .saturating_add(statement(body.get()))
+                .saturating_add(1)
+        }
         TypedStmt::Case(_, selector, all, other) => {
             let otherwise = match other {
                 None => 0,

@@ -107,6 +107,36 @@ pub struct CaseRange {
 /// The ranges of an arm, in order.
 pub type CaseRanges = List<CaseRange>;
 
+/// What a `for` statement counts with (ISO 10206, 6.9.3.9.1 and 6.9.3.9.2). The auxiliary variables are integers of the
+/// block in which the statement is, and all its `for` statements have the same ones.
+pub struct ForControl {
+    /// The control variable.
+    pub variable: TypedPlace,
+    /// The auxiliary variable that has the initial value.
+    pub initial: TypedPlace,
+    /// The auxiliary variable that has the final value.
+    pub last: TypedPlace,
+    /// Whether the values fall, as `downto` says.
+    pub falls: bool,
+    /// The least value of the host type of the control variable.
+    pub low: i64,
+    /// The greatest one.
+    pub high: i64,
+}
+
+impl Drop for ForControl {
+    fn drop(self) {
+        let ForControl {
+            variable: _,
+            initial: _,
+            last: _,
+            falls: _,
+            low: _,
+            high: _,
+        } = self;
+    }
+}
+
 /// A statement, with the line of its first token (ISO 10206, 6.9.1).
 #[cycle(statement)]
 #[derive(Drop)]
@@ -123,6 +153,8 @@ pub enum TypedStmt {
     While(Line, Boxed<TypedExpr>, Boxed<TypedStmt>),
     /// `repeat`: the statements, and then the condition.
     Repeat(Line, TypedStmts, Boxed<TypedExpr>),
+    /// `for`: what it counts with, the initial and the final value, and the statement.
+    For(Line, ForControl, Boxed<TypedExpr>, Boxed<TypedExpr>, Boxed<TypedStmt>),
     /// A procedure statement: the unit and the number of the procedure, and what it is given for its parameters
     /// (ISO 10206, 6.9.2.3).
     Procedure(Line, Name, u32, Actuals),
