@@ -12,7 +12,7 @@ use Rattle.ep_typed.specs.Calls as argument_is
 use Rattle.ep_typed.specs.Steady.{Grows, Steady, IsSteadyHandler}
 use Rattle.ep_typed.specs.Steps.{Call, End, Normal, Halted, Error, Word, Undefined, State, Outcome, Gives, Ends, Cut, state_of, Computation, give, cut, stop, go_on, bind, spend, change, found, fetch, assigned, type_at, is_within, size_of, with_type, counted, made, made_own, allocate, allocate_own, newest_assigned, with_own_bound, standard_file, first_state, using, has_ended, own_variable, word_at}
 use Rattle.ep_typed.specs.Trees.{Place, Variable, Own, Standard, Expr, Constant, Text, Read, One, Two, Short, Step, Function, Actual, Evaluated, Accessed, Actuals, no_actual, next_actual, Item, Plain, Wide, Stmt, Stmts, Empty, Compound, Assign, If, While, Repeat, Control, For, Procedure, Halt, Write, none, next, Case, Arms, no_arm, next_arm, Other, no_other, otherwise_do}
-use Rattle.ep_typed.specs.Routines.{made_variables}
+use Rattle.ep_typed.specs.Routines.{made_variables, unit_variables}
 use Rattle.ep_typed.specs.Viewed.{denoter_of, stmt_of}
 use Rattle.ep_typed.specs.declared.interface.Formal.{Formal}
 use Rattle.ep_typed.specs.declared.interface.FormalMode.{FormalMode}
@@ -310,7 +310,7 @@ module _ (call other : Handler) (lasts : IsLastingHandler call other) (g j : ℕ
 
 -- the start of a unit
 lasting_start_of : (call other : Handler) → IsLastingHandler call other → (g j : ℕ) (u : TypedUnit) → Lasting (start_of call g u) (start_of other (g + j) u)
-lasting_start_of call other lasts g j u = lasting_spend 1 (lasting_bind (lasting_make_all call other lasts g j u.name u.types 0 u.variables) (λ _. lasting_exec call other lasts g j u.name (stmt_of u.start)))
+lasting_start_of call other lasts g j u = lasting_spend 1 (lasting_bind (lasting_make_all call other lasts g j u.name u.types 0 (unit_variables u)) (λ _. lasting_exec call other lasts g j u.name (stmt_of u.start)))
 
 -- the starts of units
 lasting_starts_of : (call other : Handler) → IsLastingHandler call other → (g j : ℕ) (us : List TypedUnit) → Lasting (starts_of call g us) (starts_of other (g + j) us)

@@ -15,7 +15,7 @@ use Rattle.ep_typed.specs.Calls as argument_is
 use Rattle.ep_typed.specs.Steady.{Grows, Steady, IsSteadyHandler}
 use Rattle.ep_typed.specs.Steps.{Call, End, Normal, Halted, Error, Word, Undefined, State, Outcome, Gives, Ends, Cut, state_of, Computation, give, cut, stop, go_on, bind, spend, change, found, fetch, with_events, assigned, type_at, is_within, size_of, same_type, Resources, watched, words_of_type, met, with_type, counted, made, made_own, allocate, allocate_own, newest_assigned, with_own_bound, standard_file, using, has_ended, own_variable, word_at}
 use Rattle.ep_typed.specs.Trees.{Place, Variable, Own, Standard, Expr, Constant, Text, Read, One, Two, Short, Step, Function, Actual, Evaluated, Accessed, Actuals, no_actual, next_actual, Item, Plain, Wide, Stmt, Stmts, Empty, Compound, Assign, If, While, Repeat, Control, For, Procedure, Halt, Write, none, next, Case, Arms, no_arm, next_arm, Other, no_other, otherwise_do}
-use Rattle.ep_typed.specs.Routines.{made_variables}
+use Rattle.ep_typed.specs.Routines.{made_variables, unit_variables}
 use Rattle.ep_typed.specs.Viewed.{denoter_of, stmt_of}
 use Rattle.ep_typed.specs.declared.interface.Formal.{Formal}
 use Rattle.ep_typed.specs.declared.interface.FormalMode.{FormalMode}
@@ -330,7 +330,7 @@ module _ (call : Handler) (steady : IsSteadyHandler call) (g : ℕ) (unit : List
 
 -- the start of a unit
 pub steady_start_of : (call : Handler) → IsSteadyHandler call → (g : ℕ) (u : TypedUnit) → Steady (start_of call g u)
-steady_start_of call steady g u = steady_spend 1 (steady_bind (steady_make_all call steady g u.name u.types 0 u.variables) (λ _. steady_exec call steady g u.name (stmt_of u.start)))
+steady_start_of call steady g u = steady_spend 1 (steady_bind (steady_make_all call steady g u.name u.types 0 (unit_variables u)) (λ _. steady_exec call steady g u.name (stmt_of u.start)))
 
 -- the starts of units
 pub steady_starts_of : (call : Handler) → IsSteadyHandler call → (g : ℕ) (us : List TypedUnit) → Steady (starts_of call g us)

@@ -1,3 +1,4 @@
+pub mod Auxiliaries
 pub mod Calls
 pub mod Controls
 pub mod Denoters

@@ -6,7 +6,7 @@ use Rattle.ep_typed.specs.Calls as argument_is
 use Rattle.ep_typed.specs.Controls.{in_order, next_value}
 use Rattle.ep_typed.specs.Denoters.{type_of}
 use Rattle.ep_typed.specs.Trees.{Denoter, Place, Variable, Own, Standard, Expr, Constant, Text, Read, One, Two, Short, Step, Function, Actual, Evaluated, Accessed, Actuals, no_actual, next_actual, Item, Plain, Wide, Stmt, Stmts, Empty, Compound, Assign, If, While, Repeat, Control, For, Procedure, Halt, Write, none, next, Case, Arms, no_arm, next_arm, Other, no_other, otherwise_do}
-use Rattle.ep_typed.specs.Routines.{made_variables}
+use Rattle.ep_typed.specs.Routines.{made_variables, unit_variables}
 use Rattle.ep_typed.specs.Viewed.{denoter_of, stmt_of}
 use Rattle.ep_typed.specs.Steps.{Call, Normal, Halted, Error, Word, Undefined, Outcome, Computation, give, cut, stop, bind, spend, change, fetch, with_events, word_at, assigned, type_at, is_within, with_type, allocate, allocate_own, own_variable, newest_assigned, with_own_bound, standard_file, first_state, using}
 use Rattle.ep_typed.specs.Operations.{Answer, Number, Fault, unary_answer, binary_answer, step_answer, is_same, is_true, decides, is_in}
@@ -204,7 +204,7 @@ module _ (call : Handler) (g : ℕ) (unit : List ℕ) where
 
 -- The start of a unit spends the step of a call, makes its variables, and runs its block.
 abbrev pub start_of : Handler → ℕ → TypedUnit → Computation (Unit {0})
-start_of call g u = spend 1 (bind (make_all call g u.name u.types 0 u.variables) (λ _. exec call g u.name (stmt_of u.start)))
+start_of call g u = spend 1 (bind (make_all call g u.name u.types 0 (unit_variables u)) (λ _. exec call g u.name (stmt_of u.start)))
 
 -- the starts of units in order
 abbrev pub starts_of : Handler → ℕ → List TypedUnit → Computation (Unit {0})
@@ -266,7 +266,7 @@ results_given unit line number None = give []
 results_given unit line number (Some r) = result_at unit line number
 
 -- What a routine does in its activation: its formal parameters take the arguments, it makes the variable that has its
--- result, where it has one, and those that it declares, runs its block, and gives its result. An error in taking arguments
+-- result, where it has one, those that it declares, and the auxiliary ones, runs its block, and gives its result. An error in taking arguments
 -- or in giving the result is on the line of the declaration (own).
 abbrev pub runs_routine : Handler → ℕ → List ℕ → Found → List Argument → Computation (List Result)
 runs_routine call g unit f xs =

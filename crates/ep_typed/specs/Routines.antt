@@ -1,8 +1,11 @@
--- The variables of routines, by number: the formal parameters, the result of a function, and those that it declares.
+-- The variables of routines, by number: the formal parameters, the result of a function, those that it declares, and the auxiliary ones; and those of units.
 use Rattle.std.specs.Prelude.{ℕ, false, List, [], ◌∷◌, ◌++◌, map, Option, Some, None}
+use Rattle.ep_typed.specs.Auxiliaries.{auxiliary_variables, first_for}
+use Rattle.ep_typed.specs.Viewed.{stmt_of}
 use Rattle.ep_typed.specs.declared.interface.Formal.{Formal}
 use Rattle.ep_typed.specs.declared.interface.RoutineEntry.{RoutineEntry}
 use Rattle.ep_typed.specs.declared.interface.RoutineResult.{RoutineResult}
+use Rattle.ep_typed.specs.declared.unit.Unit.{Unit as TypedUnit}
 use Rattle.ep_typed.specs.declared.unit.UnitRoutine.{UnitRoutine}
 use Rattle.ep_typed.specs.declared.unit.UnitRoutine.TheViews.{out-UnitRoutine}
 use Rattle.ep_typed.specs.declared.unit.UnitVariable.{UnitVariable}
@@ -26,9 +29,13 @@ result_variable name line None = []
 result_variable name line (Some r) =
     record { name = result_name name r.name; line = line; declaration = 0; denoter = r.denoter; tuple = []; parameter = false } ∷ []
 
--- the variables that a routine makes: the one that has its result, and those that it declares
+-- the variables that a routine makes: the one that has its result, those that it declares, and the auxiliary ones of its block
 abbrev pub made_variables : UnitRoutine → List UnitVariable
-made_variables r = let parts = out-UnitRoutine r in result_variable parts.name parts.line parts.result ++ parts.variables
+made_variables r = let parts = out-UnitRoutine r in result_variable parts.name parts.line parts.result ++ (parts.variables ++ auxiliary_variables (first_for (stmt_of parts.block)))
+
+-- the variables that a unit makes: those that it declares, and the auxiliary ones of its start
+abbrev pub unit_variables : TypedUnit → List UnitVariable
+unit_variables u = u.variables ++ auxiliary_variables (first_for (stmt_of u.start))
 
 -- the variables of a routine: its formal parameters, and those that it makes
 abbrev pub variables_of : UnitRoutine → List UnitVariable

@@ -7,7 +7,7 @@ use Rattle.ep_typed.specs.Hosts as host
 use Rattle.ep_typed.specs.Operations.{is_integer, is_apart}
 use Rattle.ep_typed.specs.Steps.{is_within}
 use Rattle.ep_typed.specs.Trees.{Denoter, Place, Variable, Own, Standard, Expr, Constant, Text, Read, One, Two, Short, Step, Function, Actual, Evaluated, Accessed, Actuals, no_actual, next_actual, Item, Plain, Wide, Stmt, Stmts, Empty, Compound, Assign, If, While, Repeat, Control, For, Procedure, Halt, Write, none, next, Case, Arms, no_arm, next_arm, Other, no_other, otherwise_do}
-pub use Rattle.ep_typed.specs.Routines.{heading_of, formal_variable, variables_of}
+pub use Rattle.ep_typed.specs.Routines.{heading_of, formal_variable, variables_of, unit_variables}
 use Rattle.ep_typed.specs.Viewed.{denoter_of, stmt_of}
 use Rattle.ep_typed.specs.declared.operations.Unary.{Unary}
 use Rattle.ep_typed.specs.declared.operations.Unary.TheVariants as unary
@@ -259,7 +259,7 @@ own_list name items unit = if bytes_eq name unit then items else []
 abbrev pub own : TypedUnit → Declarations
 own u =
     record {
-      variables = λ unit number. if bytes_eq u.name unit then slice_get u.variables number else None;
+      variables = λ unit number. if bytes_eq u.name unit then slice_get (unit_variables u) number else None;
       types = own_list u.name u.types;
       constants = own_list u.name u.constants;
       routines = own_list u.name (map heading_of u.routines);

@@ -6,6 +6,7 @@
 //! that are counted; specs/Valid.antt says which trees the static rules give, and specs/Nodes.antt counts them.
 #![tactic(auto)]
 
+mod auxiliary;
 mod denoter;
 mod interface;
 mod laws;
@@ -16,6 +17,7 @@ mod tree;
 mod unit;
 mod value;
 
+pub use auxiliary::{auxiliary_variables, first_for};
 pub use denoter::{Bound, Bounds, Denoter, RequiredType, type_of};
 pub use interface::{
     ConstantEntries, ConstantEntry, Constituent, ConstituentKind, Constituents, ExportEntries,

@@ -1,0 +1,44 @@
+-- The auxiliary variables of `for` statements (ISO 10206, 6.9.3.9.2). A block with a `for` has two of them, which all its
+-- `for` statements share, and they are made behind the variables that it declares.
+use Rattle.std.specs.Prelude.{codes, ℕ, false, List, [], ◌∷◌, Option, Some, None}
+use Rattle.std.specs.Option.{option_or}
+use Rattle.ep_typed.specs.Trees.{Stmt, Stmts, Empty, Compound, Assign, If, While, Repeat, For, Procedure, Halt, Write, none, next, Case, Arm, Arms, no_arm, next_arm, Other, no_other, otherwise_do}
+use Rattle.ep_typed.specs.declared.denoter.Denoter.TheVariants as denoter
+use Rattle.ep_typed.specs.declared.denoter.RequiredType.TheVariants as simple
+use Rattle.ep_typed.specs.declared.unit.UnitVariable.{UnitVariable}
+
+abbrev mutual
+  -- the line of the first `for` in a statement, where it has one
+  pub first_for : Stmt → Option ℕ
+  first_for Empty = None
+  first_for (Compound ss) = first_for_of ss
+  first_for (Assign line p x) = None
+  first_for (If line x a b) = option_or (first_for a) (first_for b)
+  first_for (While line x s) = first_for s
+  first_for (Repeat line ss x) = first_for_of ss
+  first_for (For line c x y s) = Some line
+  first_for (Procedure line unit number given) = None
+  first_for (Case line x arms o) = option_or (first_for_arms arms) (first_for_other o)
+  first_for (Halt line) = None
+  first_for (Write line items ends_line) = None
+
+  pub first_for_of : Stmts → Option ℕ
+  first_for_of none = None
+  first_for_of (next s ss) = option_or (first_for s) (first_for_of ss)
+
+  pub first_for_arms : Arms → Option ℕ
+  first_for_arms no_arm = None
+  first_for_arms (next_arm ranges s arms) = option_or (first_for s) (first_for_arms arms)
+
+  pub first_for_other : Other → Option ℕ
+  first_for_other no_other = None
+  first_for_other (otherwise_do ss) = first_for_of ss
+
+-- an auxiliary variable, which is an integer, has the name of no other variable, and counts as declared on the line
+abbrev pub auxiliary_variable : ℕ → UnitVariable
+auxiliary_variable line = record { name = codes "for"; line = line; declaration = 0; denoter = denoter.Required simple.Integer; tuple = []; parameter = false }
+
+-- those of a block whose first `for` is on this line, or which has none: the one of the initial value, and that of the final one
+abbrev pub auxiliary_variables : Option ℕ → List UnitVariable
+auxiliary_variables None = []
+auxiliary_variables (Some line) = auxiliary_variable line ∷ auxiliary_variable line ∷ []
