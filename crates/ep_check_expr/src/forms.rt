@@ -318,7 +318,7 @@ impl Typed {
 }
 
 /// The least value of a host.
-fn least(host: Host) -> i64
+pub fn least(host: Host) -> i64
     ensures { result ≡ hosts.least (typed_host host) }
 {
     match host {
@@ -328,7 +328,7 @@ fn least(host: Host) -> i64
 }
 
 /// The greatest value of a host.
-fn greatest(host: Host) -> i64
+pub fn greatest(host: Host) -> i64
     ensures { result ≡ hosts.greatest (typed_host host) }
 {
     match host {

@@ -27,6 +27,6 @@ pub use arguments::{Taken, given_value, unless_protected};
 pub use constants::{ConstantForm, bound_value, constant_value, label_value};
 pub use expressions::{typed_arguments, typed_expression, typed_value, written_expression};
 pub use folding::{Folded, folded_form};
-pub use forms::{DEPTH, Refusal, Typed};
+pub use forms::{DEPTH, Refusal, Typed, greatest, least};
 pub use laws::laws_of_expressions;
 pub use names::undeclared;

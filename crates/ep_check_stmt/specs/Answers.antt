@@ -25,7 +25,10 @@ use Rattle.ep_check_stmt.specs.declared.outcome.CheckRefusal.TheVariants as refu
 use Rattle.ep_check_stmt.specs.declared.outcome.Outcome.{Outcome}
 use Rattle.ep_check_stmt.specs.declared.outcome.Outcome.TheVariants as outcome
 use Rattle.ep_check_stmt.specs.declared.statements.Context.{Context}
+use Rattle.ep_check_stmt.specs.RoutineForms.{routine_form}
 use Rattle.ep_check_stmt.specs.declared.statements.FunctionResult.{FunctionResult}
+use Rattle.ep_check_stmt.specs.declared.statements.Locals.{Locals}
+use Rattle.ep_check_stmt.specs.declared.statements.Locals.TheVariants as locals
 use Rattle.ep_check_stmt.specs.declared.statements.Target.{Target}
 
 -- whether the rule is one of these
@@ -67,9 +70,14 @@ AnswersRow view (Err r) row = RefusesRow r row
 abbrev pub result_of : FunctionResult → rows.FunctionResult
 result_of r = record { function = r.function; unit = r.unit.now; variable = r.variable; host = r.host }
 
+-- the variables of the block
+abbrev pub locals_of : Locals → rows.Locals
+locals_of (locals.Unit unit auxiliary) = rows.OfUnit unit.now auxiliary
+locals_of (locals.Routine first auxiliary) = rows.OfRoutine first auxiliary
+
 -- what the statements of a block know
 abbrev pub context_of : Context → rows.Context
-context_of c = record { scopes = c.scopes.now; output = c.output; result = option_map result_of c.result }
+context_of c = record { scopes = c.scopes.now; output = c.output; result = option_map result_of c.result; locals = locals_of c.locals; routines = map routine_form c.routines.now }
 
 -- what is assigned to
 abbrev pub target_of : Target → rows.Target

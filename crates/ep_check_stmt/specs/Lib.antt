@@ -2,5 +2,6 @@ pub mod Answers
 pub mod Cases
 pub mod Laws
 pub mod Outcomes
+pub mod RoutineForms
 pub mod Statements
 pub mod Threats

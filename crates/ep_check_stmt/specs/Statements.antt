@@ -1,12 +1,14 @@
 -- What the static rules say of statements: their typed forms, or the first item that breaks a rule.
 --
 -- Items are taken in the order of the text: a statement without its inner statements is one, on the line of its first token. A form that is no form of a program that is built fails by no rule here.
-use Rattle.std.specs.Prelude.{ℕ, nat_eq, ◌==◌, ◌&&◌, Bool, true, false, List, [], ◌∷◌, ◌++◌, map, Option, Some, None, if◌then◌else◌}
+use Rattle.std.specs.Prelude.{ℕ, nat_eq, nat_le, ◌+◌, ◌||◌, ◌==◌, ◌&&◌, Bool, true, false, List, [], ◌∷◌, ◌++◌, map, Option, Some, None, if◌then◌else◌}
 use Rattle.std.specs.List.{list_any}
 use Rattle.std.specs.Option.{option_map}
 use Rattle.std.specs.Str.{bytes_eq}
 use Rattle.ep_tree.specs.declared.expression.Access.{out-Access}
 use Rattle.ep_tree.specs.declared.expression.Expression.{Expression}
+use Rattle.ep_tree.specs.declared.operator.Direction.{Direction}
+use Rattle.ep_tree.specs.declared.operator.Direction.TheVariants as direction
 use Rattle.ep_tree.specs.declared.expression.Argument.{Argument, out-Argument}
 use Rattle.ep_tree.specs.declared.expression.Selector.{Selector, out-Selector}
 use Rattle.ep_tree.specs.Shapes.{arguments_in, as_identifier}
@@ -17,8 +19,9 @@ use Rattle.ep_tree.specs.declared.statement.Arm as syntax
 use Rattle.ep_tree.specs.declared.statement.Otherwise.{Otherwise, fold-Otherwise}
 use Rattle.ep_tree.specs.declared.expression.Label.{Label}
 use Rattle.ep_tree.specs.declared.statement.Compound.{Compound, fold-Compound}
+use Rattle.ep_typed.specs.Hosts.{greatest, least}
 use Rattle.ep_typed.specs.Trees as tree
-use Rattle.ep_typed.specs.Trees.{Place, Expr, Item, Stmt, Stmts, Arm, Arms, Other}
+use Rattle.ep_typed.specs.Trees.{Control, Place, Expr, Item, Stmt, Stmts, Arm, Arms, Other}
 use Rattle.ep_typed.specs.declared.operations.Print.{Print}
 use Rattle.ep_typed.specs.declared.operations.Print.TheVariants as print
 use Rattle.ep_typed.specs.declared.tree.StandardFile.{StandardFile}
@@ -38,11 +41,14 @@ use Rattle.ep_scope.specs.declared.thing.Declaration.{Declaration}
 use Rattle.ep_scope.specs.declared.thing.Declaration.TheVariants as declaration
 use Rattle.ep_scope.specs.declared.thing.Declared.{Declared}
 use Rattle.ep_check_expr.specs.Arguments.{arguments_judged, given_to, unless_protected}
+use Rattle.ep_check_expr.specs.Hosts.{typed_host}
 use Rattle.ep_check_expr.specs.Judgements.{Judged, Accepts, Breaks, Typed, unbuilt, when_accepted, both}
 use Rattle.ep_check_expr.specs.Functions.{Given}
 use Rattle.ep_check_expr.specs.Names.{undeclared}
 use Rattle.ep_check_expr.specs.Expressions.{given, judged, judged_value}
 use Rattle.ep_check_stmt.specs.Cases.{CaseSelector, own_ranges, selector_judged}
+use Rattle.ep_check_stmt.specs.RoutineForms.{RoutineForm, formals_at}
+use Rattle.ep_check_stmt.specs.Threats.{expr_threatens, is_variable, threatens}
 
 -- ---- rows of items
 
@@ -242,13 +248,17 @@ abbrev pub arms_in_order : List (Judgement Arm) → Judgement Arms
 arms_in_order [] = Passes tree.no_arm
 arms_in_order (a ∷ arms) = after (λ x more. tree.next_arm x.0 x.1 more) a (arms_in_order arms)
 
+-- What a row comes to inside of the `for` statements that have these control variables, the innermost first.
+abbrev pub Under : Type 0 → Type 0
+Under A = List Place → Judgement A
+
 -- an arm of a `case`: its labels, which belong to the statement itself, and its statement
 abbrev pub ArmJudged : Type 0
-ArmJudged = List Label × Judgement Stmt
+ArmJudged = List Label × Under Stmt
 
 -- an arm of a `case` on a line, whose selector has a host
-abbrev pub arm_row : List Region → ℕ → Host → ArmJudged → Judgement Arm
-arm_row scopes line h a = after (λ ranges s. (ranges, s)) (at_item line (own_ranges scopes h a.0)) a.1
+abbrev pub arm_row : List Region → ℕ → Host → List Place → ArmJudged → Judgement Arm
+arm_row scopes line h controls a = after (λ ranges s. (ranges, s)) (at_item line (own_ranges scopes h a.0)) (a.1 controls)
 
 -- a missing `otherwise`
 abbrev pub other_judged : Option (Judgement Stmts) → Judgement Other
@@ -256,25 +266,142 @@ other_judged None = Passes tree.no_other
 other_judged (Some ss) = formed tree.otherwise_do ss
 
 -- a `case` statement, by the form of its selector, its arms and its `otherwise` part (ISO 10206, 6.9.3.5)
-abbrev pub case_row : ℕ → Option Expr → Judgement Arms → Judgement Other → Judgement Stmt
-case_row line form arms other =
-    after (λ x. λ (parts : Arms × Other). tree.Case line x parts.0 parts.1) (at_item line (Accepts form)) (after (λ a b. (a, b)) arms other)
+abbrev pub case_row : ℕ → Judged (Option Expr) → Judgement Arms → Judgement Other → Judgement Stmt
+case_row line selector arms other =
+    after (λ x. λ (parts : Arms × Other). tree.Case line x parts.0 parts.1) (at_item line selector) (after (λ a b. (a, b)) arms other)
 
--- by its selector with the labels, its arms for a host of the selector, and its `otherwise` part
-abbrev pub case_judged : ℕ → Judged CaseSelector → (Host → Judgement Arms) → Judgement Other → Judgement Stmt
-case_judged line (Breaks rules) arms other = Fails line rules
-case_judged line (Accepts s) arms other = case_row line s.form (arms s.host) other
+-- by its selector with the labels, what its form is then, its arms for a host of the selector, and its `otherwise` part
+abbrev pub case_judged : ℕ → (Option Expr → Judged (Option Expr)) → Judged CaseSelector → (Host → Judgement Arms) → Judgement Other → Judgement Stmt
+case_judged line then (Breaks rules) arms other = Fails line rules
+case_judged line then (Accepts s) arms other = case_row line (then s.form) (arms s.host) other
+
+-- ---- `for` (ISO 10206, 6.9.3.9)
+
+-- The variables of a block: those of a unit, or those of a routine, of which the first one that its block declares has a number. The auxiliary variables are behind all of them, and the first of these has a number too.
+pub data Locals : Type 0 where
+  OfUnit : (unit : List ℕ) (auxiliary : ℕ) → Locals
+  OfRoutine : (first auxiliary : ℕ) → Locals
+
+-- the auxiliary variables, which have the initial and the final value
+abbrev pub initial_place : Locals → Place
+initial_place (OfUnit unit auxiliary) = tree.Variable unit auxiliary
+initial_place (OfRoutine first auxiliary) = tree.Own auxiliary
+
+abbrev pub last_place : Locals → Place
+last_place (OfUnit unit auxiliary) = tree.Variable unit (auxiliary + 1)
+last_place (OfRoutine first auxiliary) = tree.Own (auxiliary + 1)
+
+-- whether a variable of a unit, or one of the routine, is declared in the block
+abbrev pub declares_variable : Locals → List ℕ → Bool
+declares_variable (OfUnit unit auxiliary) of_unit = bytes_eq of_unit unit
+declares_variable (OfRoutine first auxiliary) of_unit = false
+
+abbrev pub declares_own : Locals → ℕ → Bool
+declares_own (OfUnit unit auxiliary) number = false
+declares_own (OfRoutine first auxiliary) number = nat_le first number
+
+-- what is no variable that the block declares is no control variable; formal parameters and results are none (own)
+abbrev pub no_control : {A : Type 0} → List ℕ → Judged A
+no_control rules = Breaks (rule.CONTROL_VARIABLE ∷ rules)
+
+abbrev pub control_if : Bool → Target → Judged Target
+control_if true t = Accepts t
+control_if false t = no_control []
+
+-- a declared name as a control variable
+abbrev pub declared_control : Locals → Declared → Declaration → Judged Target
+declared_control locals d (declaration.Variable of k) = control_if (declares_variable locals d.unit) (record { place = tree.Variable d.unit d.number; kind = k })
+declared_control locals d (declaration.Own of k guarded) = control_if (declares_own locals d.number) (record { place = tree.Own d.number; kind = k })
+declared_control locals d (declaration.Constant k value) = no_control (rule.CONSTANT_THREATENED ∷ rule.VARIABLE_NEEDED ∷ [])
+declared_control locals d (declaration.«Type» of h) = no_control (rule.OTHER_THING ∷ rule.VARIABLE_NEEDED ∷ [])
+declared_control locals d (declaration.Procedure parameters) = no_control (rule.OTHER_THING ∷ rule.VARIABLE_NEEDED ∷ [])
+declared_control locals d (declaration.Function parameters of h) = no_control (rule.OTHER_THING ∷ rule.VARIABLE_NEEDED ∷ [])
+
+-- a name that means this
+abbrev pub control_named : Locals → List ℕ → Meant → Judged Target
+control_named locals name (Declares d) = declared_control locals d d.what
+control_named locals name (Standard f) = no_control (rule.ORDINAL ∷ [])
+control_named locals name (Requires r) = no_control (target_rules r)
+control_named locals name Nothing = Breaks (undeclared name)
+
+-- the place of a control variable and the host of its type, which is ordinal
+pub record Counted : Type 0 where
+  pub place : Place
+  pub host : Host
+
+abbrev pub counted_by : Place → Kind → Judged Counted
+counted_by place (kind.Ordinal h) = Accepts (record { place = place; host = h })
+counted_by place _ = Breaks (rule.ORDINAL ∷ [])
+
+-- one that a routine of the block threatens is none (ISO 10206, 6.9.3.9.1); the variables of a routine are seen in no other one so far
+abbrev pub is_threatened_in : Locals → List RoutineForm → Place → Bool
+is_threatened_in (OfUnit unit auxiliary) routines place = list_any (λ r. threatens (formals_at routines) place r.block) routines
+is_threatened_in (OfRoutine first auxiliary) routines place = false
+
+abbrev pub unless_threatened_in : Locals → List RoutineForm → Counted → Judged Counted
+unless_threatened_in locals routines c = if is_threatened_in locals routines c.place then Breaks (rule.CONTROL_THREATENED ∷ []) else Accepts c
+
+abbrev pub falls_by : Direction → Bool
+falls_by direction.To = false
+falls_by direction.Downto = true
+
+-- a `for` statement without its body
+pub record ForHead : Type 0 where
+  pub control : Control
+  pub initial : Expr
+  pub last : Expr
+
+abbrev pub for_head : Locals → Bool → Counted → Expr → Expr → ForHead
+for_head locals falls c x y =
+    record {
+      control = record { variable = c.place; initial = initial_place locals; last = last_place locals; falls = falls; low = least (typed_host c.host); high = greatest (typed_host c.host) };
+      initial = x;
+      last = y;
+    }
+
+-- a bound is a value of the control variable's host
+abbrev pub bound_judged : Host → Typed → Judged (Option Expr)
+bound_judged h value = given_to (λ x. x) (kind.Ordinal h) value.kind value.form
+
+-- the bounds, where they are judged so
+abbrev pub bounds_judged : Locals → Bool → Counted → Judged Typed → Judged Typed → Judged (Option ForHead)
+bounds_judged locals falls c x y =
+    both (λ initial last. Accepts (map_both (for_head locals falls c) initial last)) (when_accepted (bound_judged c.host) x) (when_accepted (bound_judged c.host) y)
+
+-- ---- threats in the body of a `for` (ISO 10206, 6.9.3.9.1)
+
+-- what threatens one of these control variables is no item of the body
+abbrev pub unless_threatening : {A : Type 0} → (Place → A → Bool) → List Place → Judged (Option A) → Judged (Option A)
+unless_threatening threat controls (Accepts None) = Accepts None
+unless_threatening threat controls (Accepts (Some form)) = if list_any (λ v. threat v form) controls then Breaks (rule.CONTROL_THREATENED ∷ []) else Accepts (Some form)
+unless_threatening threat controls (Breaks rules) = Breaks rules
+
+-- the items that are one: a statement without statements inside, an expression of a statement, or a `for` without its body
+abbrev pub stmt_threat : List RoutineForm → Place → Stmt → Bool
+stmt_threat routines v s = threatens (formals_at routines) v s
+
+abbrev pub expr_threat : List RoutineForm → Place → Expr → Bool
+expr_threat routines v x = expr_threatens (formals_at routines) v x
+
+abbrev pub head_threat : List RoutineForm → Place → ForHead → Bool
+head_threat routines v h = is_variable v h.control.variable || (expr_threat routines v h.initial || expr_threat routines v h.last)
+
+-- a `for` by its head and its body
+abbrev pub for_row : ℕ → Judgement ForHead → Judgement Stmt → Judgement Stmt
+for_row line head body = after (λ h s. tree.For line h.control h.initial h.last s) head body
 
 -- `halt` has no arguments
 abbrev pub halt_judged : ℕ → List Argument → Judged (Option Stmt)
 halt_judged line [] = Accepts (Some (tree.Halt line))
 halt_judged line (first ∷ more) = Breaks (rule.ARGUMENTS ∷ [])
 
--- what a block knows: its scopes, the innermost first, whether `output` is a parameter or imported, and the function whose block it is, where that has a result without a name
+-- what a block knows: its scopes, the innermost first, whether `output` is a parameter or imported, the function whose block it is, where that has a result without a name, its own variables, and the routines of the unit
 pub record Context : Type 0 where
   pub scopes : List Region
   pub output : Bool
   pub result : Option FunctionResult
+  pub locals : Locals
+  pub routines : List RoutineForm
 
 -- the text file that a name means
 abbrev pub file_meant : Meant → Option StandardFile
@@ -353,41 +480,65 @@ module _ (context : Context) where
   target_judged name [] = place_named context.result name (meant context.scopes name)
   target_judged name _ = unbuilt
 
+  -- an item of a statement inside of `for` statements with these control variables
+  abbrev pub stmt_item : List Place → ℕ → Judged (Option Stmt) → Judgement Stmt
+  stmt_item controls line s = at_item line (unless_threatening (stmt_threat context.routines) controls s)
+
+  -- an expression of a statement there
+  abbrev pub expr_item : List Place → Judged (Option Expr) → Judged (Option Expr)
+  expr_item controls x = unless_threatening (expr_threat context.routines) controls x
+
   -- a statement with this condition
-  abbrev pub condition_judged : ℕ → Expression → Judgement Expr
-  condition_judged line e = at_item line (condition (judged context.scopes e))
+  abbrev pub condition_judged : List Place → ℕ → Expression → Judgement Expr
+  condition_judged controls line e = at_item line (expr_item controls (condition (judged context.scopes e)))
 
-  abbrev pub at_statement : Statement-F (Judgement Stmt) ArmJudged (Judgement Stmts) (Judgement Stmts) → Judgement Stmt
-  at_statement (Statement-F.Empty line) = Passes tree.Empty
-  at_statement (Statement-F.Assignment line access v) =
-      at_item line (both (assigned line) (target_judged (out-Access access).name (out-Access access).selectors) (judged_value context.scopes v))
-  at_statement (Statement-F.Call line access) = at_item line (name_called line (out-Access access).name (call_arguments (out-Access access).selectors))
-  at_statement (Statement-F.Compound statements) = formed tree.Compound statements
-  at_statement (Statement-F.If line e then_part other) = if_judged line (condition_judged line e) then_part (else_judged other)
-  at_statement (Statement-F.While line e body) = after (tree.While line) (condition_judged line e) body
-  at_statement (Statement-F.Case line e arms other) = case_judged line (selector_judged context.scopes e (map (λ a. a.0) arms)) (λ h. arms_in_order (map (arm_row context.scopes line h) arms)) (other_judged other)
-  at_statement (Statement-F.Repeat line statements e) = repeat_judged line (condition_judged line e) (in_order statements)
-  at_statement (Statement-F.For line variable start direction end body) = Fails line []
-  at_statement (Statement-F.ForIn line variable members body) = Fails line []
-  at_statement (Statement-F.With line accesses body) = Fails line []
+  -- a name as the control variable of a `for`
+  abbrev pub control_judged : List ℕ → Judged Counted
+  control_judged name =
+      when_accepted (unless_threatened_in context.locals context.routines) (when_accepted (λ t. counted_by t.place t.kind) (control_named context.locals name (meant context.scopes name)))
 
-  abbrev pub at_compound : Compound-F (Judgement Stmt) ArmJudged (Judgement Stmts) (Judgement Stmts) → Judgement Stmts
-  at_compound c = in_order c.statements
+  -- a `for` statement, by its control variable
+  abbrev pub for_judged : List Place → ℕ → Judged Counted → Bool → Expression → Expression → Under Stmt → Judgement Stmt
+  for_judged controls line (Breaks rules) falls start end body = Fails line rules
+  for_judged controls line (Accepts c) falls start end body =
+      for_row line (at_item line (unless_threatening (head_threat context.routines) controls (bounds_judged context.locals falls c (judged context.scopes start) (judged context.scopes end)))) (body (c.place ∷ controls))
 
-  abbrev pub at_arm : Arm-F (Judgement Stmt) ArmJudged (Judgement Stmts) (Judgement Stmts) → ArmJudged
+  abbrev pub at_statement : Statement-F (Under Stmt) ArmJudged (Under Stmts) (Under Stmts) → Under Stmt
+  at_statement (Statement-F.Empty line) controls = Passes tree.Empty
+  at_statement (Statement-F.Assignment line access v) controls =
+      stmt_item controls line (both (assigned line) (target_judged (out-Access access).name (out-Access access).selectors) (judged_value context.scopes v))
+  at_statement (Statement-F.Call line access) controls = stmt_item controls line (name_called line (out-Access access).name (call_arguments (out-Access access).selectors))
+  at_statement (Statement-F.Compound statements) controls = formed tree.Compound (statements controls)
+  at_statement (Statement-F.If line e then_part other) controls = if_judged line (condition_judged controls line e) (then_part controls) (else_judged (option_map (λ s. s controls) other))
+  at_statement (Statement-F.While line e body) controls = after (tree.While line) (condition_judged controls line e) (body controls)
+  at_statement (Statement-F.Case line e arms other) controls =
+      case_judged line (λ x. expr_item controls (Accepts x)) (selector_judged context.scopes e (map (λ a. a.0) arms)) (λ h. arms_in_order (map (arm_row context.scopes line h controls) arms)) (other_judged (option_map (λ ss. ss controls) other))
+  at_statement (Statement-F.Repeat line statements e) controls = repeat_judged line (condition_judged controls line e) (in_order (map (λ s. s controls) statements))
+  at_statement (Statement-F.For line variable start toward end body) controls = for_judged controls line (control_judged variable) (falls_by toward) start end body
+  at_statement (Statement-F.ForIn line variable members body) controls = Fails line []
+  at_statement (Statement-F.With line accesses body) controls = Fails line []
+
+  abbrev pub at_compound : Compound-F (Under Stmt) ArmJudged (Under Stmts) (Under Stmts) → Under Stmts
+  at_compound c controls = in_order (map (λ s. s controls) c.statements)
+
+  abbrev pub at_arm : Arm-F (Under Stmt) ArmJudged (Under Stmts) (Under Stmts) → ArmJudged
   at_arm a = (a.labels, a.body)
 
-  abbrev pub at_otherwise : Otherwise-F (Judgement Stmt) ArmJudged (Judgement Stmts) (Judgement Stmts) → Judgement Stmts
-  at_otherwise o = in_order o.statements
+  abbrev pub at_otherwise : Otherwise-F (Under Stmt) ArmJudged (Under Stmts) (Under Stmts) → Under Stmts
+  at_otherwise o controls = in_order (map (λ s. s controls) o.statements)
 
-  abbrev pub statement_judged : Statement → Judgement Stmt
-  statement_judged = fold-Statement (Judgement Stmt) ArmJudged (Judgement Stmts) (Judgement Stmts) at_statement at_arm at_compound at_otherwise
+  abbrev pub statement_judged : Statement → Under Stmt
+  statement_judged = fold-Statement (Under Stmt) ArmJudged (Under Stmts) (Under Stmts) at_statement at_arm at_compound at_otherwise
 
   abbrev pub arm_judged : syntax.Arm → ArmJudged
-  arm_judged = fold-Arm (Judgement Stmt) ArmJudged (Judgement Stmts) (Judgement Stmts) at_statement at_arm at_compound at_otherwise
+  arm_judged = fold-Arm (Under Stmt) ArmJudged (Under Stmts) (Under Stmts) at_statement at_arm at_compound at_otherwise
 
-  abbrev pub otherwise_judged : Otherwise → Judgement Stmts
-  otherwise_judged = fold-Otherwise (Judgement Stmt) ArmJudged (Judgement Stmts) (Judgement Stmts) at_statement at_arm at_compound at_otherwise
+  abbrev pub otherwise_judged : Otherwise → Under Stmts
+  otherwise_judged = fold-Otherwise (Under Stmt) ArmJudged (Under Stmts) (Under Stmts) at_statement at_arm at_compound at_otherwise
 
+  abbrev pub compound_under : Compound → Under Stmts
+  compound_under = fold-Compound (Under Stmt) ArmJudged (Under Stmts) (Under Stmts) at_statement at_arm at_compound at_otherwise
+
+  -- the statements of a block, which stand in no `for`
   abbrev pub compound_judged : Compound → Judgement Stmts
-  compound_judged = fold-Compound (Judgement Stmt) ArmJudged (Judgement Stmts) (Judgement Stmts) at_statement at_arm at_compound at_otherwise
+  compound_judged c = compound_under c []

@@ -1,5 +1,5 @@
--- Whether statements give a function its result (ISO 10206, 6.7.2): whether they threaten the variable that has it, and whether they assign to the name of the function.
-use Rattle.std.specs.Prelude.{ℕ, Bool, true, false, ◌==◌, ◌||◌, ◌&&◌, List, [], ◌∷◌, slice_get, Option, Some, None}
+-- Whether statements threaten a variable (ISO 10206, 6.9.4), and whether they assign to the name of a function (6.7.2).
+use Rattle.std.specs.Prelude.{ℕ, Bool, true, false, ◌==◌, ◌||◌, ◌&&◌, List, [], ◌∷◌, Option, Some, None}
 use Rattle.std.specs.Str.{bytes_eq}
 use Rattle.ep_tree.specs.declared.expression.Access.{Access, out-Access}
 use Rattle.ep_tree.specs.declared.expression.Selector.{Selector}
@@ -7,13 +7,11 @@ use Rattle.ep_tree.specs.declared.statement.Statement.TheOpen.{Statement-F, Arm-
 use Rattle.ep_tree.specs.declared.statement.Statement.{Statement, fold-Statement}
 use Rattle.ep_tree.specs.declared.statement.Arm.{Arm, fold-Arm}
 use Rattle.ep_tree.specs.declared.statement.Compound.{Compound, fold-Compound}
-use Rattle.ep_typed.specs.Trees.{Place, Variable, Own, Standard, Expr, Constant, Text, Read, One, Two, Short, Step, Function, Actual, Evaluated, Accessed, Actuals, no_actual, next_actual, Item, Plain, Wide, Stmt, Stmts, Empty, Assign, If, While, Repeat, Procedure, Case, Halt, Write, none, next, Arms, no_arm, next_arm, Other, no_other, otherwise_do}
+use Rattle.ep_typed.specs.Trees.{Place, Variable, Own, Standard, Expr, Constant, Text, Read, One, Two, Short, Step, Function, Actual, Evaluated, Accessed, Actuals, no_actual, next_actual, Item, Plain, Wide, Stmt, Stmts, Empty, Assign, If, While, Repeat, For, Procedure, Case, Halt, Write, none, next, Arms, no_arm, next_arm, Other, no_other, otherwise_do}
 use Rattle.ep_typed.specs.Trees as tree
 use Rattle.ep_typed.specs.declared.interface.Formal.{Formal}
 use Rattle.ep_typed.specs.declared.interface.FormalMode.{FormalMode}
 use Rattle.ep_typed.specs.declared.interface.FormalMode.TheVariants as mode
-use Rattle.ep_typed.specs.declared.unit.UnitRoutine.{UnitRoutine}
-use Rattle.ep_typed.specs.declared.unit.UnitRoutine.TheViews.{out-UnitRoutine}
 
 -- ---- threats to a variable, by typed statements (ISO 10206, 6.9.4)
 
@@ -24,23 +22,14 @@ mode_threatens mode.Variable = true
 mode_threatens mode.ProtectedValue = false
 mode_threatens mode.ProtectedVariable = false
 
--- the formal parameters of a routine, where there is one
-abbrev pub formals_if : Option UnitRoutine → List Formal
-formals_if None = []
-formals_if (Some r) = (out-UnitRoutine r).formals
+-- whether a place is that of the variable
+abbrev pub is_variable : Place → Place → Bool
+is_variable (Variable unit number) (Variable other place) = bytes_eq unit other && number == place
+is_variable (Own number) (Own place) = number == place
+is_variable variable place = false
 
--- the formal parameters of the routine of this number of a unit, of which there is one so far, so that its name is not asked for
-abbrev pub formals_in : List UnitRoutine → List ℕ → ℕ → List Formal
-formals_in routines unit number = formals_if (slice_get routines number)
-
--- whether a place is the variable of this number of the routine
-abbrev pub is_variable : ℕ → Place → Bool
-is_variable variable (Variable unit number) = false
-is_variable variable (Own number) = number == variable
-is_variable variable (Standard file) = false
-
--- by the formal parameters of each routine, for the variable of this number of the routine in whose block the statements stand
-module _ (formals_of : List ℕ → ℕ → List Formal) (variable : ℕ) where
+-- by the formal parameters of each routine, for the variable at a place
+module _ (formals_of : List ℕ → ℕ → List Formal) (variable : Place) where
   abbrev mutual
     -- whether an expression has a function designator that threatens the variable
     pub expr_threatens : Expr → Bool
@@ -83,6 +72,8 @@ module _ (formals_of : List ℕ → ℕ → List Formal) (variable : ℕ) where
     threatens (If line x a b) = expr_threatens x || (threatens a || threatens b)
     threatens (While line x s) = expr_threatens x || threatens s
     threatens (Repeat line ss x) = stmts_threaten ss || expr_threatens x
+    -- the control variable of a `for` is threatened by it
+    threatens (For line c x y s) = is_variable variable c.variable || (expr_threatens x || (expr_threatens y || threatens s))
     threatens (Procedure line unit number given) = actuals_threaten (formals_of unit number) given
     threatens (Case line x arms other) = expr_threatens x || (arms_threaten arms || other_threatens other)
     threatens (Halt line) = false
