@@ -13,6 +13,9 @@ use Rattle.ep_check_unit.specs.Declarations as spec
 use Rattle.ep_check_unit.specs.Declarations.{Standing, Stands, falls_at}
 use Rattle.ep_check_unit.specs.Blocks.{Block}
 use Rattle.ep_check_unit.specs.Functions.{if_given}
+use Rattle.ep_check_stmt.specs.Answers.{locals_of}
+use Rattle.ep_check_stmt.specs.Statements as rows
+use Rattle.ep_check_stmt.specs.declared.statements.Locals.{Locals}
 use Rattle.ep_check_unit.specs.Routines.{Headed}
 use Rattle.ep_check_unit.specs.declared.headings.Heading.{Heading}
 use Rattle.ep_check_unit.specs.declared.types.NamedType.{NamedType}
@@ -23,6 +26,12 @@ abbrev pub AnswersNumber : ℕ → Result ℕ Refusal → Type 0
 AnswersNumber count (Ok n) = n ≡ count
 AnswersNumber count (Err (Rule rule)) = ⊥
 AnswersNumber count (Err NoMemory) = ⊤
+
+-- the variables of a block, where their numbers have 32 bits
+abbrev pub AnswersLocals : rows.Locals → Result Locals Refusal → Type 0
+AnswersLocals all (Ok found) = locals_of found ≡ all
+AnswersLocals all (Err (Rule rule)) = ⊥
+AnswersLocals all (Err NoMemory) = ⊤
 
 -- the block after what is judged, exactly where it is accepted, or a refusal
 abbrev pub AnswersBlock : Result (Unit {0}) Refusal → Block → Judged Block → Type 0

@@ -1,52 +1,27 @@
 -- What has been declared in a block, as plain data.
 use Rattle.std.specs.Prelude.{ℕ, ◌+◌, Bool, List, map, length, Option, Some, None}
-use Rattle.ep_typed.specs.Trees.{Stmt}
-use Rattle.ep_typed.specs.Viewed.{stmt_of}
 use Rattle.ep_typed.specs.declared.interface.ConstantEntry.{ConstantEntry}
-use Rattle.ep_typed.specs.declared.interface.Formal.{Formal}
-use Rattle.ep_typed.specs.declared.interface.RoutineResult.{RoutineResult}
-use Rattle.ep_typed.specs.declared.unit.UnitRoutine.{UnitRoutine}
-use Rattle.ep_typed.specs.declared.unit.UnitRoutine.TheViews.{out-UnitRoutine}
 use Rattle.ep_typed.specs.declared.unit.UnitType.{UnitType}
 use Rattle.ep_typed.specs.declared.unit.UnitVariable.{UnitVariable}
 use Rattle.ep_scope.specs.Scopes.{Row}
+pub use Rattle.ep_check_stmt.specs.RoutineForms.{RoutineForm, routine_form}
 use Rattle.ep_check_unit.specs.declared.block.Block as declared
 use Rattle.ep_check_unit.specs.declared.block.Forward.{Forward}
 use Rattle.ep_check_unit.specs.declared.block.OwnResult.{OwnResult}
 use Rattle.ep_check_unit.specs.declared.block.OwnVariables.{OwnVariables}
-
--- a routine, whose block is a statement as plain data
-pub record RoutineForm : Type 0 where
-  pub name : List ℕ
-  -- of the declaration that has its block
-  pub line : ℕ
-  pub formals : List Formal
-  pub result : Option RoutineResult
-  pub variables : List UnitVariable
-  pub routines : List UnitRoutine
-  pub block : Stmt
-
-abbrev pub routine_form : UnitRoutine → RoutineForm
-routine_form r =
-    let parts = out-UnitRoutine r in
-    record {
-      name = parts.name;
-      line = parts.line;
-      formals = parts.formals;
-      result = parts.result;
-      variables = parts.variables;
-      routines = parts.routines;
-      block = stmt_of parts.block;
-    }
 
 -- how many variables have the result: one in the block of a function
 abbrev pub result_count : Option OwnResult → ℕ
 result_count None = 0
 result_count (Some r) = 1
 
--- how many variables the routine has so far whose block is under way, which is the number of the next one
+-- the number of the first variable that the block of the routine declares which is under way
+abbrev pub first_own : OwnVariables → ℕ
+first_own own = length own.parameters + result_count own.result
+
+-- how many variables the routine has so far, which is the number of the next one
 abbrev pub own_count : OwnVariables → ℕ
-own_count own = length own.parameters + result_count own.result + length own.variables
+own_count own = first_own own + length own.variables
 
 -- what has been declared so far in the block of a unit
 pub record Block : Type 0 where

@@ -2,8 +2,8 @@
 use Rattle.std.specs.Prelude.{ℕ, ◌==◌, Bool, true, false, not, ◌&&◌, ◌||◌, List, [], ◌∷◌, Option, Some, None, is_some, slice_get, if◌then◌else◌}
 use Rattle.std.specs.Str.{bytes_eq}
 use Rattle.ep_tree.specs.declared.statement.Compound.{Compound}
+use Rattle.ep_typed.specs.Trees as tree
 use Rattle.ep_typed.specs.Trees.{Stmts}
-use Rattle.ep_typed.specs.declared.interface.Formal.{Formal}
 use Rattle.ep_typed.specs.declared.interface.RoutineResult.{RoutineResult}
 use Rattle.ep_scope.specs.Parameters.{same_type}
 use Rattle.ep_scope.specs.Scopes.{Meant, Declares, meant}
@@ -14,6 +14,7 @@ use Rattle.ep_scope.specs.declared.rule.TheConstants as rule
 use Rattle.ep_scope.specs.declared.thing.Declaration.{Declaration}
 use Rattle.ep_scope.specs.declared.thing.Declaration.TheVariants as declaration
 use Rattle.ep_check_expr.specs.Judgements.{Judged, Accepts}
+use Rattle.ep_check_stmt.specs.RoutineForms.{formals_at}
 use Rattle.ep_check_stmt.specs.Statements.{FunctionResult, Judgement, Passes, Waits, Fails}
 use Rattle.ep_check_stmt.specs.Threats.{assigns, stmts_threaten}
 use Rattle.ep_check_unit.specs.Blocks.{Block, RoutineForm}
@@ -100,19 +101,10 @@ abbrev pub is_in_view : Option OwnResult → List ℕ → Block → Bool
 is_in_view None name b = true
 is_in_view (Some r) name b = r.named || is_that_function b.unit r.function (meant (scopes_of b) name)
 
--- the formal parameters of the routine of a number, where there is one
-abbrev pub formals_if : Option RoutineForm → List Formal
-formals_if None = []
-formals_if (Some r) = r.formals
-
--- so of each routine of the unit, which is the only one
-abbrev pub formals_at : List RoutineForm → List ℕ → ℕ → List Formal
-formals_at routines unit number = formals_if (slice_get routines number)
-
 -- the statements threaten the variable that has the result, where this has a name of its own (ISO 10206, 6.9.4)
 abbrev pub is_threatened : Option OwnResult → List RoutineForm → Stmts → Bool
 is_threatened None routines ss = true
-is_threatened (Some r) routines ss = not r.named || stmts_threaten (formals_at routines) r.variable ss
+is_threatened (Some r) routines ss = not r.named || stmts_threaten (formals_at routines) (tree.Own r.variable) ss
 
 -- statements that break a rule, or wait for what is not built, count as those that do
 abbrev pub row_gives : Block → Judgement Stmts → Bool

@@ -33,11 +33,11 @@ use Rattle.ep_scope.specs.declared.thing.Declaration.TheVariants as declaration
 use Rattle.ep_scope.specs.declared.thing.Thing.{Thing}
 use Rattle.ep_scope.specs.declared.thing.Thing.TheVariants as thing
 use Rattle.ep_check_expr.specs.Judgements.{Judged, Accepts, Breaks, unbuilt, when_accepted}
-use Rattle.ep_check_stmt.specs.Statements.{Context, Judgement, Passes, Waits, Fails, compound_judged}
-use Rattle.ep_check_unit.specs.Blocks.{Block, RoutineForm}
+use Rattle.ep_check_stmt.specs.Statements.{Context, Locals, OfUnit, OfRoutine, Judgement, Passes, Waits, Fails, compound_judged}
+use Rattle.ep_check_unit.specs.Blocks.{Block, RoutineForm, first_own, own_count}
 use Rattle.ep_check_unit.specs.declared.block.OwnVariables.{OwnVariables}
 use Rattle.ep_tree.specs.declared.operator.QualifiedName.{QualifiedName}
-use Rattle.ep_check_unit.specs.Declarations.{Written, Standing, Stands, Falls, all_variables_declared, and_then, at_line, constants_declared, entered, misnamed, noted, own_thing, scopes_of, type_definitions, type_denoter, type_named}
+use Rattle.ep_check_unit.specs.Declarations.{Written, Standing, Stands, Falls, all_variables_declared, and_then, at_line, constants_declared, entered, is_outermost, misnamed, noted, own_thing, scopes_of, type_definitions, type_denoter, type_named}
 use Rattle.ep_check_unit.specs.Functions.{assigned_function, if_given, is_assigned, is_in_view, own_name_at, own_result, result_entered, routine_declaration, row_gives, same_result, typed_result}
 use Rattle.ep_check_unit.specs.declared.functions.HeadingResult.{HeadingResult}
 
@@ -227,9 +227,13 @@ heading_entered h b = when_accepted (result_entered h.number (length h.parameter
 abbrev pub scope_closed : OwnVariables → Block → Block
 scope_closed before b = record b { scopes = closed b.scopes; own = before }
 
+-- the variables of the block that is under way: of the program, or of a routine, in which the formal parameters and the result come first
+abbrev pub locals_of : Block → Locals
+locals_of b = if is_outermost b.scopes.outer then OfUnit b.unit (length b.variables) else OfRoutine (first_own b.own) (own_count b.own)
+
 -- what the statements of a block know
 abbrev pub context_of : Block → Context
-context_of b = record { scopes = scopes_of b; output = b.output; result = assigned_function b.unit b.own.result }
+context_of b = record { scopes = scopes_of b; output = b.output; result = assigned_function b.unit b.own.result; locals = locals_of b; routines = b.routines }
 
 -- a routine with the block that a declaration on this line has, and the variables that are declared there
 abbrev pub with_its_block : ℕ → List UnitVariable → Stmt → RoutineForm → RoutineForm

@@ -3,7 +3,7 @@
 ghost use Rattle.std.specs.Prelude.{◌≡◌, [], IfOk, OnOk};
 ghost use Rattle.std.specs.Option.{option_map};
 ghost use Rattle.ep_check_unit.specs.Answers.{AnswersBlock, AnswersNumber, AnswersType, with_constant_entry};
-ghost use Rattle.ep_check_unit.specs.Blocks.{block_of, own_count, result_count};
+ghost use Rattle.ep_check_unit.specs.Blocks.{block_of, first_own, own_count, result_count};
 ghost use Rattle.ep_check_unit.specs.Declarations.{constant_entered, entered, noted, own_thing, with_type};
 ghost use Rattle.ep_check_unit.specs.Routines.{has_number};
 ghost use Rattle.ep_check_unit.specs.Checks.{IsUnitWith};
@@ -120,15 +120,23 @@ impl OwnVariables {
         }
     }
 
+    /// The number of the first one that is declared.
+    pub(crate) fn first(&self) -> Result<u32, Refusal>
+        ensures { AnswersNumber (first_own self.now) result }
+    {
+        let parameters = self.parameters.items().len();
+        match parameters.checked_add(result_count(self.result)) {
+            None => Err(Refusal::NoMemory),
+            Some(first) => number(first),
+        }
+    }
+
     /// Their number, which the next one has.
     pub(crate) fn count(&self) -> Result<u32, Refusal>
         ensures { AnswersNumber (own_count self.now) result }
     {
-        let parameters = self.parameters.items().len();
-        let Some(front) = parameters.checked_add(result_count(self.result)) else {
-            return Err(Refusal::NoMemory);
-        };
-        match front.checked_add(self.variables.items().len()) {
+        let first = self.first()?;
+        match (first as usize).checked_add(self.variables.items().len()) {
             None => Err(Refusal::NoMemory),
             Some(count) => number(count),
         }

@@ -7,16 +7,17 @@ ghost use Rattle.ep_tree.specs.declared.routine.Routine.{out-Routine};
 ghost use Rattle.ep_typed.specs.Viewed.{stmt_of};
 ghost use Rattle.ep_check_stmt.specs.Answers.{AnswersRow, passed, stmts_of};
 ghost use Rattle.ep_check_stmt.specs.Statements.{compound_judged};
-ghost use Rattle.ep_check_unit.specs.Answers.{AnswersStanding, headed_in};
+ghost use Rattle.ep_check_unit.specs.Answers.{AnswersLocals, AnswersStanding, headed_in};
 ghost use Rattle.ep_check_unit.specs.Blocks.{block_of, routine_form};
 ghost use Rattle.ep_check_unit.specs.Declarations.{Stands};
-ghost use Rattle.ep_check_unit.specs.Routines.{block_declared, body_closed, body_declared, context_of, forwarded, headed_then, inside_declared, local_part_declared, local_parts_declared, routine_declared, start_headed, start_name, with_block, with_its_block};
+ghost use Rattle.ep_check_unit.specs.Routines.{block_declared, body_closed, body_declared, context_of, forwarded, headed_then, inside_declared, local_part_declared, local_parts_declared, locals_of, routine_declared, start_headed, start_name, with_block, with_its_block};
 
-use crate::block::{Block, Forward, OwnVariables};
+use crate::block::{Block, Forward, OwnVariables, number};
 use crate::functions::if_given;
 use crate::headings::{Heading, start_name};
 use ep_base::{Line, Name};
-use ep_check_stmt::{CheckRefusal, Context, Outcome, refused_at};
+use ep_check_expr::Refusal;
+use ep_check_stmt::{CheckRefusal, Context, Locals, Outcome, refused_at};
 use ep_tree::{Compound, Part, Routine, RoutineBody, RoutineStart};
 use ep_typed::{TypedStmt, TypedStmts, UnitRoutine, UnitVariables};
 use std::alloc::Global;
@@ -174,13 +175,32 @@ impl Block {
         ensures { AnswersRow stmts_of result
             (compound_judged (context_of (block_of self.now)) body.now) }
     {
+        let locals = match self.locals() {
+            Ok(locals) => locals,
+            Err(refusal) => return Err(refused_at(body.line, refusal)),
+        };
         let context = Context {
             alloc,
             scopes: self.scopes.in_view(),
             output: self.output,
             result: self.assigned_function(),
+            locals,
+            routines: self.routines.as_slice(),
         };
         context.compound(body)
+    }
+
+    /// The variables of the block that is under way.
+    fn locals(&self) -> Result<Locals<'_>, Refusal>
+        ensures { AnswersLocals (locals_of (block_of self.now)) result }
+    {
+        if self.scopes.in_view().len() == 1 {
+            let auxiliary = number(self.variables.items().len())?;
+            return Ok(Locals::Unit(&self.unit, auxiliary));
+        }
+        let first = self.own.first()?;
+        let auxiliary = self.own.count()?;
+        Ok(Locals::Routine(first, auxiliary))
     }
 
     /// The parts of the block of a routine, in order.
