@@ -7,10 +7,9 @@ use Rattle.ep_scope.specs.declared.parameter.FormalParameter.{FormalParameter}
 use Rattle.ep_scope.specs.declared.thing.Declaration.{Declaration}
 use Rattle.ep_scope.specs.declared.thing.Thing.{Thing}
 use Rattle.ep_check_expr.specs.Judgements.{Accepts, when_accepted}
-use Rattle.ep_check_stmt.specs.Threats.{formals_in}
 use Rattle.ep_check_unit.specs.Blocks.{Block, RoutineForm, routine_form}
 use Rattle.ep_check_unit.specs.Declarations.{entered, own_thing}
-use Rattle.ep_check_unit.specs.Functions.{formals_at, routine_declaration}
+use Rattle.ep_check_unit.specs.Functions.{routine_declaration}
 use Rattle.ep_check_unit.specs.Routines.{headed_first, headed_form, set_to, with_routine}
 use Rattle.ep_check_unit.specs.declared.functions.HeadingResult.{HeadingResult}
 
@@ -56,12 +55,3 @@ first_headed name line ps r b middle form number t new is formed count thing h =
     let there : entered name (own_thing b (length b.routines) d) (with_routine name line ps r b) ≡ Accepts new = subst (λ x. entered name x (with_routine name line ps r b) ≡ Accepts new) named (subst (λ k. entered name t k ≡ Accepts new) same h) in
     ap (when_accepted (λ c. Accepts (record { number = length b.routines; parameters = ps; result = r; block = c }))) there
     ∙ ap (λ n. Accepts (record { number = n; parameters = ps; result = r; block = new })) (sym count)
-
--- the formal parameters of routines, by their forms
-formals_same : (rs : List UnitRoutine) (unit : List ℕ) (number : ℕ) → formals_in rs unit number ≡ formals_at (map routine_form rs) unit number
-formals_same [] unit number = refl
-formals_same (r ∷ rs) unit zero = refl
-formals_same (r ∷ rs) unit (suc n) = formals_same rs unit n
-
-pub formals_are : (rs : List UnitRoutine) → formals_in rs ≡ formals_at (map routine_form rs)
-formals_are rs = λ i. λ unit number. formals_same rs unit number i

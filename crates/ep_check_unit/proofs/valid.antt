@@ -5,5 +5,6 @@ pub mod Meant
 pub mod Constants
 pub mod Types
 pub mod Items
+pub mod Auxiliaries
 pub mod Routines
 pub mod Units

@@ -20,7 +20,7 @@ use ep_scope::{
     same_type,
 };
 use ep_tree::{Compound, QualifiedName};
-use ep_typed::{RoutineResult, TypedStmts};
+use ep_typed::{RoutineResult, TypedPlace, TypedStmts};
 use std::alloc::Global;
 
 /// The result of a function, as its heading gives it.
@@ -238,7 +238,10 @@ impl Block {
     {
         match (self.own.result, found) {
             (Some(own), Outcome::Passes(statements)) => {
-                !own.named || threatens(&self.routines, own.variable, statements.items())
+                !own.named || {
+                    let variable = TypedPlace::Own(own.variable);
+                    threatens(&self.routines, &variable, statements.items())
+                }
             }
             _ => true,
         }

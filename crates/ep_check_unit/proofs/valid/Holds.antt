@@ -1,5 +1,5 @@
 -- What a unit holds of the declarations of a block: each name stands for what the unit has under its number, and what stands in the block's lists is valid in the unit.
-use Rattle.std.proofs.Common.{◌≡◌, ℕ, ℤ, suc, ◌<◌, ◌≤◌, true, List, [], ◌∷◌, ◌++◌, map, length, Option, Some, None, slice_get, bytes_eq, IsTrue, inl, inr, refl, sym, ap, ◌∙◌, subst, arith}
+use Rattle.std.proofs.Common.{◌≡◌, ℕ, ℤ, zero, suc, ◌<◌, ◌≤◌, true, List, [], ◌∷◌, ◌++◌, map, length, Option, Some, None, slice_get, bytes_eq, IsTrue, inl, inr, refl, sym, ap, ◌∙◌, subst, arith}
 use Rattle.std.proofs.lemmas.List.Elements.{All-cons, All-head, All-nil, All-tail}
 use Rattle.std.proofs.lemmas.Slice.Eq.{bytes_eq-Decides}
 use Rattle.std.specs.Prelude.{All, ⊤, if◌then◌else◌}
@@ -8,8 +8,9 @@ use Rattle.ep_typed.specs.Hosts as typed
 use Rattle.ep_typed.specs.Hosts.{is_of_host}
 use Rattle.ep_typed.specs.Trees as tree
 use Rattle.ep_typed.specs.Valid.{IsConstant, IsDenoter, IsFormal, IsFunction, IsPlace, IsProcedure, IsResult, IsStmt, IsType, IsVariable, formal_variable, heading_of, in_routine, own}
-use Rattle.ep_typed.specs.Routines.{result_variable}
-use Rattle.ep_typed.specs.Viewed.{bound_of, denoter_of, denoter_step}
+use Rattle.ep_typed.specs.Auxiliaries.{auxiliary_variables, first_for}
+use Rattle.ep_typed.specs.Routines.{result_variable, unit_variables}
+use Rattle.ep_typed.specs.Viewed.{bound_of, denoter_of, denoter_step, stmt_of}
 use Rattle.ep_typed.specs.declared.denoter.Bound.{Bound}
 use Rattle.ep_typed.specs.declared.denoter.Denoter.{Denoter}
 use Rattle.ep_typed.specs.declared.denoter.Denoter.TheVariants as denoter
@@ -70,6 +71,12 @@ name_denotes (type_name.Entry number) = named_is number []
 
 name_same : (a b : List ℕ) → a ≡ b → bytes_eq a b ≡ true
 name_same a b h = grind (arith, bytes_eq-Decides)
+
+-- what a list has, a longer one has
+slice_get-front : {A : Type 0} (xs ys : List A) (n : ℕ) (x : A) → slice_get xs n ≡ Some x → slice_get (xs ++ ys) n ≡ Some x
+slice_get-front [] ys n x e = cc
+slice_get-front (y ∷ xs) ys zero x e = e
+slice_get-front (y ∷ xs) ys (suc n) x e = slice_get-front xs ys n x e
 
 module _ (u : TypedUnit) where
   -- ---- hosts
@@ -198,7 +205,7 @@ module _ (u : TypedUnit) where
     pub alone : r.routines ≡ []
     pub formals : All (IsFormal u.types) r.formals
     pub variables : All (IsVariable u.types) r.variables
-    pub block : IsStmt (in_routine (map (formal_variable r.line) r.formals ++ (result_variable r.name r.line r.result ++ r.variables)) u.types (own u)) r.block
+    pub block : IsStmt (in_routine (map (formal_variable r.line) r.formals ++ (result_variable r.name r.line r.result ++ (r.variables ++ auxiliary_variables (first_for r.block)))) u.types (own u)) r.block
 
   -- the result of the function under way has a type, and its variable comes behind these formal parameters
   pub record HoldsOwnResult (i : ℕ) (ps : List FormalParameter) (r : OwnResult) : Type 0 where
@@ -278,16 +285,20 @@ module _ (u : TypedUnit) where
 
   -- ---- places
 
-  types_own : (unit : List ℕ) → unit ≡ u.name → (own u).types unit ≡ u.types
+  pub types_own : (unit : List ℕ) → unit ≡ u.name → (own u).types unit ≡ u.types
   types_own unit e = ap (λ b. if b then u.types else []) (name_same u.name unit (sym e))
 
-  variables_own : (unit : List ℕ) (number : ℕ) → unit ≡ u.name → (own u).variables unit number ≡ slice_get u.variables number
-  variables_own unit number e = ap (λ b. if b then slice_get u.variables number else None) (name_same u.name unit (sym e))
+  pub variables_own : (unit : List ℕ) (number : ℕ) → unit ≡ u.name → (own u).variables unit number ≡ slice_get (unit_variables u) number
+  variables_own unit number e = ap (λ b. if b then slice_get (unit_variables u) number else None) (name_same u.name unit (sym e))
+
+  -- one that is declared is there, before the auxiliary ones
+  declared_own : (unit : List ℕ) (number : ℕ) (v : UnitVariable) → unit ≡ u.name → slice_get u.variables number ≡ Some v → (own u).variables unit number ≡ Some v
+  declared_own unit number v e at = variables_own unit number e ∙ slice_get-front u.variables (auxiliary_variables (first_for (stmt_of u.start))) number v at
 
   -- a variable that is held is a place
   variable_place : (i number : ℕ) (unit : List ℕ) (of : TypeName) (h : Host) → i ≤ length u.types → unit ≡ u.name → HoldsVariable i number of h → IsPlace (own u) (typed_host h) (tree.Variable unit number)
   variable_place i number unit of h le e x =
-      (x.variable, variables_own unit number e ∙ x.at, ap (λ ts. host_of ts (denoter_of x.variable.denoter)) (types_own unit e) ∙ x.denotes.1.has_host (suc (length u.types)) (omega (arith, le)))
+      (x.variable, declared_own unit number x.variable e x.at, ap (λ ts. host_of ts (denoter_of x.variable.denoter)) (types_own unit e) ∙ x.denotes.1.has_host (suc (length u.types)) (omega (arith, le)))
 
   pub own_place : (o : List UnitVariable) (i number : ℕ) (of : TypeName) (h : Host) → i ≤ length u.types → HoldsOwn o i number of h → IsPlace (in_routine o u.types (own u)) (typed_host h) (tree.Own number)
   own_place o i number of h le x = (x.variable, x.at, x.denotes.1.has_host (suc (length u.types)) (omega (arith, le)))
@@ -297,7 +308,7 @@ module _ (u : TypedUnit) where
   variable_typed i number unit of h le e x = (
     x.denotes.0,
     x.denotes.2.has_type (suc (length u.types)) (omega (arith, le)),
-    (x.variable, variables_own unit number e ∙ x.at, ap (λ ts. type_of ts (denoter_of x.variable.denoter)) (types_own unit e) ∙ x.denotes.1.has_type (suc (length u.types)) (omega (arith, le))),
+    (x.variable, declared_own unit number x.variable e x.at, ap (λ ts. type_of ts (denoter_of x.variable.denoter)) (types_own unit e) ∙ x.denotes.1.has_type (suc (length u.types)) (omega (arith, le))),
   )
 
   own_typed : (o : List UnitVariable) (i number : ℕ) (of : TypeName) (h : Host) → i ≤ length u.types → HoldsOwn o i number of h → IsOfType (in_routine o u.types (own u)) type_values (tree.Own number) of

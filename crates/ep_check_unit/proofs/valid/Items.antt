@@ -45,7 +45,7 @@ use Rattle.ep_check_unit.proofs.valid.Types.{IsNext, Names, Writes, core_written
 abbrev new_entry : Option (List ℕ) → ℕ → Denoter → Block → UnitType
 new_entry name line d b = record { entry = record { «module» = b.unit; number = length b.types; name = name; formals = []; denoter = d }; line = Some line }
 
-own_length : (line : ℕ) (name : List ℕ) (ps : List FormalParameter) (r : Option OwnResult) (vs : List UnitVariable)
+pub own_length : (line : ℕ) (name : List ℕ) (ps : List FormalParameter) (r : Option OwnResult) (vs : List UnitVariable)
     → length (map (formal_variable line) (map formal_of ps) ++ (result_in line name r ++ vs)) ≡ length ps + result_count r + length vs
 own_length line name [] None vs = omega arith
 own_length line name [] (Some r) vs = omega arith

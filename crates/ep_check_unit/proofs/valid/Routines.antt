@@ -19,6 +19,7 @@ use Rattle.ep_typed.specs.Operations.{maxint}
 use Rattle.ep_typed.specs.Trees as tree
 use Rattle.ep_typed.specs.Trees.{Stmt, Stmts}
 use Rattle.ep_typed.specs.Valid.{IsDenoter, IsResult, IsStmt, IsVariable, formal_variable, heading_of, in_routine, own}
+use Rattle.ep_typed.specs.Auxiliaries.{auxiliary_variables, first_for, first_for_of}
 use Rattle.ep_typed.specs.Routines.{result_name, result_variable}
 use Rattle.ep_typed.specs.declared.interface.FormalMode.{FormalMode}
 use Rattle.ep_typed.specs.declared.interface.RoutineEntry.{RoutineEntry}
@@ -38,19 +39,20 @@ use Rattle.ep_scope.specs.declared.thing.Thing.TheVariants as thing
 use Rattle.ep_check_expr.specs.Hosts.{typed_host}
 use Rattle.ep_check_expr.specs.Judgements.{Judged, Accepts, Breaks}
 use Rattle.ep_check_expr.specs.Laws.{BoundsAreKnown, BoundsAreSound, ConstantsAreKnown, ConstantsAreSound}
-use Rattle.ep_check_stmt.specs.Laws.{ResultIsThere, StatementsAreSound}
+use Rattle.ep_check_stmt.specs.Laws.{AuxiliariesAreThere, ResultIsThere, StatementsAreSound}
 use Rattle.ep_check_stmt.specs.Statements.{Judgement, Passes, Waits, Fails, compound_judged}
 use Rattle.ep_check_stmt.proofs.judged.Fits.{Any, Fits, fits_any, fits_pair, fits_then, fits_weaker}
 use Rattle.ep_typed.specs.declared.unit.UnitVariable.{UnitVariable}
 use Rattle.ep_check_unit.specs.Blocks.{Block, RoutineForm}
 use Rattle.ep_check_unit.specs.Declarations.{Standing, Stands, Falls, Written, and_then, at_line, entered, own_thing, type_definitions, type_denoter, type_named, unused, with_name}
 use Rattle.ep_check_unit.specs.Functions.{assigned_function, if_given, in_block, is_assigned, is_in_view, own_name_entered, own_result, result_entered, routine_declaration, row_gives, same_result, typed_result}
-use Rattle.ep_check_unit.specs.Routines.{Headed, block_declared, body_closed, body_declared, body_ended, body_of_declared, context_of, declared_routine, formal_of, formals_entered, forwarded, has_body, headed_again, headed_first, headed_form, headed_over, headed_then, heading_entered, hidden_type, identified_again, identified_over, inside_declared, is_parameter, is_repeated, local_part_declared, local_parts_declared, parameter_added, parameter_type, parameters_added, part_declared, parts_declared, result_headed, result_judged, routine_there, scope_closed, scope_opened, section_judged, section_mode, section_type, sections_judged, set_to, start_headed, start_name, with_block, with_body, with_its_block, with_routine}
+use Rattle.ep_check_unit.specs.Routines.{Headed, block_declared, body_closed, body_declared, body_ended, body_of_declared, context_of, declared_routine, formal_of, formals_entered, forwarded, has_body, headed_again, headed_first, headed_form, headed_over, headed_then, heading_entered, hidden_type, identified_again, identified_over, inside_declared, is_parameter, is_repeated, local_part_declared, local_parts_declared, locals_of, parameter_added, parameter_type, parameters_added, part_declared, parts_declared, result_headed, result_judged, routine_there, scope_closed, scope_opened, section_judged, section_mode, section_type, sections_judged, set_to, start_headed, start_name, with_block, with_body, with_its_block, with_routine}
 use Rattle.ep_check_unit.specs.declared.block.OwnResult.{OwnResult}
 use Rattle.ep_check_unit.specs.declared.functions.HeadingResult.{HeadingResult}
 use Rattle.ep_check_unit.proofs.Forms.{all_set}
 use Rattle.ep_check_unit.proofs.valid.Denoting.{Denotes, denotes_valid}
 use Rattle.ep_check_unit.proofs.valid.Holds.{HasHostHere, Holds, HoldsDeclaration, HoldsFunction, HoldsOwn, HoldsOwnResult, HoldsParameter, HoldsProcedure, HoldsResult, HoldsRoutine, HoldsScopes, HoldsThing, HoldsThings, Lists, formals_valid, holds_agrees, holds_more, lists_small, name_denotes, named_tree, own_place}
+use Rattle.ep_check_unit.proofs.valid.Auxiliaries.{own_auxiliaries}
 use Rattle.ep_check_unit.proofs.valid.Items.{LeadsOn, constants_lead, further, line_leads, then_leads, type_definitions-leads, variables_lead}
 use Rattle.ep_check_unit.proofs.valid.Leading.{Extends, Grows, Leads, entered_leads, heading_in, leads_on, leads_refl, length_push, prefix_last, prefix_length, prefix_more, prefix_refl, result_in, variables_in, waits_some}
 use Rattle.ep_check_unit.proofs.valid.Meant.{HoldsIf, look_up_holds}
@@ -120,6 +122,10 @@ result_at : (line : ℕ) (name : List ℕ) (ps : List FormalParameter) (r : OwnR
     → slice_get (map (formal_variable line) (map formal_of ps) ++ (result_in line name (Some r) ++ vs)) (length ps) ≡ Some (record { name = name; line = line; declaration = 0; denoter = type_denoter r.of; tuple = []; parameter = false })
 result_at line name [] r vs = refl
 result_at line name (p ∷ ps) r vs = result_at line name ps r vs
+
+-- variables behind those of three lists
+seam_behind : {A : Type 0} (xs ys zs ws : List A) → (xs ++ (ys ++ zs)) ++ ws ≡ xs ++ (ys ++ (zs ++ ws))
+seam_behind xs ys zs ws = append_assoc xs (ys ++ zs) ws ∙ ap (λ l. xs ++ l) (append_assoc ys zs ws)
 
 -- the name of the variable that has the result of a routine
 abbrev result_called : List ℕ → Option RoutineResult → List ℕ
@@ -510,7 +516,7 @@ module _ (u : TypedUnit) (few : length u.constants ≤ maxint) (statements : Sta
   -- a routine that gets its block is valid, where it is one with the formal parameters and the result of the block
   routine_held : (line number : ℕ) (called : List ℕ) (c : Block) (s : Stmt) (o : Option RoutineForm) → slice_get c.routines number ≡ o → ((r : RoutineForm) → slice_get c.routines number ≡ Some r → r.formals ≡ map formal_of c.own.parameters)
       → ((r : RoutineForm) → slice_get c.routines number ≡ Some r → result_variable r.name line r.result ≡ result_in line called c.own.result)
-      → All (HoldsRoutine u) c.routines → All (IsVariable u.types) c.own.variables → IsStmt (in_routine (variables_in line called c.own) u.types (own u)) s
+      → All (HoldsRoutine u) c.routines → All (IsVariable u.types) c.own.variables → IsStmt (in_routine (variables_in line called c.own ++ auxiliary_variables (first_for s)) u.types (own u)) s
       → All (HoldsRoutine u) (set_to c.routines number (with_its_block line c.own.variables s) o)
   routine_held line number called c s None at same result held owned valid = held
   routine_held line number called c s (Some r) at same result held owned valid =
@@ -530,12 +536,12 @@ module _ (u : TypedUnit) (few : length u.constants ≤ maxint) (statements : Sta
 
   -- the unit holds what stands there, where the routine has the variables that were declared
   ended_held : (line : ℕ) (h : Headed) (c : Block) (compound : Compound) (ss : Stmts) → compound_judged (context_of c) compound ≡ Passes ss → ((i : ℕ) → Holds u [] i h.block → HoldsHeaded i h.number h.parameters h.result)
-      → Leads u (variables_in line (CalledIn c h.number) c.own) (scope_opened h h.block) c → Extends u [] (Ended h.block c line h.number ss) → c.waits ≡ None → Holds u [] (length h.block.types) h.block
+      → Leads u (variables_in line (CalledIn c h.number) c.own ++ auxiliary_variables (first_for_of ss)) (scope_opened h h.block) c → Extends u [] (Ended h.block c line h.number ss) → c.waits ≡ None → Holds u [] (length h.block.types) h.block
       → Holds u [] (length c.types) (Ended h.block c line h.number ss)
   ended_held line h c compound ss is routine leads e w x =
       let b : Block = h.block in
       let called : List ℕ = CalledIn c h.number in
-      let o : List UnitVariable = variables_in line called c.own in
+      let o : List UnitVariable = variables_in line called c.own ++ auxiliary_variables (first_for_of ss) in
       let le : length c.types ≤ length u.types = prefix_length c.types u.types e.types in
       let there : Extends u o c = record {
         types = e.types;
@@ -543,7 +549,7 @@ module _ (u : TypedUnit) (few : length u.constants ≤ maxint) (statements : Sta
         variables = e.variables;
         line = line;
         name = called;
-        own = prefix_refl o;
+        own = record { rest = auxiliary_variables (first_for_of ss); is = refl };
         headings = subst (λ hs. IsPrefix hs (map heading_of u.routines)) (set_headings line c.own.variables (tree.Compound ss) c.routines h.number) e.headings;
       } in
       let headed : HoldsEither (length b.types) h.number h.parameters h.result = headed_either (length b.types) h.number h.parameters h.result (routine (length b.types) x) in
@@ -571,20 +577,25 @@ module _ (u : TypedUnit) (few : length u.constants ≤ maxint) (statements : Sta
         result = z.result;
         owned = z.owned;
         routines = routine_held line h.number called c (tree.Compound ss) (slice_get c.routines h.number) refl formals result y.routines y.owned
-            (statements (context_of c) compound ss is (in_routine o u.types (own u)) (holds_agrees u o (length c.types) c le y) (assigned_there o (length c.types) c.unit c c.own.result le refl there y.result));
+            (statements (context_of c) compound ss is (in_routine o u.types (own u)) (holds_agrees u o (length c.types) c le y) (assigned_there o (length c.types) c.unit c c.own.result le refl there y.result) auxiliaries);
       }
+    where
+      auxiliaries : (at : ℕ) → first_for_of ss ≡ Some at → AuxiliariesAreThere (in_routine (variables_in line (CalledIn c h.number) c.own ++ auxiliary_variables (first_for_of ss)) u.types (own u)) (locals_of c)
+      auxiliaries at has = subst (λ o. AuxiliariesAreThere (in_routine (variables_in line (CalledIn c h.number) c.own ++ auxiliary_variables o) u.types (own u)) (locals_of c)) (sym has) (own_auxiliaries u c line at (CalledIn c h.number) h.block.scopes.inner h.block.scopes.outer leads.grows.outer)
 
   given_leads : (b : Block) (line : ℕ) (given : Bool) (s : Standing) → LeadsOn u [] b s → LeadsOn u [] b (if_given line given s)
   given_leads b line true s h = h
   given_leads b line false s h = tt
 
   closed_leads : (line : ℕ) (h : Headed) (c : Block) (compound : Compound) (row : Judgement Stmts) → compound_judged (context_of c) compound ≡ row → ((i : ℕ) → Holds u [] i h.block → HoldsHeaded i h.number h.parameters h.result)
-      → Leads u (variables_in line (CalledIn c h.number) c.own) (scope_opened h h.block) c → LeadsOn u [] h.block (body_closed line h.number h.block.own c row)
-  closed_leads line h c compound (Passes ss) is routine leads = record {
-    grows = ended_grows line h.number h h.block c ss leads.grows;
-    holds = λ e w x. ended_held line h c compound ss is routine leads e w x;
-  }
-  closed_leads line h c compound (Waits at) is routine leads = record {
+      → ((o : List UnitVariable) → Leads u o (scope_opened h h.block) c) → LeadsOn u [] h.block (body_closed line h.number h.block.own c row)
+  closed_leads line h c compound (Passes ss) is routine every =
+      let leads = every (variables_in line (CalledIn c h.number) c.own ++ auxiliary_variables (first_for_of ss)) in
+      record {
+        grows = ended_grows line h.number h h.block c ss leads.grows;
+        holds = λ e w x. ended_held line h c compound ss is routine leads e w x;
+      }
+  closed_leads line h c compound (Waits at) is routine every = let leads = every [] in record {
     grows = record {
       types = leads.grows.types;
       constants = leads.grows.constants;
@@ -599,7 +610,7 @@ module _ (u : TypedUnit) (few : length u.constants ≤ maxint) (statements : Sta
     };
     holds = λ e w x. absurd (waits_some c.waits at w);
   }
-  closed_leads line h c compound (Fails at rules) is routine leads = tt
+  closed_leads line h c compound (Fails at rules) is routine every = tt
 
   local_part_leads : {A B C : Type 0} (o : List UnitVariable) (p : Part-F A B C) (b : Block) → LeadsOn u o b (local_part_declared p b)
   local_part_leads o (Part-F.Constants c) b = constants_lead u o few bounds bound_hosts constants constant_hosts c.definitions b
@@ -620,7 +631,7 @@ module _ (u : TypedUnit) (few : length u.constants ≤ maxint) (statements : Sta
     parts_ended (Stands d) g =
         let row = compound_judged (context_of d) c in
         given_leads h.block line (is_in_view d.own.result name d) (body_ended line h.number h.block.own d row)
-        (given_leads h.block line (row_gives d row) (body_closed line h.number h.block.own d row) (closed_leads line h d c row refl routine (g (variables_in line (CalledIn d h.number) d.own))))
+        (given_leads h.block line (row_gives d row) (body_closed line h.number h.block.own d row) (closed_leads line h d c row refl routine g))
     parts_ended (Falls at rules) g = tt
 
     heading_ended : (j : Judged Block) → ((o : List UnitVariable) → Fits (Leads u o Opened) j) → LeadsOn u [] h.block (and_then (inside_declared line name h.number h.block.own ps c) (at_line line j))

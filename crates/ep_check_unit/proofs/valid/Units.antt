@@ -12,6 +12,8 @@ use Rattle.ep_typed.specs.declared.unit.Unit.{Unit as TypedUnit}
 use Rattle.ep_typed.specs.declared.unit.UnitRoutine.{UnitRoutine}
 use Rattle.ep_check_expr.specs.Judgements.{Judged, Accepts, Breaks}
 use Rattle.ep_check_expr.specs.Laws.{BoundsAreKnown, BoundsAreSound, ConstantsAreKnown, ConstantsAreSound}
+use Rattle.ep_typed.specs.Auxiliaries.{first_for}
+use Rattle.ep_check_unit.proofs.valid.Auxiliaries.{unit_auxiliaries}
 use Rattle.ep_check_stmt.specs.Laws.{ResultIsThere, StatementsAreSound}
 use Rattle.ep_check_stmt.specs.Statements.{Judgement, Passes, Waits, Fails, after, compound_judged}
 use Rattle.ep_check_stmt.proofs.judged.Fits.{Fits}
@@ -124,7 +126,8 @@ module _ (statements : StatementsAreSound) (constants : ConstantsAreSound) (boun
         variables = All-same (IsVariable u.types) u.variables t.form.block.variables t.unit.variables held.variables;
         routines = routines_valid u u.routines (All-same (HoldsRoutine u) (map routine_form u.routines) t.form.block.routines t.unit.routines held.routines);
         start = subst (IsStmt (own u)) (sym t.unit.start)
-            (statements (context_of t.form.block) p.body t.form.statements made.statements (own u) (holds_agrees_outside u (length t.form.block.types) t.form.block le held) (no_result p u t.form made few));
+            (statements (context_of t.form.block) p.body t.form.statements made.statements (own u) (holds_agrees_outside u (length t.form.block.types) t.form.block le held) (no_result p u t.form made few)
+            (λ at has. unit_auxiliaries u t.form.block at held.unit t.unit.variables (ap first_for t.unit.start ∙ has) (block_leads p u t.form made few).grows.outer));
         stop = t.unit.stop;
       }
 

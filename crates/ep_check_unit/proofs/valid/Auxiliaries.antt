@@ -1,0 +1,66 @@
+-- The auxiliary variables of a block with a `for` are there.
+use Rattle.std.proofs.Common.{◌≡◌, ℕ, zero, suc, ◌+◌, List, [], ◌∷◌, ◌++◌, length, Some, slice_get, refl, sym, ap, ◌∙◌, subst}
+use Rattle.std.specs.Prelude.{if◌then◌else◌}
+use Rattle.ep_typed.proofs.Auxiliaries.{auxiliary_host}
+use Rattle.ep_typed.specs.Auxiliaries.{auxiliary_variable, auxiliary_variables, first_for}
+use Rattle.ep_typed.specs.Denoters.{host_of}
+use Rattle.ep_typed.specs.Hosts as host
+use Rattle.ep_typed.specs.Routines.{unit_variables}
+use Rattle.ep_typed.specs.Valid.{Declarations, in_routine, own}
+use Rattle.ep_typed.specs.Viewed.{denoter_of, stmt_of}
+use Rattle.ep_typed.specs.declared.unit.Unit.{Unit as TypedUnit}
+use Rattle.ep_typed.specs.declared.unit.UnitVariable.{UnitVariable}
+use Rattle.ep_scope.specs.Scopes.{Region, Row}
+use Rattle.ep_check_stmt.specs.Laws.{AuxiliariesAreThere}
+use Rattle.ep_check_stmt.specs.Statements.{Locals, OfUnit, OfRoutine}
+use Rattle.ep_check_unit.specs.Blocks.{Block, first_own, own_count}
+use Rattle.ep_check_unit.specs.Declarations.{is_outermost}
+use Rattle.ep_check_unit.specs.Routines.{locals_of}
+use Rattle.ep_check_unit.proofs.valid.Holds.{types_own, variables_own}
+use Rattle.ep_check_unit.proofs.valid.Items.{own_length}
+use Rattle.ep_check_unit.proofs.valid.Leading.{variables_in}
+
+-- what stands behind a list
+first_behind : {A : Type 0} (xs : List A) (a b : A) → slice_get (xs ++ a ∷ b ∷ []) (length xs) ≡ Some a
+first_behind [] a b = refl
+first_behind (x ∷ xs) a b = first_behind xs a b
+
+second_behind : {A : Type 0} (xs : List A) (a b : A) → slice_get (xs ++ a ∷ b ∷ []) (length xs + 1) ≡ Some b
+second_behind [] a b = refl
+second_behind (x ∷ xs) a b = second_behind xs a b
+
+-- in a routine, whose scopes have others around them
+pub own_auxiliaries : (u : TypedUnit) (c : Block) (line at : ℕ) (called : List ℕ) (first : Region) (others : List Region) → c.scopes.outer ≡ first ∷ others
+    → AuxiliariesAreThere (in_routine (variables_in line called c.own ++ auxiliary_variables (Some at)) u.types (own u)) (locals_of c)
+own_auxiliaries u c line at called first others inner =
+    subst (λ rs. AuxiliariesAreThere within (if is_outermost rs then OfUnit c.unit (length c.variables) else OfRoutine (first_own c.own) (own_count c.own))) (sym inner)
+    ((auxiliary_variable at, subst (λ n. slice_get all n ≡ Some (auxiliary_variable at)) many (first_behind front (auxiliary_variable at) (auxiliary_variable at)), auxiliary_host u.types at),
+      (auxiliary_variable at, subst (λ n. slice_get all (n + 1) ≡ Some (auxiliary_variable at)) many (second_behind front (auxiliary_variable at) (auxiliary_variable at)), auxiliary_host u.types at))
+  where
+    front : List UnitVariable
+    front = variables_in line called c.own
+
+    abbrev all : List UnitVariable
+    all = variables_in line called c.own ++ auxiliary_variables (Some at)
+
+    abbrev within : Declarations
+    within = in_routine (variables_in line called c.own ++ auxiliary_variables (Some at)) u.types (own u)
+
+    many : length (variables_in line called c.own) ≡ own_count c.own
+    many = own_length line called c.own.parameters c.own.result c.own.variables
+
+-- in the block of a unit
+pub unit_auxiliaries : (u : TypedUnit) (b : Block) (at : ℕ) → b.unit ≡ u.name → u.variables ≡ b.variables → first_for (stmt_of u.start) ≡ Some at → b.scopes.outer ≡ [] → AuxiliariesAreThere (own u) (locals_of b)
+unit_auxiliaries u b at named variables has outermost =
+    subst (λ rs. AuxiliariesAreThere (own u) (if is_outermost rs then OfUnit b.unit (length b.variables) else OfRoutine (first_own b.own) (own_count b.own))) (sym outermost)
+    ((v, variables_own u b.unit (length b.variables) named ∙ (ap (λ l. slice_get l (length b.variables)) all ∙ first_behind b.variables v v), typed),
+      (v, variables_own u b.unit (length b.variables + 1) named ∙ (ap (λ l. slice_get l (length b.variables + 1)) all ∙ second_behind b.variables v v), typed))
+  where
+    v : UnitVariable
+    v = auxiliary_variable at
+
+    all : unit_variables u ≡ b.variables ++ v ∷ v ∷ []
+    all = ap (λ o. u.variables ++ auxiliary_variables o) has ∙ ap (λ l. l ++ v ∷ v ∷ []) variables
+
+    typed : host_of ((own u).types b.unit) (denoter_of v.denoter) ≡ Some host.Integer
+    typed = ap (λ ts. host_of ts (denoter_of v.denoter)) (types_own u b.unit named) ∙ auxiliary_host u.types at
