@@ -1,3 +1,4 @@
+pub mod Auxiliaries
 pub mod Denoters
 pub mod Done
 pub mod Examples
