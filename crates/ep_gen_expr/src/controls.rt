@@ -18,7 +18,11 @@ use std::alloc::Global;
 fn order(falls: bool) -> Binary
     ensures { result ≡ (if falls then binary.AtLeast else binary.AtMost) }
 {
-    if falls { Binary::AtLeast } else { Binary::AtMost }
+    if falls {
+        Binary::AtLeast
+    } else {
+        Binary::AtMost
+    }
 }
 
 /// Appends the code that tells whether a `for` has a turn (ISO 10206, 6.9.3.9.2).
@@ -33,11 +37,7 @@ pub fn in_order_code(alloc: Global, control: &ForControl, code: &mut Code) -> Re
 
 /// Appends the code of the next value of a control variable.
 #[tactic(auto, using(crate::proofs::Forms::forms))]
-pub fn next_value_code(
-    alloc: Global,
-    control: &ForControl,
-    code: &mut Code,
-) -> Result<(), NoMemory>
+pub fn next_value_code(alloc: Global, control: &ForControl, code: &mut Code) -> Result<(), NoMemory>
     ensures { OnOk result (AppendsExpr code.old code.new (next_value (control_of control.now))) }
 {
     read_code(alloc, &control.variable, code)?;

@@ -50,22 +50,21 @@ module _ (ts us : List (List ℕ)) (rs ss : List Reference) (a : IsPrefix ts us)
         (h.0, h.1, h.2, expr_code_stays ts us rs ss line a b at x h.0 h.3, stmt_code_stays (at + length h.0 + 1) s h.1 h.4, stmt_code_stays (at + length h.0 + 1 + length h.1 + 1) t h.2 h.5, h.6)
     stmt_code_stays at (While line x s) is h = (h.0, h.1, expr_code_stays ts us rs ss line a b at x h.0 h.2, stmt_code_stays (at + length h.0 + 1) s h.1 h.3, h.4)
     stmt_code_stays at (Repeat line statements x) is h = (h.0, h.1, stmts_code_stays at statements h.0 h.2, expr_code_stays ts us rs ss line a b (at + length h.0) x h.1 h.3, h.4)
-    stmt_code_stays at (For line c x y s) is h =
-        (
-          h.0,
-          h.1,
-          h.2,
-          h.3,
-          h.4,
-          h.5,
-          bounds_code_stays line at c x y h.0 h.6,
-          first_code_stays line (at + length h.0 + 1) c h.1 h.7,
-          stmt_code_stays (at + length h.0 + 1 + length h.1) s h.2 h.8,
-          test_code_stays line (at + length h.0 + 1 + length h.1 + length h.2) c h.3 h.9,
-          assign_code_stays line (at + length h.0 + 1 + length h.1 + length h.2 + length h.3 + 1) c.variable (next_value c) h.4 h.10,
-          (h.11.0, place_code_stays rs ss line c.variable h.11.0 b h.11.1, h.11.2),
-          h.12,
-        )
+    stmt_code_stays at (For line c x y s) is h = (
+      h.0,
+      h.1,
+      h.2,
+      h.3,
+      h.4,
+      h.5,
+      bounds_code_stays line at c x y h.0 h.6,
+      first_code_stays line (at + length h.0 + 1) c h.1 h.7,
+      stmt_code_stays (at + length h.0 + 1 + length h.1) s h.2 h.8,
+      test_code_stays line (at + length h.0 + 1 + length h.1 + length h.2) c h.3 h.9,
+      assign_code_stays line (at + length h.0 + 1 + length h.1 + length h.2 + length h.3 + 1) c.variable (next_value c) h.4 h.10,
+      (h.11.0, place_code_stays rs ss line c.variable h.11.0 b h.11.1, h.11.2),
+      h.12,
+    )
     stmt_code_stays at (Procedure line unit number given) is h = expr_code_stays ts us rs ss line a b at (Function unit number given) is h
     stmt_code_stays at (Case line x arms o) is h =
         (h.0, h.1, h.2, expr_code_stays ts us rs ss line a b at x h.0 h.3, arms_code_stays line (at + length h.0 + 1) (at + length h.0 + 2) arms h.1 h.4, other_code_stays line (at + length h.0 + 2 + length h.1) o h.2 h.5, h.6)

@@ -8,7 +8,9 @@ ghost use Rattle.ep_gen_unit.specs.StmtGrowth.{AppendsBounds, AppendsFirst, Appe
 
 use crate::statements::assign_code;
 use ep_base::{Line, NoMemory};
-use ep_gen_expr::{Code, apply_binary, emit, in_order_code, next_value_code, place_code, read_code};
+use ep_gen_expr::{
+    Code, apply_binary, emit, in_order_code, next_value_code, place_code, read_code,
+};
 use ep_object::op;
 use ep_typed::{Binary, ForControl, TypedExpr, TypedPlace};
 use std::alloc::Global;

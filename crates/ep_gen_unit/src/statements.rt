@@ -16,7 +16,9 @@ use ep_gen_expr::{
     Code, call_code, emit, expression_code, land, leave_hole, next_place, place_code,
 };
 use ep_object::op;
-use ep_typed::{Actual, CaseArm, ForControl, TypedExpr, TypedPlace, TypedStmt, WriteItem, run_error};
+use ep_typed::{
+    Actual, CaseArm, ForControl, TypedExpr, TypedPlace, TypedStmt, WriteItem, run_error,
+};
 use std::alloc::Global;
 
 /// Appends the code of a statement. Where memory is wanting, or the code or a table would reach 2 ^ 32 entries, it is
