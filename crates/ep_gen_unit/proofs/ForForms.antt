@@ -1,5 +1,5 @@
 -- The code of a `for`, from that of its parts.
-use Rattle.std.proofs.Common.{◌≡◌, ℕ, pos, suc, ◌+◌, ◌<◌, List, [], ◌∷◌, ◌++◌, length, refl, sym, ap, ◌∙◌, subst, append_assoc, arith, length-append}
+use Rattle.std.proofs.Common.{◌≡◌, ℕ, pos, ◌+◌, ◌<◌, List, [], ◌∷◌, ◌++◌, length, refl, ap, ◌∙◌, subst, append_assoc, arith}
 use Rattle.ep_object.specs.declared.code.Instr.{Instr}
 use Rattle.ep_typed.specs.declared.operations.Binary.TheVariants as binary
 use Rattle.ep_typed.specs.Controls.{in_order, next_value}
@@ -8,10 +8,10 @@ use Rattle.ep_gen_expr.specs.ExprCode.{IsExprCode, bare, instr, two_code}
 use Rattle.ep_gen_expr.specs.Growth.{Grows, AppendsPlace, AppendsExpr}
 use Rattle.ep_gen_expr.specs.Jumps.{IsNextPlace, LeavesHole, landed}
 use Rattle.ep_gen_expr.specs.declared.code.Code.{Code}
-use Rattle.ep_gen_expr.proofs.Forms.{grows_at, grows_then}
+use Rattle.ep_gen_expr.proofs.Forms.{grows_at}
 use Rattle.ep_gen_expr.proofs.Stays.{place_code_stays}
-use Rattle.ep_gen_unit.specs.StmtCode.{IsStmtCode, AreBoundsCode, IsFirstCode, IsTestCode, IsUndefineCode, for_code}
-use Rattle.ep_gen_unit.specs.StmtGrowth.{Follows, AppendsPart, AppendsBounds, AppendsFirst, AppendsTest, AppendsUndefine, AppendsStmt}
+use Rattle.ep_gen_unit.specs.StmtCode.{IsStmtCode, IsFirstCode, IsTestCode, for_code}
+use Rattle.ep_gen_unit.specs.StmtGrowth.{Follows, AppendsBounds, AppendsFirst, AppendsTest, AppendsUndefine, AppendsStmt}
 use Rattle.ep_gen_unit.proofs.StmtStays.{bounds_code_stays, first_code_stays, test_code_stays, stmt_code_short}
 use Rattle.ep_gen_unit.proofs.Following.{IsLater, later_then, later_grows, later_follows, later_landed, expr_later, stmt_later, follows_grows, follows_line, follows_then, follows_middle, follows_landed, grown_length, landed_length}
 use Rattle.ep_object.specs.declared.op.TheConstants as op

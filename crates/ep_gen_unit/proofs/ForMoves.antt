@@ -1,15 +1,15 @@
 -- The machine follows `for`.
-use Rattle.std.proofs.Common.{◌≡◌, ℕ, ℤ, pos, zero, suc, ◌+◌, ◌-◌, ◌≤◌, ◌<◌, Bool, true, false, not, List, [], ◌∷◌, ◌++◌, length, length-append, Some, slice_get, refl, sym, ap, ◌∙◌, subst, arith}
+use Rattle.std.proofs.Common.{◌≡◌, ℕ, ℤ, pos, zero, suc, ◌+◌, ◌-◌, ◌≤◌, ◌<◌, Bool, true, false, not, List, [], ◌∷◌, ◌++◌, length, length-append, refl, sym, ap, ◌∙◌, subst, arith}
 use Rattle.std.specs.Prelude.{if◌then◌else◌}
-use Rattle.ep_gen_expr.specs.ExprCode.{instr, bare, two_code, IsPlaceCode, IsExprCode}
-use Rattle.ep_gen_expr.proofs.Following.{IsTyped, typed_place}
+use Rattle.ep_gen_expr.specs.ExprCode.{instr, bare, two_code, IsExprCode}
+use Rattle.ep_gen_expr.proofs.Following.{typed_place}
 use Rattle.ep_gen_expr.proofs.Placed.{jump_has, jump_false_has}
 use Rattle.ep_gen_unit.proofs.Parts.{code_stands-parts, Moves, ExpressionsFollow, PlacesFollow, statement_credit, ordinal_of_host}
-use Rattle.ep_object.specs.Follows.{point, Facts, Lasts, Fragment, Follows, Lands, Inside, Bare, IsNotLeft, state_at}
-use Rattle.ep_object.specs.Matching.{Slots, Memory, Injection, Matches, IsPlaceOf, Describes, at as standing}
+use Rattle.ep_object.specs.Follows.{point, Facts, Lasts, Fragment, Follows, Lands, Inside, Bare, IsNotLeft}
+use Rattle.ep_object.specs.Matching.{Slots, Memory, Injection, IsPlaceOf, Describes, at as standing}
 use Rattle.ep_object.specs.Operands.{Operand, Word}
 use Rattle.ep_object.specs.Operands as operand
-use Rattle.ep_object.specs.Placing.{Placement, CodeStands, placed}
+use Rattle.ep_object.specs.Placing.{Placement, CodeStands}
 use Rattle.ep_object.specs.Runs.{outcome, unit_in}
 use Rattle.ep_object.specs.Scene.{Scene}
 use Rattle.ep_object.specs.State.{Running}
@@ -25,7 +25,7 @@ use Rattle.ep_typed.specs.Events.{Trace}
 use Rattle.ep_object.proofs.following.Bind.{follows_paid, follows_changed}
 use Rattle.ep_object.proofs.following.Choices.{fragment_branch, fragment_branch_one, fragment_using}
 use Rattle.ep_object.proofs.following.Fragments.{Does, FailsWith, landed, fragment_cut, fragment_give, fragment_to, fragment_from, fragment_less, fragment_credit, fragment_waits, fragment_move, fragment_bind_number, fragment_bind_bare, fragment_bind_place}
-use Rattle.ep_object.proofs.matching.Growing.{unit_in-same, describes-grown, inside_here, not_left-here}
+use Rattle.ep_object.proofs.matching.Growing.{unit_in-same, inside_here, not_left-here}
 use Rattle.ep_object.proofs.rows.ChangeRows.{undefine_does, undefine_fails_ended}
 use Rattle.ep_object.proofs.rows.Rows.{jump_jumps, jump_false_jumps, unequal_answers}
 use Rattle.ep_object.proofs.rows.TextRows.{drop_drops, dup_pushes}
@@ -38,7 +38,7 @@ use Rattle.ep_typed.specs.Operations.{is_same, is_true, ordinal_of}
 use Rattle.ep_typed.specs.Printing.{number_of}
 use Rattle.ep_typed.specs.Steps.{Computation, Undefined, assigned, bind, change, give, spend, using, has_ended}
 use Rattle.ep_typed.specs.Steps as meaning
-use Rattle.ep_typed.specs.Trees.{Place, Expr, Constant, Read, Two, Control, Stmt, For}
+use Rattle.ep_typed.specs.Trees.{Place, Expr, Read, Two, Control, Stmt, For}
 use Rattle.ep_typed.specs.Valid as kind
 use Rattle.ep_typed.specs.Valid.{Declarations, IsControl, IsExpr, IsPlace}
 use Rattle.ep_typed.specs.Hosts as host
