@@ -72,7 +72,7 @@ pub fn expression_code(alloc: Global, e: &TypedExpr, code: &mut Code) -> Result<
 
 /// Appends the code of a constant.
 #[tactic(auto, using(crate::proofs::Forms::forms))]
-fn constant_code(value: i64, code: &mut Code) -> Result<(), NoMemory>
+pub(crate) fn constant_code(value: i64, code: &mut Code) -> Result<(), NoMemory>
     ensures { OnOk result (AppendsExpr code.old code.new (Constant value)) }
 {
     emit(code, op::PUSH, value, 0)
@@ -89,7 +89,7 @@ fn text_code(alloc: Global, bytes: &[u8], code: &mut Code) -> Result<(), NoMemor
 
 /// Appends the code of a variable's value.
 #[tactic(auto, using(crate::proofs::Forms::forms))]
-fn read_code(alloc: Global, place: &TypedPlace, code: &mut Code) -> Result<(), NoMemory>
+pub fn read_code(alloc: Global, place: &TypedPlace, code: &mut Code) -> Result<(), NoMemory>
     ensures { OnOk result (AppendsExpr code.old code.new (Read (place_of place.now))) }
 {
     place_code(alloc, place, code)?;

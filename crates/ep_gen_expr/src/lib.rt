@@ -5,6 +5,7 @@
 #![tactic(auto)]
 
 mod code;
+mod controls;
 mod expressions;
 mod jumps;
 mod laws;
@@ -13,8 +14,10 @@ mod standard;
 mod tables;
 
 pub use code::{Code, NO_LINE, emit};
-pub use expressions::{call_code, expression_code, place_code};
+pub use controls::{in_order_code, next_value_code};
+pub use expressions::{call_code, expression_code, place_code, read_code};
 pub use jumps::{field_number, land, leave_hole, next_place};
 pub use laws::{laws_of_code, laws_of_following};
+pub use operations::apply_binary;
 pub use standard::standard_code;
 pub use tables::{reference_number, text_number};

@@ -1,13 +1,17 @@
 -- The variables that a unit declares, and their types.
-use Rattle.std.proofs.Common.{◌≡◌, ℕ, ◌+◌, Bool, true, false, List, [], Some, None, slice_get, bytes_eq, refl, sym, ap, ◌∙◌, subst, arith, zero-add}
+use Rattle.std.proofs.Common.{◌≡◌, ℕ, zero, suc, ◌+◌, ◌⊎◌, inl, inr, Bool, true, false, List, [], ◌∷◌, ◌++◌, Option, Some, None, slice_get, bytes_eq, refl, sym, ap, ◌∙◌, subst, arith, zero-add}
 use Rattle.std.proofs.lemmas.Option.{get_or_from_slice_get, slice_get_within}
 use Rattle.std.proofs.lemmas.Slice.Eq.{bytes_eq-Decides}
 use Rattle.std.specs.Prelude.{All, if◌then◌else◌}
 use Rattle.ep_gen_unit.specs.UnitLaws.{AreDeclared}
 use Rattle.ep_object.specs.Matching.{IsValueOf}
 use Rattle.ep_object.specs.Scene.{HaveValidTypes}
+use Rattle.ep_typed.proofs.Auxiliaries.{auxiliaries_valid}
+use Rattle.ep_typed.specs.Auxiliaries.{auxiliary_variables, first_for}
+use Rattle.ep_typed.specs.Routines.{unit_variables}
+use Rattle.ep_typed.specs.declared.unit.UnitType.{UnitType}
 use Rattle.ep_typed.specs.Valid.{IsDenoter, IsVariable, IsTypeOf, own}
-use Rattle.ep_typed.specs.Viewed.{denoter_of}
+use Rattle.ep_typed.specs.Viewed.{denoter_of, stmt_of}
 use Rattle.ep_typed.specs.Steps.{Undefined}
 use Rattle.ep_typed.specs.Hosts.{Host}
 use Rattle.ep_typed.specs.declared.value.TypeValue.{TypeValue}
@@ -21,17 +25,23 @@ same_name a b h = grind (arith, bytes_eq-Decides)
 pub name_same : (a b : List ℕ) → a ≡ b → bytes_eq a b ≡ true
 name_same a b h = grind (arith, bytes_eq-Decides)
 
+-- what two lists have, one of them has
+pub slice_get-either : {A : Type 0} (xs ys : List A) (k : ℕ) (x : A) → slice_get (xs ++ ys) k ≡ Some x → (slice_get xs k ≡ Some x) ⊎ ((j : ℕ) × (slice_get ys j ≡ Some x))
+slice_get-either [] ys k x h = inr (k, h)
+slice_get-either (y ∷ xs) ys zero x h = inl h
+slice_get-either (y ∷ xs) ys (suc k) x h = slice_get-either xs ys k x h
+
 -- a variable that is declared by a unit alone is one of its own
-pub own_is : (u : TypedUnit) (unit : List ℕ) (k : ℕ) (v : UnitVariable) → (own u).variables unit k ≡ Some v → (u.name ≡ unit) × (slice_get u.variables k ≡ Some v)
+pub own_is : (u : TypedUnit) (unit : List ℕ) (k : ℕ) (v : UnitVariable) → (own u).variables unit k ≡ Some v → (u.name ≡ unit) × (slice_get (unit_variables u) k ≡ Some v)
 own_is u unit k v h = go (bytes_eq u.name unit) refl h
   where
-    go : (b : Bool) → bytes_eq u.name unit ≡ b → (if b then slice_get u.variables k else None) ≡ Some v → (u.name ≡ unit) × (slice_get u.variables k ≡ Some v)
+    go : (b : Bool) → bytes_eq u.name unit ≡ b → (if b then slice_get (unit_variables u) k else None) ≡ Some v → (u.name ≡ unit) × (slice_get (unit_variables u) k ≡ Some v)
     go true e h = (same_name u.name unit e, h)
     go false e h = cc
 
 -- a unit declares its own variables
-pub own_declared : (u : TypedUnit) → AreDeclared (own u) u.name 0 u.variables
-own_declared u i v h = ap (λ b. if b then slice_get u.variables (0 + i) else None) (name_same u.name u.name refl) ∙ (ap (slice_get u.variables) (zero-add i) ∙ h)
+pub own_declared : (u : TypedUnit) → AreDeclared (own u) u.name 0 (unit_variables u)
+own_declared u i v h = ap (λ b. if b then slice_get (unit_variables u) (0 + i) else None) (name_same u.name u.name refl) ∙ (ap (slice_get (unit_variables u)) (zero-add i) ∙ h)
 
 -- and its own types
 pub own_types : (u : TypedUnit) → (own u).types u.name ≡ u.types
@@ -42,10 +52,18 @@ pub integer_bounds : (h : Host) (t : TypeValue) → IsTypeOf h t → IsValueOf t
 integer_bounds h (type.Ordinal low high) valid = (valid.3, valid.4)
 integer_bounds h type.Text valid = tt
 
+-- variables that are valid, and the auxiliary ones behind them
+pub variables_valid : (types : List UnitType) (vs : List UnitVariable) (o : Option ℕ) → All (IsVariable types) vs → (k : ℕ) (v : UnitVariable) → slice_get (vs ++ auxiliary_variables o) k ≡ Some v → IsVariable types v
+variables_valid types vs o valid k v h = either (slice_get-either vs (auxiliary_variables o) k v h)
+  where
+    either : (slice_get vs k ≡ Some v) ⊎ ((j : ℕ) × (slice_get (auxiliary_variables o) j ≡ Some v)) → IsVariable types v
+    either (inl e) = subst (λ x. IsVariable types x) (get_or_from_slice_get vs k v v e) (valid k v (slice_get_within vs k v e))
+    either (inr e) = auxiliaries_valid types o e.0 v e.1
+
 -- each variable of a unit that declares it has a valid denoter
 pub own_valid : (u : TypedUnit) → All (IsVariable u.types) u.variables → HaveValidTypes (own u)
 own_valid u variables unit k v h =
     let w = own_is u unit k v h in
-    let valid : IsVariable u.types v = subst (λ x. IsVariable u.types x) (get_or_from_slice_get u.variables k v v w.1) (variables k v (slice_get_within u.variables k v w.1)) in
+    let valid : IsVariable u.types v = variables_valid u.types u.variables (first_for (stmt_of u.start)) variables k v w.1 in
     let types : (own u).types unit ≡ u.types = ap (λ n. (own u).types n) (sym w.0) ∙ own_types u in
     subst (λ ts. IsDenoter ts (denoter_of v.denoter)) (sym types) valid.denoter

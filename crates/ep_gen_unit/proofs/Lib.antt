@@ -4,6 +4,8 @@ pub mod CaseMoves
 pub mod Compounds
 pub mod Declared
 pub mod Following
+pub mod ForForms
+pub mod ForMoves
 pub mod ItemForms
 pub mod Makes
 pub mod OwnMakes

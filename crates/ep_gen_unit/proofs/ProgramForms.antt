@@ -1,12 +1,14 @@
 -- The object of a program, from the code of its parts.
-use Rattle.std.proofs.Common.{◌≡◌, ℕ, ℤ, suc, pos, ◌+◌, ◌<◌, List, [], ◌∷◌, ◌++◌, take, length, length-append, get_or, slice_get, ◌⊎◌, inl, inr, Option, None, Some, refl, sym, ap, ◌∙◌, subst, append_assoc, append-nil, arith}
+use Rattle.std.proofs.Common.{◌≡◌, ℕ, ℤ, suc, pos, ◌+◌, ◌<◌, List, [], ◌∷◌, ◌++◌, take, length, length-append, get_or, slice_get, ◌⊎◌, inl, inr, Option, None, Some, Result, Ok, Err, IfOk, refl, sym, ap, ◌∙◌, subst, append_assoc, append-nil, arith}
 use Rattle.std.proofs.lemmas.List.{take_more, length-take-le}
 use Rattle.std.proofs.lemmas.Option.{slice_get_within}
 use Rattle.ep_object.proofs.matching.Elements.{slice_get-push}
 use Rattle.ep_object.specs.declared.code.Instr.{Instr}
 use Rattle.ep_object.specs.declared.code.CodeRoutine.{CodeRoutine}
 use Rattle.ep_object.specs.declared.code.Object.{Object}
-use Rattle.ep_typed.specs.Routines.{result_variable}
+use Rattle.ep_typed.specs.Auxiliaries.{auxiliary_variables, first_for}
+use Rattle.ep_typed.specs.Trees.{Stmt}
+use Rattle.ep_typed.specs.Routines.{result_variable, unit_variables}
 use Rattle.ep_typed.specs.Viewed.{denoter_of, stmt_of}
 use Rattle.ep_typed.specs.declared.value.TypeValue.TheVariants.{Ordinal}
 use Rattle.ep_typed.specs.declared.unit.Unit.{Unit as TypedUnit}
@@ -25,7 +27,7 @@ use Rattle.ep_gen_expr.specs.declared.code.TheConstants as code
 use Rattle.ep_gen_expr.proofs.Forms.{grows_at}
 use Rattle.ep_gen_unit.specs.StmtCode.{IsStmtCode, type_code, elaborating_code, make_code, make_all_code, value_code, place_taken, take_code, take_all_code, return_code, result_code, end_code}
 use Rattle.ep_gen_expr.specs.Jumps.{IsNextPlace}
-use Rattle.ep_gen_unit.specs.StmtGrowth.{Follows, AppendsStmt, AppendsStart, AppendsRoutine, AppendsRoutines, IsCompact, MakesOwn, MakesResult, assembled}
+use Rattle.ep_gen_unit.specs.StmtGrowth.{Follows, AppendsStmt, AppendsStart, AppendsRoutine, AppendsRoutines, IsCompact, MakesBlock, MakesOwn, MakesResult, assembled}
 use Rattle.ep_gen_unit.specs.UnitCode.{IsProgramCode, IsRoutineCode, AreRoutinesCode, StandsIn, own_code, its_end, entry_of, plain_at, routine_at}
 use Rattle.ep_gen_unit.proofs.Following.{later_follows, stmt_later, follows_none, follows_grows, follows_line, follows_then, grown_length}
 use Rattle.ep_object.specs.declared.op.TheConstants as op
@@ -92,14 +94,14 @@ nothing_distinct : {A : Type 0} → AreDistinct {A = A} []
 nothing_distinct = λ j k x p q. cc
 
 -- the code of the start and of the stop, from that of their parts
-module _ (u : TypedUnit) {a b c d e : Code} (ts : List UnitType) (types_are : ts ≡ u.types) (vs : List UnitVariable) (variables_are : vs ≡ u.variables) (makes : Follows a b (make_all_code ts 0 vs)) (s : AppendsStmt b c (stmt_of u.start)) (r : Grows (record c { line = code.NO_LINE }) d (return_code ∷ [])) (last : Grows d e (bare d.line op.RETURN ∷ [])) (stop_entry : ℕ) (next : IsNextPlace d stop_entry) where
-  m : Follows a b (make_all_code u.types 0 u.variables)
-  m = subst (λ l. Follows a b (make_all_code u.types 0 l)) variables_are (subst (λ l. Follows a b (make_all_code l 0 vs)) types_are makes)
+module _ (u : TypedUnit) {a b c d e : Code} (ts : List UnitType) (types_are : ts ≡ u.types) (vs : List UnitVariable) (variables_are : vs ≡ u.variables) (makes : Follows a b (make_all_code ts 0 (vs ++ auxiliary_variables (first_for (stmt_of u.start))))) (s : AppendsStmt b c (stmt_of u.start)) (r : Grows (record c { line = code.NO_LINE }) d (return_code ∷ [])) (last : Grows d e (bare d.line op.RETURN ∷ [])) (stop_entry : ℕ) (next : IsNextPlace d stop_entry) where
+  m : Follows a b (make_all_code u.types 0 (unit_variables u))
+  m = subst (λ l. Follows a b (make_all_code u.types 0 (l ++ auxiliary_variables (first_for (stmt_of u.start))))) variables_are (subst (λ l. Follows a b (make_all_code l 0 (vs ++ auxiliary_variables (first_for (stmt_of u.start))))) types_are makes)
 
   ends : Follows c e (return_code ∷ return_code ∷ [])
   ends = follows_line c code.NO_LINE (follows_grows (grows_at (λ l. bare l op.RETURN ∷ []) r last))
 
-  made : length b.instructions ≡ length a.instructions + length (make_all_code u.types 0 u.variables)
+  made : length b.instructions ≡ length a.instructions + length (make_all_code u.types 0 (unit_variables u))
   made = grown_length m
 
   pub appends_start : AppendsStart a e u stop_entry
@@ -146,16 +148,35 @@ makes_one {c = c} a types r fs o x slot first formals_are result_is some many el
       count = omega (arith, many, behind, ap length formals_are, ap length is);
     }
 
--- and then those that a routine declares
-pub makes_own : {b c : Code} (a : Code) (types : List UnitType) (r : UnitRoutine) (vs : List UnitVariable) (first slots : ℕ) → vs ≡ (out-UnitRoutine r).variables → MakesResult a b types r first → Follows b c (make_all_code types first vs) → slots ≡ first + length vs
+-- a consequence of what holds of a result
+pub if_ok_then : {T E : Type 0} {P Q : T → Type 0} (r : Result T E) → ((t : T) → P t → Q t) → IfOk r P → IfOk r Q
+if_ok_then (Ok t) f h = f t h
+if_ok_then (Err e) f h = tt
+
+-- those that a block declares, and then its auxiliary ones
+pub makes_block : {b c : Code} (a : Code) (types : List UnitType) (first : ℕ) (vs ws : List UnitVariable) → Follows a b (make_all_code types first vs) → Follows b c (make_all_code types (first + length vs) ws) → Follows a c (make_all_code types first (vs ++ ws))
+makes_block {c = c} a types first vs ws p q = subst (λ l. Follows a c l) (sym (make_append types first vs ws)) (follows_then p q)
+
+-- both, by the steps of its function
+pub block_made : {b c : Code} (a : Code) (types : List UnitType) (first middle behind : ℕ) (vs ws ys zs : List UnitVariable) (block : Stmt) → middle ≡ first + length vs → ws ≡ auxiliary_variables (first_for block) → ys ≡ ws → zs ≡ ws → behind ≡ middle + length ys → Follows a b (make_all_code types first vs) → Follows b c (make_all_code types middle zs)
+    → MakesBlock a c types first vs block behind
+block_made {b = b} {c = c} a types first middle behind vs ws ys zs block at is same other count p q =
+    record {
+      follows = makes_block a types first vs (auxiliary_variables (first_for block)) p (subst (λ n. Follows b c (make_all_code types n (auxiliary_variables (first_for block)))) at (subst (λ l. Follows b c (make_all_code types middle l)) (other ∙ is) q));
+      count = omega (arith, count, at, ap length same, ap length is, length-append vs (auxiliary_variables (first_for block)));
+    }
+
+-- and all of a routine
+pub makes_own : {b c : Code} (a : Code) (types : List UnitType) (r : UnitRoutine) (vs : List UnitVariable) (first slots : ℕ) → vs ≡ (out-UnitRoutine r).variables → MakesResult a b types r first → MakesBlock b c types first vs (stmt_of (out-UnitRoutine r).block) slots
     → MakesOwn a c types r slots
-makes_own {b = b} {c = c} a types r vs first slots variables_are result makes all =
+makes_own {b = b} {c = c} a types r vs first slots variables_are result makes =
     let parts = out-UnitRoutine r in
     let results : List UnitVariable = result_variable parts.name parts.line parts.result in
-    let others : Follows b c (make_all_code types (length parts.formals + length results) parts.variables) = subst (λ n. Follows b c (make_all_code types n parts.variables)) result.count (subst (λ l. Follows b c (make_all_code types first l)) variables_are makes) in
+    let more : List UnitVariable = auxiliary_variables (first_for (stmt_of parts.block)) in
+    let others : Follows b c (make_all_code types (length parts.formals + length results) (parts.variables ++ more)) = subst (λ n. Follows b c (make_all_code types n (parts.variables ++ more))) result.count (subst (λ l. Follows b c (make_all_code types first (l ++ more))) variables_are makes.follows) in
     record {
-      follows = subst (λ l. Follows a c l) (sym (make_append types (length parts.formals) results parts.variables)) (follows_then result.follows others);
-      count = omega (arith, all, result.count, ap length variables_are, length-append results parts.variables);
+      follows = subst (λ l. Follows a c l) (sym (make_append types (length parts.formals) results (parts.variables ++ more))) (follows_then result.follows others);
+      count = omega (arith, makes.count, result.count, ap length variables_are, length-append vs more, length-append parts.variables more, length-append results (parts.variables ++ more));
     }
 
 -- what a function ends with
@@ -276,25 +297,25 @@ module _ (u : TypedUnit) {a b e : Code} (begins : a ≡ empty_code) (name : List
   whole : AppendsStart empty_code b u stop_entry
   whole = subst (λ code. AppendsStart code b u stop_entry) begins appends
 
-  begins_block : 0 + length (make_all_code u.types 0 u.variables) ≡ length (make_all_code u.types 0 u.variables)
+  begins_block : 0 + length (make_all_code u.types 0 (unit_variables u)) ≡ length (make_all_code u.types 0 (unit_variables u))
   begins_block = omega arith
 
-  stops : stop_entry ≡ length (make_all_code u.types 0 u.variables) + length whole.code + 1
+  stops : stop_entry ≡ length (make_all_code u.types 0 (unit_variables u)) + length whole.code + 1
   stops = omega (arith, whole.stops)
 
   its_blocks : AreRoutinesCode e.texts e.references e.instructions u.types u.routines entries
   its_blocks = subst (λ ts. AreRoutinesCode e.texts e.references e.instructions ts u.routines entries) types_are (subst (λ l. AreRoutinesCode e.texts e.references e.instructions types l entries) routines_are more.blocks)
 
-  pub is_program : slots ≡ length u.variables → IsProgramCode u o
+  pub is_program : slots ≡ length (unit_variables u) → IsProgramCode u o
   is_program n = subst (λ object. IsProgramCode u object) (sym is) (record {
     code = whole.code;
-    is_code = subst (λ at. IsStmtCode e.texts e.references at (stmt_of u.start) whole.code) begins_block (stmt_later (0 + length (make_all_code u.types 0 u.variables)) (stmt_of u.start) whole.code (later_follows more.follows) whole.is_code);
+    is_code = subst (λ at. IsStmtCode e.texts e.references at (stmt_of u.start) whole.code) begins_block (stmt_later (0 + length (make_all_code u.types 0 (unit_variables u))) (stmt_of u.start) whole.code (later_follows more.follows) whole.is_code);
     others = more.code;
     instructions =
         let first = whole.follows in
         let rest = more.follows in
-        rest.instructions ∙ (ap (λ l. l ++ more.code) first.instructions ∙ (append_assoc (make_all_code u.types 0 u.variables) (whole.code ++ return_code ∷ return_code ∷ []) more.code
-        ∙ ap (λ l. make_all_code u.types 0 u.variables ++ l) (append_assoc whole.code (return_code ∷ return_code ∷ []) more.code)));
+        rest.instructions ∙ (ap (λ l. l ++ more.code) first.instructions ∙ (append_assoc (make_all_code u.types 0 (unit_variables u)) (whole.code ++ return_code ∷ return_code ∷ []) more.code
+        ∙ ap (λ l. make_all_code u.types 0 (unit_variables u) ++ l) (append_assoc whole.code (return_code ∷ return_code ∷ []) more.code)));
     entries = entries;
     blocks = its_blocks;
     routines = all ∙ ap (λ at. entries ++ plain_at 0 ∷ plain_at at ∷ []) stops;
@@ -308,7 +329,7 @@ module _ (u : TypedUnit) {a b e : Code} (begins : a ≡ empty_code) (name : List
     constant_types = let first = whole.follows in let rest = more.follows in rest.constant_types ∙ first.constant_types;
   })
 
-  both : Follows empty_code e (make_all_code u.types 0 u.variables ++ (whole.code ++ return_code ∷ return_code ∷ []) ++ more.code)
+  both : Follows empty_code e (make_all_code u.types 0 (unit_variables u) ++ (whole.code ++ return_code ∷ return_code ∷ []) ++ more.code)
   both = follows_then whole.follows more.follows
 
   pub is_compact : IsTable e.instructions → IsCompact o

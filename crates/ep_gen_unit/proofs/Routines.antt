@@ -8,7 +8,7 @@ use Rattle.ep_gen_expr.proofs.Placed.{instr_at}
 use Rattle.ep_typed.proofs.Denoters.{types_are_instances}
 use Rattle.ep_gen_unit.specs.StmtCode.{IsStmtCode, make_all_code, take_all_code, return_code, end_code}
 use Rattle.ep_gen_unit.specs.UnitCode.{IsProgramCode, own_code, its_end, entry_of, plain_at}
-use Rattle.ep_gen_unit.proofs.Declared.{name_same, same_name, own_types}
+use Rattle.ep_gen_unit.proofs.Declared.{name_same, same_name, own_types, slice_get-either, variables_valid}
 use Rattle.ep_gen_unit.proofs.OwnMakes.{make_all_own_moves, takes_all_moves}
 use Rattle.ep_gen_unit.proofs.Parts.{code_stands-parts}
 use Rattle.ep_gen_unit.proofs.Results.{result_moves}
@@ -38,6 +38,7 @@ use Rattle.ep_object.specs.declared.code.Instr.{Instr}
 use Rattle.ep_object.specs.declared.code.Object.{Object}
 use Rattle.ep_object.specs.declared.op.TheConstants as op
 use Rattle.ep_typed.proofs.Steady.{steady_bind, steady_routine_of, steady_runs_routine, steady_results_given, steady_make_all_own, steady_exec}
+use Rattle.ep_typed.specs.Auxiliaries.{auxiliary_variables, first_for}
 use Rattle.ep_typed.specs.Calls.{Argument, Handler}
 use Rattle.ep_typed.specs.Meaning.{exec, make_all_own, results_given, Found, found_among, routine_in, runs_routine, routine_does, routine_of}
 use Rattle.ep_typed.specs.Printing.{Result}
@@ -91,12 +92,6 @@ end_length line number at (Some y) = omega arith
 slice_get-behind : {A : Type 0} (xs ys : List A) (k : ℕ) → slice_get (xs ++ ys) (length xs + k) ≡ slice_get ys k
 slice_get-behind [] ys k = ap (slice_get ys) {x = 0 + k} {y = k} (omega arith)
 slice_get-behind (x ∷ xs) ys k = ap (slice_get (x ∷ (xs ++ ys))) {x = suc (length xs) + k} {y = suc (length xs + k)} (omega arith) ∙ slice_get-behind xs ys k
-
--- what two lists have, one of them has
-slice_get-either : {A : Type 0} (xs ys : List A) (k : ℕ) (x : A) → slice_get (xs ++ ys) k ≡ Some x → (slice_get xs k ≡ Some x) ⊎ ((j : ℕ) × (slice_get ys j ≡ Some x))
-slice_get-either [] ys k x h = inr (k, h)
-slice_get-either (y ∷ xs) ys zero x h = inl h
-slice_get-either (y ∷ xs) ys (suc k) x h = slice_get-either xs ys k x h
 
 module _ (u : TypedUnit) (o : Object) (is : IsProgramCode u o) (valid : IsValid u) (G : Image) (ps : List Placement) (p : Placement) (stands : Stands G ps p o) (distinct : HasDistinctNames G) where
   -- where a routine of the unit stands in the image
@@ -249,8 +244,8 @@ module _ (u : TypedUnit) (o : Object) (is : IsProgramCode u o) (valid : IsValid 
 
     -- the variables that it makes
     made_typed : (k : ℕ) (v : UnitVariable) → slice_get (made_variables r) k ≡ Some v → IsDenoter u.types (denoter_of v.denoter)
-    made_typed = made_valid (out-UnitRoutine r).name (out-UnitRoutine r).line (out-UnitRoutine r).result its.result (out-UnitRoutine r).variables
-        (λ k v e. (subst (λ w. IsVariable u.types w) (get_or_from_slice_get (out-UnitRoutine r).variables k v v e) (its.variables k v (slice_get_within (out-UnitRoutine r).variables k v e))).denoter)
+    made_typed = made_valid (out-UnitRoutine r).name (out-UnitRoutine r).line (out-UnitRoutine r).result its.result ((out-UnitRoutine r).variables ++ auxiliary_variables (first_for (stmt_of (out-UnitRoutine r).block)))
+        (λ k v e. (variables_valid u.types (out-UnitRoutine r).variables (first_for (stmt_of (out-UnitRoutine r).block)) its.variables k v e).denoter)
 
     own_types_valid : HaveValidOwnTypes within
     own_types_valid k v e = either (slice_get-either (map (formal_variable (out-UnitRoutine r).line) formals) (made_variables r) k v e)
@@ -320,7 +315,7 @@ module _ (u : TypedUnit) (o : Object) (is : IsProgramCode u o) (valid : IsValid 
         }
     ends_of (Some y) valid_result is_some end_stands room_for =
         let result : UnitVariable = record { name = result_name (out-UnitRoutine r).name y.name; line = line_of; declaration = 0; denoter = y.denoter; tuple = []; parameter = false } in
-        let first : slice_get (made_variables r) 0 ≡ Some result = ap (λ z. slice_get (result_variable (out-UnitRoutine r).name line_of z ++ (out-UnitRoutine r).variables) 0) is_some in
+        let first : slice_get (made_variables r) 0 ≡ Some result = ap (λ z. slice_get (result_variable (out-UnitRoutine r).name line_of z ++ ((out-UnitRoutine r).variables ++ auxiliary_variables (first_for (stmt_of (out-UnitRoutine r).block)))) 0) is_some in
         let numbered_so : slice_get variables (length formals) ≡ Some result = ap (slice_get variables) {x = length formals} {y = length formals + 0} (omega arith) ∙ variable_is 0 result first in
         record {
           place = p.instructions.before + end + 5;

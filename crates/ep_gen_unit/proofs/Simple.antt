@@ -2,6 +2,7 @@
 use Rattle.std.proofs.Common.{◌≡◌, ℕ, ℤ, suc, ◌+◌, ◌<◌, ◌≤◌, List, [], ◌∷◌, ◌++◌, length, length-append, refl, ap, ◌∙◌, subst, arith}
 use Rattle.ep_gen_expr.specs.Following.{least_credit}
 use Rattle.ep_gen_expr.specs.ExprCode.{bare, IsPlaceCode, IsExprCode}
+use Rattle.ep_gen_unit.specs.StmtCode.{IsAssignCode}
 use Rattle.ep_gen_expr.proofs.Following.{IsTyped, typed_place}
 use Rattle.ep_gen_unit.proofs.Parts.{Moves, ExpressionsFollow, PlacesFollow, code_stands-parts, ordinal_of_host}
 use Rattle.ep_object.specs.Follows.{point, Facts, Lasts, Fragment, Inside, Bare}
@@ -23,11 +24,11 @@ use Rattle.ep_object.proofs.rows.Rows.{outcome_at}
 use Rattle.ep_typed.specs.Steady.{IsSteadyHandler}
 use Rattle.ep_typed.specs.Calls.{Handler}
 use Rattle.ep_typed.proofs.Steady.{steady_bind, steady_eval, steady_assign}
-use Rattle.ep_typed.specs.Meaning.{exec, assign, weight_of}
+use Rattle.ep_typed.specs.Meaning.{exec, assign, assigns, weight_of}
 use Rattle.ep_typed.specs.Printing.{number_of}
 use Rattle.ep_typed.specs.Steps.{assigned, is_within, type_at, has_ended}
 use Rattle.ep_typed.specs.Steps as meaning
-use Rattle.ep_typed.specs.Trees.{Place, Expr, Empty, Assign, Halt}
+use Rattle.ep_typed.specs.Trees.{Place, Expr, Empty, Halt}
 use Rattle.ep_typed.specs.Valid as kind
 use Rattle.ep_typed.specs.Valid.{Declarations, IsExpr, IsPlace}
 use Rattle.ep_typed.specs.Hosts.{Host}
@@ -57,22 +58,26 @@ module _ {declared : Declarations} {G : Image} {untouched : Slots} {Here : Facts
       (omega arith) (omega arith)))
 
   module _ (scene : Scene declared G ps p texts) (expressions : ExpressionsFollow declared G untouched Here ps p texts references call n unit) (places : PlacesFollow declared G untouched Here ps p texts references call n unit) where
-    -- an assignment to a variable of an ordinal type
-    assign_to : (line at : ℕ) (q : Place) (h : Host) (v : IsTyped declared q h) (low high : ℤ) (x : Expr) (pcode xcode : List Instr) → v.type_value ≡ type.Ordinal low high → IsExpr declared (kind.Ordinal h) x → IsPlaceCode references line q pcode → IsExprCode texts references line (at + length pcode) x xcode → at + length pcode + length xcode < p.instructions.own
-        → CodeStands G ps p references at pcode → CodeStands G ps p references (at + length pcode) xcode → CodeStands G ps p references (at + length pcode + length xcode) (bare line op.STORE ∷ []) → Moves declared G untouched Here ps p texts references call n unit at (at + length pcode + length xcode + 1) (exec call n unit (Assign line q x))
-    assign_to line at q h v low high x pcode xcode of_type valid place_code expr_code inside at_place at_expr at_store injection memory below d enough home =
+    -- an assignment to a variable of an ordinal type, of a value of any host
+    assign_to : (line at : ℕ) (q : Place) (h k : Host) (v : IsTyped declared q h) (low high : ℤ) (x : Expr) (pcode xcode : List Instr) → v.type_value ≡ type.Ordinal low high → IsExpr declared (kind.Ordinal k) x → IsPlaceCode references line q pcode → IsExprCode texts references line (at + length pcode) x xcode → at + length pcode + length xcode < p.instructions.own
+        → CodeStands G ps p references at pcode → CodeStands G ps p references (at + length pcode) xcode → CodeStands G ps p references (at + length pcode + length xcode) (bare line op.STORE ∷ []) → Moves declared G untouched Here ps p texts references call n unit at (at + length pcode + length xcode + 1) (assigns call n unit line q x)
+    assign_to line at q h k v low high x pcode xcode of_type valid place_code expr_code inside at_place at_expr at_store injection memory below d enough home =
         fragment_bind_place {type = v.type_value} {e = λ a. d + 8} (λ a. steady_bind (steady_eval call steady_call n unit line x) (λ r. steady_assign call steady_call n unit line a (number_of r))) (places q v.type_value v.has_type line at pcode place_code at_place injection memory below d (omega arith) home) (λ a spot longer after grown routine place_of described.
-        fragment_bind_number {host = h} {e = λ r. d + 8 + 8 + weight_of r} (λ r. steady_assign call steady_call n unit line a (number_of r)) (expressions (kind.Ordinal h) x valid line (at + length pcode) xcode expr_code at_expr inside longer after (operand.Place spot ∷ below) (d + 8) (omega arith) (unit_in-same G routine ∙ home)) (λ z last final of_host grown2 routine2.
+        fragment_bind_number {host = k} {e = λ r. d + 8 + 8 + weight_of r} (λ r. steady_assign call steady_call n unit line a (number_of r)) (expressions (kind.Ordinal k) x valid line (at + length pcode) xcode expr_code at_expr inside longer after (operand.Place spot ∷ below) (d + 8) (omega arith) (unit_in-same G routine ∙ home)) (λ z last final of_host grown2 routine2.
         fragment_to {to = p.instructions.before + (at + length pcode + length xcode) + 1} (omega arith) (fragment_credit {d = d + 8 + 8 + 0} {e = λ b. d + 8 + 8 + 0} (omega arith) (λ b. omega arith) (
         store_moves low high z a spot line (at + length pcode + length xcode) at_store last final below (d + 8 + 8 + 0) (omega arith) (unit_in-same G routine2 ∙ (unit_in-same G routine ∙ home)) (is_place_of-grown grown2 place_of)
         (describes-grown spot.type_number (type.Ordinal low high) grown2 (subst (λ t. Describes after.types spot.type_number t) of_type described))))))
 
-    pub assign_moves : (line at : ℕ) (q : Place) (h : Host) (x : Expr) (pcode xcode : List Instr) → IsPlace declared h q → IsExpr declared (kind.Ordinal h) x → IsPlaceCode references line q pcode → IsExprCode texts references line (at + length pcode) x xcode → at + length (pcode ++ (xcode ++ bare line op.STORE ∷ [])) < p.instructions.own → CodeStands G ps p references at (pcode ++ (xcode ++ bare line op.STORE ∷ [])) → Moves declared G untouched Here ps p texts references call n unit at (at + length (pcode ++ (xcode ++ bare line op.STORE ∷ []))) (exec call n unit (Assign line q x))
-    assign_moves line at q h x pcode xcode is_place valid place_code expr_code inside stands =
+    -- wherever the code of an assignment stands
+    pub assigned_moves : (line at : ℕ) (q : Place) (h k : Host) (x : Expr) (is : List Instr) → IsPlace declared h q → IsExpr declared (kind.Ordinal k) x → IsAssignCode texts references line at q x is → at + length is < p.instructions.own → CodeStands G ps p references at is
+        → Moves declared G untouched Here ps p texts references call n unit at (at + length is) (assigns call n unit line q x)
+    assigned_moves line at q h k x is is_place valid code inside stands =
+        let pcode : List Instr = code.0 in
+        let xcode : List Instr = code.1 in
         let v = typed_place declared scene.types_valid scene.own_types_valid h q is_place in
         let t = ordinal_of_host h v.type_value v.of_host in
-        let first = code_stands-parts G ps p references at pcode (xcode ++ bare line op.STORE ∷ []) stands in
+        let first = code_stands-parts G ps p references at pcode (xcode ++ bare line op.STORE ∷ []) (subst (λ w. CodeStands G ps p references at w) code.4 stands) in
         let second = code_stands-parts G ps p references (at + length pcode) xcode (bare line op.STORE ∷ []) first.1 in
-        let ends : at + length pcode + length xcode + 1 ≡ at + length (pcode ++ (xcode ++ bare line op.STORE ∷ [])) = omega (arith, length-append pcode (xcode ++ bare line op.STORE ∷ []), length-append xcode (bare line op.STORE ∷ [])) in
-        λ injection memory below d enough home. fragment_to (ap (λ k. p.instructions.before + k) ends)
-        (assign_to line at q h v t.0 t.1 x pcode xcode t.2 valid place_code expr_code (omega (arith, ends, inside)) first.0 second.0 second.1 injection memory below d enough home)
+        let ends : at + length pcode + length xcode + 1 ≡ at + length is = omega (arith, ap length code.4, length-append pcode (xcode ++ bare line op.STORE ∷ []), length-append xcode (bare line op.STORE ∷ [])) in
+        λ injection memory below d enough home. fragment_to (ap (λ w. p.instructions.before + w) ends)
+        (assign_to line at q h k v t.0 t.1 x pcode xcode t.2 valid code.2 code.3 (omega (arith, ends, inside)) first.0 second.0 second.1 injection memory below d enough home)

@@ -5,8 +5,9 @@ use Rattle.ep_object.specs.Matching.{Slots}
 use Rattle.ep_gen_expr.specs.ExprCode.{instr, bare}
 use Rattle.ep_gen_unit.specs.StmtCode.{IsStmtCode, AreStmtsCode, AreArmsCode, IsOtherCode, tests_code}
 use Rattle.ep_gen_unit.proofs.Parts.{Moves, ExpressionsFollow, PlacesFollow, CallsFollow, code_stands-parts}
-use Rattle.ep_gen_unit.proofs.Simple.{empty_moves, halt_moves, assign_moves}
+use Rattle.ep_gen_unit.proofs.Simple.{empty_moves, halt_moves, assigned_moves}
 use Rattle.ep_gen_unit.proofs.Branching.{if_parts, repeat_parts, while_parts}
+use Rattle.ep_gen_unit.proofs.ForMoves.{for_stands, for_parts}
 use Rattle.ep_gen_unit.proofs.ProcedureMoves.{procedure_moves}
 use Rattle.ep_gen_unit.proofs.CaseMoves.{Selects, arm_parts, fail_parts, otherwise_parts, case_parts}
 use Rattle.ep_gen_unit.proofs.StmtStays.{tests_length}
@@ -23,7 +24,7 @@ use Rattle.ep_typed.specs.Steady.{IsSteadyHandler}
 use Rattle.ep_typed.specs.Calls.{Handler}
 use Rattle.ep_typed.proofs.Steady.{steady_exec_all}
 use Rattle.ep_typed.specs.Meaning.{exec, exec_all, exec_arms, exec_other}
-use Rattle.ep_typed.specs.Trees.{Stmt, Stmts, Empty, Compound, Assign, If, While, Repeat, Procedure, Halt, Write, none, next, Case, Arms, no_arm, next_arm, Other, no_other, otherwise_do}
+use Rattle.ep_typed.specs.Trees.{Stmt, Stmts, Empty, Compound, Assign, If, While, Repeat, For, Procedure, Halt, Write, none, next, Case, Arms, no_arm, next_arm, Other, no_other, otherwise_do}
 use Rattle.ep_typed.specs.Valid.{Declarations, IsStmt, AreStmts, AreArms, IsOther}
 use Rattle.ep_typed.specs.Steps.{Computation}
 use Rattle.ep_typed.specs.Hosts.{Host}
@@ -38,8 +39,7 @@ module _ {declared : Declarations} {G : Image} {untouched : Slots} {Here : Facts
     statement_moves Empty at is valid h stands inside = λ injection memory below d enough home. fragment_to {to = p.instructions.before + (at + 0)} (omega (arith, ap length h)) (empty_moves lasts ps p texts references call steady_call n unit at injection memory below d enough home)
     statement_moves (Compound ss) at is valid h stands inside = statements_move ss at is valid h stands inside
     statement_moves (Assign line q x) at is valid h stands inside =
-        subst (λ k. Moves declared G untouched Here ps p texts references call n unit at (at + length k) (exec call n unit (Assign line q x))) (sym h.4)
-        (assign_moves lasts ps p texts references call steady_call n unit scene expressions places line at q valid.0 x h.0 h.1 valid.1 valid.2 h.2 h.3 (omega (arith, ap length h.4, inside)) (subst (λ k. CodeStands G ps p references at k) h.4 stands))
+        assigned_moves lasts ps p texts references call steady_call n unit scene expressions places line at q valid.0 valid.0 x is valid.1 valid.2 h inside stands
     statement_moves (If line x a b) at is valid h stands inside =
         let test_end : ℕ = at + length h.0 in
         let then_end : ℕ = at + length h.0 + 1 + length h.1 in
@@ -64,6 +64,11 @@ module _ {declared : Declarations} {G : Image} {untouched : Slots} {Here : Facts
         let body_moves = statement_moves s (test_end + 1) h.1 valid.1 h.3 second.0 (omega arith) in
         subst (λ k. Moves declared G untouched Here ps p texts references call n unit at k (exec call n unit (While line x s))) ends
         (while_parts ps p texts references call steady_call n unit room expressions line at test_end body_end x s h.0 valid.0 h.2 refl (omega (arith, ends, inside)) first.0 (first.1.0, tt) second.1 (omega arith) (omega arith) body_moves)
+    statement_moves (For line c x y s) at is valid h stands inside =
+        let parts = for_stands G ps p texts references line at c x y h.0 h.1 h.2 h.3 h.4 h.5 h.6 h.7 h.9 h.10 h.11 (subst (λ k. CodeStands G ps p references at k) h.12 stands) (omega (arith, ap length h.12, inside)) in
+        let body_moves = statement_moves s (at + length h.0 + 1 + length h.1) h.2 valid.1 h.8 parts.body_stands (omega (arith, parts.room)) in
+        subst (λ k. Moves declared G untouched Here ps p texts references call n unit at (at + length k) (exec call n unit (For line c x y s))) (sym h.12)
+        (for_parts lasts ps p texts references call steady_call n unit room scene expressions places line at c x y s h.0 h.1 h.2 h.3 h.4 h.5 valid.0.0 valid.0.1 valid.0.2 valid.0.3 parts body_moves)
     statement_moves (Repeat line ss x) at is valid h stands inside =
         let body_end : ℕ = at + length h.0 in
         let test_end : ℕ = at + length h.0 + length h.1 in

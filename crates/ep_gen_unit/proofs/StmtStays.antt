@@ -1,15 +1,18 @@
 -- Code of statements stays code when the tables grow, and is short.
-use Rattle.std.proofs.Common.{◌≡◌, ℕ, ◌+◌, ◌*◌, ◌≤◌, Bool, true, false, List, [], ◌∷◌, ◌++◌, length, refl, ap, arith, length-append}
+use Rattle.std.proofs.Common.{◌≡◌, ℕ, ℤ, pos, ◌+◌, ◌*◌, ◌≤◌, Bool, true, false, List, [], ◌∷◌, ◌++◌, length, refl, ap, arith, length-append}
 use Rattle.ep_outside.specs.Known.{IsPrefix}
 use Rattle.ep_object.specs.declared.code.Instr.{Instr}
 use Rattle.ep_object.specs.declared.code.Reference.{Reference}
-use Rattle.ep_typed.specs.Trees.{Place, Variable, Own, Standard, Function, Item, Plain, Wide, Stmt, Stmts, Empty, Compound, Assign, If, While, Repeat, Procedure, Halt, Write, none, next, Case, Arms, no_arm, next_arm, Other, no_other, otherwise_do}
+use Rattle.ep_typed.specs.Controls.{in_order, next_value}
+use Rattle.ep_typed.specs.Trees.{Place, Variable, Own, Standard, Function, Item, Plain, Wide, Stmt, Stmts, Empty, Compound, Assign, If, While, Repeat, Control, For, Read, Expr, Procedure, Halt, Write, none, next, Case, Arms, no_arm, next_arm, Other, no_other, otherwise_do}
 use Rattle.ep_typed.specs.declared.tree.CaseRange.{CaseRange}
 use Rattle.ep_typed.specs.declared.operations.Print.{Print}
 use Rattle.ep_typed.specs.declared.operations.Print.TheVariants as print
-use Rattle.ep_gen_expr.specs.ExprCode.{bare}
+use Rattle.std.specs.Prelude.{if◌then◌else◌}
+use Rattle.ep_gen_expr.specs.ExprCode.{bare, instr, step_code, two_code, IsPlaceCode, IsExprCode}
+use Rattle.ep_typed.specs.declared.operations.Binary.TheVariants as binary
 use Rattle.ep_gen_expr.proofs.Stays.{place_code_stays, expr_code_stays, place_code_short, expr_code_short}
-use Rattle.ep_gen_unit.specs.StmtCode.{IsItemCode, AreItemsCode, IsStmtCode, AreStmtsCode, AreArmsCode, IsOtherCode, plain_code, before_width, wide_code, test_code, tests_code}
+use Rattle.ep_gen_unit.specs.StmtCode.{for_code, IsAssignCode, AreBoundsCode, IsFirstCode, IsTestCode, IsUndefineCode, IsItemCode, AreItemsCode, IsStmtCode, AreStmtsCode, AreArmsCode, IsOtherCode, plain_code, before_width, wide_code, test_code, tests_code}
 use Rattle.ep_typed.specs.Nodes.{place_nodes, expr_nodes, item_nodes, items_nodes, stmt_nodes, stmts_nodes, arms_nodes, other_nodes}
 use Rattle.ep_object.specs.declared.op.TheConstants as op
 
@@ -23,15 +26,45 @@ module _ (ts us : List (List ℕ)) (rs ss : List Reference) (a : IsPrefix ts us)
   items_code_stays line at [] true is h = h
   items_code_stays line at (i ∷ items) ends_line is h = (h.0, h.1, item_code_stays line at i h.0 h.2, items_code_stays line (at + length h.0) items ends_line h.1 h.3, h.4)
 
+  assign_code_stays : (line at : ℕ) (p : Place) (x : Expr) (is : List Instr) → IsAssignCode ts rs line at p x is → IsAssignCode us ss line at p x is
+  assign_code_stays line at p x is h = (h.0, h.1, place_code_stays rs ss line p h.0 b h.2, expr_code_stays ts us rs ss line a b (at + length h.0) x h.1 h.3, h.4)
+
+  -- the parts of a `for`
+  pub bounds_code_stays : (line at : ℕ) (c : Control) (x y : Expr) (is : List Instr) → AreBoundsCode ts rs line at c x y is → AreBoundsCode us ss line at c x y is
+  bounds_code_stays line at c x y is h =
+      (h.0, h.1, h.2, assign_code_stays line at c.initial x h.0 h.3, assign_code_stays line (at + length h.0) c.last y h.1 h.4, expr_code_stays ts us rs ss line a b (at + length h.0 + length h.1) (in_order c) h.2 h.5, h.6)
+
+  pub first_code_stays : (line at : ℕ) (c : Control) (is : List Instr) → IsFirstCode ts rs line at c is → IsFirstCode us ss line at c is
+  first_code_stays line at c is h =
+      (h.0, h.1, h.2, expr_code_stays ts us rs ss line a b at (Read c.last) h.0 h.3, assign_code_stays line (at + length h.0) c.variable (Read c.last) h.1 h.4, assign_code_stays line (at + length h.0 + length h.1) c.variable (Read c.initial) h.2 h.5, h.6)
+
+  pub test_code_stays : (line at : ℕ) (c : Control) (is : List Instr) → IsTestCode ts rs line at c is → IsTestCode us ss line at c is
+  test_code_stays line at c is h = (h.0, expr_code_stays ts us rs ss line a b (at + 1) (Read c.variable) h.0 h.1, h.2)
+
   mutual
     pub stmt_code_stays : (at : ℕ) (s : Stmt) (is : List Instr) → IsStmtCode ts rs at s is → IsStmtCode us ss at s is
     stmt_code_stays at Empty is h = h
     stmt_code_stays at (Compound statements) is h = stmts_code_stays at statements is h
-    stmt_code_stays at (Assign line p x) is h = (h.0, h.1, place_code_stays rs ss line p h.0 b h.2, expr_code_stays ts us rs ss line a b (at + length h.0) x h.1 h.3, h.4)
+    stmt_code_stays at (Assign line p x) is h = assign_code_stays line at p x is h
     stmt_code_stays at (If line x s t) is h =
         (h.0, h.1, h.2, expr_code_stays ts us rs ss line a b at x h.0 h.3, stmt_code_stays (at + length h.0 + 1) s h.1 h.4, stmt_code_stays (at + length h.0 + 1 + length h.1 + 1) t h.2 h.5, h.6)
     stmt_code_stays at (While line x s) is h = (h.0, h.1, expr_code_stays ts us rs ss line a b at x h.0 h.2, stmt_code_stays (at + length h.0 + 1) s h.1 h.3, h.4)
     stmt_code_stays at (Repeat line statements x) is h = (h.0, h.1, stmts_code_stays at statements h.0 h.2, expr_code_stays ts us rs ss line a b (at + length h.0) x h.1 h.3, h.4)
+    stmt_code_stays at (For line c x y s) is h = (
+      h.0,
+      h.1,
+      h.2,
+      h.3,
+      h.4,
+      h.5,
+      bounds_code_stays line at c x y h.0 h.6,
+      first_code_stays line (at + length h.0 + 1) c h.1 h.7,
+      stmt_code_stays (at + length h.0 + 1 + length h.1) s h.2 h.8,
+      test_code_stays line (at + length h.0 + 1 + length h.1 + length h.2) c h.3 h.9,
+      assign_code_stays line (at + length h.0 + 1 + length h.1 + length h.2 + length h.3 + 1) c.variable (next_value c) h.4 h.10,
+      (h.11.0, place_code_stays rs ss line c.variable h.11.0 b h.11.1, h.11.2),
+      h.12,
+    )
     stmt_code_stays at (Procedure line unit number given) is h = expr_code_stays ts us rs ss line a b at (Function unit number given) is h
     stmt_code_stays at (Case line x arms o) is h =
         (h.0, h.1, h.2, expr_code_stays ts us rs ss line a b at x h.0 h.3, arms_code_stays line (at + length h.0 + 1) (at + length h.0 + 2) arms h.1 h.4, other_code_stays line (at + length h.0 + 2 + length h.1) o h.2 h.5, h.6)
@@ -75,6 +108,26 @@ repeat_short ys xs i is e k m p q = omega (arith, ap length e, length-append ys 
 case_short : (xs ys zs : List Instr) (i j : Instr) (is : List Instr) → is ≡ xs ++ i ∷ j ∷ (ys ++ zs) → (k m n : ℕ) → length xs + 8 ≤ 32 * k → length ys ≤ 32 * m → length zs ≤ 32 * n + 1 → length is + 8 ≤ 32 * (1 + k + m + n)
 case_short xs ys zs i j is e k m n p q r = omega (arith, ap length e, length-append xs (i ∷ j ∷ (ys ++ zs)), length-append ys zs, p, q, r)
 
+-- how many instructions a `for` has, by its parts
+pub for_length : (line at : ℕ) (bounds first body test step ends : List Instr) → length (for_code line at bounds first body test step ends) ≡ length bounds + 1 + length first + length body + length test + 1 + length step + 2 + length ends
+for_length line at bounds first body test step ends =
+    let body_at = at + length bounds + 1 + length first in
+    let done = body_at + length body + length test + 1 + length step + 1 in
+    let tail : List Instr = instr op.JUMP (pos body_at) 0 line ∷ bare line op.DROP ∷ ends in
+    let turn : List Instr = test ++ instr op.JUMP_FALSE (pos done) 0 line ∷ (step ++ tail) in
+    omega (
+      arith,
+      length-append bounds (instr op.JUMP_FALSE (pos (done + 1)) 0 line ∷ (first ++ (body ++ turn))),
+      length-append first (body ++ turn),
+      length-append body turn,
+      length-append test (instr op.JUMP_FALSE (pos done) 0 line ∷ (step ++ tail)),
+      length-append step tail,
+    )
+
+step_length : (line : ℕ) (down : Bool) (low high : ℤ) → length (step_code line down low high) ≤ 4
+step_length line false low high = omega arith
+step_length line true low high = omega arith
+
 -- how many instructions the tests of ranges are
 pub tests_length : (line body at : ℕ) (rs : List CaseRange) → length (tests_code line body at rs) ≡ 6 * length rs
 tests_length line body at [] = refl
@@ -109,6 +162,69 @@ module _ (ts : List (List ℕ)) (rs : List Reference) where
   items_code_short line at [] true is h = omega (arith, ap length h)
   items_code_short line at (i ∷ items) ends_line is h = omega (arith, ap length h.4, length-append h.0 h.1, item_code_short line at i h.0 h.2, items_code_short line (at + length h.0) items ends_line h.1 h.3)
 
+  -- ---- a `for`
+
+  place_length : (line : ℕ) (p : Place) (is : List Instr) → IsPlaceCode rs line p is → length is ≡ 1
+  place_length line (Variable unit number) is h = ap length h.2
+  place_length line (Own number) is h = ap length h
+  place_length line (Standard file) is h = ap length h
+
+  read_short : (line at : ℕ) (p : Place) (is : List Instr) → IsExprCode ts rs line at (Read p) is → length is ≤ 2
+  read_short line at p is h = omega (arith, ap length h.2, length-append h.0 (bare line op.LOAD ∷ []), place_length line p h.0 h.1)
+
+  assign_short : (line at : ℕ) (p : Place) (x : Expr) (is : List Instr) → IsAssignCode ts rs line at p x is → length is + 6 ≤ 32 * expr_nodes x
+  assign_short line at p x is h =
+      omega (arith, ap length h.4, length-append h.0 (h.1 ++ bare line op.STORE ∷ []), length-append h.1 (bare line op.STORE ∷ []), place_length line p h.0 h.2, expr_code_short ts rs line (at + length h.0) x h.1 h.3)
+
+  assign_read_short : (line at : ℕ) (p q : Place) (is : List Instr) → IsAssignCode ts rs line at p (Read q) is → length is ≤ 4
+  assign_read_short line at p q is h =
+      omega (arith, ap length h.4, length-append h.0 (h.1 ++ bare line op.STORE ∷ []), length-append h.1 (bare line op.STORE ∷ []), place_length line p h.0 h.2, read_short line (at + length h.0) q h.1 h.3)
+
+  next_short : (line at : ℕ) (c : Control) (is : List Instr) → IsAssignCode ts rs line at c.variable (next_value c) is → length is ≤ 9
+  next_short line at c is h =
+      let xs : List Instr = h.1 in
+      let e = h.3 in
+      omega (
+        arith,
+        ap length h.4,
+        length-append h.0 (xs ++ bare line op.STORE ∷ []),
+        length-append xs (bare line op.STORE ∷ []),
+        place_length line c.variable h.0 h.2,
+        ap length e.4,
+        length-append e.0 (e.1 ++ step_code line c.falls c.low c.high),
+        length-append e.1 (step_code line c.falls c.low c.high),
+        read_short line (at + length h.0) c.variable e.0 e.2,
+        ap length e.3,
+        step_length line c.falls c.low c.high,
+      )
+
+  bounds_short : (line at : ℕ) (c : Control) (x y : Expr) (is : List Instr) → AreBoundsCode ts rs line at c x y is → length is + 7 ≤ 32 * (expr_nodes x + expr_nodes y)
+  bounds_short line at c x y is h =
+      let e = h.5 in
+      omega (
+        arith,
+        ap length h.6,
+        length-append h.0 (h.1 ++ h.2),
+        length-append h.1 h.2,
+        assign_short line at c.initial x h.0 h.3,
+        assign_short line (at + length h.0) c.last y h.1 h.4,
+        ap length e.4,
+        length-append e.0 (e.1 ++ two_code line (if c.falls then binary.AtLeast else binary.AtMost) ∷ []),
+        length-append e.1 (two_code line (if c.falls then binary.AtLeast else binary.AtMost) ∷ []),
+        read_short line (at + length h.0 + length h.1) c.initial e.0 e.2,
+        read_short line (at + length h.0 + length h.1 + length e.0) c.last e.1 e.3,
+      )
+
+  first_short : (line at : ℕ) (c : Control) (is : List Instr) → IsFirstCode ts rs line at c is → length is ≤ 10
+  first_short line at c is h =
+      omega (arith, ap length h.6, length-append h.0 (h.1 ++ h.2), length-append h.1 h.2, read_short line at c.last h.0 h.3, assign_read_short line (at + length h.0) c.variable c.last h.1 h.4, assign_read_short line (at + length h.0 + length h.1) c.variable c.initial h.2 h.5)
+
+  test_short : (line at : ℕ) (c : Control) (is : List Instr) → IsTestCode ts rs line at c is → length is ≤ 4
+  test_short line at c is h = omega (arith, ap length h.2, length-append h.0 (two_code line binary.Unequal ∷ []), read_short line (at + 1) c.variable h.0 h.1)
+
+  undefine_short : (line : ℕ) (p : Place) (is : List Instr) → IsUndefineCode ts rs line p is → length is ≤ 2
+  undefine_short line p is h = omega (arith, ap length h.2, length-append h.0 (bare line op.UNDEFINE ∷ []), place_length line p h.0 h.1)
+
   -- The code of a statement, with some room for what the form around it adds.
   mutual
     stmt_code_room : (at : ℕ) (s : Stmt) (is : List Instr) → IsStmtCode ts rs at s is → length is + 8 ≤ 32 * stmt_nodes s
@@ -123,6 +239,19 @@ module _ (ts : List (List ℕ)) (rs : List Reference) where
         while_short h.0 h.1 _ _ is h.4 (expr_nodes x) (stmt_nodes s) (expr_code_short ts rs line at x h.0 h.2) (stmt_code_room (at + length h.0 + 1) s h.1 h.3)
     stmt_code_room at (Repeat line statements x) is h =
         repeat_short h.0 h.1 _ is h.4 (stmts_nodes statements) (expr_nodes x) (stmts_code_short at statements h.0 h.2) (expr_code_short ts rs line (at + length h.0) x h.1 h.3)
+    stmt_code_room at (For line c x y s) is h =
+        omega (
+          arith,
+          ap length h.12,
+          for_length line at h.0 h.1 h.2 h.3 h.4 h.5,
+          bounds_short line at c x y h.0 h.6,
+          first_short line (at + length h.0 + 1) c h.1 h.7,
+          stmt_code_room (at + length h.0 + 1 + length h.1) s h.2 h.8,
+          test_short line (at + length h.0 + 1 + length h.1 + length h.2) c h.3 h.9,
+          next_short line (at + length h.0 + 1 + length h.1 + length h.2 + length h.3 + 1) c h.4 h.10,
+          undefine_short line c.variable h.5 h.11,
+          place_one c.variable,
+        )
     stmt_code_room at (Procedure line unit number given) is h = expr_code_short ts rs line at (Function unit number given) is h
     stmt_code_room at (Case line x arms o) is h =
         case_short h.0 h.1 h.2 _ _ is h.6 (expr_nodes x) (arms_nodes arms) (other_nodes o)

@@ -17,6 +17,7 @@ use Rattle.ep_object.proofs.rows.MakeRow.{RunsInUnit}
 use Rattle.ep_object.proofs.matching.Growing.{among_same, inside_here, no_calls, since_here, since_lasts}
 use Rattle.ep_object.specs.Effects.{Returns, light}
 use Rattle.ep_object.specs.Table.{obey}
+use Rattle.ep_typed.specs.Routines.{unit_variables}
 use Rattle.ep_typed.specs.Events.{Trace}
 use Rattle.ep_object.specs.Activations.{KnowsOwn}
 use Rattle.ep_object.specs.Follows.{Facts, Lasts, Since, Bare}
@@ -73,7 +74,7 @@ none_declared (y ∷ xs) e k x is = absurd cc
 module _ (u : TypedUnit) (o : Object) (is : IsProgramCode u o) (G : Image) (ps : List Placement) (p : Placement) (stands : Stands G ps p o) where
   -- the instructions behind the making of the variables
   abbrev begins_block : ℕ
-  begins_block = length (make_all_code u.types 0 u.variables)
+  begins_block = length (make_all_code u.types 0 (unit_variables u))
 
   -- the place of the `Return` of the start, in the object
   abbrev ends_block : ℕ
@@ -85,18 +86,18 @@ module _ (u : TypedUnit) (o : Object) (is : IsProgramCode u o) (G : Image) (ps :
   pub instructions_own : p.instructions.own ≡ ends_block + 2 + length is.others
   instructions_own =
       let whole = of_object in
-      omega (arith, whole.instructions, ap length is.instructions, length-append (make_all_code u.types 0 u.variables) (is.code ++ return_code ∷ return_code ∷ is.others), length-append is.code (return_code ∷ return_code ∷ is.others))
+      omega (arith, whole.instructions, ap length is.instructions, length-append (make_all_code u.types 0 (unit_variables u)) (is.code ++ return_code ∷ return_code ∷ is.others), length-append is.code (return_code ∷ return_code ∷ is.others))
 
-  all_stands : CodeStands G ps p o.references 0 (make_all_code u.types 0 u.variables ++ (is.code ++ return_code ∷ return_code ∷ is.others))
+  all_stands : CodeStands G ps p o.references 0 (make_all_code u.types 0 (unit_variables u) ++ (is.code ++ return_code ∷ return_code ∷ is.others))
   all_stands = subst (λ k. CodeStands G ps p o.references 0 k) is.instructions stands.code
 
-  makes_stand : CodeStands G ps p o.references 0 (make_all_code u.types 0 u.variables)
-  makes_stand = let parts = code_stands-parts G ps p o.references 0 (make_all_code u.types 0 u.variables) (is.code ++ return_code ∷ return_code ∷ is.others) all_stands in parts.0
+  makes_stand : CodeStands G ps p o.references 0 (make_all_code u.types 0 (unit_variables u))
+  makes_stand = let parts = code_stands-parts G ps p o.references 0 (make_all_code u.types 0 (unit_variables u)) (is.code ++ return_code ∷ return_code ∷ is.others) all_stands in parts.0
 
   -- the two `Return`s stand behind the block
   returns_stand : CodeStands G ps p o.references ends_block (return_code ∷ return_code ∷ is.others)
   returns_stand =
-      let parts = code_stands-parts G ps p o.references 0 (make_all_code u.types 0 u.variables) (is.code ++ return_code ∷ return_code ∷ is.others) all_stands in
+      let parts = code_stands-parts G ps p o.references 0 (make_all_code u.types 0 (unit_variables u)) (is.code ++ return_code ∷ return_code ∷ is.others) all_stands in
       let block = code_stands-parts G ps p o.references (0 + begins_block) is.code (return_code ∷ return_code ∷ is.others) parts.1 in
       subst (λ k. CodeStands G ps p o.references k (return_code ∷ return_code ∷ is.others)) {x = 0 + begins_block + length is.code} {y = ends_block} (omega arith) block.1
 
@@ -167,7 +168,7 @@ module _ (u : TypedUnit) (o : Object) (is : IsProgramCode u o) (G : Image) (ps :
             }));
       }
 
-  module _ (declared : Declarations) (types : declared.types u.name ≡ u.types) (are_declared : AreDeclared declared u.name 0 u.variables) (valid : IsStmt declared (stmt_of u.start)) (distinct : HasDistinctNames G) (scene : Scene declared G ps p o.texts) (call : Handler) (steady_call : IsSteadyHandler call) (n : ℕ) (kept : CallsAreKept declared G ps call n) (no_routine : declared.routine_variables ≡ []) where
+  module _ (declared : Declarations) (types : declared.types u.name ≡ u.types) (are_declared : AreDeclared declared u.name 0 (unit_variables u)) (valid : IsStmt declared (stmt_of u.start)) (distinct : HasDistinctNames G) (scene : Scene declared G ps p o.texts) (call : Handler) (steady_call : IsSteadyHandler call) (n : ℕ) (kept : CallsAreKept declared G ps call n) (no_routine : declared.routine_variables ≡ []) where
     -- the slots of the variables are not hidden
     free : VariablesAreFree declared G (kept_slots declared G) (placed_object_unit p o)
     free unit there k v is_declared hidden = not_hidden (subst IsTrue (ap (λ x. is_hidden_in declared x k) there ∙ ap is_undeclared is_declared) hidden)
@@ -180,7 +181,7 @@ module _ (u : TypedUnit) (o : Object) (is : IsProgramCode u o) (G : Image) (ps :
         → MakesFollow declared G (kept_slots declared G) Here p call n u
     makes {Here = Here} lasts injection memory below d enough home framed =
         let there : RunsInUnit G memory.frames (placed_object_unit p o) = record { calls = framed.calls; unit = ap (slice_get G.units) framed.unit ∙ stands.unit } in
-        fragment_to {to = p.instructions.before + (0 + begins_block)} (omega arith) (make_all_moves declared G (kept_slots declared G) Here lasts ps p o.references call steady_call n (placed_object_unit p o) free distinct scene.types_valid u.name is.name u.types types n 0 0 u.variables are_declared (omega (arith, is.unit_slots)) makes_stand injection memory below d enough there)
+        fragment_to {to = p.instructions.before + (0 + begins_block)} (omega arith) (make_all_moves declared G (kept_slots declared G) Here lasts ps p o.references call steady_call n (placed_object_unit p o) free distinct scene.types_valid u.name is.name u.types types n 0 0 (unit_variables u) are_declared (omega (arith, is.unit_slots)) makes_stand injection memory below d enough there)
 
     -- the start makes the variables and runs the block
     pub start_simulates : Simulates declared G p.unit (moved p.routines o.start) n (start_of call n u) Bare
@@ -189,7 +190,7 @@ module _ (u : TypedUnit) (o : Object) (is : IsProgramCode u o) (G : Image) (ps :
           image_routine = placed_routine p (plain_at 0);
           there = routine_there o.start (plain_at 0) start_is;
           of_unit = refl;
-          body = bind (make_all call n u.name u.types 0 u.variables) (λ a. exec call n u.name (stmt_of u.start));
+          body = bind (make_all call n u.name u.types 0 (unit_variables u)) (λ a. exec call n u.name (stmt_of u.start));
           called = refl;
           follows = λ m le injection memory below s k enters.
               let whole = of_object in
@@ -210,7 +211,7 @@ module _ (u : TypedUnit) (o : Object) (is : IsProgramCode u o) (G : Image) (ps :
       let w = own_is u unit k v h in
       let whole = of_object in
       let named : o.name ≡ unit = is.name ∙ w.0 in
-      let among : k < length u.variables = slice_get_within u.variables k v w.1 in
+      let among : k < length (unit_variables u) = slice_get_within (unit_variables u) k v w.1 in
       record {
         number = p.unit;
         image_unit = placed_object_unit p o;

@@ -1,12 +1,14 @@
 -- Which instructions are the code of a statement, under given tables of texts and references. Jumps name places of
 -- the object, so the code of a statement depends on where it begins.
 use Rattle.std.specs.Prelude.{◌≡◌, ℕ, pos, suc, ◌+◌, Bool, true, false, List, [], ◌∷◌, ◌++◌, length, Option, Some, None, ◌*◌}
+use Rattle.ep_typed.specs.declared.operations.Binary.TheVariants as binary
 use Rattle.ep_typed.specs.Denoters.{type_of}
-use Rattle.ep_gen_expr.specs.ExprCode.{instr, bare, push, standard_code, IsPlaceCode, IsExprCode}
+use Rattle.ep_typed.specs.Controls.{in_order, next_value}
+use Rattle.ep_gen_expr.specs.ExprCode.{instr, bare, two_code, push, standard_code, IsPlaceCode, IsExprCode}
 use Rattle.ep_gen_expr.specs.declared.code.TheConstants as code
 use Rattle.ep_object.specs.declared.code.Instr.{Instr}
 use Rattle.ep_object.specs.declared.code.Reference.{Reference}
-use Rattle.ep_typed.specs.Trees.{Function, Item, Plain, Wide, Stmt, Stmts, Empty, Compound, Assign, If, While, Repeat, Procedure, Halt, Write, none, next, Case, Arms, no_arm, next_arm, Other, no_other, otherwise_do}
+use Rattle.ep_typed.specs.Trees.{Place, Expr, Read, Function, Item, Plain, Wide, Stmt, Stmts, Empty, Compound, Assign, If, While, Repeat, Control, For, Procedure, Halt, Write, none, next, Case, Arms, no_arm, next_arm, Other, no_other, otherwise_do}
 use Rattle.ep_typed.specs.Viewed.{denoter_of}
 use Rattle.ep_typed.specs.declared.operations.Print.{Print}
 use Rattle.ep_typed.specs.declared.operations.Print.TheVariants as print
@@ -64,6 +66,13 @@ module _ (line : ℕ) where
   tests_code body at [] = []
   tests_code body at (r ∷ rs) = test_code body at r ++ tests_code body (at + 6) rs
 
+-- The code of a `for` that begins at this place, by its parts: what is before the turns, the first value, the body, the test behind it, the next value, and the end.
+abbrev pub for_code : ℕ → ℕ → List Instr → List Instr → List Instr → List Instr → List Instr → List Instr → List Instr
+for_code line at bounds first body test step ends =
+    let body_at = at + length bounds + 1 + length first in
+    let done = body_at + length body + length test + 1 + length step + 1 in
+    bounds ++ instr op.JUMP_FALSE (pos (done + 1)) 0 line ∷ (first ++ (body ++ (test ++ instr op.JUMP_FALSE (pos done) 0 line ∷ (step ++ instr op.JUMP (pos body_at) 0 line ∷ bare line op.DROP ∷ ends))))
+
 module _ (texts : List (List ℕ)) (references : List Reference) where
   -- the code that writes an item, which has this line and begins at this place
   abbrev pub IsItemCode : ℕ → ℕ → Item → List Instr → Type 0
@@ -78,12 +87,34 @@ module _ (texts : List (List ℕ)) (references : List Reference) where
   AreItemsCode line at [] true is = is ≡ line_end_code line
   AreItemsCode line at (i ∷ items) ends_line is = (xs ys : List Instr) × IsItemCode line at i xs × AreItemsCode line (at + length xs) items ends_line ys × (is ≡ xs ++ ys)
 
+  -- the code of an assignment
+  abbrev pub IsAssignCode : ℕ → ℕ → Place → Expr → List Instr → Type 0
+  IsAssignCode line at p x is = (ps xs : List Instr) × IsPlaceCode references line p ps × IsExprCode texts references line (at + length ps) x xs × (is ≡ ps ++ (xs ++ bare line op.STORE ∷ []))
+
+  -- The code of a `for` before its turns: the auxiliary variables get the bounds, and whether there is a turn is on top.
+  abbrev pub AreBoundsCode : ℕ → ℕ → Control → Expr → Expr → List Instr → Type 0
+  AreBoundsCode line at c x y is =
+      (xs ys ts : List Instr) × IsAssignCode line at c.initial x xs × IsAssignCode line (at + length xs) c.last y ys × IsExprCode texts references line (at + length xs + length ys) (in_order c) ts × (is ≡ xs ++ (ys ++ ts))
+
+  -- The final value, which stays on the operands while there are turns; and the control variable gets the final value, by which both bounds are tried, and then the initial one.
+  abbrev pub IsFirstCode : ℕ → ℕ → Control → List Instr → Type 0
+  IsFirstCode line at c is =
+      (bs ls fs : List Instr) × IsExprCode texts references line at (Read c.last) bs × IsAssignCode line (at + length bs) c.variable (Read c.last) ls × IsAssignCode line (at + length bs + length ls) c.variable (Read c.initial) fs × (is ≡ bs ++ (ls ++ fs))
+
+  -- over the final value: whether the control variable has another one
+  abbrev pub IsTestCode : ℕ → ℕ → Control → List Instr → Type 0
+  IsTestCode line at c is = (rs : List Instr) × IsExprCode texts references line (at + 1) (Read c.variable) rs × (is ≡ bare line op.DUP ∷ (rs ++ two_code line binary.Unequal ∷ []))
+
+  -- the variable at the place becomes undefined
+  abbrev pub IsUndefineCode : ℕ → Place → List Instr → Type 0
+  IsUndefineCode line p is = (ps : List Instr) × IsPlaceCode references line p ps × (is ≡ ps ++ bare line op.UNDEFINE ∷ [])
+
   abbrev mutual
     -- the code of a statement that begins at this place
     pub IsStmtCode : ℕ → Stmt → List Instr → Type 0
     IsStmtCode at Empty is = is ≡ []
     IsStmtCode at (Compound ss) is = AreStmtsCode at ss is
-    IsStmtCode at (Assign line p x) is = (ps xs : List Instr) × IsPlaceCode references line p ps × IsExprCode texts references line (at + length ps) x xs × (is ≡ ps ++ (xs ++ bare line op.STORE ∷ []))
+    IsStmtCode at (Assign line p x) is = IsAssignCode line at p x is
     IsStmtCode at (If line x a b) is =
         (xs ys zs : List Instr) × IsExprCode texts references line at x xs × IsStmtCode (at + length xs + 1) a ys × IsStmtCode (at + length xs + 1 + length ys + 1) b zs
         × (is ≡ xs ++ instr op.JUMP_FALSE (pos (at + length xs + 1 + length ys + 1)) 0 line ∷ (ys ++ instr op.JUMP (pos (at + length xs + 1 + length ys + 1 + length zs)) 0 line ∷ zs))
@@ -92,6 +123,11 @@ module _ (texts : List (List ℕ)) (references : List Reference) where
         × (is ≡ xs ++ instr op.JUMP_FALSE (pos (at + length xs + 1 + length ys + 1)) 0 line ∷ (ys ++ instr op.JUMP (pos at) 0 line ∷ []))
     IsStmtCode at (Repeat line ss x) is =
         (ys xs : List Instr) × AreStmtsCode at ss ys × IsExprCode texts references line (at + length ys) x xs × (is ≡ ys ++ (xs ++ instr op.JUMP_FALSE (pos at) 0 line ∷ []))
+    IsStmtCode at (For line c x y s) is =
+        (bounds first body test step ends : List Instr) × AreBoundsCode line at c x y bounds × IsFirstCode line (at + length bounds + 1) c first
+        × IsStmtCode (at + length bounds + 1 + length first) s body × IsTestCode line (at + length bounds + 1 + length first + length body) c test
+        × IsAssignCode line (at + length bounds + 1 + length first + length body + length test + 1) c.variable (next_value c) step × IsUndefineCode line c.variable ends
+        × (is ≡ for_code line at bounds first body test step ends)
     -- that of a function designator: the jump behind the call has the tick for the step that the statement spends when the call is done
     IsStmtCode at (Procedure line unit number given) is = IsExprCode texts references line at (Function unit number given) is
     IsStmtCode at (Case line x arms o) is =

@@ -4,20 +4,23 @@ use Rattle.ep_gen_expr.specs.ExprCode.{IsExprCode, instr}
 use Rattle.ep_gen_expr.specs.Growth.{TableGrows, Grows, IsTable, AreDistinct}
 use Rattle.ep_gen_expr.specs.Jumps.{landed}
 use Rattle.ep_gen_expr.specs.declared.code.Code.{Code}
-use Rattle.ep_gen_unit.specs.StmtCode.{IsItemCode, AreItemsCode, IsStmtCode, AreStmtsCode, make_all_code, return_code, end_code, AreArmsCode, IsOtherCode, tests_code}
+use Rattle.ep_gen_unit.specs.StmtCode.{IsItemCode, AreItemsCode, IsStmtCode, AreStmtsCode, AreBoundsCode, IsFirstCode, IsTestCode, IsUndefineCode, make_all_code, return_code, end_code, AreArmsCode, IsOtherCode, tests_code}
 use Rattle.ep_gen_unit.specs.UnitCode.{AreRoutinesCode, own_code, entry_of, its_end}
 use Rattle.ep_object.specs.declared.code.CodeRoutine.{CodeRoutine}
 use Rattle.ep_object.specs.declared.code.Instr.{Instr}
 use Rattle.ep_object.specs.declared.code.Object.{Object}
 use Rattle.ep_object.specs.declared.op.TheConstants as op
+use Rattle.ep_typed.specs.Auxiliaries.{auxiliary_variables, first_for}
 use Rattle.ep_typed.specs.Nodes.{stmt_nodes}
-use Rattle.ep_typed.specs.Routines.{made_variables, result_variable}
+use Rattle.ep_typed.specs.Routines.{made_variables, result_variable, unit_variables}
 use Rattle.ep_typed.specs.Viewed.{stmt_of}
 use Rattle.ep_typed.specs.declared.unit.Unit.{Unit as TypedUnit}
 use Rattle.ep_typed.specs.declared.unit.UnitRoutine.{UnitRoutine}
 use Rattle.ep_typed.specs.declared.unit.UnitRoutine.TheViews.{out-UnitRoutine}
 use Rattle.ep_typed.specs.declared.unit.UnitType.{UnitType}
-use Rattle.ep_typed.specs.Trees.{Item, Stmt, Stmts, Expr, Arms, Other}
+use Rattle.ep_typed.specs.declared.unit.UnitVariable.{UnitVariable}
+use Rattle.ep_object.specs.declared.code.Reference.{Reference}
+use Rattle.ep_typed.specs.Trees.{Control, Place, Item, Stmt, Stmts, Expr, Arms, Other}
 use Rattle.ep_typed.specs.declared.tree.CaseRange.{CaseRange}
 
 -- these instructions are appended, the line is any, and all else is as before but for new items of the two tables
@@ -45,6 +48,25 @@ pub record AppendsStmt (old new : Code) (s : Stmt) : Type 0 where
   pub is_code : IsStmtCode new.texts new.references (length old.instructions) s code
   pub follows : Follows old new code
   pub short : length code ≤ 32 * stmt_nodes s
+
+-- a part of the code of a statement is appended, which is such code under the tables and from the place where it begins
+pub record AppendsPart (Is : List (List ℕ) → List Reference → ℕ → List Instr → Type 0) (old new : Code) : Type 0 where
+  pub code : List Instr
+  pub is_code : Is new.texts new.references (length old.instructions) code
+  pub follows : Follows old new code
+
+-- the parts of a `for` on this line
+abbrev pub AppendsBounds : ℕ → Code → Code → Control → Expr → Expr → Type 0
+AppendsBounds line old new c x y = AppendsPart (λ texts references at is. AreBoundsCode texts references line at c x y is) old new
+
+abbrev pub AppendsFirst : ℕ → Code → Code → Control → Type 0
+AppendsFirst line old new c = AppendsPart (λ texts references at is. IsFirstCode texts references line at c is) old new
+
+abbrev pub AppendsTest : ℕ → Code → Code → Control → Type 0
+AppendsTest line old new c = AppendsPart (λ texts references at is. IsTestCode texts references line at c is) old new
+
+abbrev pub AppendsUndefine : ℕ → Code → Code → Place → Type 0
+AppendsUndefine line old new p = AppendsPart (λ texts references at is. IsUndefineCode texts references line p is) old new
 
 -- the code of the statements is appended
 pub record AppendsStmts (old new : Code) (ss : Stmts) : Type 0 where
@@ -90,9 +112,9 @@ AppendsTests old new ranges = Grows old new (tests_code old.line (length old.ins
 pub record AppendsStart (old new : Code) (u : TypedUnit) (stop_entry : ℕ) : Type 0 where
   -- the code of the block
   pub code : List Instr
-  pub is_code : IsStmtCode new.texts new.references (length old.instructions + length (make_all_code u.types 0 u.variables)) (stmt_of u.start) code
-  pub follows : Follows old new (make_all_code u.types 0 u.variables ++ (code ++ return_code ∷ return_code ∷ []))
-  pub stops : stop_entry ≡ length old.instructions + length (make_all_code u.types 0 u.variables) + length code + 1
+  pub is_code : IsStmtCode new.texts new.references (length old.instructions + length (make_all_code u.types 0 (unit_variables u))) (stmt_of u.start) code
+  pub follows : Follows old new (make_all_code u.types 0 (unit_variables u) ++ (code ++ return_code ∷ return_code ∷ []))
+  pub stops : stop_entry ≡ length old.instructions + length (make_all_code u.types 0 (unit_variables u)) + length code + 1
   pub small : IsTable new.instructions
 
 -- the code of a routine of a unit with these types is appended: what makes its variables, its block, and its end
@@ -139,6 +161,12 @@ assembled name code routines start slots = record {
 pub record MakesOwn (old new : Code) (types : List UnitType) (r : UnitRoutine) (slots : ℕ) : Type 0 where
   pub follows : Follows old new (let parts = out-UnitRoutine r in make_all_code types (length parts.formals) (made_variables r))
   pub count : slots ≡ (let parts = out-UnitRoutine r in length parts.formals + length (made_variables r))
+
+-- The code that makes these variables of a unit with these types, and the auxiliary ones of its block, is appended, from
+-- this number on, and the first number behind them is that.
+pub record MakesBlock (old new : Code) (types : List UnitType) (first : ℕ) (vs : List UnitVariable) (block : Stmt) (behind : ℕ) : Type 0 where
+  pub follows : Follows old new (make_all_code types first (vs ++ auxiliary_variables (first_for block)))
+  pub count : behind ≡ first + length (vs ++ auxiliary_variables (first_for block))
 
 -- The code that makes the variable of a routine's result is appended, where it has one, and the first variable behind it
 -- has this number.

@@ -6,7 +6,7 @@ use Rattle.ep_object.specs.declared.code.CodeRoutine.{CodeRoutine}
 use Rattle.ep_object.specs.declared.code.Instr.{Instr}
 use Rattle.ep_object.specs.declared.code.Object.{Object}
 use Rattle.ep_object.specs.declared.code.Reference.{Reference}
-use Rattle.ep_typed.specs.Routines.{made_variables}
+use Rattle.ep_typed.specs.Routines.{made_variables, unit_variables}
 use Rattle.ep_typed.specs.Viewed.{stmt_of}
 use Rattle.ep_typed.specs.declared.unit.Unit.{Unit as TypedUnit}
 use Rattle.ep_typed.specs.declared.unit.UnitRoutine.{UnitRoutine}
@@ -63,16 +63,16 @@ pub record AreRoutinesCode (texts : List (List ℕ)) (references : List Referenc
 pub record IsProgramCode (u : TypedUnit) (o : Object) : Type 0 where
   -- the code of the block
   pub code : List Instr
-  pub is_code : IsStmtCode o.texts o.references (length (make_all_code u.types 0 u.variables)) (stmt_of u.start) code
+  pub is_code : IsStmtCode o.texts o.references (length (make_all_code u.types 0 (unit_variables u))) (stmt_of u.start) code
   -- the code of the routines
   pub others : List Instr
-  pub instructions : o.instructions ≡ make_all_code u.types 0 u.variables ++ (code ++ return_code ∷ return_code ∷ others)
+  pub instructions : o.instructions ≡ make_all_code u.types 0 (unit_variables u) ++ (code ++ return_code ∷ return_code ∷ others)
   pub entries : List CodeRoutine
   pub blocks : AreRoutinesCode o.texts o.references o.instructions u.types u.routines entries
-  pub routines : o.routines ≡ entries ++ plain_at 0 ∷ plain_at (length (make_all_code u.types 0 u.variables) + length code + 1) ∷ []
+  pub routines : o.routines ≡ entries ++ plain_at 0 ∷ plain_at (length (make_all_code u.types 0 (unit_variables u)) + length code + 1) ∷ []
   pub start : o.start ≡ length u.routines
   pub stop : o.stop ≡ length u.routines + 1
-  pub unit_slots : o.unit_slots ≡ length u.variables
+  pub unit_slots : o.unit_slots ≡ length (unit_variables u)
   pub name : o.name ≡ u.name
   pub is_program : o.«module» ≡ false
   pub interface : o.interface ≡ []

@@ -13,6 +13,7 @@ use Rattle.ep_typed.specs.Calls.{Handler}
 use Rattle.ep_typed.specs.Meaning.{start_of, routine_of}
 use Rattle.ep_typed.specs.Steps.{Computation, give, spend}
 use Rattle.ep_typed.specs.Valid.{Declarations, IsStmt, IsValid, own}
+use Rattle.ep_typed.specs.Routines.{unit_variables}
 use Rattle.ep_typed.specs.Viewed.{stmt_of}
 use Rattle.ep_typed.specs.declared.unit.UnitVariable.{UnitVariable}
 use Rattle.ep_typed.specs.declared.unit.Unit.{Unit as TypedUnit}
@@ -39,7 +40,7 @@ StartsAreSimulated =
 abbrev pub StartsAreSimulatedUnder : Type 0
 StartsAreSimulatedUnder =
     (declared : Declarations) (u : TypedUnit) (o : Object) → IsProgramCode u o → declared.types u.name ≡ u.types → declared.routine_variables ≡ []
-    → AreDeclared declared u.name 0 u.variables → IsStmt declared (stmt_of u.start)
+    → AreDeclared declared u.name 0 (unit_variables u) → IsStmt declared (stmt_of u.start)
     → (G : Image) (ps : List Placement) (p : Placement) → Stands G ps p o → HasDistinctNames G
     → Scene declared G ps p o.texts
     → (call : Handler) → IsSteadyHandler call → (n : ℕ) → CallsAreKept declared G ps call n

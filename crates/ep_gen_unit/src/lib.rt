@@ -7,6 +7,7 @@
 
 mod items;
 mod laws;
+mod loops;
 mod program;
 mod ranges;
 mod statements;

@@ -4,7 +4,9 @@ ghost use Rattle.std.specs.Prelude.{◌≡◌, ◌+◌, ◌<◌, ◌^◌, OnOk, 
 ghost use Rattle.ep_typed.specs.declared.value.TypeValue.TheVariants.{Ordinal};
 ghost use Rattle.ep_gen_expr.specs.Growth.{Grows};
 ghost use Rattle.ep_gen_unit.specs.StmtCode.{result_code, type_code, elaborating_code, make_code, make_all_code, value_code, place_taken, take_code, take_all_code};
-ghost use Rattle.ep_gen_unit.specs.StmtGrowth.{AppendsEnd, AppendsStart, AppendsRoutine, AppendsRoutines, Follows, IsCompact, MakesOwn, MakesResult, assembled};
+ghost use Rattle.ep_gen_unit.specs.StmtGrowth.{AppendsEnd, AppendsStart, AppendsRoutine, AppendsRoutines, Follows, IsCompact, MakesBlock, MakesOwn, MakesResult, assembled};
+ghost use Rattle.ep_typed.specs.Auxiliaries.{auxiliary_variables, first_for};
+ghost use Rattle.ep_typed.specs.Viewed.{stmt_of};
 ghost use Rattle.ep_gen_unit.specs.UnitCode.{IsProgramCode, routine_at};
 
 use crate::statements::statement_code;
@@ -12,7 +14,8 @@ use ep_base::{Line, List, Name, NoMemory};
 use ep_gen_expr::{Code, NO_LINE, emit, field_number, next_place};
 use ep_object::{CodeRoutine, CodeRoutines, Object, op};
 use ep_typed::{
-    Formal, FormalMode, TypeValue, Unit, UnitRoutine, UnitType, UnitVariable, run_error, type_of,
+    Formal, FormalMode, TypeValue, TypedStmt, Unit, UnitRoutine, UnitType, UnitVariable,
+    auxiliary_variables, first_for, run_error, type_of,
 };
 use std::alloc::{AllocError, Global};
 
@@ -22,8 +25,8 @@ pub fn program_code(alloc: Global, u: &Unit) -> Result<Object, NoMemory>
     ensures program { IfOk result (λ o. IsProgramCode u.now o) }
     ensures compact { IfOk result (λ o. IsCompact o) }
 {
-    let unit_slots = field_number(u.variables.items().len())?;
     let name = u.name.copy(alloc)?;
+    let unit_slots = field_sum(u.variables.items().len(), auxiliary_count(&u.start))?;
     let mut code = Code::new(alloc, u);
     let stop_entry = start_code(alloc, u, &mut code)?;
     let mut routines = routines_code(alloc, u.types.items(), u.routines.items(), &mut code)?;
@@ -39,7 +42,14 @@ pub fn program_code(alloc: Global, u: &Unit) -> Result<Object, NoMemory>
 fn start_code(alloc: Global, u: &Unit, code: &mut Code) -> Result<u32, NoMemory>
     ensures { IfOk result (λ k. AppendsStart code.old code.new u.now k) }
 {
-    make_all(u.types.items(), 0, u.variables.items(), code)?;
+    make_block(
+        alloc,
+        u.types.items(),
+        0,
+        u.variables.items(),
+        &u.start,
+        code,
+    )?;
     statement_code(alloc, &u.start, code)?;
     code.line = NO_LINE;
     emit(code, op::RETURN, 0, 0)?;
@@ -89,7 +99,7 @@ fn routine_code(
     let arguments = field_number(formals.len())?;
     let entry = next_place(code)?;
     take_all(types, routine.line, formals, code)?;
-    let slots = make_own(types, routine, code)?;
+    let slots = make_own(alloc, types, routine, code)?;
     statement_code(alloc, &routine.block, code)?;
     end_routine(routine, arguments, code)?;
     Ok(routine_at(entry, arguments, slots))
@@ -97,14 +107,54 @@ fn routine_code(
 
 /// Appends the code that makes the variables of a routine's own, of which the one that has its result is the first, and
 /// answers how many slots the routine has.
-fn make_own(types: &[UnitType], routine: &UnitRoutine, code: &mut Code) -> Result<u32, NoMemory>
+fn make_own(
+    alloc: Global,
+    types: &[UnitType],
+    routine: &UnitRoutine,
+    code: &mut Code,
+) -> Result<u32, NoMemory>
     ensures { IfOk result (λ slots. MakesOwn code.old code.new types.now routine.now slots) }
 {
     let variables = routine.variables.items();
     let first = make_result(types, routine, code)?;
-    let slots = field_sum(first as usize, variables.len())?;
-    make_all(types, first as usize, variables, code)?;
-    Ok(slots)
+    make_block(
+        alloc,
+        types,
+        first as usize,
+        variables,
+        &routine.block,
+        code,
+    )
+}
+
+/// Appends the code that makes these variables and the auxiliary ones of a block, from this number on, and answers the first
+/// number behind them.
+fn make_block(
+    alloc: Global,
+    types: &[UnitType],
+    first: usize,
+    variables: &[UnitVariable],
+    block: &TypedStmt,
+    code: &mut Code,
+) -> Result<u32, NoMemory>
+    ensures { IfOk result (λ behind. MakesBlock code.old code.new types.now first variables.now (stmt_of block.now) behind) }
+{
+    let auxiliaries = auxiliary_variables(alloc, first_for(block))?;
+    let middle = field_sum(first, variables.len())?;
+    let behind = field_sum(middle as usize, auxiliaries.items().len())?;
+    make_all(types, first, variables, code)?;
+    make_all(types, middle as usize, auxiliaries.items(), code)?;
+    Ok(behind)
+}
+
+/// How many auxiliary variables a block has.
+fn auxiliary_count(block: &TypedStmt) -> usize
+    ensures { result ≡ length (auxiliary_variables (first_for (stmt_of block.now))) }
+{
+    match first_for(block) {
+        None => 0,
+        Some(_) => 2,
+    }
 }
 
 /// Appends the code that makes the variable of a function's result, and answers the number of the first variable behind.

@@ -3,19 +3,22 @@
 //! A statement sets the line, so it is set again after a part that is a statement.
 
 ghost use Rattle.std.specs.Prelude.{OnOk, map, IfOk, ◌<◌, length, [], ◌∷◌};
-ghost use Rattle.ep_typed.specs.Trees.{Compound, Assign, If, While, Repeat, Procedure, Halt, Write, stmts};
-ghost use Rattle.ep_typed.specs.Viewed.{expr_of, actual_of, item_of, place_of, stmt_of, arm_of};
+ghost use Rattle.ep_typed.specs.Trees.{Compound, Assign, If, While, Repeat, For, Procedure, Halt, Write, stmts};
+ghost use Rattle.ep_typed.specs.Viewed.{expr_of, actual_of, control_of, item_of, place_of, stmt_of, arm_of};
 ghost use Rattle.ep_gen_unit.specs.StmtGrowth.{AppendsStmt, AppendsStmts, AppendsArms, ClosesCase, OpensCase};
 ghost use Rattle.ep_typed.specs.Trees as tree;
 
 use crate::items::items_code;
+use crate::loops::{bounds_code, first_code, next_code, test_code, undefine_code};
 use crate::ranges::tests_code;
 use ep_base::{Line, Name, NoMemory};
 use ep_gen_expr::{
     Code, call_code, emit, expression_code, land, leave_hole, next_place, place_code,
 };
 use ep_object::op;
-use ep_typed::{Actual, CaseArm, TypedExpr, TypedPlace, TypedStmt, WriteItem, run_error};
+use ep_typed::{
+    Actual, CaseArm, ForControl, TypedExpr, TypedPlace, TypedStmt, WriteItem, run_error,
+};
 use std::alloc::Global;
 
 /// Appends the code of a statement. Where memory is wanting, or the code or a table would reach 2 ^ 32 entries, it is
@@ -45,6 +48,17 @@ pub fn statement_code(alloc: Global, s: &TypedStmt, code: &mut Code) -> Result<(
         }
         TypedStmt::Repeat(line, body, condition) => {
             repeat_code(alloc, *line, body.items(), condition.get(), code)
+        }
+        TypedStmt::For(line, control, initial, last, body) => {
+            for_code(
+                alloc,
+                *line,
+                control,
+                initial.get(),
+                last.get(),
+                body.get(),
+                code,
+            )
         }
         TypedStmt::Procedure(line, unit, number, given) => {
             procedure_code(alloc, *line, unit, *number, given.items(), code)
@@ -77,7 +91,7 @@ fn compound_code(alloc: Global, statements: &[TypedStmt], code: &mut Code) -> Re
 }
 
 /// Appends the code of an assignment.
-fn assign_code(
+pub(crate) fn assign_code(
     alloc: Global,
     line: Line,
     place: &TypedPlace,
@@ -153,6 +167,38 @@ fn repeat_code(
     code.line = line;
     expression_code(alloc, condition, code)?;
     emit(code, op::JUMP_FALSE, start as i64, 0)
+}
+
+/// Appends the code of a `for`: the bounds and the jump over the turns; the first value, the body, the jump out of the
+/// turns where the value was the last one, the next value and the jump back; and the end. The final value stays on the
+/// operands while there are turns.
+#[cycle(statement)]
+fn for_code(
+    alloc: Global,
+    line: Line,
+    control: &ForControl,
+    initial: &TypedExpr,
+    last: &TypedExpr,
+    body: &TypedStmt,
+    code: &mut Code,
+) -> Result<(), NoMemory>
+    ensures { OnOk result (AppendsStmt code.old code.new (For line (control_of control.now)
+        (expr_of initial.now) (expr_of last.now) (stmt_of body.now))) }
+{
+    bounds_code(alloc, line, control, initial, last, code)?;
+    let leave = leave_hole(code)?;
+    first_code(alloc, line, control, code)?;
+    let again = next_place(code)?;
+    statement_code(alloc, body, code)?;
+    test_code(alloc, line, control, code)?;
+    let done = leave_hole(code)?;
+    next_code(alloc, line, control, code)?;
+    code.line = line;
+    emit(code, op::JUMP, again as i64, 0)?;
+    land(code, done, op::JUMP_FALSE, line)?;
+    emit(code, op::DROP, 0, 0)?;
+    land(code, leave, op::JUMP_FALSE, line)?;
+    undefine_code(alloc, line, &control.variable, code)
 }
 
 /// Appends the code of a procedure statement, which is a call. The jump behind the call takes the tick for the step that

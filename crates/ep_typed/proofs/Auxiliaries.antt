@@ -1,10 +1,9 @@
 -- Auxiliary variables are valid integers.
-use Rattle.std.proofs.Common.{◌≡◌, ℕ, ℤ, suc, zero, List, [], ◌∷◌, Option, Some, None, slice_get, refl, ap, ◌∙◌, subst, sym}
+use Rattle.std.proofs.Common.{◌≡◌, ℕ, suc, zero, List, Option, Some, None, slice_get, refl, ap, subst, sym}
 use Rattle.ep_typed.specs.Auxiliaries.{auxiliary_variable, auxiliary_variables}
-use Rattle.ep_typed.specs.Denoters.{host_of, type_of, required_type}
+use Rattle.ep_typed.specs.Denoters.{host_of, required_type}
 use Rattle.ep_typed.specs.Hosts as host
 use Rattle.ep_typed.specs.Trees.{Required}
-use Rattle.ep_typed.specs.Trees as tree
 use Rattle.ep_typed.specs.Valid.{IsDenoter, IsVariable}
 use Rattle.ep_typed.specs.Viewed.{denoter_of}
 use Rattle.ep_typed.specs.declared.denoter.RequiredType.TheVariants as simple

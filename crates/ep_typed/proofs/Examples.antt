@@ -1,9 +1,10 @@
 -- The meaning computes the answers of small programs.
-use Rattle.std.proofs.Common.{◌≡◌, ℕ, ℤ, pos, negsuc, true, false, [], ◌∷◌, refl, codes}
+use Rattle.std.proofs.Common.{◌≡◌, ℕ, ℤ, pos, negsuc, Bool, true, false, [], ◌∷◌, refl, codes}
 use Rattle.ep_typed.specs.Events.{Trace, Write}
-use Rattle.ep_typed.specs.Trees.{Variable, Expr, Constant, Function, Evaluated, no_actual, next_actual, Read, One, Two, Plain, Wide, Stmt, Compound, Assign, While, Repeat, Case, Short, Write, stmts, none, next, Other, no_other, otherwise_do, arms}
+use Rattle.ep_typed.specs.Trees.{Variable, Expr, Constant, Function, Evaluated, no_actual, next_actual, Read, One, Two, Plain, Wide, Stmt, Compound, Assign, While, Repeat, For, Case, Short, Write, stmts, none, next, Other, no_other, otherwise_do, arms}
 use Rattle.ep_typed.specs.Trees as tree
-use Rattle.ep_typed.specs.Steps.{End, Normal, Error, Outcome, Gives, Ends, Cut, give, spend, state_of, made, first_state}
+use Rattle.ep_typed.specs.declared.value.TypeValue.{TypeValue}
+use Rattle.ep_typed.specs.Steps.{State, End, Normal, Error, Outcome, Gives, Ends, Cut, give, spend, state_of, made, first_state}
 use Rattle.ep_typed.specs.Calls.{Handler}
 use Rattle.ep_typed.specs.Meaning.{eval, exec, routine_of}
 use Rattle.ep_typed.specs.Printing.{Result, Number}
@@ -95,3 +96,45 @@ designator = eval gives_five 0 (codes "p") 3 (Function (codes "p") 0 (next_actua
 
 given : designator ≡ Gives 0 (Number (pos 5)) first_state
 given = refl
+
+-- ---- `for`
+
+-- a variable x of this type, and the auxiliary ones behind it
+abbrev with_auxiliaries : TypeValue → State
+with_auxiliaries t = made (codes "p") 2 (Ordinal (negsuc 9223372036854775806) (pos 9223372036854775807)) (made (codes "p") 1 (Ordinal (negsuc 9223372036854775806) (pos 9223372036854775807)) (made (codes "p") 0 t first_state))
+
+abbrev counting : Bool → ℕ → ℕ → Stmt → Stmt
+counting falls initial last body =
+    For 3 (record { variable = x; initial = Variable (codes "p") 1; last = Variable (codes "p") 2; falls = falls; low = negsuc 9223372036854775806; high = pos 9223372036854775807 }) (Constant (pos initial)) (Constant (pos last)) body
+
+-- x as a character
+abbrev shows_x : Stmt
+shows_x = tree.Write 4 (Plain print.Char (Read x) ∷ []) false
+
+abbrev counts_in : TypeValue → Stmt → Outcome (Unit {0})
+counts_in t s = exec (routine_of [] 0) 200 (codes "p") s 200 (with_auxiliaries t)
+
+rising : trace_of (counts_in (Ordinal (pos 0) (pos 255)) (counting false 120 122 shows_x)) ≡ Write (codes "x") ∷ Write (codes "y") ∷ Write (codes "z") ∷ []
+rising = refl
+
+falling : trace_of (counts_in (Ordinal (pos 0) (pos 255)) (counting true 122 121 shows_x)) ≡ Write (codes "z") ∷ Write (codes "y") ∷ []
+falling = refl
+
+-- an inner statement has the same auxiliary variables
+nested : trace_of (counts_in (Ordinal (pos 0) (pos 255)) (counting false 120 121 (Compound (next shows_x (next (tree.Assign 5 (Variable (codes "p") 2) (Constant (pos 0))) none))))) ≡ Write (codes "x") ∷ Write (codes "y") ∷ []
+nested = refl
+
+-- the values may be the last ones of the host
+at_the_end : end_of (counts_in (Ordinal (pos 9223372036854775806) (pos 9223372036854775807)) (counting false 9223372036854775806 9223372036854775807 tree.Empty)) ≡ Normal
+at_the_end = refl
+
+-- where there is no turn nothing is tried, and the control variable is undefined
+no_turn : end_of (counts_in (Ordinal (pos 1) (pos 5)) (Compound (next (Assign 3 x (Constant (pos 4))) (next (counting false 9 7 shows_x) (next shows_x none))))) ≡ Error run_error.UNDEFINED_VALUE (codes "p") 4
+no_turn = refl
+
+-- a bound outside of the type is an error before the first turn
+outside : counts_in (Ordinal (pos 1) (pos 5)) (counting false 4 7 shows_x) ≡ counts_in (Ordinal (pos 1) (pos 5)) (counting false 4 7 tree.Empty)
+outside = refl
+
+outside_ends : end_of (counts_in (Ordinal (pos 1) (pos 5)) (counting false 4 7 shows_x)) ≡ Error run_error.OUTSIDE_TYPE (codes "p") 3
+outside_ends = refl

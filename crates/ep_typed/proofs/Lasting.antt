@@ -26,7 +26,7 @@ use Rattle.ep_typed.specs.declared.unit.UnitVariable.{UnitVariable}
 use Rattle.ep_typed.specs.declared.tree.CaseRange.{CaseRange}
 use Rattle.ep_typed.specs.declared.value.TypeValue.{TypeValue}
 use Rattle.ep_typed.specs.Laws.{IsLonger, MeaningsLast}
-use Rattle.ep_typed.proofs.Steady.{grows_refl, grows_trans, grows_quiet, grows_events, grows_type, grows_counted, grows_made, grows_made_own, steady_give, steady_cut, steady_stop, steady_bind, steady_spend, steady_change, steady_fetch, steady_turns, steady_turns_until, steady_turns_to, steady_undefined, steady_in_call, steady_routine_of, steady_using, steady_assign_living}
+use Rattle.ep_typed.proofs.Steady.{grows_refl, grows_trans, grows_quiet, grows_events, grows_type, grows_counted, grows_made, grows_made_own, steady_give, steady_cut, steady_stop, steady_bind, steady_spend, steady_change, steady_fetch, steady_turns, steady_turns_until, steady_turns_to, steady_in_call, steady_routine_of, steady_using, steady_assign_living}
 use Rattle.ep_typed.specs.declared.run_error.TheConstants as run_error
 
 -- What one computation comes to, another one comes to with more steps.

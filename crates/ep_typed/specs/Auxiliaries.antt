@@ -2,7 +2,7 @@
 -- `for` statements share, and they are made behind the variables that it declares.
 use Rattle.std.specs.Prelude.{codes, ℕ, false, List, [], ◌∷◌, Option, Some, None}
 use Rattle.std.specs.Option.{option_or}
-use Rattle.ep_typed.specs.Trees.{Stmt, Stmts, Empty, Compound, Assign, If, While, Repeat, For, Procedure, Halt, Write, none, next, Case, Arm, Arms, no_arm, next_arm, Other, no_other, otherwise_do}
+use Rattle.ep_typed.specs.Trees.{Stmt, Stmts, Empty, Compound, Assign, If, While, Repeat, For, Procedure, Halt, Write, none, next, Case, Arms, no_arm, next_arm, Other, no_other, otherwise_do}
 use Rattle.ep_typed.specs.declared.denoter.Denoter.TheVariants as denoter
 use Rattle.ep_typed.specs.declared.denoter.RequiredType.TheVariants as simple
 use Rattle.ep_typed.specs.declared.unit.UnitVariable.{UnitVariable}

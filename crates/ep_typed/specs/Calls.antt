@@ -13,9 +13,9 @@ pub data Argument : Type 0 where
 abbrev pub Handler : Type 0
 Handler = List ℕ → ℕ → List ℕ → ℕ → List Argument → Computation (List Result)
 
--- the words that are set aside for an activation
+-- The words that are set aside for an activation. With the two auxiliary variables of `for`, of two words each, none counts more than 64 besides its own variables.
 abbrev pub activation_words : ℕ
-activation_words = 64
+activation_words = 60
 
 -- every run has room for so many calls in each other
 abbrev pub room_for_calls : ℕ

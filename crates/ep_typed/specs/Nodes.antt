@@ -67,7 +67,7 @@ abbrev mutual
   stmt_nodes (If line x a b) = 1 + expr_nodes x + stmt_nodes a + stmt_nodes b
   stmt_nodes (While line x s) = 1 + expr_nodes x + stmt_nodes s
   stmt_nodes (Repeat line ss x) = 1 + stmts_nodes ss + expr_nodes x
-  -- the auxiliary variables are nodes where they are declared
+  -- the auxiliary variables are no nodes
   stmt_nodes (For line c x y s) = 1 + place_nodes c.variable + expr_nodes x + expr_nodes y + stmt_nodes s
   stmt_nodes (Procedure line unit number given) = 1 + actuals_nodes given
   stmt_nodes (Case line x arms o) = 1 + expr_nodes x + arms_nodes arms + other_nodes o

@@ -91,15 +91,15 @@ fragment_fetched {A = A} {declared = declared} {G = G} {Here = Here} {n = n} {fr
 -- ---- what is used has to live
 
 -- where an allocation has ended that is used, the instruction ends with the error, and else the computation is followed
-pub fragment_using : {A : Type 0} {declared : Declarations} {G : Image} {Here : Facts} {n : ℕ} {from : Point} {to : ℕ} {c : Computation A} {P : A → After} {d : ℕ} {e : A → ℕ} {number line : ℕ} {unit : List ℕ} (a : ℕ)
-    → ((s : meaning.State) → Matches declared G from.injection s from.memory → has_ended a s ≡ true → FailsWith G (state_at from s.trace) 0 number unit line s)
-    → 1 ≤ d
+pub fragment_using : {A : Type 0} {declared : Declarations} {G : Image} {Here : Facts} {n : ℕ} {from : Point} {to : ℕ} {c : Computation A} {P : A → After} {d : ℕ} {e : A → ℕ} {weight number line : ℕ} {unit : List ℕ} (a : ℕ)
+    → ((s : meaning.State) → Matches declared G from.injection s from.memory → has_ended a s ≡ true → FailsWith G (state_at from s.trace) weight number unit line s)
+    → suc weight ≤ d
     → ((s : meaning.State) → Matches declared G from.injection s from.memory → Here from.injection s from.memory → has_ended a s ≡ false → Follows (λ k. IsNotLeft from.memory.frames k.frames) G n (state_at from s.trace) s c (λ x. Lands declared G Here to (P x)) d e)
     → Fragment declared G Here n from (using (meaning.Error number unit line) a c) to P d e
-fragment_using {A = A} {declared = declared} {G = G} {Here = Here} {n = n} {from = from} {to = to} {c = c} {P = P} {d = d} {e = e} {number = number} {line = line} {unit = unit} a ends le lives =
+fragment_using {A = A} {declared = declared} {G = G} {Here = Here} {n = n} {from = from} {to = to} {c = c} {P = P} {d = d} {e = e} {weight = weight} {number = number} {line = line} {unit = unit} a ends le lives =
     record { by = λ s matches here. record { by = λ m l. go s matches here m l (has_ended a s) refl } }
   where
-    ended : (s : meaning.State) → FailsWith G (state_at from s.trace) 0 number unit line s
+    ended : (s : meaning.State) → FailsWith G (state_at from s.trace) weight number unit line s
         → Follows (λ k. IsNotLeft from.memory.frames k.frames) G n (state_at from s.trace) s (stop {A = A} (meaning.Error number unit line)) (λ x. Lands declared G Here to (P x)) d e
     ended s x = follows_stop (not_left-here from.memory.frames) x.fails le
 

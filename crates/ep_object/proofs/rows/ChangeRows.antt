@@ -138,6 +138,16 @@ module _ (declared : Declarations) (G : Image) (place line : ℕ) (below : List 
   undefine_outcome memory trace p low high type_number (meaning.Word w) has typed stands offset =
       outcome_at G (instr op.UNDEFINE (pos 0) 0 line) place (operand.Place p ∷ below) memory trace has ∙ rw (typed, stands, offset) refl
 
+  -- `Undefine` of a variable that has ended
+  pub undefine_fails_ended : (low high : ℤ) (n : ℕ) (p : Place)
+      → slice_get G.instructions place ≡ Some (instr op.UNDEFINE (pos 0) 0 line)
+      → (injection : Injection) (memory : Memory) → IsPlaceOf injection memory.segments n p
+      → Describes memory.types p.type_number (type.Ordinal low high) → (s : meaning.State)
+      → Matches declared G injection s memory → has_ended n s ≡ true
+      → FailsWith G (at place (operand.Place p ∷ below) memory s.trace) 1 11 (unit_in G memory.frames) line s
+  undefine_fails_ended low high n p has injection memory place_of described s matches ended =
+      record { fails = outcome_at G (instr op.UNDEFINE (pos 0) 0 line) place (operand.Place p ∷ below) memory s.trace has ∙ rw (described, place_ended matches place_of ended) refl }
+
   -- it is undefined then on both sides
   pub undefine_does : {untouched : Slots} {Here : Facts} (low high : ℤ) (n : ℕ) (p : Place)
       → slice_get G.instructions place ≡ Some (instr op.UNDEFINE (pos 0) 0 line)

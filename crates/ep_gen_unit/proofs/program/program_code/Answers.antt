@@ -1,4 +1,7 @@
-use Rattle.std.proofs.Common.{◌≡◌, ◌++◌, ◌∷◌, [], length, rules, arith, ap, ◌∙◌, append_assoc}
+use Rattle.std.proofs.Common.{◌≡◌, ◌++◌, ◌∷◌, [], length, length-append, rules, arith, ap, ◌∙◌, append_assoc}
+use Rattle.ep_typed.specs.Auxiliaries.{auxiliary_variables, first_for}
+use Rattle.ep_typed.specs.Routines.{unit_variables}
+use Rattle.ep_typed.specs.Viewed.{stmt_of}
 use Rattle.ep_gen_unit.specs.UnitCode.{plain_at}
 use Rattle.ep_gen_unit.proofs.ProgramForms.{is_program, is_compact}
 use Rattle.ep_gen_unit.proofs.program.program_code.Goals as goal
@@ -17,7 +20,8 @@ starts c = search rules
 
 pub returns-clause-program : goal.returns-clause-program
 returns-clause-program c =
-    let slots = c.in_ok-unit_slots.ensures.0 ∙ ap length c.items.ensures in
+    let more = auxiliary_variables (first_for (stmt_of c.args.u.now.start)) in
+    let slots : c.in_ok-unit_slots.unit_slots ≡ length (unit_variables c.args.u.now) = omega (arith, c.in_ok-unit_slots.ensures, ap length c.items.ensures, c.auxiliary_count.ensures, length-append c.args.u.now.variables more) in
     is_program c.args.u.now c.new-code.ensures c.in_ok-name.name c.in_ok-name.ensures c.in_ok-unit_slots.unit_slots c.in_ok-stop_entry.stop_entry c.in_ok-start.start c.in_ok-stop_entry.ensures
     c.items-3.result.now c.items-3.ensures c.in_ok-routines.routines c.items-2.result.now c.items-2.ensures c.in_ok-routines.ensures c.push-2.new.self (pushed c) (starts c) c.assemble.result c.assemble.ensures slots
 

@@ -1,12 +1,13 @@
 use Rattle.std.proofs.Common.{◌≡◌, ◌+◌, [], ◌∷◌, Some, None, map, w64, arith, OnOk, subst, sym, ap, ◌∙◌}
 use Rattle.std.proofs.lemmas.Int.{to_z_pos}
 use Rattle.ep_typed.specs.Trees.{Empty, Compound, Repeat, Case, Arm, stmts, arms, no_other, otherwise_do}
-use Rattle.ep_typed.specs.Viewed.{expr_of, stmt_of, arm_of}
+use Rattle.ep_typed.specs.Viewed.{control_of, expr_of, stmt_of, arm_of}
 use Rattle.ep_gen_expr.proofs.Forms.{on_ok}
 use Rattle.ep_gen_unit.specs.StmtGrowth.{AppendsArms, AppendsStmt}
 use Rattle.ep_typed.specs.declared.tree.CaseArm.{out-CaseArm}
 use Rattle.ep_typed.specs.declared.tree.TypedStmt.TheVariants as typed
 use Rattle.ep_gen_unit.proofs.CaseForms.{appends_arm, arms_more, appends_otherwise, opens_case, closes_case, appends_case}
+use Rattle.ep_gen_unit.proofs.ForForms.{appends_for}
 use Rattle.ep_gen_unit.proofs.Compounds.{empty_is, arm_is, compound_is, repeat_is, case_is}
 use Rattle.ep_gen_unit.proofs.StmtForms.{appends_empty, appends_compound, appends_if, appends_repeat, appends_while, stmts_more}
 use Rattle.ep_gen_unit.proofs.statements.+statement.Goals as goal
@@ -25,6 +26,12 @@ while_code-returns t c =
     let start = to_z_pos w64 c.in_ok-start.start (omega (arith, c.in_ok-start.ensures.small)) in
     on_ok c.land.result (appends_while c.args.code.now c.statement_code.new.code c.args.line (expr_of c.args.condition.now) (stmt_of c.args.body.now) c.in_ok-start.start c.in_ok-leave.leave
     c.in_ok-start.ensures c.in_ok-expression_code.ensures c.in_ok-leave.ensures c.in_ok-statement_code.ensures (rw start at c.in_ok-emit.ensures)) c.land.ensures
+
+pub for_code-returns : goal.for_code-returns
+for_code-returns t c =
+    let again = to_z_pos w64 c.in_ok-again.again (omega (arith, c.in_ok-again.ensures.small)) in
+    on_ok c.undefine_code.result (appends_for c.args.code.now c.args.line c.in_ok-leave.leave c.in_ok-done.done c.in_ok-again.again (control_of c.args.control.now) (expr_of c.args.initial.now) (expr_of c.args.last.now) (stmt_of c.args.body.now)
+    c.in_ok-bounds_code.ensures c.in_ok-leave.ensures c.in_ok-first_code.ensures c.in_ok-again.ensures c.in_ok-statement_code.ensures c.in_ok-test_code.ensures c.in_ok-done.ensures c.in_ok-next_code.ensures (rw again at c.in_ok-emit.ensures) c.in_ok-land.ensures c.in_ok-emit-2.ensures c.in_ok-land-2.ensures) c.undefine_code.ensures
 
 pub repeat_code-returns : goal.repeat_code-returns
 repeat_code-returns t c =

@@ -18,6 +18,9 @@ decreases-if_code l = 4 * max (size-TypedStmt l.then_part.now) (size-TypedStmt l
 abbrev pub decreases-while_code : goal.decreases-while_code
 decreases-while_code l = 4 * size-TypedStmt l.body.now + 1
 
+abbrev pub decreases-for_code : goal.decreases-for_code
+decreases-for_code l = 4 * size-TypedStmt l.body.now + 1
+
 abbrev pub decreases-repeat_code : goal.decreases-repeat_code
 decreases-repeat_code l = 4 * goal.size-repeat_code l + 2
 

@@ -1,0 +1,53 @@
+//! The code of the expressions that `for` statements are made of.
+
+ghost use Rattle.std.specs.Prelude.{◌≡◌, OnOk, if◌then◌else◌};
+ghost use Rattle.ep_typed.specs.Controls.{in_order, next_value};
+ghost use Rattle.ep_typed.specs.Viewed.{control_of};
+ghost use Rattle.ep_typed.specs.declared.operations.Binary.TheVariants as binary;
+ghost use Rattle.ep_gen_expr.specs.ExprCode.{step_code};
+ghost use Rattle.ep_gen_expr.specs.Growth.{AppendsExpr, Grows};
+
+use crate::code::Code;
+use crate::expressions::{constant_code, read_code};
+use crate::operations::{apply_binary, apply_step};
+use ep_base::NoMemory;
+use ep_typed::{Binary, ForControl};
+use std::alloc::Global;
+
+/// How the initial value is compared with the final one: whether the first may come before the second.
+fn order(falls: bool) -> Binary
+    ensures { result ≡ (if falls then binary.AtLeast else binary.AtMost) }
+{
+    if falls {
+        Binary::AtLeast
+    } else {
+        Binary::AtMost
+    }
+}
+
+/// Appends the code that tells whether a `for` has a turn (ISO 10206, 6.9.3.9.2).
+#[tactic(auto, using(crate::proofs::Forms::forms))]
+pub fn in_order_code(alloc: Global, control: &ForControl, code: &mut Code) -> Result<(), NoMemory>
+    ensures { OnOk result (AppendsExpr code.old code.new (in_order (control_of control.now))) }
+{
+    read_code(alloc, &control.initial, code)?;
+    read_code(alloc, &control.last, code)?;
+    apply_binary(order(control.falls), code)
+}
+
+/// Appends the code of the next value of a control variable.
+#[tactic(auto, using(crate::proofs::Forms::forms))]
+pub fn next_value_code(alloc: Global, control: &ForControl, code: &mut Code) -> Result<(), NoMemory>
+    ensures { OnOk result (AppendsExpr code.old code.new (next_value (control_of control.now))) }
+{
+    read_code(alloc, &control.variable, code)?;
+    constant_code(1, code)?;
+    step_within(control.falls, &control.low, &control.high, code)
+}
+
+/// Appends the code that steps on or back within these bounds, which are seen to be integers where they are read.
+fn step_within(falls: bool, low: &i64, high: &i64, code: &mut Code) -> Result<(), NoMemory>
+    ensures { OnOk result (Grows code.old code.new (step_code code.old.line falls low.now high.now)) }
+{
+    apply_step(falls, *low, *high, code)
+}

@@ -1,0 +1,111 @@
+//! The parts of the code of a `for`. Each sets the line.
+
+ghost use Rattle.std.specs.Prelude.{OnOk};
+ghost use Rattle.ep_typed.specs.Controls.{next_value};
+ghost use Rattle.ep_typed.specs.Trees.{Assign, Read};
+ghost use Rattle.ep_typed.specs.Viewed.{control_of, expr_of, place_of};
+ghost use Rattle.ep_gen_unit.specs.StmtGrowth.{AppendsBounds, AppendsFirst, AppendsStmt, AppendsTest, AppendsUndefine};
+
+use crate::statements::assign_code;
+use ep_base::{Line, NoMemory};
+use ep_gen_expr::{
+    Code, apply_binary, emit, in_order_code, next_value_code, place_code, read_code,
+};
+use ep_object::op;
+use ep_typed::{Binary, ForControl, TypedExpr, TypedPlace};
+use std::alloc::Global;
+
+/// Appends the code before the turns: the auxiliary variables get the bounds, and whether there is a turn is left.
+pub(crate) fn bounds_code(
+    alloc: Global,
+    line: Line,
+    control: &ForControl,
+    initial: &TypedExpr,
+    last: &TypedExpr,
+    code: &mut Code,
+) -> Result<(), NoMemory>
+    ensures { OnOk result (AppendsBounds line code.old code.new (control_of control.now)
+        (expr_of initial.now) (expr_of last.now)) }
+{
+    assign_code(alloc, line, &control.initial, initial, code)?;
+    assign_code(alloc, line, &control.last, last, code)?;
+    code.line = line;
+    in_order_code(alloc, control, code)
+}
+
+/// Appends the code that leaves the final value, tries both bounds in the control variable, and gives it the initial one.
+pub(crate) fn first_code(
+    alloc: Global,
+    line: Line,
+    control: &ForControl,
+    code: &mut Code,
+) -> Result<(), NoMemory>
+    ensures { OnOk result (AppendsFirst line code.old code.new (control_of control.now)) }
+{
+    code.line = line;
+    read_code(alloc, &control.last, code)?;
+    assign_read(alloc, line, &control.variable, &control.last, code)?;
+    assign_read(alloc, line, &control.variable, &control.initial, code)
+}
+
+/// Appends the code of an assignment of a variable's value.
+fn assign_read(
+    alloc: Global,
+    line: Line,
+    place: &TypedPlace,
+    from: &TypedPlace,
+    code: &mut Code,
+) -> Result<(), NoMemory>
+    ensures { OnOk result (AppendsStmt code.old code.new
+        (Assign line (place_of place.now) (Read (place_of from.now)))) }
+{
+    code.line = line;
+    place_code(alloc, place, code)?;
+    read_code(alloc, from, code)?;
+    emit(code, op::STORE, 0, 0)
+}
+
+/// Appends the code that tells, over the final value, whether the control variable has another one.
+pub(crate) fn test_code(
+    alloc: Global,
+    line: Line,
+    control: &ForControl,
+    code: &mut Code,
+) -> Result<(), NoMemory>
+    ensures { OnOk result (AppendsTest line code.old code.new (control_of control.now)) }
+{
+    code.line = line;
+    emit(code, op::DUP, 0, 0)?;
+    read_code(alloc, &control.variable, code)?;
+    apply_binary(Binary::Unequal, code)
+}
+
+/// Appends the code that gives the control variable its next value.
+pub(crate) fn next_code(
+    alloc: Global,
+    line: Line,
+    control: &ForControl,
+    code: &mut Code,
+) -> Result<(), NoMemory>
+    ensures { OnOk result (AppendsStmt code.old code.new
+        (Assign line (control_of control.now).variable (next_value (control_of control.now)))) }
+{
+    code.line = line;
+    place_code(alloc, &control.variable, code)?;
+    next_value_code(alloc, control, code)?;
+    emit(code, op::STORE, 0, 0)
+}
+
+/// Appends the code by which a variable becomes undefined.
+pub(crate) fn undefine_code(
+    alloc: Global,
+    line: Line,
+    place: &TypedPlace,
+    code: &mut Code,
+) -> Result<(), NoMemory>
+    ensures { OnOk result (AppendsUndefine line code.old code.new (place_of place.now)) }
+{
+    code.line = line;
+    place_code(alloc, place, code)?;
+    emit(code, op::UNDEFINE, 0, 0)
+}
