@@ -1,0 +1,16 @@
+-- A form that threatens no control variable.
+use Rattle.std.proofs.Common.{◌≡◌, Bool, false, List, [], ◌∷◌, Option, Some, ap, ◌∙◌}
+use Rattle.std.specs.Prelude.{if◌then◌else◌}
+use Rattle.std.specs.List.{list_any}
+use Rattle.ep_typed.specs.Trees.{Place}
+use Rattle.ep_scope.specs.declared.rule.TheConstants as rule
+use Rattle.ep_check_expr.specs.Judgements.{Judged, Accepts, Breaks}
+use Rattle.ep_check_stmt.specs.Statements.{unless_threatening}
+
+module _ {A : Type 0} (threat : Place → A → Bool) (controls : List Place) where
+  abbrev one_is_threatened : A → Bool
+  one_is_threatened form = list_any (λ v. threat v form) controls
+
+  -- a form that threatens none is kept
+  pub is_kept : (j : Judged (Option A)) (form : A) → j ≡ Accepts (Some form) → one_is_threatened form ≡ false → unless_threatening threat controls j ≡ Accepts (Some form)
+  is_kept j form is h = ap (unless_threatening threat controls) is ∙ ap (λ (b : Bool). if b then Breaks (rule.CONTROL_THREATENED ∷ []) else Accepts (Some form)) h
