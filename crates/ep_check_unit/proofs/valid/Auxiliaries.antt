@@ -30,37 +30,29 @@ second_behind [] a b = refl
 second_behind (x ∷ xs) a b = second_behind xs a b
 
 -- in a routine, whose scopes have others around them
-pub own_auxiliaries : (u : TypedUnit) (c : Block) (line at : ℕ) (called : List ℕ) (first : Region) (others : List Region) → c.scopes.outer ≡ first ∷ others
-    → AuxiliariesAreThere (in_routine (variables_in line called c.own ++ auxiliary_variables (Some at)) u.types (own u)) (locals_of c)
-own_auxiliaries u c line at called first others inner =
-    subst (λ rs. AuxiliariesAreThere within (if is_outermost rs then OfUnit c.unit (length c.variables) else OfRoutine (first_own c.own) (own_count c.own))) (sym inner)
-    ((auxiliary_variable at, subst (λ n. slice_get all n ≡ Some (auxiliary_variable at)) many (first_behind front (auxiliary_variable at) (auxiliary_variable at)), auxiliary_host u.types at),
-      (auxiliary_variable at, subst (λ n. slice_get all (n + 1) ≡ Some (auxiliary_variable at)) many (second_behind front (auxiliary_variable at) (auxiliary_variable at)), auxiliary_host u.types at))
-  where
-    front : List UnitVariable
-    front = variables_in line called c.own
+module _ (u : TypedUnit) (c : Block) (line at : ℕ) (called : List ℕ) where
+  abbrev its_variables : List UnitVariable
+  its_variables = variables_in line called c.own ++ auxiliary_variables (Some at)
 
-    abbrev all : List UnitVariable
-    all = variables_in line called c.own ++ auxiliary_variables (Some at)
+  abbrev within : Declarations
+  within = in_routine its_variables u.types (own u)
 
-    abbrev within : Declarations
-    within = in_routine (variables_in line called c.own ++ auxiliary_variables (Some at)) u.types (own u)
+  many : length (variables_in line called c.own) ≡ own_count c.own
+  many = own_length line called c.own.parameters c.own.result c.own.variables
 
-    many : length (variables_in line called c.own) ≡ own_count c.own
-    many = own_length line called c.own.parameters c.own.result c.own.variables
+  pub own_auxiliaries : (first : Region) (others : List Region) → c.scopes.outer ≡ first ∷ others → AuxiliariesAreThere within (locals_of c)
+  own_auxiliaries first others inner =
+      let v : UnitVariable = auxiliary_variable at in
+      subst (λ rs. AuxiliariesAreThere within (if is_outermost rs then OfUnit c.unit (length c.variables) else OfRoutine (first_own c.own) (own_count c.own))) (sym inner)
+      ((v, subst (λ n. slice_get its_variables n ≡ Some v) many (first_behind (variables_in line called c.own) v v), auxiliary_host u.types at),
+        (v, subst (λ n. slice_get its_variables (n + 1) ≡ Some v) many (second_behind (variables_in line called c.own) v v), auxiliary_host u.types at))
 
 -- in the block of a unit
 pub unit_auxiliaries : (u : TypedUnit) (b : Block) (at : ℕ) → b.unit ≡ u.name → u.variables ≡ b.variables → first_for (stmt_of u.start) ≡ Some at → b.scopes.outer ≡ [] → AuxiliariesAreThere (own u) (locals_of b)
 unit_auxiliaries u b at named variables has outermost =
+    let v : UnitVariable = auxiliary_variable at in
+    let all : unit_variables u ≡ b.variables ++ v ∷ v ∷ [] = ap (λ o. u.variables ++ auxiliary_variables o) has ∙ ap (λ l. l ++ v ∷ v ∷ []) variables in
+    let typed : host_of ((own u).types b.unit) (denoter_of v.denoter) ≡ Some host.Integer = ap (λ ts. host_of ts (denoter_of v.denoter)) (types_own u b.unit named) ∙ auxiliary_host u.types at in
     subst (λ rs. AuxiliariesAreThere (own u) (if is_outermost rs then OfUnit b.unit (length b.variables) else OfRoutine (first_own b.own) (own_count b.own))) (sym outermost)
     ((v, variables_own u b.unit (length b.variables) named ∙ (ap (λ l. slice_get l (length b.variables)) all ∙ first_behind b.variables v v), typed),
       (v, variables_own u b.unit (length b.variables + 1) named ∙ (ap (λ l. slice_get l (length b.variables + 1)) all ∙ second_behind b.variables v v), typed))
-  where
-    v : UnitVariable
-    v = auxiliary_variable at
-
-    all : unit_variables u ≡ b.variables ++ v ∷ v ∷ []
-    all = ap (λ o. u.variables ++ auxiliary_variables o) has ∙ ap (λ l. l ++ v ∷ v ∷ []) variables
-
-    typed : host_of ((own u).types b.unit) (denoter_of v.denoter) ≡ Some host.Integer
-    typed = ap (λ ts. host_of ts (denoter_of v.denoter)) (types_own u b.unit named) ∙ auxiliary_host u.types at
