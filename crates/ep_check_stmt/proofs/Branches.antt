@@ -1,5 +1,5 @@
 -- Statements in statements.
-use Rattle.std.proofs.Common.{◌≡◌, ℕ, Option, Some, None, ap, sym, ◌∙◌}
+use Rattle.std.proofs.Common.{◌≡◌, ℕ, List, map, Option, Some, None, ap, sym, ◌∙◌}
 use Rattle.std.specs.Option.{option_map, option_or}
 use Rattle.ep_built.specs.Built.{Found, Placed, expression_unbuilt, first_if, statement_unbuilt}
 use Rattle.ep_built.specs.Built as built
@@ -8,16 +8,23 @@ use Rattle.ep_tree.specs.declared.statement.Statement.{Statement, fold-roll-Stat
 use Rattle.ep_tree.specs.declared.statement.Statement.TheOpen.{Statement-F}
 use Rattle.ep_tree.specs.declared.statement.Statement.TheVariants as statement
 use Rattle.ep_typed.specs.Trees as tree
-use Rattle.ep_typed.specs.Trees.{Stmt, Stmts}
-use Rattle.ep_check_stmt.specs.Statements.{ArmJudged, Context, Judgement, after, at_arm, at_compound, at_otherwise, at_statement, condition_judged, statement_judged}
+use Rattle.ep_typed.specs.Trees.{Place, Stmt, Stmts}
+use Rattle.ep_check_stmt.specs.Statements.{ArmJudged, Context, Under, after, at_arm, at_compound, at_otherwise, at_statement, condition_judged, in_order, repeat_judged, statement_judged}
 use Rattle.ep_check_stmt.proofs.judged.Rounds.{first_built, rest_of}
 
 -- a `while` statement is judged by its parts
-pub while_is : (context : Context) (line : ℕ) (e : Expression) (body : Statement)
-    → statement_judged context (statement.While line e body) ≡ after (tree.While line) (condition_judged context line e) (statement_judged context body)
-while_is context line e body =
-    ap (statement_judged context) (sym (statement.rolls-While line e body))
-    ∙ fold-roll-Statement (Judgement Stmt) ArmJudged (Judgement Stmts) (Judgement Stmts) (at_statement context) (at_arm context) (at_compound context) (at_otherwise context) (Statement-F.While line e body)
+pub while_is : (context : Context) (line : ℕ) (e : Expression) (body : Statement) (controls : List Place)
+    → statement_judged context (statement.While line e body) controls ≡ after (tree.While line) (condition_judged context controls line e) (statement_judged context body controls)
+while_is context line e body controls =
+    ap (λ s. statement_judged context s controls) (sym (statement.rolls-While line e body))
+    ∙ ap (λ (judge : Under Stmt). judge controls) (fold-roll-Statement (Under Stmt) ArmJudged (Under Stmts) (Under Stmts) (at_statement context) (at_arm context) (at_compound context) (at_otherwise context) (Statement-F.While line e body))
+
+-- and a `repeat` statement
+pub repeat_is : (context : Context) (line : ℕ) (all : List Statement) (e : Expression) (controls : List Place)
+    → statement_judged context (statement.Repeat line all e) controls ≡ repeat_judged line (condition_judged context controls line e) (in_order (map (λ s. s controls) (map (statement_judged context) all)))
+repeat_is context line all e controls =
+    ap (λ s. statement_judged context s controls) (sym (statement.rolls-Repeat line all e))
+    ∙ ap (λ (judge : Under Stmt). judge controls) (fold-roll-Statement (Under Stmt) ArmJudged (Under Stmts) (Under Stmts) (at_statement context) (at_arm context) (at_compound context) (at_otherwise context) (Statement-F.Repeat line all e))
 
 if_unbuilt : (line : ℕ) (e : Expression) (then : Statement) (other : Option Statement)
     → statement_unbuilt (statement.If line e then other) ≡ option_or (expression_unbuilt e) (option_or (statement_unbuilt then) (first_if (option_map statement_unbuilt other)))

@@ -1,11 +1,11 @@
 -- A `case` statement and its parts.
-use Rattle.std.proofs.Common.{◌≡◌, ℕ, ℤ, nat_eq, ◌==◌, eq-eqb, Bool, true, false, ◌&&◌, ◌+◌, ◌<◌, ◌≤◌, List, [], ◌∷◌, ◌++◌, map, drop, length, get_or, Option, Some, None, refl, sym, ap, ◌∙◌, subst}
-use Rattle.std.specs.List.{list_any}
+use Rattle.std.proofs.Common.{◌≡◌, ℕ, ℤ, ◌+◌, ◌<◌, ◌≤◌, List, [], ◌∷◌, ◌++◌, map, drop, length, get_or, Option, Some, None, refl, sym, ap, ◌∙◌, subst}
 use Rattle.std.proofs.lemmas.List.{drop_all}
 use Rattle.std.specs.Option.{option_or}
 use Rattle.ep_built.specs.Built.{Found, Placed, arm_unbuilt, expression_unbuilt, first_if, first_in, label_unbuilt, statement_unbuilt}
 use Rattle.ep_built.specs.Built as built
 use Rattle.ep_tree.specs.declared.expression.Expression.{Expression}
+use Rattle.ep_tree.specs.declared.expression.Label.{Label}
 use Rattle.ep_tree.specs.declared.statement.Arm.{Arm, out-Arm}
 use Rattle.ep_tree.specs.declared.statement.Otherwise.{Otherwise, out-Otherwise}
 use Rattle.ep_tree.specs.declared.statement.Statement.{fold-roll-Statement}
@@ -13,7 +13,7 @@ use Rattle.ep_tree.specs.declared.statement.Statement.TheFolds.{fold_out-Arm, fo
 use Rattle.ep_tree.specs.declared.statement.Statement.TheOpen.{Statement-F}
 use Rattle.ep_tree.specs.declared.statement.Statement.TheVariants as statement
 use Rattle.ep_typed.specs.Trees as tree
-use Rattle.ep_typed.specs.Trees.{Stmt, Stmts, Arms, Other, next_arm, no_arm, arms}
+use Rattle.ep_typed.specs.Trees.{Expr, Place, Stmt, Stmts, Arms, Other, next_arm, no_arm, arms}
 use Rattle.ep_typed.specs.Viewed.{arm_of}
 use Rattle.ep_typed.specs.declared.tree.CaseArm.{CaseArm}
 use Rattle.ep_check_expr.specs.Judgements.{Judged, Accepts, Breaks, when_accepted}
@@ -24,13 +24,13 @@ use Rattle.ep_scope.specs.Scopes.{Region}
 use Rattle.ep_scope.specs.declared.kind.Host.{Host}
 use Rattle.ep_check_stmt.specs.Cases.{CaseSelector, end_judged, range_judged, ranging, selector_judged}
 use Rattle.ep_check_stmt.specs.Outcomes.{refused_at}
-use Rattle.ep_check_stmt.specs.Statements.{ArmJudged, Context, Judgement, Passes, Waits, Fails, after, arm_judged, arm_row, arms_in_order, at_arm, at_compound, at_otherwise, at_statement, case_judged, in_order, other_judged, otherwise_judged, statement_judged}
+use Rattle.ep_check_stmt.specs.Statements.{ArmJudged, Context, Under, Judgement, expr_item, Passes, Waits, Fails, after, arm_judged, arm_row, arms_in_order, at_arm, at_compound, at_otherwise, at_statement, case_judged, in_order, other_judged, otherwise_judged, statement_judged}
 use Rattle.ep_check_stmt.specs.declared.cases.Labels.{Labels}
 use Rattle.ep_check_stmt.specs.declared.outcome.CheckRefusal.{CheckRefusal}
 use Rattle.ep_check_stmt.specs.declared.outcome.CheckRefusal.TheVariants as refusal
 use Rattle.ep_check_stmt.proofs.judged.Refusing.{first_refused, part_refused, second_refused}
 use Rattle.ep_check_stmt.proofs.judged.Rounds.{first_built, next_item, rest_of}
-use Rattle.ep_check_stmt.proofs.Rows.{first_falls}
+use Rattle.ep_check_stmt.proofs.Rows.{first_falls, own_line}
 
 -- ---- labels that are taken one after another
 
@@ -140,43 +140,44 @@ all_arms view judge all n found waits h none_waits same =
 
 -- an arm is judged by its parts
 pub arm_is : (context : Context) (a : Arm) → arm_judged context a ≡ (labels_of a, statement_judged context (out-Arm a).body)
-arm_is context a = fold_out-Arm (Judgement Stmt) ArmJudged (Judgement Stmts) (Judgement Stmts) (at_statement context) (at_arm context) (at_compound context) (at_otherwise context) a
+arm_is context a = fold_out-Arm (Under Stmt) ArmJudged (Under Stmts) (Under Stmts) (at_statement context) (at_arm context) (at_compound context) (at_otherwise context) a
 
 arms_labels : (context : Context) (all : List Arm) → map (λ (a : ArmJudged). a.0) (map (arm_judged context) all) ≡ map labels_of all
 arms_labels context [] = refl
 arms_labels context (a ∷ all) = ap (λ (p : ArmJudged). p.0 ∷ map (λ (b : ArmJudged). b.0) (map (arm_judged context) all)) (arm_is context a) ∙ ap (λ ls. labels_of a ∷ ls) (arms_labels context all)
 
 -- the statements behind `otherwise` are judged one after another
-otherwise_is : (context : Context) (o : Otherwise) → otherwise_judged context o ≡ in_order (map (statement_judged context) (out-Otherwise o).statements)
-otherwise_is context o = fold_out-Otherwise (Judgement Stmt) ArmJudged (Judgement Stmts) (Judgement Stmts) (at_statement context) (at_arm context) (at_compound context) (at_otherwise context) o
+otherwise_is : (context : Context) (o : Otherwise) (controls : List Place) → otherwise_judged context o controls ≡ in_order (map (λ s. s controls) (map (statement_judged context) (out-Otherwise o).statements))
+otherwise_is context o controls = ap (λ (judge : Under Stmts). judge controls) (fold_out-Otherwise (Under Stmt) ArmJudged (Under Stmts) (Under Stmts) (at_statement context) (at_arm context) (at_compound context) (at_otherwise context) o)
 
 -- what the `otherwise` part is judged to be
-abbrev pub rest_judged : Context → Option Otherwise → Option (Judgement Stmts)
-rest_judged context None = None
-rest_judged context (Some o) = Some (in_order (map (statement_judged context) (out-Otherwise o).statements))
+abbrev pub rest_judged : Context → List Place → Option Otherwise → Option (Judgement Stmts)
+rest_judged context controls None = None
+rest_judged context controls (Some o) = Some (in_order (map (λ s. s controls) (map (statement_judged context) (out-Otherwise o).statements)))
 
--- a `case` statement is judged by its parts
-pub case_is : (context : Context) (line : ℕ) (e : Expression) (all : List Arm) (other : Option Otherwise)
-    → statement_judged context (statement.Case line e all other) ≡ case_judged line (selector_judged context.scopes e (map labels_of all)) (λ h. arms_in_order (map (arm_row context.scopes line h) (map (arm_judged context) all))) (other_judged (rest_judged context other))
-case_is context line e all None =
-    ap (statement_judged context) (sym (statement.rolls-Case line e all None))
-    ∙ fold-roll-Statement (Judgement Stmt) ArmJudged (Judgement Stmts) (Judgement Stmts) (at_statement context) (at_arm context) (at_compound context) (at_otherwise context) (Statement-F.Case line e all None)
-    ∙ ap (λ ls. case_judged line (selector_judged context.scopes e ls) (λ h. arms_in_order (map (arm_row context.scopes line h) (map (arm_judged context) all))) (other_judged None)) (arms_labels context all)
-case_is context line e all (Some o) =
-    ap (statement_judged context) (sym (statement.rolls-Case line e all (Some o)))
-    ∙ fold-roll-Statement (Judgement Stmt) ArmJudged (Judgement Stmts) (Judgement Stmts) (at_statement context) (at_arm context) (at_compound context) (at_otherwise context) (Statement-F.Case line e all (Some o))
-    ∙ ap (λ ls. case_judged line (selector_judged context.scopes e ls) (λ h. arms_in_order (map (arm_row context.scopes line h) (map (arm_judged context) all))) (other_judged (Some (otherwise_judged context o)))) (arms_labels context all)
-    ∙ ap (λ j. case_judged line (selector_judged context.scopes e (map labels_of all)) (λ h. arms_in_order (map (arm_row context.scopes line h) (map (arm_judged context) all))) (other_judged (Some j))) (otherwise_is context o)
+module _ (context : Context) (line : ℕ) (e : Expression) (all : List Arm) (controls : List Place) where
+  -- by the labels of the arms, and the `otherwise` part
+  abbrev by_labels : List (List Label) → Option (Judgement Stmts) → Judgement Stmt
+  by_labels labels other =
+      case_judged line (λ x. expr_item context controls (Accepts x)) (selector_judged context.scopes e labels) (λ h. arms_in_order (map (arm_row context.scopes line h controls) (map (arm_judged context) all))) (other_judged other)
+
+  -- a `case` statement is judged by its parts
+  pub case_is : (other : Option Otherwise) → statement_judged context (statement.Case line e all other) controls ≡ by_labels (map labels_of all) (rest_judged context controls other)
+  case_is None =
+      ap (λ s. statement_judged context s controls) (sym (statement.rolls-Case line e all None))
+      ∙ ap (λ (judge : Under Stmt). judge controls) (fold-roll-Statement (Under Stmt) ArmJudged (Under Stmts) (Under Stmts) (at_statement context) (at_arm context) (at_compound context) (at_otherwise context) (Statement-F.Case line e all None))
+      ∙ ap (λ labels. by_labels labels None) (arms_labels context all)
+  case_is (Some o) =
+      ap (λ s. statement_judged context s controls) (sym (statement.rolls-Case line e all (Some o)))
+      ∙ ap (λ (judge : Under Stmt). judge controls) (fold-roll-Statement (Under Stmt) ArmJudged (Under Stmts) (Under Stmts) (at_statement context) (at_arm context) (at_compound context) (at_otherwise context) (Statement-F.Case line e all (Some o)))
+      ∙ ap (λ labels. by_labels labels (Some (otherwise_judged context o controls))) (arms_labels context all)
+      ∙ ap (λ j. by_labels (map labels_of all) (Some j)) (otherwise_is context o controls)
 
 -- the refusal of the selector is that of the statement
-pub selector_falls : (line : ℕ) (j : Judged CaseSelector) (rows : Host → Judgement Arms) (other : Judgement Other) (e : Refusal) → Refuses e j → RefusesRow (refused_at line e) (case_judged line j rows other)
-selector_falls line j rows other NoMemory r = tt
-selector_falls line (Accepts s) rows other (Rule rule) r = cc
-selector_falls line (Breaks rules) rows other (Rule rule) r = both_pass (line == line) (list_any (nat_eq rule) rules) (eq-eqb line line refl) r
-  where
-    both_pass : (a b : Bool) → a ≡ true → b ≡ true → (a && b) ≡ true
-    both_pass true b p q = q
-    both_pass false b p q = p
+pub selector_falls : (line : ℕ) (form : Option Expr → Judged (Option Expr)) (j : Judged CaseSelector) (rows : Host → Judgement Arms) (other : Judgement Other) (e : Refusal) → Refuses e j → RefusesRow (refused_at line e) (case_judged line form j rows other)
+selector_falls line form j rows other NoMemory r = tt
+selector_falls line form (Accepts s) rows other (Rule rule) r = cc
+selector_falls line form (Breaks rules) rows other (Rule rule) r = own_line line rules rule r
 
 -- ---- what is built
 

@@ -4,7 +4,7 @@ use Rattle.ep_tree.specs.Nodes.{expression_node, simple_node, term_node, access_
 use Rattle.ep_tree.specs.declared.expression.Argument.{Argument}
 use Rattle.ep_tree.specs.declared.expression.Factor.{Factor}
 use Rattle.ep_tree.specs.declared.expression.Factor.TheVariants as factor
-use Rattle.ep_typed.specs.Trees.{Stmt, Accessed, Constant, Evaluated, Procedure, Variable, actuals}
+use Rattle.ep_typed.specs.Trees.{Stmt, Accessed, Assign, Constant, Evaluated, Own, Procedure, Variable, actuals}
 use Rattle.ep_typed.specs.declared.denoter.RequiredType.{RequiredType}
 use Rattle.ep_typed.specs.declared.denoter.RequiredType.TheVariants as simple
 use Rattle.ep_typed.specs.declared.interface.FormalMode.{FormalMode}
@@ -14,6 +14,7 @@ use Rattle.ep_scope.specs.declared.kind.Host.TheVariants as host
 use Rattle.ep_scope.specs.declared.kind.Kind.TheVariants as kind
 use Rattle.ep_scope.specs.declared.parameter.FormalParameter.{FormalParameter}
 use Rattle.ep_scope.specs.declared.parameter.TypeName.TheVariants as type_name
+use Rattle.ep_scope.specs.declared.parameter.Protection.TheVariants as protection
 use Rattle.ep_scope.specs.declared.rule.TheConstants as rule
 use Rattle.ep_scope.specs.declared.thing.Declaration.{Declaration}
 use Rattle.ep_scope.specs.declared.thing.Declaration.TheVariants as declaration
@@ -21,7 +22,7 @@ use Rattle.ep_scope.specs.declared.thing.Declared.{Declared}
 use Rattle.ep_scope.specs.declared.thing.Thing.TheVariants as thing
 use Rattle.ep_check_expr.proofs.Nodes.{argument-judged, expression-judged, simple-judged, term-judged, name-judged, number-judged}
 use Rattle.ep_check_expr.specs.Judgements.{Judged, Accepts, Breaks}
-use Rattle.ep_check_stmt.specs.Statements.{Context, declared_called}
+use Rattle.ep_check_stmt.specs.Statements.{Context, OfRoutine, OfUnit, declared_called, declared_control, stmt_threat, unless_threatening}
 
 -- arguments of one factor
 abbrev argument : Factor → Argument
@@ -57,6 +58,8 @@ context =
           } ∷ [];
       output = false;
       result = None;
+      locals = OfUnit (codes "u") 2;
+      routines = [];
     }
 
 -- a call of p
@@ -74,3 +77,36 @@ one_argument = simp (argument-judged, expression-judged, simple-judged, term-jud
 -- p(3, c)
 other_type : called (number 3 ∷ name (codes "c") ∷ []) ≡ Breaks (rule.VARIABLE_ARGUMENT ∷ [])
 other_type = simp (argument-judged, expression-judged, simple-judged, term-judged, number-judged, name-judged) refl
+
+-- ---- control variables
+
+abbrev x : Declaration
+x = declaration.Variable (type_name.Required simple.Integer) (kind.Ordinal host.Integer)
+
+-- a variable of a routine, or a formal parameter of it
+abbrev own : Declaration
+own = declaration.Own (type_name.Required simple.Integer) (kind.Ordinal host.Integer) protection.Unprotected
+
+-- x counts in the block of the unit, and in no routine of it
+counts : declared_control (OfUnit (codes "u") 2) (declares 0 x) x ≡ Accepts (record { place = Variable (codes "u") 0; kind = kind.Ordinal host.Integer })
+counts = refl
+
+counts_in_no_routine : declared_control (OfRoutine 1 3) (declares 0 x) x ≡ Breaks (rule.CONTROL_VARIABLE ∷ [])
+counts_in_no_routine = refl
+
+-- in a routine of one parameter the first variable that it declares counts, and the parameter does not
+own_counts : declared_control (OfRoutine 1 3) (declares 1 own) own ≡ Accepts (record { place = Own 1; kind = kind.Ordinal host.Integer })
+own_counts = refl
+
+parameter_does_not : declared_control (OfRoutine 1 3) (declares 0 own) own ≡ Breaks (rule.CONTROL_VARIABLE ∷ [])
+parameter_does_not = refl
+
+-- inside of `for x`, x := 3 and c := 3
+abbrev inside : ℕ → Judged (Option Stmt)
+inside number = unless_threatening (stmt_threat []) (Variable (codes "u") 0 ∷ []) (Accepts (Some (Assign 1 (Variable (codes "u") number) (Constant (pos 3)))))
+
+assigned_inside : inside 0 ≡ Breaks (rule.CONTROL_THREATENED ∷ [])
+assigned_inside = refl
+
+other_assigned : inside 1 ≡ Accepts (Some (Assign 1 (Variable (codes "u") 1) (Constant (pos 3))))
+other_assigned = refl

@@ -2,7 +2,9 @@ pub mod Branches
 pub mod Called
 pub mod CaseParts
 pub mod Examples
+pub mod ForParts
 pub mod Gathered
 pub mod judged
 pub mod Rows
+pub mod Threatening
 pub mod valid

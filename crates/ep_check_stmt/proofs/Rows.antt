@@ -8,7 +8,7 @@ use Rattle.ep_tree.specs.declared.expression.ComponentValue.{ComponentValue}
 use Rattle.ep_tree.specs.declared.statement.Statement.TheOpen.{Statement-F}
 use Rattle.ep_tree.specs.declared.statement.Statement.TheVariants as statement
 use Rattle.ep_tree.specs.declared.statement.Statement.{fold-roll-Statement}
-use Rattle.ep_typed.specs.Trees.{Stmt, Stmts, none, next, stmts}
+use Rattle.ep_typed.specs.Trees.{Place, Stmt, Stmts, none, next, stmts}
 use Rattle.ep_typed.specs.Viewed.{stmt_of}
 use Rattle.ep_typed.specs.declared.tree.TypedStmt.{TypedStmt}
 use Rattle.ep_check_expr.specs.Judgements.{Judged, Accepts, Breaks}
@@ -16,7 +16,7 @@ use Rattle.ep_check_expr.specs.declared.forms.Refusal.{Refusal}
 use Rattle.ep_check_expr.specs.declared.forms.Refusal.TheVariants.{Rule, NoMemory}
 use Rattle.ep_check_stmt.specs.Answers.{AnswersForm, AnswersRow, RefusesRow, passed}
 use Rattle.ep_check_stmt.specs.Outcomes.{item_at}
-use Rattle.ep_check_stmt.specs.Statements.{ArmJudged, Context, Judgement, Passes, Waits, Fails, after, at_arm, at_compound, at_item, at_otherwise, at_statement, in_order, statement_judged}
+use Rattle.ep_check_stmt.specs.Statements.{ArmJudged, Context, Under, Judgement, Passes, Waits, Fails, after, at_arm, at_compound, at_item, at_otherwise, at_statement, in_order, statement_judged}
 use Rattle.ep_check_stmt.specs.declared.outcome.CheckRefusal.{CheckRefusal}
 use Rattle.ep_check_stmt.specs.declared.outcome.CheckRefusal.TheVariants as refusal
 use Rattle.ep_check_stmt.specs.declared.outcome.Outcome.{Outcome}
@@ -27,13 +27,17 @@ both_pass : (a b : Bool) → a ≡ true → b ≡ true → (a && b) ≡ true
 both_pass true b p q = q
 both_pass false b p q = p
 
+-- a rule of these fails on their line
+pub own_line : (line : ℕ) (rules : List ℕ) (rule : ℕ) → list_any (nat_eq rule) rules ≡ true → ((line == line) && list_any (nat_eq rule) rules) ≡ true
+own_line line rules rule h = both_pass (line == line) (list_any (nat_eq rule) rules) (eq-eqb line line refl) h
+
 -- the answer to an item is that to its row
 pub item_answers : {T A : Type 0} (view : T → A) (line : ℕ) (r : Result (Option T) Refusal) (j : Judged (Option A)) → AnswersForm (option_map view) r j → AnswersRow view (item_at line r) (at_item line j)
 item_answers view line (Ok None) j h = ap (at_item line) h
 item_answers view line (Ok (Some t)) j h = ap (at_item line) h
 item_answers view line (Err NoMemory) j h = tt
 item_answers view line (Err (Rule rule)) (Accepts form) h = cc
-item_answers view line (Err (Rule rule)) (Breaks rules) h = both_pass (line == line) (list_any (nat_eq rule) rules) (eq-eqb line line refl) h
+item_answers view line (Err (Rule rule)) (Breaks rules) h = own_line line rules rule h
 
 -- the refusal of the first row, or of the second where the first breaks no rule
 pub first_falls : {A B C : Type 0} (f : A → B → C) (r : CheckRefusal) (x : Judgement A) (y : Judgement B) → RefusesRow r x → RefusesRow r (after f x y)
@@ -103,30 +107,29 @@ refused_through (refusal.Broken b) found waits (Passes ss) h = cc
 refused_through (refusal.Broken b) found waits (Waits line) h = cc
 refused_through (refusal.Broken b) found waits (Fails line rules) h = h
 
-module _ {X : Type 0} (judge : X → Judgement Stmt) (all : List X) (n : ℕ) (x : X) (h : n < length all) (is : x ≡ get_or all n x) where
-  at_next : in_order (map judge (drop n all)) ≡ after next (judge x) (in_order (map judge (drop (n + 1) all)))
-  at_next = ap (λ xs. in_order (map judge xs)) (next_item all n x h is)
+module _ {X Y : Type 0} (view : X → Y) (judge : Y → Judgement Stmt) (all : List X) (n : ℕ) (x : X) (h : n < length all) (is : x ≡ get_or all n x) where
+  abbrev rest : Judgement Stmts
+  rest = in_order (map judge (map view (drop (n + 1) all)))
+
+  at_next : in_order (map judge (map view (drop n all))) ≡ after next (judge (view x)) rest
+  at_next = ap (λ xs. in_order (map judge (map view xs))) (next_item all n x h is)
 
   -- the turn of a loop, with a statement that is built
-  pub more_together : (found : List Stmt) (waits : Option ℕ) (s : Stmt) → judge x ≡ Passes s → together found waits (in_order (map judge (drop n all))) ≡ in_order (map judge all)
-      → together (found ++ s ∷ []) waits (in_order (map judge (drop (n + 1) all))) ≡ in_order (map judge all)
-  more_together found waits s e same =
-      sym (one_passes found waits s (in_order (map judge (drop (n + 1) all))))
-      ∙ (sym (ap (together found waits) (at_next ∙ ap (λ j. after next j (in_order (map judge (drop (n + 1) all)))) e)) ∙ same)
+  pub more_together : (found : List Stmt) (waits : Option ℕ) (s : Stmt) → judge (view x) ≡ Passes s → together found waits (in_order (map judge (map view (drop n all)))) ≡ in_order (map judge (map view all))
+      → together (found ++ s ∷ []) waits rest ≡ in_order (map judge (map view all))
+  more_together found waits s e same = sym (one_passes found waits s rest) ∙ (sym (ap (together found waits) (at_next ∙ ap (λ j. after next j rest) e)) ∙ same)
 
   -- with one that is not
-  pub less_together : (found : List Stmt) (waits : Option ℕ) (line : ℕ) → judge x ≡ Waits line → together found waits (in_order (map judge (drop n all))) ≡ in_order (map judge all)
-      → together found (option_or waits (Some line)) (in_order (map judge (drop (n + 1) all))) ≡ in_order (map judge all)
-  less_together found waits line e same =
-      sym (one_waits found waits line (in_order (map judge (drop (n + 1) all))))
-      ∙ (sym (ap (together found waits) (at_next ∙ ap (λ j. after next j (in_order (map judge (drop (n + 1) all)))) e)) ∙ same)
+  pub less_together : (found : List Stmt) (waits : Option ℕ) (line : ℕ) → judge (view x) ≡ Waits line → together found waits (in_order (map judge (map view (drop n all)))) ≡ in_order (map judge (map view all))
+      → together found (option_or waits (Some line)) rest ≡ in_order (map judge (map view all))
+  less_together found waits line e same = sym (one_waits found waits line rest) ∙ (sym (ap (together found waits) (at_next ∙ ap (λ j. after next j rest) e)) ∙ same)
 
   -- the statement is refused
-  pub statement_falls : (r : CheckRefusal) (found : List Stmt) (waits : Option ℕ) → together found waits (in_order (map judge (drop n all))) ≡ in_order (map judge all) → RefusesRow r (judge x) → RefusesRow r (in_order (map judge all))
+  pub statement_falls : (r : CheckRefusal) (found : List Stmt) (waits : Option ℕ) → together found waits (in_order (map judge (map view (drop n all)))) ≡ in_order (map judge (map view all)) → RefusesRow r (judge (view x)) → RefusesRow r (in_order (map judge (map view all)))
   statement_falls r found waits same f =
       subst (RefusesRow r) same
-      (refused_through r found waits (in_order (map judge (drop n all)))
-      (subst (RefusesRow r) (sym at_next) (first_falls next r (judge x) (in_order (map judge (drop (n + 1) all))) f)))
+      (refused_through r found waits (in_order (map judge (map view (drop n all))))
+      (subst (RefusesRow r) (sym at_next) (first_falls next r (judge (view x)) rest f)))
 
 -- one statement more at the end
 pub statements_more : (found : List TypedStmt) (s : TypedStmt) → map stmt_of (found ++ s ∷ []) ≡ map stmt_of found ++ stmt_of s ∷ []
@@ -134,13 +137,13 @@ statements_more [] s = refl
 statements_more (t ∷ found) s = ap (λ ss. stmt_of t ∷ ss) (statements_more found s)
 
 -- the end of a loop in which all were built
-pub all_together : {X : Type 0} (judge : X → Judgement Stmt) (all : List X) (n : ℕ) (found : List Stmt) (waits : Option ℕ) → length all ≤ n → waits ≡ None
-    → together found waits (in_order (map judge (drop n all))) ≡ in_order (map judge all) → in_order (map judge all) ≡ Passes (stmts found)
-all_together judge all n found waits h none_waits same =
-    sym same ∙ (ap (λ xs. together found waits (in_order (map judge xs))) (drop_all n all h) ∙ (ap (λ w. together found w (Passes none)) none_waits ∙ ap Passes (joined_all found)))
+pub all_together : {X Y : Type 0} (view : X → Y) (judge : Y → Judgement Stmt) (all : List X) (n : ℕ) (found : List Stmt) (waits : Option ℕ) → length all ≤ n → waits ≡ None
+    → together found waits (in_order (map judge (map view (drop n all)))) ≡ in_order (map judge (map view all)) → in_order (map judge (map view all)) ≡ Passes (stmts found)
+all_together view judge all n found waits h none_waits same =
+    sym same ∙ (ap (λ xs. together found waits (in_order (map judge (map view xs)))) (drop_all n all h) ∙ (ap (λ w. together found w (Passes none)) none_waits ∙ ap Passes (joined_all found)))
 
 -- what an assignment statement is judged to be
-pub assignment_is : (context : Context) (line : ℕ) (access : Access) (v : ComponentValue) → statement_judged context (statement.Assignment line access v) ≡ at_statement context (Statement-F.Assignment line access v)
-assignment_is context line access v =
-    ap (statement_judged context) (sym (statement.rolls-Assignment line access v))
-    ∙ fold-roll-Statement (Judgement Stmt) ArmJudged (Judgement Stmts) (Judgement Stmts) (at_statement context) (at_arm context) (at_compound context) (at_otherwise context) (Statement-F.Assignment line access v)
+pub assignment_is : (context : Context) (line : ℕ) (access : Access) (v : ComponentValue) (controls : List Place) → statement_judged context (statement.Assignment line access v) controls ≡ at_statement context (Statement-F.Assignment line access v) controls
+assignment_is context line access v controls =
+    ap (λ s. statement_judged context s controls) (sym (statement.rolls-Assignment line access v))
+    ∙ ap (λ (judge : Under Stmt). judge controls) (fold-roll-Statement (Under Stmt) ArmJudged (Under Stmts) (Under Stmts) (at_statement context) (at_arm context) (at_compound context) (at_otherwise context) (Statement-F.Assignment line access v))

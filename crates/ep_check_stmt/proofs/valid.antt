@@ -1,3 +1,5 @@
 pub mod Cases
+pub mod Loops
 pub mod Passing
+pub mod Sound
 pub mod Statements

@@ -3,7 +3,7 @@ use Rattle.std.specs.Prelude.{◌≡◌, ℕ, nat_eq, Bool, List, map, Option, R
 use Rattle.std.specs.List.{list_any}
 use Rattle.std.specs.Option.{option_map}
 use Rattle.ep_typed.specs.Trees.{Item, Stmts, stmts}
-use Rattle.ep_typed.specs.Viewed.{expr_of, item_of, place_of, stmt_of, arm_of}
+use Rattle.ep_typed.specs.Viewed.{control_of, expr_of, item_of, place_of, stmt_of, arm_of}
 use Rattle.ep_tree.specs.declared.expression.Label.{Label}
 use Rattle.ep_tree.specs.declared.statement.Arm.{Arm, out-Arm}
 use Rattle.ep_typed.specs.Trees as tree
@@ -20,6 +20,8 @@ use Rattle.ep_check_stmt.specs.Statements as rows
 use Rattle.ep_check_stmt.specs.Cases as cases
 use Rattle.ep_check_stmt.specs.declared.cases.Labels.{Labels}
 use Rattle.ep_check_stmt.specs.declared.cases.CaseSelector.{CaseSelector}
+use Rattle.ep_check_stmt.specs.declared.loops.Counted.{Counted}
+use Rattle.ep_check_stmt.specs.declared.loops.ForHead.{ForHead}
 use Rattle.ep_check_stmt.specs.declared.outcome.CheckRefusal.{CheckRefusal}
 use Rattle.ep_check_stmt.specs.declared.outcome.CheckRefusal.TheVariants as refusal
 use Rattle.ep_check_stmt.specs.declared.outcome.Outcome.{Outcome}
@@ -82,6 +84,13 @@ context_of c = record { scopes = c.scopes.now; output = c.output; result = optio
 -- what is assigned to
 abbrev pub target_of : Target → rows.Target
 target_of t = record { place = place_of t.place; kind = t.kind }
+
+-- a control variable, and a `for` without its body
+abbrev pub counted_of : Counted → rows.Counted
+counted_of c = record { place = place_of c.place; host = c.host }
+
+abbrev pub head_of : ForHead → rows.ForHead
+head_of h = record { control = control_of h.control; initial = expr_of h.initial; last = expr_of h.last }
 
 -- statements and written items, as plain data
 abbrev pub stmts_of : List TypedStmt → Stmts

@@ -45,6 +45,7 @@ use Rattle.ep_check_expr.specs.Hosts.{typed_host}
 use Rattle.ep_check_expr.specs.Judgements.{Judged, Accepts, Breaks, Typed, unbuilt, when_accepted, both}
 use Rattle.ep_check_expr.specs.Functions.{Given}
 use Rattle.ep_check_expr.specs.Names.{undeclared}
+use Rattle.ep_check_expr.specs.Operators.{map_both}
 use Rattle.ep_check_expr.specs.Expressions.{given, judged, judged_value}
 use Rattle.ep_check_stmt.specs.Cases.{CaseSelector, own_ranges, selector_judged}
 use Rattle.ep_check_stmt.specs.RoutineForms.{RoutineForm, formals_at}
@@ -272,8 +273,8 @@ case_row line selector arms other =
 
 -- by its selector with the labels, what its form is then, its arms for a host of the selector, and its `otherwise` part
 abbrev pub case_judged : ℕ → (Option Expr → Judged (Option Expr)) → Judged CaseSelector → (Host → Judgement Arms) → Judgement Other → Judgement Stmt
-case_judged line then (Breaks rules) arms other = Fails line rules
-case_judged line then (Accepts s) arms other = case_row line (then s.form) (arms s.host) other
+case_judged line form (Breaks rules) arms other = Fails line rules
+case_judged line form (Accepts s) arms other = case_row line (form s.form) (arms s.host) other
 
 -- ---- `for` (ISO 10206, 6.9.3.9)
 
@@ -345,6 +346,11 @@ abbrev pub falls_by : Direction → Bool
 falls_by direction.To = false
 falls_by direction.Downto = true
 
+-- what a `for` with this control variable counts with
+abbrev pub for_control : Locals → Bool → Counted → Control
+for_control locals falls c =
+    record { variable = c.place; initial = initial_place locals; last = last_place locals; falls = falls; low = least (typed_host c.host); high = greatest (typed_host c.host) }
+
 -- a `for` statement without its body
 pub record ForHead : Type 0 where
   pub control : Control
@@ -352,12 +358,7 @@ pub record ForHead : Type 0 where
   pub last : Expr
 
 abbrev pub for_head : Locals → Bool → Counted → Expr → Expr → ForHead
-for_head locals falls c x y =
-    record {
-      control = record { variable = c.place; initial = initial_place locals; last = last_place locals; falls = falls; low = least (typed_host c.host); high = greatest (typed_host c.host) };
-      initial = x;
-      last = y;
-    }
+for_head locals falls c x y = record { control = for_control locals falls c; initial = x; last = y }
 
 -- a bound is a value of the control variable's host
 abbrev pub bound_judged : Host → Typed → Judged (Option Expr)

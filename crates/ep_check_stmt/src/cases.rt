@@ -1,17 +1,18 @@
 //! The selector and the labels of `case`, and its form.
 
-ghost use Rattle.std.specs.Prelude.{◌≡◌, None, Some, List, map};
+ghost use Rattle.std.specs.Prelude.{◌≡◌, None, Some, List, Option, map};
 ghost use Rattle.std.specs.List.{list_all};
 ghost use Rattle.std.specs.Option.{option_map};
 ghost use Rattle.ep_built.specs.Built.{arm_unbuilt, expression_unbuilt, first_in, label_unbuilt};
 ghost use Rattle.ep_tree.specs.declared.expression.Label.{out-Label};
 ghost use Rattle.ep_typed.specs.Operations.{is_apart};
-ghost use Rattle.ep_typed.specs.Trees.{Arms, Other, Stmt, Stmts};
+ghost use Rattle.ep_typed.specs.Trees.{Arms, Expr, Other, Stmt, Stmts};
 ghost use Rattle.ep_typed.specs.Viewed.{arm_of, expr_of, other_of, stmt_of};
+ghost use Rattle.ep_check_expr.specs.Judgements.{Judged};
 ghost use Rattle.ep_check_stmt.specs.Answers.{AnswersForm, AnswersLabels, AnswersRow, arms_of, labels_of, selector_of, stmts_of};
 ghost use Rattle.ep_check_stmt.specs.Cases as spec;
 ghost use Rattle.ep_check_stmt.specs.Cases.{added, arms_taken, end_judged, fitting, label_taken, labels_taken, own_ranges, range_judged, ranges_formed, ranging, selector_judged};
-ghost use Rattle.ep_check_stmt.specs.Statements.{Judgement, after, case_row, other_judged};
+ghost use Rattle.ep_check_stmt.specs.Statements.{Judgement, after, at_item, case_row, other_judged};
 
 use crate::outcome::Outcome;
 use crate::statements::{Context, Row};
@@ -271,20 +272,20 @@ pub(crate) fn otherwise_form(statements: Row<TypedStmts>) -> Row<Option<TypedStm
 pub(crate) fn case_form(
     alloc: Global,
     line: Line,
-    form: Option<Boxed<TypedExpr>>,
+    selector: Row<Boxed<TypedExpr>>,
     arms: Row<CaseArms>,
     other: Row<Option<TypedStmts>>,
 ) -> Row<Boxed<TypedStmt>>
-    ensures { (x : Judgement Arms) (y : Judgement Other) → AnswersRow arms_of arms x
-        → AnswersRow other_of other y
-        → AnswersRow stmt_of result (case_row line (option_map expr_of form) x y) }
+    ensures { (j : Judged (Option Expr)) (x : Judgement Arms) (y : Judgement Other)
+        → AnswersRow expr_of selector (at_item line j) → AnswersRow arms_of arms x
+        → AnswersRow other_of other y → AnswersRow stmt_of result (case_row line j x y) }
 {
-    match (form, arms?, other?) {
-        (Some(form), Outcome::Passes(arms), Outcome::Passes(other)) => {
+    match (selector?, arms?, other?) {
+        (Outcome::Passes(form), Outcome::Passes(arms), Outcome::Passes(other)) => {
             let form = Boxed::new(alloc, TypedStmt::Case(line, form, arms, other))?;
             Ok(Outcome::Passes(form))
         }
-        (None, _, _) => Ok(Outcome::Waits(line)),
+        (Outcome::Waits(first), _, _) => Ok(Outcome::Waits(first)),
         (_, Outcome::Waits(first), _) => Ok(Outcome::Waits(first)),
         (_, _, Outcome::Waits(first)) => Ok(Outcome::Waits(first)),
     }

@@ -1,21 +1,22 @@
 //! Statements, item by item.
 
-ghost use Rattle.std.specs.Prelude.{◌≡◌, ℕ, List, None, true, IsTrue, map};
+ghost use Rattle.std.specs.Prelude.{◌≡◌, ℕ, List, ◌∷◌, None, true, IsTrue, map};
 ghost use Rattle.std.specs.Option.{option_map};
 ghost use Rattle.ep_built.specs.Built.{arm_unbuilt, built_call, built_target, call_unbuilt, component_value_unbuilt, compound_unbuilt, expression_unbuilt, first_if, first_in, statement_unbuilt, written_unbuilt};
 ghost use Rattle.ep_scope.specs.Scopes.{meant};
 ghost use Rattle.ep_tree.specs.declared.expression.Access.{out-Access};
 ghost use Rattle.ep_typed.specs.Trees as tree;
 ghost use Rattle.ep_typed.specs.Trees.{Expr, Stmt, Stmts};
-ghost use Rattle.ep_typed.specs.Viewed.{arm_of, expr_of, stmt_of};
+ghost use Rattle.ep_typed.specs.Viewed.{arm_of, expr_of, place_of, stmt_of};
 ghost use Rattle.ep_check_expr.specs.Answers.{typed_of};
 ghost use Rattle.ep_check_expr.specs.Expressions.{judged, judged_value};
 ghost use Rattle.ep_check_expr.specs.Judgements.{both};
 ghost use Rattle.ep_check_stmt.specs.Answers.{AnswersForm, AnswersRow, arms_of, context_of, fails_among, result_of, stmts_of, target_of};
 ghost use Rattle.ep_check_stmt.specs.Statements as spec;
-ghost use Rattle.ep_check_stmt.specs.Statements.{Judgement, after, arm_judged, arm_row, arms_in_order, assigned, compound_judged, condition_judged, declared_called, declared_target, formed, function_target, has_result, if_judged, in_order, name_called, own_called, repeat_judged, place_named, required_called, statement_judged, target_judged, target_rules, tested};
+ghost use Rattle.ep_check_stmt.specs.Statements.{Judgement, after, arm_judged, arm_row, arms_in_order, assigned, compound_judged, compound_under, condition_judged, control_judged, declared_called, declared_target, for_judged, formed, function_target, has_result, if_judged, in_order, name_called, own_called, repeat_judged, place_named, required_called, statement_judged, target_judged, target_rules, tested};
 
 use crate::cases::{arm_form, case_form, no_otherwise, otherwise_form};
+use crate::loops::{falls_by, for_form, one_more};
 use crate::outcome::{CheckRefusal, Outcome, item_at, refused_at};
 use ep_base::{Boxed, Line, List, Name};
 use ep_check_expr::{
@@ -26,8 +27,10 @@ use ep_scope::{
     Declaration, Declared, FormalParameter, Host, Kind, Meaning, Procedure, Required, Scope,
     meaning_of, rule,
 };
-use ep_tree::{Access, Argument, Arm, ComponentValue, Compound, Expression, Selector, Statement};
-use ep_typed::{CaseArm, CaseArms, TypedExpr, TypedPlace, TypedStmt, TypedStmts};
+use ep_tree::{
+    Access, Argument, Arm, ComponentValue, Compound, Direction, Expression, Selector, Statement,
+};
+use ep_typed::{CaseArm, CaseArms, TypedExpr, TypedPlace, TypedStmt, TypedStmts, UnitRoutine};
 use std::alloc::{AllocError, Global};
 
 /// The function in whose block the statements are, where its name is assigned to for the result (ISO 10206, 6.7.2).
@@ -43,6 +46,16 @@ pub struct FunctionResult<'a> {
     pub host: Host,
 }
 
+/// The variables of a block, with the number of the first of its two auxiliary variables, which stand behind all of them
+/// (ISO 10206, 6.9.3.9.2).
+#[derive(Clone, Copy)]
+pub enum Locals<'a> {
+    /// Those of the unit of this name.
+    Unit(&'a Name, u32),
+    /// Those of a routine, of which the first one that its block declares has the first number.
+    Routine(u32, u32),
+}
+
 /// What the statements of a block know.
 #[derive(Clone, Copy)]
 pub struct Context<'a> {
@@ -54,14 +67,18 @@ pub struct Context<'a> {
     pub output: bool,
     /// The function whose block it is, where that has a result without a name.
     pub result: Option<FunctionResult<'a>>,
+    /// The variables of the block.
+    pub locals: Locals<'a>,
+    /// The routines of the unit.
+    pub routines: &'a [UnitRoutine],
 }
 
 /// What is assigned to, and its kind.
 pub(crate) struct Target {
     /// The place.
-    place: TypedPlace,
+    pub(crate) place: TypedPlace,
     /// The kind.
-    kind: Kind,
+    pub(crate) kind: Kind,
 }
 
 impl Drop for Target {
@@ -72,7 +89,7 @@ impl Drop for Target {
 
 impl Target {
     /// The place alone.
-    fn into_place(self) -> TypedPlace
+    pub(crate) fn into_place(self) -> TypedPlace
         ensures { result ≡ self.place }
     {
         let Target { place, kind: _ } = self;
@@ -262,25 +279,35 @@ fn call_arguments(access: &Access) -> &[Argument]
 }
 
 impl Context<'_> {
-    /// The statements of a compound statement.
-    #[cycle(statements)]
+    /// The statements of a block, which stand in no `for`.
     pub fn compound(&self, c: &Compound) -> Row<TypedStmts>
         requires { compound_unbuilt c.now ≡ None }
         ensures { AnswersRow stmts_of result (compound_judged (context_of self.now) c.now) }
     {
-        self.statements(c.statements.items())
+        self.compound_within(c, &[])
+    }
+
+    /// The statements of a compound statement, inside of the `for` statements that have these control variables.
+    #[cycle(statements)]
+    fn compound_within(&self, c: &Compound, controls: &[TypedPlace]) -> Row<TypedStmts>
+        requires { compound_unbuilt c.now ≡ None }
+        ensures { AnswersRow stmts_of result
+            (compound_under (context_of self.now) c.now (map place_of controls.now)) }
+    {
+        self.statements(c.statements.items(), controls)
     }
 
     /// Statements in order.
     #[cycle(statements)]
-    fn statements(&self, all: &[Statement]) -> Row<TypedStmts>
+    fn statements(&self, all: &[Statement], controls: &[TypedPlace]) -> Row<TypedStmts>
         requires { first_in (map statement_unbuilt all.now) ≡ None }
-        ensures { AnswersRow stmts_of result (in_order (map (statement_judged (context_of self.now)) all.now)) }
+        ensures { AnswersRow stmts_of result (in_order (map (λ s. s (map place_of controls.now))
+            (map (statement_judged (context_of self.now)) all.now))) }
     {
         let mut found = List::new(self.alloc);
         let mut waits = None;
         for s in all {
-            match self.statement(s)? {
+            match self.statement(s, controls)? {
                 Outcome::Passes(form) => found.push(form.into_inner())?,
                 Outcome::Waits(line) => waits = waits.or(Some(line)),
             }
@@ -293,27 +320,34 @@ impl Context<'_> {
 
     #[cycle(statements)]
     #[tactic(auto, using(crate::proofs::judged::Rounds::rest_of))]
-    fn statement(&self, s: &Statement) -> Row<Boxed<TypedStmt>>
+    fn statement(&self, s: &Statement, controls: &[TypedPlace]) -> Row<Boxed<TypedStmt>>
         requires { statement_unbuilt s.now ≡ None }
-        ensures { AnswersRow stmt_of result (statement_judged (context_of self.now) s.now) }
+        ensures { AnswersRow stmt_of result
+            (statement_judged (context_of self.now) s.now (map place_of controls.now)) }
     {
         match s {
             Statement::Empty(_) => self.empty(),
             Statement::Assignment(line, access, value) => {
-                item_at(*line, self.assignment(*line, access, value))
+                let form = self.assignment(*line, access, value);
+                item_at(*line, self.unless_statement_threatens(controls, form))
             }
-            Statement::Call(line, access) => item_at(*line, self.call(*line, access)),
-            Statement::Compound(c) => compound_form(self.alloc, self.compound(c)),
+            Statement::Call(line, access) => {
+                let form = self.call(*line, access);
+                item_at(*line, self.unless_statement_threatens(controls, form))
+            }
+            Statement::Compound(c) => {
+                compound_form(self.alloc, self.compound_within(c, controls))
+            }
             Statement::If(line, e, then, other) => {
-                let first = self.statement(then.get());
+                let first = self.statement(then.get(), controls);
                 let second = match other {
                     None => self.empty(),
-                    Some(other) => self.statement(other.get()),
+                    Some(other) => self.statement(other.get(), controls),
                 };
                 if_form(
                     self.alloc,
                     *line,
-                    self.condition(*line, e.get()),
+                    self.condition(*line, e.get(), controls),
                     first,
                     second,
                 )
@@ -323,36 +357,104 @@ impl Context<'_> {
                     Ok(selector) => selector,
                     Err(refusal) => return Err(refused_at(*line, refusal)),
                 };
-                let inner = self.arms(*line, selector.host, arms.items());
+                let inner = self.arms(*line, selector.host, arms.items(), controls);
                 let rest = match other {
                     None => no_otherwise(),
-                    Some(other) => otherwise_form(self.statements(other.statements.items())),
+                    Some(other) => {
+                        otherwise_form(self.statements(other.statements.items(), controls))
+                    }
                 };
-                case_form(self.alloc, *line, selector.into_form(), inner, rest)
+                let form = self.unless_value_threatens(controls, Ok(selector.into_form()));
+                case_form(self.alloc, *line, item_at(*line, form), inner, rest)
             }
             Statement::While(line, e, body) => {
-                let inner = self.statement(body.get());
-                while_form(self.alloc, *line, self.condition(*line, e.get()), inner)
+                let inner = self.statement(body.get(), controls);
+                while_form(
+                    self.alloc,
+                    *line,
+                    self.condition(*line, e.get(), controls),
+                    inner,
+                )
             }
             Statement::Repeat(line, all, e) => {
-                let inner = self.statements(all.items());
-                repeat_form(self.alloc, *line, self.condition(*line, e.get()), inner)
+                let inner = self.statements(all.items(), controls);
+                repeat_form(
+                    self.alloc,
+                    *line,
+                    self.condition(*line, e.get(), controls),
+                    inner,
+                )
             }
+            Statement::For(line, name, start, direction, end, body) => self.counting(
+                body.get(),
+                *line,
+                name,
+                start.get(),
+                *direction,
+                end.get(),
+                controls,
+            ),
             _ => unreachable!(),
         }
     }
 
+    /// A `for` statement with this body, control variable and bounds.
+    #[cycle(statements)]
+    fn counting(
+        &self,
+        body: &Statement,
+        line: Line,
+        name: &Name,
+        start: &Expression,
+        direction: Direction,
+        end: &Expression,
+        controls: &[TypedPlace],
+    ) -> Row<Boxed<TypedStmt>>
+        requires body { statement_unbuilt body.now ≡ None }
+        requires start { expression_unbuilt start.now ≡ None }
+        requires end { expression_unbuilt end.now ≡ None }
+        ensures { AnswersRow stmt_of result (for_judged (context_of self.now) (map place_of controls.now) line
+            (control_judged (context_of self.now) name.now) (spec.falls_by direction) start.now end.now
+            (statement_judged (context_of self.now) body.now)) }
+    {
+        let control = match self.control(name) {
+            Ok(control) => control,
+            Err(refusal) => return Err(refused_at(line, refusal)),
+        };
+        let inner = self.statement_under(body, &control.place, controls);
+        let head = self.head(control, falls_by(direction), start, end);
+        let form = self.unless_head_threatens(controls, head);
+        for_form(self.alloc, line, item_at(line, form), inner)
+    }
+
+    /// The body of a `for` with this control variable.
+    #[cycle(statements)]
+    fn statement_under(
+        &self,
+        body: &Statement,
+        control: &TypedPlace,
+        controls: &[TypedPlace],
+    ) -> Row<Boxed<TypedStmt>>
+        requires { statement_unbuilt body.now ≡ None }
+        ensures { AnswersRow stmt_of result (statement_judged (context_of self.now) body.now
+            (place_of control.now ∷ map place_of controls.now)) }
+    {
+        let all = one_more(self.alloc, control, controls)?;
+        self.statement(body, all.items())
+    }
+
     /// The arms of a `case` on this line, whose selector has this host, in order.
     #[cycle(statements)]
-    fn arms(&self, line: Line, host: Host, all: &[Arm]) -> Row<CaseArms>
+    fn arms(&self, line: Line, host: Host, all: &[Arm], controls: &[TypedPlace]) -> Row<CaseArms>
         requires { first_in (map arm_unbuilt all.now) ≡ None }
         ensures { AnswersRow arms_of result (arms_in_order (map
-            (arm_row self.now.scopes.now line host) (map (arm_judged (context_of self.now)) all.now))) }
+            (arm_row self.now.scopes.now line host (map place_of controls.now))
+            (map (arm_judged (context_of self.now)) all.now))) }
     {
         let mut found = List::new(self.alloc);
         let mut waits = None;
         for a in all {
-            match self.arm(line, host, a)? {
+            match self.arm(line, host, a, controls)? {
                 Outcome::Passes(form) => found.push(form.into_inner())?,
                 Outcome::Waits(line) => waits = waits.or(Some(line)),
             }
@@ -364,12 +466,12 @@ impl Context<'_> {
     }
 
     #[cycle(statements)]
-    fn arm(&self, line: Line, host: Host, a: &Arm) -> Row<Boxed<CaseArm>>
+    fn arm(&self, line: Line, host: Host, a: &Arm, controls: &[TypedPlace]) -> Row<Boxed<CaseArm>>
         requires { arm_unbuilt a.now ≡ None }
-        ensures { AnswersRow arm_of result
-            (arm_row self.now.scopes.now line host (arm_judged (context_of self.now) a.now)) }
+        ensures { AnswersRow arm_of result (arm_row self.now.scopes.now line host
+            (map place_of controls.now) (arm_judged (context_of self.now) a.now)) }
     {
-        let body = self.statement(a.body.get());
+        let body = self.statement(a.body.get(), controls);
         let ranges = item_at(line, self.own_ranges(host, a.labels.items()));
         arm_form(self.alloc, ranges, body)
     }
@@ -383,11 +485,17 @@ impl Context<'_> {
     }
 
     /// The condition of a statement on this line.
-    fn condition(&self, line: Line, e: &Expression) -> Row<Boxed<TypedExpr>>
+    fn condition(
+        &self,
+        line: Line,
+        e: &Expression,
+        controls: &[TypedPlace],
+    ) -> Row<Boxed<TypedExpr>>
         requires { expression_unbuilt e.now ≡ None }
-        ensures { AnswersRow expr_of result (condition_judged (context_of self.now) line e.now) }
+        ensures { AnswersRow expr_of result
+            (condition_judged (context_of self.now) (map place_of controls.now) line e.now) }
     {
-        item_at(line, self.tested(e))
+        item_at(line, self.unless_value_threatens(controls, self.tested(e)))
     }
 
     fn tested(&self, e: &Expression) -> Result<Option<Boxed<TypedExpr>>, Refusal>

@@ -1,11 +1,13 @@
-//! Whether statements give a function its result, as specs/Threats.antt says. Nothing here takes memory.
+//! Whether statements threaten a variable, and whether they assign to a name, as specs/Threats.antt says. Nothing here
+//! takes memory.
 
 ghost use Rattle.std.specs.Prelude.{◌≡◌, map, slice_get};
 ghost use Rattle.ep_typed.specs.Trees as tree;
 ghost use Rattle.ep_typed.specs.Trees.{stmts};
 ghost use Rattle.ep_typed.specs.Viewed.{actual_of, arm_of, expr_of, item_of, place_of, stmt_of};
+ghost use Rattle.ep_check_stmt.specs.RoutineForms.{formals_at, formals_if, routine_form};
 ghost use Rattle.ep_check_stmt.specs.Threats as spec;
-ghost use Rattle.ep_check_stmt.specs.Threats.{any_assigns, arm_assigns, formals_if, formals_in, statement_assigns, stmts_threaten};
+ghost use Rattle.ep_check_stmt.specs.Threats.{any_assigns, arm_assigns, statement_assigns, stmts_threaten};
 
 use ep_base::Name;
 use ep_tree::{Access, Arm, Compound, Statement};
@@ -13,12 +15,12 @@ use ep_typed::{
     Actual, CaseArm, Formal, FormalMode, TypedExpr, TypedPlace, TypedStmt, UnitRoutine, WriteItem,
 };
 
-/// Whether statements threaten the variable of this number of the routine in whose block they stand: it is assigned to,
-/// or given for a variable parameter that is not protected (ISO 10206, 6.9.4). The routines are those of the unit, of
-/// which there is one so far, so that a call is looked up by its number alone.
-pub fn threatens(routines: &[UnitRoutine], variable: u32, statements: &[TypedStmt]) -> bool
-    ensures { result ≡
-        stmts_threaten (formals_in routines.now) variable (stmts (map stmt_of statements.now)) }
+/// Whether statements threaten the variable at a place: it is assigned to, given for a variable parameter that is not
+/// protected, or the control variable of a `for` (ISO 10206, 6.9.4). The routines are those of the unit, of which there
+/// is one so far, so that a call is looked up by its number alone.
+pub fn threatens(routines: &[UnitRoutine], variable: &TypedPlace, statements: &[TypedStmt]) -> bool
+    ensures { result ≡ stmts_threaten (formals_at (map routine_form routines.now)) (place_of variable.now)
+        (stmts (map stmt_of statements.now)) }
 {
     stmts_threaten(statements, routines, variable)
 }
@@ -28,9 +30,9 @@ pub fn threatens(routines: &[UnitRoutine], variable: u32, statements: &[TypedStm
 
 /// Whether one of these statements threatens the variable.
 #[cycle(threats)]
-fn stmts_threaten(all: &[TypedStmt], routines: &[UnitRoutine], variable: u32) -> bool
-    ensures { result ≡
-        stmts_threaten (formals_in routines.now) variable (stmts (map stmt_of all.now)) }
+fn stmts_threaten(all: &[TypedStmt], routines: &[UnitRoutine], variable: &TypedPlace) -> bool
+    ensures { result ≡ stmts_threaten (formals_at (map routine_form routines.now)) (place_of variable.now)
+        (stmts (map stmt_of all.now)) }
 {
     for s in all {
         if statement_threatens(s, routines, variable) {
@@ -42,8 +44,13 @@ fn stmts_threaten(all: &[TypedStmt], routines: &[UnitRoutine], variable: u32) ->
 
 /// Whether a statement, or one inside of it, threatens the variable.
 #[cycle(threats)]
-fn statement_threatens(s: &TypedStmt, routines: &[UnitRoutine], variable: u32) -> bool
-    ensures { result ≡ spec.threatens (formals_in routines.now) variable (stmt_of s.now) }
+pub(crate) fn statement_threatens(
+    s: &TypedStmt,
+    routines: &[UnitRoutine],
+    variable: &TypedPlace,
+) -> bool
+    ensures { result ≡ spec.threatens (formals_at (map routine_form routines.now)) (place_of variable.now)
+        (stmt_of s.now) }
 {
     match s {
         TypedStmt::Empty | TypedStmt::Halt(_) => false,
@@ -64,6 +71,12 @@ fn statement_threatens(s: &TypedStmt, routines: &[UnitRoutine], variable: u32) -
             stmts_threaten(all.items(), routines, variable)
                 || expr_threatens(condition.get(), routines, variable)
         }
+        TypedStmt::For(_, control, initial, last, body) => {
+            is_variable(variable, &control.variable)
+                || expr_threatens(initial.get(), routines, variable)
+                || expr_threatens(last.get(), routines, variable)
+                || statement_threatens(body.get(), routines, variable)
+        }
         TypedStmt::Procedure(_, _, number, given) => {
             let formals = formals_of(routines, *number);
             actuals_threaten(formals, given.items(), routines, variable)
@@ -83,9 +96,9 @@ fn statement_threatens(s: &TypedStmt, routines: &[UnitRoutine], variable: u32) -
 
 /// Whether the statement of one of these arms does.
 #[cycle(threats)]
-fn arms_threaten(all: &[CaseArm], routines: &[UnitRoutine], variable: u32) -> bool
-    ensures { result ≡
-        spec.arms_threaten (formals_in routines.now) variable (tree.arms (map arm_of all.now)) }
+fn arms_threaten(all: &[CaseArm], routines: &[UnitRoutine], variable: &TypedPlace) -> bool
+    ensures { result ≡ spec.arms_threaten (formals_at (map routine_form routines.now)) (place_of variable.now)
+        (tree.arms (map arm_of all.now)) }
 {
     for a in all {
         if arm_threatens(a, routines, variable) {
@@ -97,16 +110,17 @@ fn arms_threaten(all: &[CaseArm], routines: &[UnitRoutine], variable: u32) -> bo
 
 /// Whether the statement of an arm does.
 #[cycle(threats)]
-fn arm_threatens(a: &CaseArm, routines: &[UnitRoutine], variable: u32) -> bool
-    ensures { result ≡ spec.threatens (formals_in routines.now) variable (arm_of a.now).1 }
+fn arm_threatens(a: &CaseArm, routines: &[UnitRoutine], variable: &TypedPlace) -> bool
+    ensures { result ≡ spec.threatens (formals_at (map routine_form routines.now)) (place_of variable.now)
+        (arm_of a.now).1 }
 {
     statement_threatens(a.body.get(), routines, variable)
 }
 
 /// Whether one of these expressions that are written does.
-fn items_threaten(all: &[WriteItem], routines: &[UnitRoutine], variable: u32) -> bool
-    ensures { result ≡
-        spec.items_threaten (formals_in routines.now) variable (map item_of all.now) }
+fn items_threaten(all: &[WriteItem], routines: &[UnitRoutine], variable: &TypedPlace) -> bool
+    ensures { result ≡ spec.items_threaten (formals_at (map routine_form routines.now)) (place_of variable.now)
+        (map item_of all.now) }
 {
     for i in all {
         if item_threatens(i, routines, variable) {
@@ -117,8 +131,9 @@ fn items_threaten(all: &[WriteItem], routines: &[UnitRoutine], variable: u32) ->
 }
 
 /// Whether an expression that is written, or its width, does.
-fn item_threatens(i: &WriteItem, routines: &[UnitRoutine], variable: u32) -> bool
-    ensures { result ≡ spec.item_threatens (formals_in routines.now) variable (item_of i.now) }
+fn item_threatens(i: &WriteItem, routines: &[UnitRoutine], variable: &TypedPlace) -> bool
+    ensures { result ≡ spec.item_threatens (formals_at (map routine_form routines.now)) (place_of variable.now)
+        (item_of i.now) }
 {
     match &i.width {
         None => expr_threatens(i.value.get(), routines, variable),
@@ -131,8 +146,9 @@ fn item_threatens(i: &WriteItem, routines: &[UnitRoutine], variable: u32) -> boo
 
 /// Whether an expression has a function designator that does.
 #[cycle(threats_in_expressions)]
-fn expr_threatens(x: &TypedExpr, routines: &[UnitRoutine], variable: u32) -> bool
-    ensures { result ≡ spec.expr_threatens (formals_in routines.now) variable (expr_of x.now) }
+pub(crate) fn expr_threatens(x: &TypedExpr, routines: &[UnitRoutine], variable: &TypedPlace) -> bool
+    ensures { result ≡ spec.expr_threatens (formals_at (map routine_form routines.now)) (place_of variable.now)
+        (expr_of x.now) }
 {
     match x {
         TypedExpr::Constant(_) | TypedExpr::Text(_) | TypedExpr::Read(_) => false,
@@ -162,10 +178,10 @@ fn actuals_threaten(
     formals: &[Formal],
     given: &[Actual],
     routines: &[UnitRoutine],
-    variable: u32,
+    variable: &TypedPlace,
 ) -> bool
-    ensures { result ≡ spec.actuals_threaten (formals_in routines.now) variable formals.now
-        (tree.actuals (map actual_of given.now)) }
+    ensures { result ≡ spec.actuals_threaten (formals_at (map routine_form routines.now)) (place_of variable.now)
+        formals.now (tree.actuals (map actual_of given.now)) }
 {
     for (place, a) in given.iter().enumerate() {
         let Some(formal) = formals.get(place) else {
@@ -180,9 +196,14 @@ fn actuals_threaten(
 
 /// Whether what is given for a parameter of this mode does: the variable itself, or an expression.
 #[cycle(threats_in_expressions)]
-fn actual_threatens(mode: FormalMode, a: &Actual, routines: &[UnitRoutine], variable: u32) -> bool
-    ensures { result ≡
-        spec.actual_threatens (formals_in routines.now) variable mode (actual_of a.now) }
+fn actual_threatens(
+    mode: FormalMode,
+    a: &Actual,
+    routines: &[UnitRoutine],
+    variable: &TypedPlace,
+) -> bool
+    ensures { result ≡ spec.actual_threatens (formals_at (map routine_form routines.now)) (place_of variable.now)
+        mode (actual_of a.now) }
 {
     match a {
         Actual::Value(value) => expr_threatens(value.get(), routines, variable),
@@ -200,19 +221,22 @@ fn mode_threatens(mode: FormalMode) -> bool
     }
 }
 
-/// Whether a place is the variable of this number of the routine.
-fn is_variable(variable: u32, place: &TypedPlace) -> bool
-    ensures { result ≡ spec.is_variable variable (place_of place.now) }
+/// Whether a place is that of the variable.
+pub(crate) fn is_variable(variable: &TypedPlace, place: &TypedPlace) -> bool
+    ensures { result ≡ spec.is_variable (place_of variable.now) (place_of place.now) }
 {
-    match place {
-        TypedPlace::Own(number) => *number == variable,
-        TypedPlace::Variable(_, _) | TypedPlace::Standard(_) => false,
+    match (variable, place) {
+        (TypedPlace::Variable(unit, number), TypedPlace::Variable(other, own)) => {
+            unit.bytes() == other.bytes() && *number == *own
+        }
+        (TypedPlace::Own(number), TypedPlace::Own(own)) => *number == *own,
+        _ => false,
     }
 }
 
 /// The formal parameters of the routine of this number, where there is one.
 fn formals_of(routines: &[UnitRoutine], number: u32) -> &[Formal]
-    ensures { result.now ≡ formals_if (slice_get routines.now number) }
+    ensures { result.now ≡ formals_if (slice_get (map routine_form routines.now) number) }
 {
     match routines.get(number as usize) {
         None => &[],

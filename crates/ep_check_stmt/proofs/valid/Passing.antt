@@ -1,9 +1,12 @@
 -- What passes of rows of items has a property, where the items have theirs.
-use Rattle.std.proofs.Common.{ℕ, Option, Some, None}
-use Rattle.std.specs.Prelude.{⊤}
+use Rattle.std.proofs.Common.{ℕ, Bool, true, false, List, [], ◌∷◌, Option, Some, None}
+use Rattle.std.specs.Prelude.{⊤, if◌then◌else◌}
+use Rattle.std.specs.List.{list_any}
+use Rattle.ep_typed.specs.Trees.{Place}
+use Rattle.ep_scope.specs.declared.rule.TheConstants as rule
 use Rattle.ep_check_expr.specs.Judgements.{Judged, Accepts, Breaks}
 use Rattle.ep_check_expr.proofs.Passing.{IfForm}
-use Rattle.ep_check_stmt.specs.Statements.{Judgement, Passes, Waits, Fails, after, at_item, formed, waiting}
+use Rattle.ep_check_stmt.specs.Statements.{Judgement, Passes, Waits, Fails, after, at_item, formed, unless_threatening, waiting}
 use Rattle.ep_check_stmt.proofs.judged.Fits.{Fits}
 
 -- what passes has the property
@@ -31,3 +34,13 @@ pub after_fits : {A B C : Type 0} (P : A → Type 0) (Q : B → Type 0) (R : C �
 after_fits P Q R f (Passes a) y h k g = formed_fits Q R (f a) y k (λ b q. g a b h q)
 after_fits P Q R f (Waits line) y h k g = waiting_fits R line y
 after_fits P Q R f (Fails line rules) y h k g = tt
+
+-- what is accepted has the property, where it threatens no control variable too
+pub unthreatening_fits : {A : Type 0} (P : A → Type 0) (threat : Place → A → Bool) (controls : List Place) (j : Judged (Option A)) → Fits (IfForm P) j → Fits (IfForm P) (unless_threatening threat controls j)
+unthreatening_fits P threat controls (Accepts None) h = tt
+unthreatening_fits P threat controls (Accepts (Some a)) h = go (list_any (λ v. threat v a) controls)
+  where
+    go : (threatens : Bool) → Fits (IfForm P) (if threatens then Breaks (rule.CONTROL_THREATENED ∷ []) else Accepts (Some a))
+    go true = tt
+    go false = h
+unthreatening_fits P threat controls (Breaks rules) h = tt

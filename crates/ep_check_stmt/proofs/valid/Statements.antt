@@ -15,11 +15,12 @@ use Rattle.ep_tree.specs.declared.statement.Otherwise.{Otherwise, map-Otherwise,
 use Rattle.ep_tree.specs.declared.statement.Statement.{Statement, map-Statement, roll-Statement}
 use Rattle.ep_tree.specs.declared.statement.Statement.TheFolds.{fold-roll-Arm, fold-roll-Compound, fold-roll-Otherwise, fold-roll-Statement, ind-Compound}
 use Rattle.ep_tree.specs.declared.statement.Statement.TheOpen.{Statement-F, Arm-F, Compound-F, Otherwise-F}
+use Rattle.ep_typed.specs.Auxiliaries.{first_for, first_for_of}
 use Rattle.ep_typed.specs.Hosts as typed
 use Rattle.ep_typed.specs.Trees as tree
 use Rattle.ep_typed.specs.Trees.{Actual, Place, Expr, Item, Other, Stmt, Stmts}
 use Rattle.ep_typed.specs.Valid as valid
-use Rattle.ep_typed.specs.Valid.{AreItems, AreStmts, Declarations, IsExpr, IsItem, IsOther, IsPlace, IsStmt, WritesSomething, printed_kind}
+use Rattle.ep_typed.specs.Valid.{AreItems, Declarations, IsExpr, IsItem, IsPlace, IsStmt, WritesSomething, printed_kind}
 use Rattle.ep_typed.specs.declared.operations.Print.{Print}
 use Rattle.ep_typed.specs.declared.tree.StandardFile.{StandardFile}
 use Rattle.ep_typed.specs.declared.tree.StandardFile.TheVariants as file
@@ -49,9 +50,11 @@ use Rattle.ep_check_expr.proofs.Nodes.{argument-judged, wide-judged}
 use Rattle.ep_check_expr.proofs.Passing.{IfForm, given-fits}
 use Rattle.ep_check_stmt.specs.Cases.{CaseSelector, labelled, selecting, selector_judged}
 use Rattle.ep_check_stmt.specs.Laws.{ResultIsThere, StatementsAreSound}
-use Rattle.ep_check_stmt.specs.Statements.{ArmJudged, Context, FunctionResult, Judgement, Passes, Shown, Target, after, arm_judged, arm_row, arms_in_order, assigned, at_arm, at_compound, at_item, at_otherwise, at_statement, available, call_arguments, call_judged, case_judged, compound_judged, condition, condition_judged, declared_called, declared_target, file_given, formed, function_target, has_result, if_judged, in_order, item_form, item_judged, items_judged, measured, name_called, one_more, own_called, otherwise_judged, place_named, procedure_called, required_called, shown, something, statement_judged, target_judged, tested, to_file, usually_written, width_judged, write_judged, written, written_or}
+use Rattle.ep_check_stmt.specs.Statements.{ArmJudged, Context, FunctionResult, Judgement, Passes, Shown, Target, Under, after, arm_judged, arm_row, arms_in_order, assigned, at_arm, at_compound, at_item, at_otherwise, at_statement, available, call_arguments, call_judged, case_judged, compound_under, condition, condition_judged, control_judged, declared_called, declared_target, expr_item, expr_threat, falls_by, file_given, formed, function_target, has_result, if_judged, in_order, item_form, item_judged, items_judged, measured, name_called, one_more, own_called, otherwise_judged, place_named, procedure_called, required_called, shown, something, statement_judged, stmt_item, stmt_threat, target_judged, tested, to_file, unless_threatening, usually_written, width_judged, write_judged, written, written_or}
 use Rattle.ep_check_stmt.proofs.judged.Fits.{Any, Fits, fits_any, fits_both, fits_is, fits_pair, fits_then, fits_weaker}
-use Rattle.ep_check_stmt.proofs.valid.Passing.{FitsRow, after_fits, formed_fits, item_fits}
+use Rattle.ep_check_stmt.proofs.valid.Passing.{FitsRow, after_fits, formed_fits, item_fits, unthreatening_fits}
+use Rattle.ep_check_stmt.proofs.valid.Loops.{control_fits, for_fits}
+use Rattle.ep_check_stmt.proofs.valid.Sound.{AreSound, IsSound, OtherIsSound, first_part, second_part}
 use Rattle.ep_check_stmt.proofs.valid.Cases.{BodiesFit, IsSelected, labelled_fits, row_fits as arms_row_fits}
 
 -- the two parts of an argument of a call
@@ -92,11 +95,24 @@ module _ (declared : Declarations) (expressions : ExpressionsAreSound) (passed :
   tested_fits kind.Text form h = tt
   tested_fits kind.File form h = tt
 
-  condition_fits : (c : Context) → c.scopes ≡ scopes → (line : ℕ) (e : Expression) → FitsRow (IsExpr declared (valid.Ordinal typed.Boolean)) (condition_judged c line e)
-  condition_fits c is line e =
-      subst (λ s. FitsRow (IsExpr declared (valid.Ordinal typed.Boolean)) (at_item line (condition (judged s e)))) (sym is)
-      (item_fits (IsExpr declared (valid.Ordinal typed.Boolean)) line (condition (judged scopes e))
-      (fits_then IsSoundForm (IfForm (IsExpr declared (valid.Ordinal typed.Boolean))) (λ v. tested v.kind v.form) (judged scopes e) (expression_fits e) (λ t h. tested_fits t.kind t.form h)))
+  condition_fits : (c : Context) → c.scopes ≡ scopes → (controls : List Place) (line : ℕ) (e : Expression) → FitsRow (IsExpr declared (valid.Ordinal typed.Boolean)) (condition_judged c controls line e)
+  condition_fits c is controls line e =
+      subst (λ s. FitsRow (IsExpr declared (valid.Ordinal typed.Boolean)) (at_item line (expr_item c controls (condition (judged s e))))) (sym is)
+      (item_fits (IsExpr declared (valid.Ordinal typed.Boolean)) line (expr_item c controls (condition (judged scopes e)))
+      (unthreatening_fits (IsExpr declared (valid.Ordinal typed.Boolean)) (expr_threat c.routines) controls (condition (judged scopes e))
+      (fits_then IsSoundForm (IfForm (IsExpr declared (valid.Ordinal typed.Boolean))) (λ v. tested v.kind v.form) (judged scopes e) (expression_fits e) (λ t h. tested_fits t.kind t.form h))))
+
+  -- ---- statements without statements inside
+
+  -- one that is valid, inside of `for` statements
+  stmt_fits : (c : Context) (controls : List Place) (line : ℕ) (j : Judged (Option Stmt)) → Fits (IfForm (IsStmt declared)) j → FitsRow (IsSound declared c.locals) (stmt_item c controls line j)
+  stmt_fits c controls line j h =
+      item_fits (IsSound declared c.locals) line (unless_threatening (stmt_threat c.routines) controls j)
+      (unthreatening_fits (IsSound declared c.locals) (stmt_threat c.routines) controls j (fits_weaker (IfForm (IsStmt declared)) (IfForm (IsSound declared c.locals)) j weaker h))
+    where
+      weaker : (form : Option Stmt) → IfForm (IsStmt declared) form → IfForm (IsSound declared c.locals) form
+      weaker None p = tt
+      weaker (Some s) p = λ there. p
 
   -- ---- assignments
 
@@ -148,11 +164,10 @@ module _ (declared : Declarations) (expressions : ExpressionsAreSound) (passed :
   assign_fits kind.File kind.File line place form p f = tt
 
   assignment_fits : (c : Context) → c.scopes ≡ scopes → ResultIsThere declared c.result → (line : ℕ) (name : List ℕ) (selectors : List Selector) (v : ComponentValue)
-      → FitsRow (IsStmt declared) (at_item line (both (assigned line) (target_judged c name selectors) (judged_value c.scopes v)))
+      → Fits (IfForm (IsStmt declared)) (both (assigned line) (target_judged c name selectors) (judged_value c.scopes v))
   assignment_fits c is there line name selectors v =
-      item_fits (IsStmt declared) line _
-      (fits_both (λ t. IsTarget t.kind t.place) IsSoundForm (IfForm (IsStmt declared)) (assigned line) (target_judged c name selectors) (judged_value c.scopes v) (target_fits c is there name selectors)
-      (subst (λ s. Fits IsSoundForm (judged_value s v)) (sym is) (value_fits v)) (λ t x p f. assign_fits t.kind x.kind line t.place x.form p f))
+      fits_both (λ t. IsTarget t.kind t.place) IsSoundForm (IfForm (IsStmt declared)) (assigned line) (target_judged c name selectors) (judged_value c.scopes v) (target_fits c is there name selectors)
+      (subst (λ s. Fits IsSoundForm (judged_value s v)) (sym is) (value_fits v)) (λ t x p f. assign_fits t.kind x.kind line t.place x.form p f)
 
   -- ---- `write` and `writeln`
 
@@ -270,44 +285,49 @@ module _ (declared : Declarations) (expressions : ExpressionsAreSound) (passed :
 
   -- ---- `case`
 
-  -- the statements of arms are valid, where they pass
-  abbrev ArmsFit : List ArmJudged → Type 0
-  ArmsFit [] = ⊤
-  ArmsFit (a ∷ all) = FitsRow (IsStmt declared) a.1 × ArmsFit all
-
   abbrev labels_in : List ArmJudged → List (List Label)
   labels_in all = map (λ (a : ArmJudged). a.0) all
 
-  -- a selector, with its labels
-  abbrev IsChosen : List (List Label) → CaseSelector → Type 0
-  IsChosen all s = IsSelected declared labels scopes agrees s.host all s.form
+  module _ (c : Context) (is : c.scopes ≡ scopes) where
+    -- the statements of arms are valid, where they pass
+    abbrev ArmsFit : List ArmJudged → Type 0
+    ArmsFit [] = ⊤
+    ArmsFit (a ∷ all) = ((controls : List Place) → FitsRow (IsSound declared c.locals) (a.1 controls)) × ArmsFit all
 
-  selecting_fits : (all : List (List Label)) (k : Kind) (form : Option Expr) → IsFormOf declared k form → Fits (IsChosen all) (when_accepted (labelled scopes all) (selecting k form))
-  selecting_fits all (kind.Ordinal h) form f =
-      fits_weaker (λ (s : CaseSelector). (s.host ≡ h) × IsSelected declared labels scopes agrees h all s.form) (IsChosen all) (labelled scopes all (record { host = h; form = form }))
-      (λ s p. subst (λ g. IsSelected declared labels scopes agrees g all s.form) (sym p.0) p.1) (labelled_fits declared labels scopes agrees h all form (ordinal_form h form f))
-  selecting_fits all kind.Text form f = tt
-  selecting_fits all kind.File form f = tt
+    -- a selector, with its labels
+    abbrev IsChosen : List (List Label) → CaseSelector → Type 0
+    IsChosen all s = IsSelected declared c.locals labels scopes agrees s.host all s.form
 
-  selector_fits : (e : Expression) (all : List (List Label)) → Fits (IsChosen all) (selector_judged scopes e all)
-  selector_fits e all = go (judged scopes e) (expression_fits e)
-    where
-      go : (j : Judged Typed) → Fits IsSoundForm j → Fits (IsChosen all) (when_accepted (labelled scopes all) (when_accepted (λ t. selecting t.kind t.form) j))
-      go (Accepts t) p = selecting_fits all t.kind t.form p
-      go (Breaks rules) p = tt
+    selecting_fits : (all : List (List Label)) (k : Kind) (form : Option Expr) → IsFormOf declared k form → Fits (IsChosen all) (when_accepted (labelled scopes all) (selecting k form))
+    selecting_fits all (kind.Ordinal h) form f =
+        fits_weaker (λ (s : CaseSelector). (s.host ≡ h) × IsSelected declared c.locals labels scopes agrees h all s.form) (IsChosen all) (labelled scopes all (record { host = h; form = form }))
+        (λ s p. subst (λ g. IsSelected declared c.locals labels scopes agrees g all s.form) (sym p.0) p.1) (labelled_fits declared c.locals labels scopes agrees h all form (ordinal_form h form f))
+    selecting_fits all kind.Text form f = tt
+    selecting_fits all kind.File form f = tt
 
-  chosen_fits : (line : ℕ) (j : Judged CaseSelector) (all : List ArmJudged) (other : Judgement Other) → Fits (IsChosen (labels_in all)) j → ArmsFit all → FitsRow (IsOther declared) other → FitsRow (IsStmt declared) (case_judged line j (λ h. arms_in_order (map (arm_row scopes line h) all)) other)
-  chosen_fits line (Accepts s) all other p q r = arms_row_fits declared labels scopes agrees s.host line s.form all other p (bodies s.host all q) r
-    where
-      bodies : (h : Host) (all : List ArmJudged) → ArmsFit all → BodiesFit declared labels scopes agrees h all
-      bodies h [] q = tt
-      bodies h (a ∷ all) q = (q.0, bodies h all q.1)
-  chosen_fits line (Breaks rules) all other p q r = tt
+    selector_fits : (e : Expression) (all : List (List Label)) → Fits (IsChosen all) (selector_judged scopes e all)
+    selector_fits e all = go (judged scopes e) (expression_fits e)
+      where
+        go : (j : Judged Typed) → Fits IsSoundForm j → Fits (IsChosen all) (when_accepted (labelled scopes all) (when_accepted (λ t. selecting t.kind t.form) j))
+        go (Accepts t) p = selecting_fits all t.kind t.form p
+        go (Breaks rules) p = tt
 
-  case_fits : (c : Context) → c.scopes ≡ scopes → (line : ℕ) (e : Expression) (all : List ArmJudged) (other : Judgement Other) → ArmsFit all → FitsRow (IsOther declared) other → FitsRow (IsStmt declared) (case_judged line (selector_judged c.scopes e (labels_in all)) (λ h. arms_in_order (map (arm_row c.scopes line h) all)) other)
-  case_fits c is line e all other q r =
-      subst (λ s. FitsRow (IsStmt declared) (case_judged line (selector_judged s e (labels_in all)) (λ h. arms_in_order (map (arm_row s line h) all)) other)) (sym is)
-      (chosen_fits line (selector_judged scopes e (labels_in all)) all other (selector_fits e (labels_in all)) q r)
+    chosen_fits : (controls : List Place) (line : ℕ) (j : Judged CaseSelector) (all : List ArmJudged) (other : Judgement Other) → Fits (IsChosen (labels_in all)) j → ArmsFit all → FitsRow (OtherIsSound declared c.locals) other
+        → FitsRow (IsSound declared c.locals) (case_judged line (λ x. expr_item c controls (Accepts x)) j (λ h. arms_in_order (map (arm_row scopes line h controls) all)) other)
+    chosen_fits controls line (Accepts s) all other p q r =
+        arms_row_fits declared c.locals labels scopes agrees s.host line controls (expr_item c controls (Accepts s.form)) all other
+        (unthreatening_fits (IsExpr declared (valid.Ordinal (typed_host s.host))) (expr_threat c.routines) controls (Accepts s.form) p.0) p.1 (bodies s.host all q) r
+      where
+        bodies : (h : Host) (all : List ArmJudged) → ArmsFit all → BodiesFit declared c.locals labels scopes agrees h all
+        bodies h [] q = tt
+        bodies h (a ∷ all) q = (q.0, bodies h all q.1)
+    chosen_fits controls line (Breaks rules) all other p q r = tt
+
+    case_fits : (controls : List Place) (line : ℕ) (e : Expression) (all : List ArmJudged) (other : Judgement Other) → ArmsFit all → FitsRow (OtherIsSound declared c.locals) other
+        → FitsRow (IsSound declared c.locals) (case_judged line (λ x. expr_item c controls (Accepts x)) (selector_judged c.scopes e (labels_in all)) (λ h. arms_in_order (map (arm_row c.scopes line h controls) all)) other)
+    case_fits controls line e all other q r =
+        subst (λ s. FitsRow (IsSound declared c.locals) (case_judged line (λ x. expr_item c controls (Accepts x)) (selector_judged s e (labels_in all)) (λ h. arms_in_order (map (arm_row s line h controls) all)) other)) (sym is)
+        (chosen_fits controls line (selector_judged scopes e (labels_in all)) all other (selector_fits e (labels_in all)) q r)
 
   -- ---- calls
 
@@ -368,17 +388,24 @@ module _ (declared : Declarations) (expressions : ExpressionsAreSound) (passed :
   -- ---- statements
 
   module _ (c : Context) (is : c.scopes ≡ scopes) (there : ResultIsThere declared c.result) where
+    abbrev Sound : Judgement Stmt → Type 0
+    Sound = FitsRow (IsSound declared c.locals)
+
+    abbrev AllSound : Judgement Stmts → Type 0
+    AllSound = FitsRow (AreSound declared c.locals)
+
+    -- inside of any `for` statements
     abbrev IsStatement : Statement → Type 0
-    IsStatement s = FitsRow (IsStmt declared) (statement_judged c s)
+    IsStatement s = (controls : List Place) → Sound (statement_judged c s controls)
 
     abbrev IsCompound : Compound → Type 0
-    IsCompound s = FitsRow (AreStmts declared) (compound_judged c s)
+    IsCompound s = (controls : List Place) → AllSound (compound_under c s controls)
 
     abbrev IsArm : Arm → Type 0
-    IsArm a = FitsRow (IsStmt declared) (arm_judged c a).1
+    IsArm a = (controls : List Place) → Sound ((arm_judged c a).1 controls)
 
     abbrev IsOtherwise : Otherwise → Type 0
-    IsOtherwise o = FitsRow (AreStmts declared) (otherwise_judged c o)
+    IsOtherwise o = (controls : List Place) → AllSound (otherwise_judged c o controls)
 
     abbrev ValidStatement : Type 0
     ValidStatement = (s : Statement) × IsStatement s
@@ -405,69 +432,87 @@ module _ (declared : Declarations) (expressions : ExpressionsAreSound) (passed :
     abbrev otherwise_layer : Otherwise-F ValidStatement ValidArm ValidCompound ValidOtherwise → Otherwise-F Statement Arm Compound Otherwise
     otherwise_layer = map-Otherwise ValidStatement ValidArm ValidCompound ValidOtherwise Statement Arm Compound Otherwise (λ s. s.0) (λ a. a.0) (λ s. s.0) (λ o. o.0)
 
-    rolled_arm : (x : Arm-F Statement Arm Compound Otherwise) → FitsRow (IsStmt declared) (statement_judged c x.body) → IsArm (roll-Arm x)
-    rolled_arm x h = subst (λ (a : ArmJudged). FitsRow (IsStmt declared) a.1) (sym (fold-roll-Arm (Judgement Stmt) ArmJudged (Judgement Stmts) (Judgement Stmts) (at_statement c) (at_arm c) (at_compound c) (at_otherwise c) x)) h
+    rolled_arm : (x : Arm-F Statement Arm Compound Otherwise) → IsStatement x.body → IsArm (roll-Arm x)
+    rolled_arm x h controls = subst (λ (a : ArmJudged). Sound (a.1 controls)) (sym (fold-roll-Arm (Under Stmt) ArmJudged (Under Stmts) (Under Stmts) (at_statement c) (at_arm c) (at_compound c) (at_otherwise c) x)) (h controls)
 
-    rolled_otherwise : (x : Otherwise-F Statement Arm Compound Otherwise) → FitsRow (AreStmts declared) (in_order (map (statement_judged c) x.statements)) → IsOtherwise (roll-Otherwise x)
-    rolled_otherwise x h = subst (FitsRow (AreStmts declared)) (sym (fold-roll-Otherwise (Judgement Stmt) ArmJudged (Judgement Stmts) (Judgement Stmts) (at_statement c) (at_arm c) (at_compound c) (at_otherwise c) x)) h
+    rolled_otherwise : (x : Otherwise-F Statement Arm Compound Otherwise) → ((controls : List Place) → AllSound (in_order (map (λ s. s controls) (map (statement_judged c) x.statements)))) → IsOtherwise (roll-Otherwise x)
+    rolled_otherwise x h controls = subst (λ (judge : Under Stmts). AllSound (judge controls)) (sym (fold-roll-Otherwise (Under Stmt) ArmJudged (Under Stmts) (Under Stmts) (at_statement c) (at_arm c) (at_compound c) (at_otherwise c) x)) (h controls)
 
-    rolled : (x : Statement-F Statement Arm Compound Otherwise) → FitsRow (IsStmt declared) (at_statement c (map-Statement Statement Arm Compound Otherwise (Judgement Stmt) ArmJudged (Judgement Stmts) (Judgement Stmts) (statement_judged c) (arm_judged c) (compound_judged c) (otherwise_judged c) x)) → IsStatement (roll-Statement x)
-    rolled x h = subst (FitsRow (IsStmt declared)) (sym (fold-roll-Statement (Judgement Stmt) ArmJudged (Judgement Stmts) (Judgement Stmts) (at_statement c) (at_arm c) (at_compound c) (at_otherwise c) x)) h
+    rolled : (x : Statement-F Statement Arm Compound Otherwise) → ((controls : List Place) → Sound (at_statement c (map-Statement Statement Arm Compound Otherwise (Under Stmt) ArmJudged (Under Stmts) (Under Stmts) (statement_judged c) (arm_judged c) (compound_under c) (otherwise_judged c) x) controls)) → IsStatement (roll-Statement x)
+    rolled x h controls = subst (λ (judge : Under Stmt). Sound (judge controls)) (sym (fold-roll-Statement (Under Stmt) ArmJudged (Under Stmts) (Under Stmts) (at_statement c) (at_arm c) (at_compound c) (at_otherwise c) x)) (h controls)
 
-    rolled_compound : (x : Compound-F Statement Arm Compound Otherwise) → FitsRow (AreStmts declared) (in_order (map (statement_judged c) x.statements)) → IsCompound (roll-Compound x)
-    rolled_compound x h = subst (FitsRow (AreStmts declared)) (sym (fold-roll-Compound (Judgement Stmt) ArmJudged (Judgement Stmts) (Judgement Stmts) (at_statement c) (at_arm c) (at_compound c) (at_otherwise c) x)) h
+    rolled_compound : (x : Compound-F Statement Arm Compound Otherwise) → ((controls : List Place) → AllSound (in_order (map (λ s. s controls) (map (statement_judged c) x.statements)))) → IsCompound (roll-Compound x)
+    rolled_compound x h controls = subst (λ (judge : Under Stmts). AllSound (judge controls)) (sym (fold-roll-Compound (Under Stmt) ArmJudged (Under Stmts) (Under Stmts) (at_statement c) (at_arm c) (at_compound c) (at_otherwise c) x)) (h controls)
 
-    row_fits : (ss : List ValidStatement) → FitsRow (AreStmts declared) (in_order (map (statement_judged c) (map (λ s. s.0) ss)))
-    row_fits [] = tt
-    row_fits (s ∷ ss) = after_fits (IsStmt declared) (AreStmts declared) (AreStmts declared) tree.next (statement_judged c s.0) (in_order (map (statement_judged c) (map (λ s. s.0) ss))) s.1 (row_fits ss) (λ x xs p q. (p, q))
+    -- one statement before others
+    both_sound : (x : Stmt) (xs : Stmts) → IsSound declared c.locals x → AreSound declared c.locals xs → AreSound declared c.locals (tree.next x xs)
+    both_sound x xs p q = λ there. (p (first_part declared c.locals (first_for x) (first_for_of xs) there), q (second_part declared c.locals (first_for x) (first_for_of xs) there))
 
-    if_fits : (line : ℕ) (x : Judgement Expr) (y z : Judgement Stmt) → FitsRow (IsExpr declared (valid.Ordinal typed.Boolean)) x → FitsRow (IsStmt declared) y → FitsRow (IsStmt declared) z → FitsRow (IsStmt declared) (if_judged line x y z)
+    row_fits : (controls : List Place) (ss : List ValidStatement) → AllSound (in_order (map (λ s. s controls) (map (statement_judged c) (map (λ s. s.0) ss))))
+    row_fits controls [] = λ there. tt
+    row_fits controls (s ∷ ss) =
+        after_fits (IsSound declared c.locals) (AreSound declared c.locals) (AreSound declared c.locals) tree.next (statement_judged c s.0 controls) (in_order (map (λ s. s controls) (map (statement_judged c) (map (λ s. s.0) ss)))) (s.1 controls) (row_fits controls ss)
+        (λ x xs p q. both_sound x xs p q)
+
+    -- two statements
+    abbrev BothSound : Stmt × Stmt → Type 0
+    BothSound p = IsSound declared c.locals p.0 × IsSound declared c.locals p.1
+
+    if_fits : (line : ℕ) (x : Judgement Expr) (y z : Judgement Stmt) → FitsRow (IsExpr declared (valid.Ordinal typed.Boolean)) x → Sound y → Sound z → Sound (if_judged line x y z)
     if_fits line x y z h k l =
-        after_fits (IsExpr declared (valid.Ordinal typed.Boolean)) (λ p. IsStmt declared p.0 × IsStmt declared p.1) (IsStmt declared) _ x (after (λ a b. (a, b)) y z) h
-        (after_fits (IsStmt declared) (IsStmt declared) (λ p. IsStmt declared p.0 × IsStmt declared p.1) (λ a b. (a, b)) y z k l (λ a b p q. (p, q)))
-        (λ e p f g. (f, g.0, g.1))
+        after_fits (IsExpr declared (valid.Ordinal typed.Boolean)) BothSound (IsSound declared c.locals) _ x (after (λ a b. (a, b)) y z) h
+        (after_fits (IsSound declared c.locals) (IsSound declared c.locals) BothSound (λ a b. (a, b)) y z k l (λ a b p q. (p, q)))
+        (λ e p f g. λ there. (f, g.0 (first_part declared c.locals (first_for p.0) (first_for p.1) there), g.1 (second_part declared c.locals (first_for p.0) (first_for p.1) there)))
 
-    bodies_fit : (all : List ValidArm) → ArmsFit (map (arm_judged c) (map (λ a. a.0) all))
+    bodies_fit : (all : List ValidArm) → ArmsFit c is (map (arm_judged c) (map (λ a. a.0) all))
     bodies_fit [] = tt
     bodies_fit (a ∷ all) = (a.1, bodies_fit all)
 
+    nothing_there : (controls : List Place) → Sound (Passes tree.Empty)
+    nothing_there controls = λ there. tt
+
     -- each statement, where those in it are valid
     statement_step : (y : Statement-F ValidStatement ValidArm ValidCompound ValidOtherwise) → IsStatement (roll-Statement (statement_layer y))
-    statement_step (Statement-F.Empty line) = rolled (Statement-F.Empty line) tt
-    statement_step (Statement-F.Assignment line access v) = rolled (Statement-F.Assignment line access v) (assignment_fits c is there line (out-Access access).name (out-Access access).selectors v)
-    statement_step (Statement-F.Call line access) =
-        rolled (Statement-F.Call line access)
-        (item_fits (IsStmt declared) line (name_called c line (out-Access access).name (call_arguments (out-Access access).selectors)) (called_fits c is line (out-Access access).name (call_arguments (out-Access access).selectors)))
-    statement_step (Statement-F.Compound s) = rolled (Statement-F.Compound s.0) (formed_fits (AreStmts declared) (IsStmt declared) tree.Compound (compound_judged c s.0) s.1 (λ ss p. p))
+    statement_step (Statement-F.Empty line) = rolled (Statement-F.Empty line) nothing_there
+    statement_step (Statement-F.Assignment line access v) =
+        rolled (Statement-F.Assignment line access v) (λ controls. stmt_fits c controls line _ (assignment_fits c is there line (out-Access access).name (out-Access access).selectors v))
+    statement_step (Statement-F.Call line access) = rolled (Statement-F.Call line access) (λ controls. stmt_fits c controls line _ (called_fits c is line (out-Access access).name (call_arguments (out-Access access).selectors)))
+    statement_step (Statement-F.Compound s) = rolled (Statement-F.Compound s.0) (λ controls. formed_fits (AreSound declared c.locals) (IsSound declared c.locals) tree.Compound (compound_under c s.0 controls) (s.1 controls) (λ ss p. p))
     statement_step (Statement-F.If line e then_part None) =
-        rolled (statement_layer (Statement-F.If line e then_part None)) (if_fits line (condition_judged c line e) (statement_judged c then_part.0) (Passes tree.Empty) (condition_fits c is line e) then_part.1 tt)
+        rolled (statement_layer (Statement-F.If line e then_part None))
+        (λ controls. if_fits line (condition_judged c controls line e) (statement_judged c then_part.0 controls) (Passes tree.Empty) (condition_fits c is controls line e) (then_part.1 controls) (nothing_there controls))
     statement_step (Statement-F.If line e then_part (Some other)) =
-        rolled (statement_layer (Statement-F.If line e then_part (Some other))) (if_fits line (condition_judged c line e) (statement_judged c then_part.0) (statement_judged c other.0) (condition_fits c is line e) then_part.1 other.1)
+        rolled (statement_layer (Statement-F.If line e then_part (Some other)))
+        (λ controls. if_fits line (condition_judged c controls line e) (statement_judged c then_part.0 controls) (statement_judged c other.0 controls) (condition_fits c is controls line e) (then_part.1 controls) (other.1 controls))
     statement_step (Statement-F.While line e body) =
         rolled (Statement-F.While line e body.0)
-        (after_fits (IsExpr declared (valid.Ordinal typed.Boolean)) (IsStmt declared) (IsStmt declared) (tree.While line) (condition_judged c line e) (statement_judged c body.0) (condition_fits c is line e) body.1 (λ x s p q. (p, q)))
+        (λ controls. after_fits (IsExpr declared (valid.Ordinal typed.Boolean)) (IsSound declared c.locals) (IsSound declared c.locals) (tree.While line) (condition_judged c controls line e) (statement_judged c body.0 controls) (condition_fits c is controls line e) (body.1 controls) (λ x s p q. λ there. (p, q there)))
     statement_step (Statement-F.Case line e arms None) =
-        rolled (statement_layer (Statement-F.Case line e arms None)) (case_fits c is line e (map (arm_judged c) (map (λ a. a.0) arms)) (Passes tree.no_other) (bodies_fit arms) tt)
+        rolled (statement_layer (Statement-F.Case line e arms None)) (λ controls. case_fits c is controls line e (map (arm_judged c) (map (λ a. a.0) arms)) (Passes tree.no_other) (bodies_fit arms) (λ there. tt))
     statement_step (Statement-F.Case line e arms (Some o)) =
         rolled (statement_layer (Statement-F.Case line e arms (Some o)))
-        (case_fits c is line e (map (arm_judged c) (map (λ a. a.0) arms)) (formed tree.otherwise_do (otherwise_judged c o.0)) (bodies_fit arms) (formed_fits (AreStmts declared) (IsOther declared) tree.otherwise_do (otherwise_judged c o.0) o.1 (λ ss p. p)))
+        (λ controls. case_fits c is controls line e (map (arm_judged c) (map (λ a. a.0) arms)) (formed tree.otherwise_do (otherwise_judged c o.0 controls)) (bodies_fit arms)
+        (formed_fits (AreSound declared c.locals) (OtherIsSound declared c.locals) tree.otherwise_do (otherwise_judged c o.0 controls) (o.1 controls) (λ ss p. p)))
     statement_step (Statement-F.Repeat line statements e) =
         rolled (statement_layer (Statement-F.Repeat line statements e))
-        (after_fits (IsExpr declared (valid.Ordinal typed.Boolean)) (AreStmts declared) (IsStmt declared) (λ form body. tree.Repeat line body form) (condition_judged c line e) (in_order (map (statement_judged c) (map (λ s. s.0) statements))) (condition_fits c is line e) (row_fits statements) (λ x ss p q. (q, p)))
-    statement_step (Statement-F.For line variable start direction end body) = rolled (statement_layer (Statement-F.For line variable start direction end body)) tt
-    statement_step (Statement-F.ForIn line variable members body) = rolled (statement_layer (Statement-F.ForIn line variable members body)) tt
-    statement_step (Statement-F.With line accesses body) = rolled (statement_layer (Statement-F.With line accesses body)) tt
+        (λ controls. after_fits (IsExpr declared (valid.Ordinal typed.Boolean)) (AreSound declared c.locals) (IsSound declared c.locals) (λ form body. tree.Repeat line body form) (condition_judged c controls line e) (in_order (map (λ s. s controls) (map (statement_judged c) (map (λ s. s.0) statements)))) (condition_fits c is controls line e) (row_fits controls statements) (λ x ss p q. λ there. (q there, p)))
+    statement_step (Statement-F.For line variable start toward end body) =
+        rolled (statement_layer (Statement-F.For line variable start toward end body))
+        (λ controls. for_fits declared scopes agrees expression_fits c is controls line (control_judged c variable) (falls_by toward) start end (statement_judged c body.0) (control_fits declared scopes agrees expression_fits c is variable) body.1)
+    statement_step (Statement-F.ForIn line variable members body) = rolled (statement_layer (Statement-F.ForIn line variable members body)) (λ controls. tt)
+    statement_step (Statement-F.With line accesses body) = rolled (statement_layer (Statement-F.With line accesses body)) (λ controls. tt)
 
     -- the statements of a compound statement that pass are valid
-    pub compound_fits : (s : Compound) → FitsRow (AreStmts declared) (compound_judged c s)
+    pub compound_fits : (s : Compound) → IsCompound s
     compound_fits =
         ind-Compound IsStatement IsArm IsCompound IsOtherwise
         (λ x y e. subst (λ z. IsStatement (roll-Statement z)) e (statement_step y))
         (λ x y e. subst (λ z. IsArm (roll-Arm z)) e (rolled_arm (arm_layer y) y.body.1))
-        (λ x y e. subst (λ z. IsCompound (roll-Compound z)) e (rolled_compound (compound_layer y) (row_fits y.statements)))
-        (λ x y e. subst (λ z. IsOtherwise (roll-Otherwise z)) e (rolled_otherwise (otherwise_layer y) (row_fits y.statements)))
+        (λ x y e. subst (λ z. IsCompound (roll-Compound z)) e (rolled_compound (compound_layer y) (λ controls. row_fits controls y.statements)))
+        (λ x y e. subst (λ z. IsOtherwise (roll-Otherwise z)) e (rolled_otherwise (otherwise_layer y) (λ controls. row_fits controls y.statements)))
 
 -- the law
 pub statements_are_sound : ExpressionsAreSound → ArgumentsAreSound → ValuesAreSound → LabelsAreSound → StatementsAreSound
-statements_are_sound expressions passed values labels context c ss is declared agrees there =
-    subst (FitsRow (AreStmts declared)) is (compound_fits declared expressions passed values labels context.scopes agrees context refl there c)
+statements_are_sound expressions passed values labels context c ss is declared agrees there auxiliary =
+    let sound : AreSound declared context.locals ss = subst (FitsRow (AreSound declared context.locals)) is (compound_fits declared expressions passed values labels context.scopes agrees context refl there c []) in
+    sound auxiliary

@@ -1,0 +1,123 @@
+-- A `for` statement that the rules accept is valid, where the auxiliary variables are there.
+use Rattle.std.proofs.Common.{◌≡◌, ℕ, Bool, true, false, List, [], ◌∷◌, Option, Some, None, refl, sym, subst}
+use Rattle.std.specs.Prelude.{⊤, if◌then◌else◌}
+use Rattle.ep_tree.specs.declared.expression.Expression.{Expression}
+use Rattle.ep_typed.specs.Hosts as typed
+use Rattle.ep_typed.specs.Trees as tree
+use Rattle.ep_typed.specs.Trees.{Expr, Place, Stmt}
+use Rattle.ep_typed.specs.Valid as valid
+use Rattle.ep_typed.specs.Valid.{Declarations, IsControl, IsExpr, IsPlace}
+use Rattle.ep_scope.specs.Scopes.{Region, Meant, Declares, Standard, Requires, Nothing, meant}
+use Rattle.ep_scope.specs.declared.kind.Host.{Host}
+use Rattle.ep_scope.specs.declared.kind.Kind.{Kind}
+use Rattle.ep_scope.specs.declared.kind.Kind.TheVariants as kind
+use Rattle.ep_scope.specs.declared.rule.TheConstants as rule
+use Rattle.ep_scope.specs.declared.thing.Declaration.{Declaration}
+use Rattle.ep_scope.specs.declared.thing.Declaration.TheVariants as declaration
+use Rattle.ep_scope.specs.declared.thing.Declared.{Declared}
+use Rattle.ep_check_expr.specs.Agreement.{Agrees, IsDeclaration, IsFormOf, IsStoredIn}
+use Rattle.ep_check_expr.specs.Expressions.{judged}
+use Rattle.ep_check_expr.specs.Hosts.{typed_host}
+use Rattle.ep_check_expr.specs.Judgements.{Judged, Accepts, Breaks, Typed, when_accepted}
+use Rattle.ep_check_expr.specs.Operators.{map_both}
+use Rattle.ep_check_expr.proofs.Meant.{IsMeant, meant-declared}
+use Rattle.ep_check_expr.proofs.Passing.{IfForm, given-fits}
+use Rattle.ep_check_stmt.specs.Laws.{AuxiliariesAreThere}
+use Rattle.ep_check_stmt.specs.Statements.{Context, Counted, ForHead, Judgement, Locals, Target, Under, at_item, bound_judged, bounds_judged, control_if, control_judged, control_named, counted_by, declared_control, declares_own, declares_variable, for_head, for_judged, for_row, head_threat, is_threatened_in, unless_threatened_in, unless_threatening}
+use Rattle.ep_check_stmt.proofs.judged.Fits.{Fits, fits_both, fits_then}
+use Rattle.ep_check_stmt.proofs.valid.Passing.{FitsRow, after_fits, item_fits, unthreatening_fits}
+use Rattle.ep_check_stmt.proofs.valid.Sound.{IsSound}
+
+module _ (declared : Declarations) (scopes : List Region) (agrees : Agrees declared scopes) (sound : (e : Expression) → Fits (λ t. IsFormOf declared t.kind t.form) (judged scopes e)) where
+  -- ---- the control variable
+
+  -- a variable of an ordinal type is a place
+  abbrev IsVariableOf : Kind → Place → Type 0
+  IsVariableOf (kind.Ordinal h) place = IsPlace declared (typed_host h) place
+  IsVariableOf kind.Text place = ⊤
+  IsVariableOf kind.File place = ⊤
+
+  abbrev IsVariable : Target → Type 0
+  IsVariable t = IsVariableOf t.kind t.place
+
+  stored_fits : (place : Place) (k : Kind) → IsStoredIn declared place k → IsVariableOf k place
+  stored_fits place (kind.Ordinal h) x = x.1
+  stored_fits place kind.Text x = tt
+  stored_fits place kind.File x = tt
+
+  if_fits : (own : Bool) (t : Target) → IsVariable t → Fits IsVariable (control_if own t)
+  if_fits true t x = x
+  if_fits false t x = tt
+
+  declared_fits : (locals : Locals) (d : Declared) (what : Declaration) → IsDeclaration declared agrees.0 d.unit d.number what → Fits IsVariable (declared_control locals d what)
+  declared_fits locals d (declaration.Variable of k) x = if_fits (declares_variable locals d.unit) (record { place = tree.Variable d.unit d.number; kind = k }) (stored_fits (tree.Variable d.unit d.number) k x.0)
+  declared_fits locals d (declaration.Own of k guarded) x = if_fits (declares_own locals d.number) (record { place = tree.Own d.number; kind = k }) (stored_fits (tree.Own d.number) k x.0)
+  declared_fits locals d (declaration.Constant k v) x = tt
+  declared_fits locals d (declaration.«Type» of h) x = tt
+  declared_fits locals d (declaration.Procedure parameters) x = tt
+  declared_fits locals d (declaration.Function parameters of h) x = tt
+
+  named_fits : (locals : Locals) (name : List ℕ) (m : Meant) → IsMeant declared agrees.0 m → Fits IsVariable (control_named locals name m)
+  named_fits locals name (Declares d) x = declared_fits locals d d.what x
+  named_fits locals name (Standard f) x = tt
+  named_fits locals name (Requires r) x = tt
+  named_fits locals name Nothing x = tt
+
+  abbrev IsCounted : Counted → Type 0
+  IsCounted c = IsPlace declared (typed_host c.host) c.place
+
+  counted_fits : (place : Place) (k : Kind) → IsVariableOf k place → Fits IsCounted (counted_by place k)
+  counted_fits place (kind.Ordinal h) x = x
+  counted_fits place kind.Text x = tt
+  counted_fits place kind.File x = tt
+
+  unless_fits : (threatened : Bool) (c : Counted) → IsCounted c → Fits IsCounted (if threatened then Breaks (rule.CONTROL_THREATENED ∷ []) else Accepts c)
+  unless_fits true c x = tt
+  unless_fits false c x = x
+
+  pub control_fits : (c : Context) → c.scopes ≡ scopes → (name : List ℕ) → Fits IsCounted (control_judged c name)
+  control_fits c is name =
+      fits_then IsCounted IsCounted (unless_threatened_in c.locals c.routines) (when_accepted (λ t. counted_by t.place t.kind) (control_named c.locals name (meant c.scopes name)))
+      (fits_then IsVariable IsCounted (λ t. counted_by t.place t.kind) (control_named c.locals name (meant c.scopes name))
+      (subst (λ s. Fits IsVariable (control_named c.locals name (meant s name))) (sym is) (named_fits c.locals name (meant scopes name) (meant-declared declared agrees.0 scopes name agrees.1)))
+      (λ t x. counted_fits t.place t.kind x))
+      (λ k x. unless_fits (is_threatened_in c.locals c.routines k.place) k x)
+
+  -- ---- the head
+
+  abbrev IsBound : Host → Expr → Type 0
+  IsBound h x = IsExpr declared (valid.Ordinal (typed_host h)) x
+
+  bound_fits : (h : Host) (e : Expression) → Fits (IfForm (IsBound h)) (when_accepted (bound_judged h) (judged scopes e))
+  bound_fits h e =
+      fits_then (λ (t : Typed). IsFormOf declared t.kind t.form) (IfForm (IsBound h)) (bound_judged h) (judged scopes e) (sound e) (λ t f. given-fits declared (IsBound h) (λ x. x) h (λ x q. q) t.kind t.form f)
+
+  -- a head is valid, where the auxiliary variables are there
+  abbrev IsHead : Locals → ForHead → Type 0
+  IsHead locals head = AuxiliariesAreThere declared locals → (h : typed.Host) × IsControl declared h head.control × IsExpr declared (valid.Ordinal h) head.initial × IsExpr declared (valid.Ordinal h) head.last
+
+  head_fits : (locals : Locals) (falls : Bool) (c : Counted) → IsCounted c → (x y : Option Expr) → IfForm (IsBound c.host) x → IfForm (IsBound c.host) y → IfForm (IsHead locals) (map_both (for_head locals falls c) x y)
+  head_fits locals falls c is None y p q = tt
+  head_fits locals falls c is (Some x) None p q = tt
+  head_fits locals falls c is (Some x) (Some y) p q = λ there. (typed_host c.host, record { variable = is; initial = there.0; last = there.1; low = refl; high = refl }, p, q)
+
+  bounds_fit : (locals : Locals) (falls : Bool) (c : Counted) → IsCounted c → (start end : Expression) → Fits (IfForm (IsHead locals)) (bounds_judged locals falls c (judged scopes start) (judged scopes end))
+  bounds_fit locals falls c is start end =
+      fits_both (IfForm (IsBound c.host)) (IfForm (IsBound c.host)) (IfForm (IsHead locals)) (λ initial last. Accepts (map_both (for_head locals falls c) initial last)) (when_accepted (bound_judged c.host) (judged scopes start)) (when_accepted (bound_judged c.host) (judged scopes end))
+      (bound_fits c.host start) (bound_fits c.host end) (λ x y p q. head_fits locals falls c is x y p q)
+
+  -- ---- the statement
+
+  row_fits : (locals : Locals) (line : ℕ) (head : Judgement ForHead) (body : Judgement Stmt) → FitsRow (IsHead locals) head → FitsRow (IsSound declared locals) body → FitsRow (IsSound declared locals) (for_row line head body)
+  row_fits locals line head body p q =
+      after_fits (IsHead locals) (IsSound declared locals) (IsSound declared locals) (λ h s. tree.For line h.control h.initial h.last s) head body p q
+      (λ h s f g. λ there. (f (there line refl), g (λ other e. there line refl)))
+
+  pub for_fits : (c : Context) → c.scopes ≡ scopes → (controls : List Place) (line : ℕ) (j : Judged Counted) (falls : Bool) (start end : Expression) (body : Under Stmt) → Fits IsCounted j → ((inner : List Place) → FitsRow (IsSound declared c.locals) (body inner))
+      → FitsRow (IsSound declared c.locals) (for_judged c controls line j falls start end body)
+  for_fits c is controls line (Breaks rules) falls start end body p q = tt
+  for_fits c is controls line (Accepts k) falls start end body p q =
+      subst (λ s. FitsRow (IsSound declared c.locals) (for_row line (at_item line (unless_threatening (head_threat c.routines) controls (bounds_judged c.locals falls k (judged s start) (judged s end)))) (body (k.place ∷ controls)))) (sym is)
+      (row_fits c.locals line _ (body (k.place ∷ controls))
+      (item_fits (IsHead c.locals) line _ (unthreatening_fits (IsHead c.locals) (head_threat c.routines) controls (bounds_judged c.locals falls k (judged scopes start) (judged scopes end)) (bounds_fit c.locals falls k p start end)))
+      (q (k.place ∷ controls)))

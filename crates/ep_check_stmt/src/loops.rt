@@ -1,0 +1,462 @@
+//! What a `for` statement counts with, and the control variables that are threatened in its body.
+
+ghost use Rattle.std.specs.Prelude.{◌≡◌, IfOk, List, ◌∷◌, None, Option, map};
+ghost use Rattle.std.specs.List.{list_any};
+ghost use Rattle.std.specs.Option.{option_map};
+ghost use Rattle.ep_built.specs.Built.{expression_unbuilt};
+ghost use Rattle.ep_scope.specs.Scopes.{meant};
+ghost use Rattle.ep_typed.specs.Trees as tree;
+ghost use Rattle.ep_typed.specs.Trees.{Expr, Stmt};
+ghost use Rattle.ep_typed.specs.Viewed.{control_of, expr_of, place_of, stmt_of};
+ghost use Rattle.ep_check_expr.specs.Expressions.{judged};
+ghost use Rattle.ep_check_expr.specs.Judgements.{Judged, Accepts, both, when_accepted};
+ghost use Rattle.ep_check_expr.specs.Operators.{map_both};
+ghost use Rattle.ep_check_stmt.specs.Answers.{AnswersForm, AnswersRow, context_of, counted_of, head_of, locals_of, target_of};
+ghost use Rattle.ep_check_stmt.specs.RoutineForms.{routine_form};
+ghost use Rattle.ep_check_stmt.specs.Statements as spec;
+ghost use Rattle.ep_check_stmt.specs.Statements.{Judgement, bound_judged, bounds_judged, control_judged, control_named, declared_control, declares_own, declares_variable, expr_threat, for_control, for_head, for_row, head_threat, initial_place, last_place, stmt_threat, unless_threatening};
+
+use crate::outcome::Outcome;
+use crate::statements::{Context, Locals, Row, Target};
+use crate::threats::{expr_threatens, is_variable, statement_threatens};
+use ep_base::{Boxed, Line, List, Name, NoMemory};
+use ep_check_expr::{Refusal, given_value, greatest, least, typed_expression, undeclared};
+use ep_scope::{Declaration, Declared, Host, Kind, Meaning, meaning_of, rule};
+use ep_tree::{Direction, Expression};
+use ep_typed::{ForControl, TypedExpr, TypedPlace, TypedStmt, UnitRoutine};
+use std::alloc::{AllocError, Global};
+
+/// A control variable, and the host of its type.
+pub(crate) struct Counted {
+    /// Its place.
+    pub(crate) place: TypedPlace,
+    /// The host.
+    host: Host,
+}
+
+impl Drop for Counted {
+    fn drop(self) {
+        let Counted { place: _, host: _ } = self;
+    }
+}
+
+impl Counted {
+    /// The place alone.
+    fn into_place(self) -> TypedPlace
+        ensures { result ≡ self.place }
+    {
+        let Counted { place, host: _ } = self;
+        place
+    }
+}
+
+/// A `for` statement without its body: what it counts with, and the initial and the final value.
+pub(crate) struct ForHead {
+    /// What it counts with.
+    control: ForControl,
+    /// The initial value.
+    initial: Boxed<TypedExpr>,
+    /// The final value.
+    last: Boxed<TypedExpr>,
+}
+
+impl Drop for ForHead {
+    fn drop(self) {
+        let ForHead {
+            control: _,
+            initial: _,
+            last: _,
+        } = self;
+    }
+}
+
+/// Whether the values fall.
+pub(crate) fn falls_by(direction: Direction) -> bool
+    ensures { result ≡ spec.falls_by direction }
+{
+    match direction {
+        Direction::To => false,
+        Direction::Downto => true,
+    }
+}
+
+/// The same place once more.
+fn copied(alloc: Global, place: &TypedPlace) -> Result<TypedPlace, NoMemory>
+    ensures { IfOk result (λ copy. copy ≡ place.now) }
+{
+    match place {
+        TypedPlace::Variable(unit, number) => {
+            let unit = unit.copy(alloc)?;
+            Ok(TypedPlace::Variable(unit, *number))
+        }
+        TypedPlace::Own(number) => Ok(TypedPlace::Own(*number)),
+        TypedPlace::Standard(file) => Ok(TypedPlace::Standard(*file)),
+    }
+}
+
+/// A control variable before those of the `for` statements around.
+pub(crate) fn one_more(
+    alloc: Global,
+    control: &TypedPlace,
+    controls: &[TypedPlace],
+) -> Result<List<TypedPlace>, NoMemory>
+    ensures { IfOk result (λ all. all ≡ control.now ∷ controls.now) }
+{
+    let mut all = List::new(alloc);
+    all.push(copied(alloc, control)?)?;
+    for other in controls {
+        all.push(copied(alloc, other)?)?;
+    }
+    Ok(all)
+}
+
+// ---- control variables
+
+/// Whether a variable of this unit is declared in the block.
+fn declares_variable(locals: Locals<'_>, unit: &Name) -> bool
+    ensures { result ≡ declares_variable (locals_of locals.entry) unit.now }
+{
+    match locals {
+        Locals::Unit(own, _) => unit.bytes() == own.bytes(),
+        Locals::Routine(_, _) => false,
+    }
+}
+
+/// Whether the variable of this number of the routine is declared in the block.
+fn declares_own(locals: Locals<'_>, number: u32) -> bool
+    ensures { result ≡ declares_own (locals_of locals.entry) number }
+{
+    match locals {
+        Locals::Unit(_, _) => false,
+        Locals::Routine(first, _) => first <= number,
+    }
+}
+
+/// A declared name as a control variable, which is a variable that the block declares (ISO 10206, 6.9.3.9.1).
+fn declared_control(
+    alloc: Global,
+    locals: Locals<'_>,
+    declared: &Declared,
+) -> Result<Target, Refusal>
+    ensures { AnswersForm target_of result
+        (declared_control (locals_of locals.entry) declared.now declared.now.what) }
+{
+    match &declared.what {
+        Declaration::Variable(_, kind) if declares_variable(locals, &declared.unit) => {
+            let unit = declared.unit.copy(alloc)?;
+            let place = TypedPlace::Variable(unit, declared.number);
+            Ok(Target { place, kind: *kind })
+        }
+        Declaration::Own(_, kind, _) if declares_own(locals, declared.number) => {
+            let place = TypedPlace::Own(declared.number);
+            Ok(Target { place, kind: *kind })
+        }
+        _ => Err(Refusal::Rule(rule::CONTROL_VARIABLE)),
+    }
+}
+
+/// A control variable by its place and its kind, which is ordinal.
+fn counted_by(target: Target) -> Result<Counted, Refusal>
+    ensures { AnswersForm counted_of result (spec.counted_by (target_of target).place target.kind) }
+{
+    match target.kind {
+        Kind::Ordinal(host) => Ok(Counted {
+            place: target.into_place(),
+            host,
+        }),
+        _ => Err(Refusal::Rule(rule::ORDINAL)),
+    }
+}
+
+/// Whether the block of one of these routines of the unit threatens the variable at a place.
+fn routines_threaten(routines: &[UnitRoutine], place: &TypedPlace) -> bool
+    ensures { result ≡ list_any (λ r. stmt_threat (map routine_form routines.now) (place_of place.now) r.block)
+        (map routine_form routines.now) }
+{
+    for routine in routines {
+        if statement_threatens(&routine.block, routines, place) {
+            return true;
+        }
+    }
+    false
+}
+
+/// Whether a routine that the block declares threatens its variable at a place.
+fn is_threatened_in(locals: Locals<'_>, routines: &[UnitRoutine], place: &TypedPlace) -> bool
+    ensures { result ≡ spec.is_threatened_in (locals_of locals.entry) (map routine_form routines.now)
+        (place_of place.now) }
+{
+    match locals {
+        Locals::Unit(_, _) => routines_threaten(routines, place),
+        Locals::Routine(_, _) => false,
+    }
+}
+
+// ---- the head
+
+/// The auxiliary variables, for the initial and for the final value.
+fn auxiliaries(alloc: Global, locals: Locals<'_>) -> Result<(TypedPlace, TypedPlace), NoMemory>
+    ensures { IfOk result (λ both. (place_of both.0 ≡ initial_place (locals_of locals.entry))
+        × (place_of both.1 ≡ last_place (locals_of locals.entry))) }
+{
+    match locals {
+        Locals::Unit(unit, number) => {
+            let Some(next) = number.checked_add(1) else {
+                return Err(AllocError);
+            };
+            let initial = TypedPlace::Variable(unit.copy(alloc)?, number);
+            Ok((initial, TypedPlace::Variable(unit.copy(alloc)?, next)))
+        }
+        Locals::Routine(_, number) => match number.checked_add(1) {
+            None => Err(AllocError),
+            Some(next) => Ok((TypedPlace::Own(number), TypedPlace::Own(next))),
+        },
+    }
+}
+
+/// What a `for` with this control variable counts with.
+fn for_control(
+    alloc: Global,
+    locals: Locals<'_>,
+    counted: Counted,
+    falls: bool,
+) -> Result<ForControl, NoMemory>
+    ensures { IfOk result (λ control.
+        control_of control ≡ for_control (locals_of locals.entry) falls (counted_of counted)) }
+{
+    let (initial, last) = auxiliaries(alloc, locals)?;
+    let low = least(counted.host);
+    let high = greatest(counted.host);
+    Ok(ForControl {
+        variable: counted.into_place(),
+        initial,
+        last,
+        falls,
+        low,
+        high,
+    })
+}
+
+/// The head of a `for` of these bounds, where both are built.
+fn for_head(
+    alloc: Global,
+    locals: Locals<'_>,
+    counted: Counted,
+    falls: bool,
+    start: Result<Option<Boxed<TypedExpr>>, Refusal>,
+    end: Result<Option<Boxed<TypedExpr>>, Refusal>,
+) -> Result<Option<ForHead>, Refusal>
+    ensures { (x y : Judged (Option Expr)) → AnswersForm (option_map expr_of) start x
+        → AnswersForm (option_map expr_of) end y → AnswersForm (option_map head_of) result
+        (both (λ a b. Accepts (map_both (for_head (locals_of locals.entry) falls (counted_of counted)) a b)) x y) }
+{
+    match (start?, end?) {
+        (Some(initial), Some(last)) => {
+            let control = for_control(alloc, locals, counted, falls)?;
+            Ok(Some(ForHead {
+                control,
+                initial,
+                last,
+            }))
+        }
+        _ => Ok(None),
+    }
+}
+
+/// A `for` statement of its head and its body, in order.
+pub(crate) fn for_form(
+    alloc: Global,
+    line: Line,
+    head: Row<ForHead>,
+    body: Row<Boxed<TypedStmt>>,
+) -> Row<Boxed<TypedStmt>>
+    ensures { (x : Judgement spec.ForHead) (y : Judgement Stmt) → AnswersRow head_of head x
+        → AnswersRow stmt_of body y → AnswersRow stmt_of result (for_row line x y) }
+{
+    match (head?, body?) {
+        (Outcome::Passes(head), Outcome::Passes(body)) => {
+            let form = Boxed::new(alloc, head.into_statement(line, body))?;
+            Ok(Outcome::Passes(form))
+        }
+        (Outcome::Waits(first), _) => Ok(Outcome::Waits(first)),
+        (_, Outcome::Waits(first)) => Ok(Outcome::Waits(first)),
+    }
+}
+
+impl ForHead {
+    /// The statement with this body.
+    fn into_statement(self, line: Line, body: Boxed<TypedStmt>) -> TypedStmt
+        ensures { stmt_of result ≡ tree.For line (head_of self).control (head_of self).initial (head_of self).last
+            (stmt_of body) }
+    {
+        let ForHead {
+            control,
+            initial,
+            last,
+        } = self;
+        TypedStmt::For(line, control, initial, last, body)
+    }
+}
+
+// ---- threats
+
+/// Whether a statement threatens one of these control variables.
+fn statement_threatens_one(s: &TypedStmt, routines: &[UnitRoutine], controls: &[TypedPlace]) -> bool
+    ensures { result ≡ list_any (λ v. stmt_threat (map routine_form routines.now) v (stmt_of s.now))
+        (map place_of controls.now) }
+{
+    for control in controls {
+        if statement_threatens(s, routines, control) {
+            return true;
+        }
+    }
+    false
+}
+
+/// Whether an expression threatens one of these control variables.
+fn value_threatens_one(x: &TypedExpr, routines: &[UnitRoutine], controls: &[TypedPlace]) -> bool
+    ensures { result ≡ list_any (λ v. expr_threat (map routine_form routines.now) v (expr_of x.now))
+        (map place_of controls.now) }
+{
+    for control in controls {
+        if expr_threatens(x, routines, control) {
+            return true;
+        }
+    }
+    false
+}
+
+/// Whether the head of a `for` threatens a control variable.
+fn head_threatens(head: &ForHead, routines: &[UnitRoutine], control: &TypedPlace) -> bool
+    ensures { result ≡ head_threat (map routine_form routines.now) (place_of control.now) (head_of head.now) }
+{
+    is_variable(control, &head.control.variable)
+        || expr_threatens(head.initial.get(), routines, control)
+        || expr_threatens(head.last.get(), routines, control)
+}
+
+/// Whether it threatens one of these.
+fn head_threatens_one(head: &ForHead, routines: &[UnitRoutine], controls: &[TypedPlace]) -> bool
+    ensures { result ≡ list_any (λ v. head_threat (map routine_form routines.now) v (head_of head.now))
+        (map place_of controls.now) }
+{
+    for control in controls {
+        if head_threatens(head, routines, control) {
+            return true;
+        }
+    }
+    false
+}
+
+impl Context<'_> {
+    /// A name as the control variable of a `for`. It is a variable that the block declares, of an ordinal type, and no
+    /// routine of the block threatens it (ISO 10206, 6.9.3.9.1).
+    pub(crate) fn control(&self, name: &Name) -> Result<Counted, Refusal>
+        ensures { AnswersForm counted_of result (control_judged (context_of self.now) name.now) }
+    {
+        let counted = counted_by(self.control_named(name)?)?;
+        if is_threatened_in(self.locals, self.routines, &counted.place) {
+            return Err(Refusal::Rule(rule::CONTROL_THREATENED));
+        }
+        Ok(counted)
+    }
+
+    /// A name as a variable that the block declares.
+    fn control_named(&self, name: &Name) -> Result<Target, Refusal>
+        ensures { AnswersForm target_of result
+            (control_named (context_of self.now).locals name.now (meant self.now.scopes.now name.now)) }
+    {
+        match &meaning_of(self.scopes, name) {
+            Meaning::Declared(declared) => declared_control(self.alloc, self.locals, declared),
+            Meaning::Standard(_) => Err(Refusal::Rule(rule::CONTROL_VARIABLE)),
+            Meaning::Required(_) => Err(Refusal::Rule(rule::CONTROL_VARIABLE)),
+            Meaning::Nothing => Err(Refusal::Rule(undeclared(name))),
+        }
+    }
+
+    /// The head of a `for` with this control variable, to whose host the bounds can be given.
+    pub(crate) fn head(
+        &self,
+        counted: Counted,
+        falls: bool,
+        start: &Expression,
+        end: &Expression,
+    ) -> Result<Option<ForHead>, Refusal>
+        requires start { expression_unbuilt start.now ≡ None }
+        requires end { expression_unbuilt end.now ≡ None }
+        ensures { AnswersForm (option_map head_of) result
+            (bounds_judged (context_of self.now).locals falls (counted_of counted)
+            (judged self.now.scopes.now start.now) (judged self.now.scopes.now end.now)) }
+    {
+        let initial = self.bound(counted.host, start);
+        let last = self.bound(counted.host, end);
+        for_head(self.alloc, self.locals, counted, falls, initial, last)
+    }
+
+    /// A bound, whose value can be given to a variable of this host.
+    fn bound(&self, host: Host, e: &Expression) -> Result<Option<Boxed<TypedExpr>>, Refusal>
+        requires { expression_unbuilt e.now ≡ None }
+        ensures { AnswersForm (option_map expr_of) result
+            (when_accepted (bound_judged host) (judged self.now.scopes.now e.now)) }
+    {
+        let value = typed_expression(self.alloc, e, self.scopes)?;
+        given_value(Kind::Ordinal(host), value)
+    }
+
+    /// The form of a statement without statements inside, unless it threatens one of these control variables.
+    pub(crate) fn unless_statement_threatens(
+        &self,
+        controls: &[TypedPlace],
+        form: Result<Option<Boxed<TypedStmt>>, Refusal>,
+    ) -> Result<Option<Boxed<TypedStmt>>, Refusal>
+        ensures { (j : Judged (Option Stmt)) → AnswersForm (option_map stmt_of) form j
+            → AnswersForm (option_map stmt_of) result
+            (unless_threatening (stmt_threat (context_of self.now).routines) (map place_of controls.now) j) }
+    {
+        let Some(s) = form? else {
+            return Ok(None);
+        };
+        if statement_threatens_one(s.get(), self.routines, controls) {
+            return Err(Refusal::Rule(rule::CONTROL_THREATENED));
+        }
+        Ok(Some(s))
+    }
+
+    /// The form of an expression of a statement, unless it threatens one of these.
+    pub(crate) fn unless_value_threatens(
+        &self,
+        controls: &[TypedPlace],
+        form: Result<Option<Boxed<TypedExpr>>, Refusal>,
+    ) -> Result<Option<Boxed<TypedExpr>>, Refusal>
+        ensures { (j : Judged (Option Expr)) → AnswersForm (option_map expr_of) form j
+            → AnswersForm (option_map expr_of) result
+            (unless_threatening (expr_threat (context_of self.now).routines) (map place_of controls.now) j) }
+    {
+        let Some(x) = form? else {
+            return Ok(None);
+        };
+        if value_threatens_one(x.get(), self.routines, controls) {
+            return Err(Refusal::Rule(rule::CONTROL_THREATENED));
+        }
+        Ok(Some(x))
+    }
+
+    /// The head of a `for`, unless it threatens one of these.
+    pub(crate) fn unless_head_threatens(
+        &self,
+        controls: &[TypedPlace],
+        head: Result<Option<ForHead>, Refusal>,
+    ) -> Result<Option<ForHead>, Refusal>
+        ensures { (j : Judged (Option spec.ForHead)) → AnswersForm (option_map head_of) head j
+            → AnswersForm (option_map head_of) result
+            (unless_threatening (head_threat (context_of self.now).routines) (map place_of controls.now) j) }
+    {
+        let Some(h) = head? else {
+            return Ok(None);
+        };
+        if head_threatens_one(&h, self.routines, controls) {
+            return Err(Refusal::Rule(rule::CONTROL_THREATENED));
+        }
+        Ok(Some(h))
+    }
+}
