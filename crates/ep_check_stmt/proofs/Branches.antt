@@ -3,14 +3,22 @@ use Rattle.std.proofs.Common.{◌≡◌, ℕ, List, map, Option, Some, None, ap,
 use Rattle.std.specs.Option.{option_map, option_or}
 use Rattle.ep_built.specs.Built.{Found, Placed, expression_unbuilt, first_if, statement_unbuilt}
 use Rattle.ep_built.specs.Built as built
+use Rattle.ep_tree.specs.declared.expression.Access.{Access, out-Access}
 use Rattle.ep_tree.specs.declared.expression.Expression.{Expression}
 use Rattle.ep_tree.specs.declared.statement.Statement.{Statement, fold-roll-Statement}
 use Rattle.ep_tree.specs.declared.statement.Statement.TheOpen.{Statement-F}
 use Rattle.ep_tree.specs.declared.statement.Statement.TheVariants as statement
 use Rattle.ep_typed.specs.Trees as tree
 use Rattle.ep_typed.specs.Trees.{Place, Stmt, Stmts}
-use Rattle.ep_check_stmt.specs.Statements.{ArmJudged, Context, Under, after, at_arm, at_compound, at_otherwise, at_statement, condition_judged, in_order, repeat_judged, statement_judged}
+use Rattle.ep_check_stmt.specs.Statements.{ArmJudged, Context, Under, after, at_arm, at_compound, at_otherwise, at_statement, call_arguments, condition_judged, in_order, name_called, repeat_judged, statement_judged, stmt_item}
 use Rattle.ep_check_stmt.proofs.judged.Rounds.{first_built, rest_of}
+
+-- a call is judged by its name and its arguments
+pub call_is : (context : Context) (line : ℕ) (access : Access) (controls : List Place)
+    → statement_judged context (statement.Call line access) controls ≡ stmt_item context controls line (name_called context line (out-Access access).name (call_arguments (out-Access access).selectors))
+call_is context line access controls =
+    ap (λ s. statement_judged context s controls) (sym (statement.rolls-Call line access))
+    ∙ ap (λ (judge : Under Stmt). judge controls) (fold-roll-Statement (Under Stmt) ArmJudged (Under Stmts) (Under Stmts) (at_statement context) (at_arm context) (at_compound context) (at_otherwise context) (Statement-F.Call line access))
 
 -- a `while` statement is judged by its parts
 pub while_is : (context : Context) (line : ℕ) (e : Expression) (body : Statement) (controls : List Place)

@@ -1,5 +1,6 @@
 use Rattle.std.proofs.Common.{rules, ◌≡◌, ◌∙◌, ◌+◌, None, map, drop, ap, sym}
 use Rattle.std.specs.Option.{option_map}
+use Rattle.ep_tree.specs.declared.statement.Statement.TheVariants as statement
 use Rattle.ep_tree.specs.declared.statement.Statement.TheViews.{the_lemmas}
 use Rattle.ep_built.specs.Built.{arm_unbuilt, first_in, statement_unbuilt}
 use Rattle.ep_typed.specs.Viewed.{arm_of, expr_of, other_of, place_of, stmt_of}
@@ -9,7 +10,8 @@ use Rattle.ep_check_stmt.specs.Cases.{selector_judged}
 use Rattle.ep_check_stmt.specs.Statements.{arm_judged, arm_row, arms_in_order, at_item, control_judged, expr_item, other_judged, statement_judged}
 use Rattle.ep_check_stmt.proofs.CaseParts.{all_arms, arms_more, case_is, less_arms, more_arms, rest_judged, selector_falls}
 use Rattle.ep_check_stmt.proofs.judged.Rounds.{rest_built}
-use Rattle.ep_check_stmt.proofs.Branches.{other_built, repeat_is, then_built, while_is}
+use Rattle.ep_check_stmt.proofs.Branches.{call_is, other_built, repeat_is, then_built, while_is}
+use Rattle.ep_check_stmt.proofs.ForParts.{end_built, inner_built, start_built}
 use Rattle.ep_check_stmt.proofs.Rows.{all_together, assignment_is, item_answers, less_together, more_together, statements_more}
 use Rattle.ep_check_stmt.proofs.statements.Context.+statements.Goals as goal
 use Rattle.ep_check_stmt.proofs.statements.Context.+statements.Goals.{arms-in-Passes+in_ok-push-in-Passes, arms-in-Waits, statement-in-None-other, statement-in-Some-other, statements-in-Passes+in_ok-push-in-Passes, statements-in-Waits}
@@ -43,6 +45,16 @@ statement-returns-in-Assignment t c =
 pub statement-returns-in-Repeat : goal.statement-returns-in-Repeat
 statement-returns-in-Repeat t c =
     rw (c.in-Repeat.is, repeat_is) (c.repeat_form.ensures _ _ (rw c.get-in-Repeat.ensures at c.condition-in-Repeat.ensures) (rw c.items-in-Repeat.ensures at c.statements-inner.ensures))
+
+pub statement-returns-in-Call : goal.statement-returns-in-Call
+statement-returns-in-Call t c =
+    rw (c.item_at-in-Call.ensures, c.in-Call.is, call_is)
+    (item_answers stmt_of c.in-Call.line c.unless_statement_threatens-in-Call.result _ (c.unless_statement_threatens-in-Call.ensures _ c.call-form.ensures))
+
+pub statement-counting-requires : goal.statement-counting-requires
+statement-counting-requires t c =
+    let built : statement_unbuilt (statement.For c.in-For.line c.in-For.name c.in-For.start c.in-For.direction c.in-For.end c.in-For.body) ≡ None = rw c.in-For.is at c.requires in
+    (search (rules, the_lemmas), (rw c.get-in-For.ensures (inner_built c.in-For.line c.in-For.name c.in-For.start c.in-For.direction c.in-For.end c.in-For.body built), (rw c.get-in-For-2.ensures (start_built c.in-For.line c.in-For.name c.in-For.start c.in-For.direction c.in-For.end c.in-For.body built), rw c.get-in-For-3.ensures (end_built c.in-For.line c.in-For.name c.in-For.start c.in-For.direction c.in-For.end c.in-For.body built))))
 
 pub counting-returns : goal.counting-returns
 counting-returns t c =
