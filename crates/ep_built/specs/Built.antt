@@ -11,7 +11,7 @@
 -- - the type denoter, for an initial state
 -- - the type denoter without its initial state, for `bindable`
 -- - the type itself, for what is no name, no subrange and no enumeration, for a name with a tuple, and for a name that is not built
--- - the statement, for an assignment to something else than a name that is built, for a call with other selectors than one pair of parentheses, for a call of a name that is not built, and for what is no assignment, call, compound, empty, `if`, `case`, `while` or `repeat` statement
+-- - the statement, for an assignment to something else than a name that is built, for a call with other selectors than one pair of parentheses, for a call of a name that is not built, for a `for` with bounds whose control variable has a name that is not built, for a `for` over the members of a set, and for what is no assignment, call, compound, empty, `if`, `case`, `while`, `repeat` or `for` statement
 -- - the structured value, with the name of its type or without
 -- - the expression, the simple expression or the term, for an operator that is not built
 -- - the factor, for `nil`, for a set, and for a character string of another length than one that is not the whole value of an argument of a `write` or `writeln` statement
@@ -181,6 +181,10 @@ built_selector _ = false
 abbrev pub built_target : Access → Bool
 built_target a = (length (out-Access a).selectors == 0) && not (is_later (out-Access a).name)
 
+-- the control variable of a `for` with bounds has a name that is built
+abbrev pub built_control : List ℕ → Bool
+built_control name = not (is_later name)
+
 -- a call has at most one selector, and it is built
 abbrev pub built_call_selectors : List Selector → Bool
 built_call_selectors [] = true
@@ -194,7 +198,7 @@ built_call_of name selectors = not (is_later name) && built_call_selectors selec
 abbrev pub built_call : Access → Bool
 built_call a = built_call_of (out-Access a).name (out-Access a).selectors
 
--- a statement is empty, an assignment, a call, compound, an `if`, a `case`, a `while` or a `repeat`
+-- a statement is empty, an assignment, a call, compound, an `if`, a `case`, a `while`, a `repeat` or a `for` with bounds
 abbrev pub built_statement : {A B C D : Type 0} → Statement-F A B C D → Bool
 built_statement (Statement-F.Empty line) = true
 built_statement (Statement-F.Assignment line access value) = built_target access
@@ -204,6 +208,7 @@ built_statement (Statement-F.If line condition body other) = true
 built_statement (Statement-F.Case line selector arms other) = true
 built_statement (Statement-F.While line condition body) = true
 built_statement (Statement-F.Repeat line statements condition) = true
+built_statement (Statement-F.For line variable start direction end body) = built_control variable
 built_statement _ = false
 
 -- all relational operators but `in`

@@ -3,7 +3,7 @@
 
 ghost use Rattle.std.specs.Prelude.{◌≡◌, map};
 ghost use Rattle.ep_tree.specs.Shapes.{bare};
-ghost use Rattle.ep_built.specs.Built.{built_component, built_program, built_import, built_type_name, built_heading, built_start, built_part, built_local_part, built_type_definition, built_type_denoter, built_plain, built_formal_type, built_section, built_core, built_selector, built_target, built_call_selectors, built_call_of, built_call, built_statement, built_relation, built_adding, built_multiplying, is_character, built_factor, built_access, is_built, selector_belonging, brackets_are_built, is_bare_text};
+ghost use Rattle.ep_built.specs.Built.{built_component, built_program, built_import, built_type_name, built_heading, built_start, built_part, built_local_part, built_type_definition, built_type_denoter, built_plain, built_formal_type, built_section, built_core, built_selector, built_target, built_control, built_call_selectors, built_call_of, built_call, built_statement, built_relation, built_adding, built_multiplying, is_character, built_factor, built_access, is_built, selector_belonging, brackets_are_built, is_bare_text};
 ghost use Rattle.ep_tree.specs.declared.expression.Factor.{out-Factor};
 ghost use Rattle.ep_tree.specs.declared.expression.Selector.{out-Selector};
 ghost use Rattle.ep_tree.specs.declared.types.Core.{out-Core};
@@ -162,6 +162,13 @@ fn target_is_built(a: &Access) -> bool
     a.selectors.items().is_empty() && !names::is_later(&a.name)
 }
 
+/// The control variable of a `for` with bounds has a name that is built.
+fn control_is_built(name: &Name) -> bool
+    ensures { result ≡ built_control name.now }
+{
+    !names::is_later(name)
+}
+
 /// A call has at most one selector, and it is built.
 fn call_selectors_are_built(selectors: &[Selector]) -> bool
     ensures { result ≡ built_call_selectors selectors.now }
@@ -198,6 +205,7 @@ pub(super) fn statement_is_built(s: &Statement) -> bool
         Statement::Case(_, _, _, _) => true,
         Statement::While(_, _, _) => true,
         Statement::Repeat(_, _, _) => true,
+        Statement::For(_, name, _, _, _, _) => control_is_built(name),
         _ => false,
     }
 }
