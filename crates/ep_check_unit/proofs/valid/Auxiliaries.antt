@@ -1,5 +1,5 @@
 -- The auxiliary variables of a block with a `for` are there.
-use Rattle.std.proofs.Common.{◌≡◌, ℕ, zero, suc, ◌+◌, List, [], ◌∷◌, ◌++◌, length, Some, slice_get, refl, sym, ap, ◌∙◌, subst}
+use Rattle.std.proofs.Common.{◌≡◌, ℕ, zero, suc, ◌+◌, List, [], ◌∷◌, ◌++◌, length, Some, slice_get, refl, sym, ap, ◌∙◌, subst, arith}
 use Rattle.std.specs.Prelude.{if◌then◌else◌}
 use Rattle.ep_typed.proofs.Auxiliaries.{auxiliary_host}
 use Rattle.ep_typed.specs.Auxiliaries.{auxiliary_variable, auxiliary_variables, first_for}
@@ -25,9 +25,12 @@ first_behind : {A : Type 0} (xs : List A) (a b : A) → slice_get (xs ++ a ∷ b
 first_behind [] a b = refl
 first_behind (x ∷ xs) a b = first_behind xs a b
 
+next_behind : {A : Type 0} (xs : List A) (a b : A) → slice_get (xs ++ a ∷ b ∷ []) (suc (length xs)) ≡ Some b
+next_behind [] a b = refl
+next_behind (x ∷ xs) a b = next_behind xs a b
+
 second_behind : {A : Type 0} (xs : List A) (a b : A) → slice_get (xs ++ a ∷ b ∷ []) (length xs + 1) ≡ Some b
-second_behind [] a b = refl
-second_behind (x ∷ xs) a b = second_behind xs a b
+second_behind xs a b = ap (slice_get (xs ++ a ∷ b ∷ [])) {x = length xs + 1} {y = suc (length xs)} (omega arith) ∙ next_behind xs a b
 
 -- in a routine, whose scopes have others around them
 module _ (u : TypedUnit) (c : Block) (line at : ℕ) (called : List ℕ) where

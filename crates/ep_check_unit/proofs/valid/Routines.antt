@@ -526,8 +526,9 @@ module _ (u : TypedUnit) (few : length u.constants ≤ maxint) (statements : Sta
         alone = old.alone;
         formals = old.formals;
         variables = owned;
-        block = subst (λ fs. IsStmt (in_routine (map (formal_variable line) fs ++ (result_variable r.name line r.result ++ c.own.variables)) u.types (own u)) s) (sym (same r at))
-            (subst (λ rs. IsStmt (in_routine (map (formal_variable line) (map formal_of c.own.parameters) ++ (rs ++ c.own.variables)) u.types (own u)) s) (sym (result r at)) valid);
+        block = subst (λ fs. IsStmt (in_routine (map (formal_variable line) fs ++ (result_variable r.name line r.result ++ (c.own.variables ++ auxiliary_variables (first_for s)))) u.types (own u)) s) (sym (same r at))
+            (subst (λ rs. IsStmt (in_routine (map (formal_variable line) (map formal_of c.own.parameters) ++ (rs ++ (c.own.variables ++ auxiliary_variables (first_for s)))) u.types (own u)) s) (sym (result r at))
+            (subst (λ vs. IsStmt (in_routine vs u.types (own u)) s) (seam_behind (map (formal_variable line) (map formal_of c.own.parameters)) (result_in line called c.own.result) c.own.variables (auxiliary_variables (first_for s))) valid));
       })
 
   -- the name of the variable that has the result of the routine of this number
