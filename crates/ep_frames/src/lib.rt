@@ -9,6 +9,8 @@
 mod calls;
 mod cell;
 mod stack;
+mod stored;
 
 pub use calls::{Argument, Calls};
 pub use stack::Stack;
+pub use stored::Stored;
