@@ -5,7 +5,7 @@ ghost use Rattle.std.specs.Prelude.{◌^◌, IfSome, IsTrue, is_some, ◌≡◌,
 ghost use Rattle.ep_object.specs.Calls.{new_frame, word_of};
 ghost use Rattle.ep_object.specs.Frames.{call_at, found_by};
 ghost use Rattle.std.specs.Prelude.{◌+◌};
-ghost use Rattle.ep_frames.specs.Calls.{innermost_routine, innermost_slots, innermost_parent, IsSlot, bound, placed, first, innermost_made, innermost_back, rest_of, argument_of, argument_among, operand_of, operands_in, StartsWith, without};
+ghost use Rattle.ep_frames.specs.Calls.{innermost_routine, innermost_slots, innermost_parent, IsSlot, bound, placed, first, innermost_made, innermost_back, rest_of, argument_of, argument_among, operand_of, place_of, operands_in, StartsWith, without};
 ghost use Rattle.ep_object.specs.Operands.{weight};
 
 use crate::stack::Stack;
@@ -298,6 +298,7 @@ impl Calls {
 
     /// Takes an argument out of the innermost call, where it is there.
     #[tactic(auto, using(crate::proofs::CallFrames::without_view, crate::proofs::CallFrames::argument_view))]
+    #[inline(always)]
     pub fn take(&mut self, number: usize) -> Option<Argument>
         requires { IsTrue (is_some (argument_of self.old number)) }
         ensures taken { option_map operand_of result ≡ argument_of self.old number }
@@ -309,8 +310,24 @@ impl Calls {
         self.arguments[call.arguments_from + (call.arguments - number - 1)].take()
     }
 
+    /// An argument of the innermost call that is a place.
+    #[tactic(auto, using(crate::proofs::CallFrames::argument_view))]
+    #[inline(always)]
+    pub fn place_given(&self, number: usize) -> Option<Place>
+        ensures { result ≡ found_by (argument_of self.now number) place_of }
+    {
+        let Some(call) = last(&self.calls) else {
+            return None;
+        };
+        match find_argument(call, number, &self.arguments) {
+            Some(Argument::Place(place)) => Some(*place),
+            _ => None,
+        }
+    }
+
     /// An argument of the innermost call that is a word.
     #[tactic(auto, using(crate::proofs::CallFrames::argument_view))]
+    #[inline(always)]
     pub fn word(&self, number: usize) -> Option<i64>
         ensures { result ≡ found_by (argument_of self.now number) word_of }
     {
@@ -346,6 +363,7 @@ fn take_arguments(count: usize, stack: &mut Stack, arguments: &mut Vec<Option<Ar
 
 /// An argument of a call, the first one for 0.
 #[tactic(auto, using(crate::proofs::CallFrames::argument_read, crate::proofs::CallFrames::argument_past))]
+#[inline(always)]
 fn find_argument(
     call: Activation,
     number: usize,

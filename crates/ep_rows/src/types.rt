@@ -40,6 +40,7 @@ fn ordinal_entry(lo: i64, hi: i64) -> TypeEntry
 }
 
 /// A new type.
+#[inline(always)]
 fn add(entry: TypeEntry, types: &mut Vec<TypeEntry>, live: &mut u64, stack: &mut Stack) -> Step
     ensures { IsStep (added entry stack.old (typing stack.old types.old.items live.old)) result
         (typing stack.new types.new.items live.new) }
@@ -59,6 +60,7 @@ fn add(entry: TypeEntry, types: &mut Vec<TypeEntry>, live: &mut u64, stack: &mut
 }
 
 /// The number that the ordinal type has, or a new one.
+#[inline(always)]
 fn intern(lo: i64, hi: i64, types: &mut Vec<TypeEntry>, live: &mut u64, stack: &mut Stack) -> Step
     ensures { IsStep (ordinal_of lo hi stack.old (typing stack.old types.old.items live.old)) result
         (typing stack.new types.new.items live.new) }
@@ -73,6 +75,7 @@ fn intern(lo: i64, hi: i64, types: &mut Vec<TypeEntry>, live: &mut u64, stack: &
 }
 
 /// The ordinal type with two bounds.
+#[inline(always)]
 pub fn ord(types: &mut Vec<TypeEntry>, live: &mut u64, stack: &mut Stack) -> Step
     ensures { IsStep (ord_row (typing stack.old types.old.items live.old)) result
         (typing stack.new types.new.items live.new) }
