@@ -230,6 +230,7 @@ impl Calls {
 
     /// A routine is called, which takes its arguments from the operands and goes on at a place when it is left. Answers
     /// whether there was memory.
+    #[inline(always)]
     pub fn enter(
         &mut self,
         number: u32,
@@ -298,7 +299,7 @@ impl Calls {
 
     /// Takes an argument out of the innermost call, where it is there.
     #[tactic(auto, using(crate::proofs::CallFrames::without_view, crate::proofs::CallFrames::argument_view))]
-    #[inline(always)]
+    #[inline(never)]
     pub fn take(&mut self, number: usize) -> Option<Argument>
         requires { IsTrue (is_some (argument_of self.old number)) }
         ensures taken { option_map operand_of result ≡ argument_of self.old number }
@@ -343,6 +344,7 @@ impl Calls {
 
 /// So many operands are taken from the top and become arguments, the top one first. Answers whether there was memory.
 #[tactic(auto, using(crate::proofs::CallEntry::taken_one, crate::proofs::CallEntry::left_one))]
+#[inline(always)]
 fn take_arguments(count: usize, stack: &mut Stack, arguments: &mut Vec<Option<Argument>>) -> bool
     requires { count ≤ length stack.old }
     ensures taken { OnTrue result (operands_in arguments.new.items

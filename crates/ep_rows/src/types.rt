@@ -23,6 +23,7 @@ fn is_ordinal(lo: i64, hi: i64, kind: Kind) -> bool
 }
 
 /// The number of the ordinal type with these bounds.
+#[inline(never)]
 fn ordinal_number(lo: i64, hi: i64, types: &[TypeEntry]) -> Option<usize>
     ensures { result ≡ number_of lo hi types.now }
 {
