@@ -1,2 +1,4 @@
 pub mod Calls
+pub mod Forms
 pub mod Stacks
+pub mod Stored

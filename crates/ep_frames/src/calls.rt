@@ -5,7 +5,7 @@ ghost use Rattle.std.specs.Prelude.{◌^◌, IfSome, IsTrue, is_some, ◌≡◌,
 ghost use Rattle.ep_object.specs.Calls.{new_frame, word_of};
 ghost use Rattle.ep_object.specs.Frames.{call_at, found_by};
 ghost use Rattle.std.specs.Prelude.{◌+◌};
-ghost use Rattle.ep_frames.specs.Calls.{innermost_routine, innermost_slots, innermost_parent, IsSlot, bound, placed, first, innermost_made, innermost_back, rest_of, argument_of, argument_among, operand_of, operands_in, StartsWith, without};
+ghost use Rattle.ep_frames.specs.Calls.{innermost_routine, innermost_slots, innermost_parent, IsSlot, bound, placed, first, innermost_made, innermost_back, rest_of, argument_of, argument_among, operand_of, place_of, operands_in, StartsWith, without};
 ghost use Rattle.ep_object.specs.Operands.{weight};
 
 use crate::stack::Stack;
@@ -230,6 +230,7 @@ impl Calls {
 
     /// A routine is called, which takes its arguments from the operands and goes on at a place when it is left. Answers
     /// whether there was memory.
+    #[inline(always)]
     pub fn enter(
         &mut self,
         number: u32,
@@ -298,6 +299,7 @@ impl Calls {
 
     /// Takes an argument out of the innermost call, where it is there.
     #[tactic(auto, using(crate::proofs::CallFrames::without_view, crate::proofs::CallFrames::argument_view))]
+    #[inline(never)]
     pub fn take(&mut self, number: usize) -> Option<Argument>
         requires { IsTrue (is_some (argument_of self.old number)) }
         ensures taken { option_map operand_of result ≡ argument_of self.old number }
@@ -309,8 +311,24 @@ impl Calls {
         self.arguments[call.arguments_from + (call.arguments - number - 1)].take()
     }
 
+    /// An argument of the innermost call that is a place.
+    #[tactic(auto, using(crate::proofs::CallFrames::argument_view))]
+    #[inline(always)]
+    pub fn place_given(&self, number: usize) -> Option<Place>
+        ensures { result ≡ found_by (argument_of self.now number) place_of }
+    {
+        let Some(call) = last(&self.calls) else {
+            return None;
+        };
+        match find_argument(call, number, &self.arguments) {
+            Some(Argument::Place(place)) => Some(*place),
+            _ => None,
+        }
+    }
+
     /// An argument of the innermost call that is a word.
     #[tactic(auto, using(crate::proofs::CallFrames::argument_view))]
+    #[inline(always)]
     pub fn word(&self, number: usize) -> Option<i64>
         ensures { result ≡ found_by (argument_of self.now number) word_of }
     {
@@ -326,6 +344,7 @@ impl Calls {
 
 /// So many operands are taken from the top and become arguments, the top one first. Answers whether there was memory.
 #[tactic(auto, using(crate::proofs::CallEntry::taken_one, crate::proofs::CallEntry::left_one))]
+#[inline(always)]
 fn take_arguments(count: usize, stack: &mut Stack, arguments: &mut Vec<Option<Argument>>) -> bool
     requires { count ≤ length stack.old }
     ensures taken { OnTrue result (operands_in arguments.new.items
@@ -346,6 +365,7 @@ fn take_arguments(count: usize, stack: &mut Stack, arguments: &mut Vec<Option<Ar
 
 /// An argument of a call, the first one for 0.
 #[tactic(auto, using(crate::proofs::CallFrames::argument_read, crate::proofs::CallFrames::argument_past))]
+#[inline(always)]
 fn find_argument(
     call: Activation,
     number: usize,

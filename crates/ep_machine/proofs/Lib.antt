@@ -1,6 +1,7 @@
 mod CallRows
 mod Ends
 mod Fusion
+mod Goings
 mod Leads
 mod Lifts
 mod Outputs

@@ -13,6 +13,7 @@
 mod arguments;
 mod end;
 mod fast;
+mod likely;
 mod output;
 mod pairs;
 mod run;

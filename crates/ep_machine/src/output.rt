@@ -10,8 +10,8 @@ ghost use Rattle.ep_typed.specs.Events.{Write};
 ghost use Rattle.ep_machine.specs.Outputs.{OnNoMemory, IsRefusal, UnlessDone, IsPut, OnFault, IsOfWriting, IsWriting, text_kind_in};
 
 use crate::step::Outward;
-use ep_frames::Stack;
-use ep_object::{Kind, OUTPUT_SEGMENT, Place, Segment, TypeEntry};
+use ep_frames::{Stack, Stored};
+use ep_object::{Kind, OUTPUT_SEGMENT, Place, TypeEntry};
 use ep_outside::{Sink, WriteAnswer};
 use ep_rows::Step;
 use ep_rows::control::spend;
@@ -45,17 +45,17 @@ fn is_text(types: &[TypeEntry], type_number: u32) -> Option<bool>
 }
 
 /// How the row ends where no text can go to the file at a place.
-fn refusal(segments: &[Option<Segment>], p: Place) -> Option<Step>
+fn refusal(segments: &[Stored], p: Place) -> Option<Step>
     ensures refused { IsRefusal segments.now p result }
     ensures kind { IfSome result IsOfWriting }
 {
     let Some(segment) = segments.get(p.segment as usize) else {
         return Some(Step::Broken);
     };
-    let Some(segment) = segment else {
+    let Some(words) = segment.words() else {
         return Some(Step::Error(run_error::DISPOSED));
     };
-    if p.offset as usize >= segment.words.items().len() {
+    if p.offset as usize >= words.len() {
         return Some(Step::Broken);
     }
     if p.segment == OUTPUT_SEGMENT && p.offset == 0 {
@@ -69,7 +69,7 @@ fn refusal(segments: &[Option<Segment>], p: Place) -> Option<Step>
 #[tactic(auto, using(crate::proofs::Outputs::putting))]
 pub fn put<O: Sink>(
     types: &[TypeEntry],
-    segments: &[Option<Segment>],
+    segments: &[Stored],
     limit: u64,
     ticks: &mut u64,
     stack: &mut Stack,

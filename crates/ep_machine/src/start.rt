@@ -3,12 +3,12 @@
 ghost use Rattle.std.specs.Prelude.{◌≡◌, List, [], map, take, IfOk};
 ghost use Rattle.ep_machine.specs.Views.{state_at};
 ghost use Rattle.ep_object.specs.declared.code.Image.{Image};
-ghost use Rattle.ep_object.specs.State.{first_state, empty_slots, first_types, first_segments, text_segment as segment_of_text, integer_entry, char_entry, boolean_entry, text_entry, pointer_entry};
+ghost use Rattle.ep_object.specs.State.{first_state, empty_slots, first_types, first_segments, integer_entry, char_entry, boolean_entry, text_entry, pointer_entry};
 
 use crate::state::{Configuration, Memory};
 use ep_base::List;
-use ep_frames::{Calls, Stack};
-use ep_object::{FIRST_LIVE_WORDS, ImageUnit, Kind, Place, Segment, TEXT_TYPE, TypeEntry};
+use ep_frames::{Calls, Stack, Stored};
+use ep_object::{FIRST_LIVE_WORDS, ImageUnit, Kind, Place, TEXT_TYPE, TypeEntry};
 use std::alloc::{AllocError, Global};
 
 /// The slots of the frames of all units, which hold no place yet.
@@ -42,27 +42,14 @@ fn types(alloc: Global) -> Result<Vec<TypeEntry>, AllocError>
     Ok(types)
 }
 
-fn text_segment(alloc: Global) -> Result<Segment, AllocError>
-    ensures { IfOk result (λ s. s ≡ segment_of_text) }
-{
-    let mut words = List::new(alloc);
-    words.push(i64::MIN)?;
-    Ok(Segment {
-        type_number: TEXT_TYPE,
-        words,
-    })
-}
-
 /// The segments from the start.
-fn segments(alloc: Global) -> Result<Vec<Option<Segment>>, AllocError>
+fn segments(alloc: Global) -> Result<Vec<Stored>, AllocError>
     ensures { IfOk result (λ v. v.items ≡ first_segments) }
 {
     let mut segments = Vec::new(alloc);
-    let input = text_segment(alloc)?;
-    let output = text_segment(alloc)?;
-    segments.push(None)?;
-    segments.push(Some(input))?;
-    segments.push(Some(output))?;
+    segments.push(Stored::ended())?;
+    segments.push(Stored::fresh(alloc, TEXT_TYPE, 1)?)?;
+    segments.push(Stored::fresh(alloc, TEXT_TYPE, 1)?)?;
     Ok(segments)
 }
 

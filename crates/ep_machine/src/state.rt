@@ -8,8 +8,8 @@ ghost use Rattle.ep_machine.specs.Views.{frames_of, routines_of, HasSlot, IsPlac
 ghost use Rattle.std.specs.Bool.{OnTrue};
 
 use ep_base::List;
-use ep_frames::{Calls, Stack};
-use ep_object::{FrameNumber, ImageRoutine, Place, Segment, TypeEntry};
+use ep_frames::{Calls, Stack, Stored};
+use ep_object::{FrameNumber, ImageRoutine, Place, TypeEntry};
 use ep_rows::segments;
 use std::alloc::Global;
 
@@ -29,7 +29,7 @@ pub struct Memory {
     /// The types by number.
     pub types: Vec<TypeEntry>,
     /// The segments by number.
-    pub segments: Vec<Option<Segment>>,
+    pub segments: Vec<Stored>,
     /// How many words live.
     pub live: u64,
 }

@@ -9,8 +9,8 @@ use crate::control::spend;
 use crate::places::{allocate, has_room, index, push_place};
 use crate::segments;
 use crate::step::Step;
-use ep_frames::Stack;
-use ep_object::{INPUT_SEGMENT, OUTPUT_SEGMENT, Place, Segment, TypeEntry};
+use ep_frames::{Stack, Stored};
+use ep_object::{INPUT_SEGMENT, OUTPUT_SEGMENT, Place, TypeEntry};
 use ep_typed::run_error;
 use std::alloc::Global;
 
@@ -20,7 +20,7 @@ pub fn new(
     limit: u64,
     ticks: &mut u64,
     types: &[TypeEntry],
-    segments: &mut Vec<Option<Segment>>,
+    segments: &mut Vec<Stored>,
     live: &mut u64,
     stack: &mut Stack,
 ) -> Step
@@ -52,7 +52,7 @@ pub fn new(
 }
 
 /// The variable ends that the word on top numbers.
-pub fn dispose(segments: &mut [Option<Segment>], live: &mut u64, stack: &mut Stack) -> Step
+pub fn dispose(segments: &mut [Stored], live: &mut u64, stack: &mut Stack) -> Step
     ensures { IsStep (dispose_row (storage stack.old segments.old live.old)) result
         (storage stack.new segments.new live.new) }
 {
@@ -68,7 +68,7 @@ pub fn dispose(segments: &mut [Option<Segment>], live: &mut u64, stack: &mut Sta
     let Some(number) = index(segments.len(), w) else {
         return Step::Broken;
     };
-    if segments[number].is_none() {
+    if segments[number].words().is_none() {
         return Step::Error(run_error::DISPOSED);
     }
     let number = number as u64;
@@ -80,7 +80,7 @@ pub fn dispose(segments: &mut [Option<Segment>], live: &mut u64, stack: &mut Sta
 }
 
 /// The place of the variable that the word on top numbers.
-pub fn deref(segments: &[Option<Segment>], stack: &mut Stack) -> Step
+pub fn deref(segments: &[Stored], stack: &mut Stack) -> Step
     ensures { IsStep (deref_row segments.now stack.old) result stack.new }
 {
     let Some(w) = stack.pop_word() else {
@@ -95,13 +95,13 @@ pub fn deref(segments: &[Option<Segment>], stack: &mut Stack) -> Step
     let Some(number) = index(segments.len(), w) else {
         return Step::Broken;
     };
-    let Some(segment) = &segments[number] else {
+    let Some(type_number) = segments[number].type_number() else {
         return Step::Error(run_error::DISPOSED);
     };
     let place = Place {
         segment: number as u64,
         offset: 0,
-        type_number: segment.type_number,
+        type_number,
     };
     push_place(stack, Some(place))
 }

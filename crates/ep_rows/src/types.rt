@@ -23,6 +23,7 @@ fn is_ordinal(lo: i64, hi: i64, kind: Kind) -> bool
 }
 
 /// The number of the ordinal type with these bounds.
+#[inline(never)]
 fn ordinal_number(lo: i64, hi: i64, types: &[TypeEntry]) -> Option<usize>
     ensures { result ≡ number_of lo hi types.now }
 {
@@ -40,6 +41,7 @@ fn ordinal_entry(lo: i64, hi: i64) -> TypeEntry
 }
 
 /// A new type.
+#[inline(always)]
 fn add(entry: TypeEntry, types: &mut Vec<TypeEntry>, live: &mut u64, stack: &mut Stack) -> Step
     ensures { IsStep (added entry stack.old (typing stack.old types.old.items live.old)) result
         (typing stack.new types.new.items live.new) }
@@ -59,6 +61,7 @@ fn add(entry: TypeEntry, types: &mut Vec<TypeEntry>, live: &mut u64, stack: &mut
 }
 
 /// The number that the ordinal type has, or a new one.
+#[inline(always)]
 fn intern(lo: i64, hi: i64, types: &mut Vec<TypeEntry>, live: &mut u64, stack: &mut Stack) -> Step
     ensures { IsStep (ordinal_of lo hi stack.old (typing stack.old types.old.items live.old)) result
         (typing stack.new types.new.items live.new) }
@@ -73,6 +76,7 @@ fn intern(lo: i64, hi: i64, types: &mut Vec<TypeEntry>, live: &mut u64, stack: &
 }
 
 /// The ordinal type with two bounds.
+#[inline(always)]
 pub fn ord(types: &mut Vec<TypeEntry>, live: &mut u64, stack: &mut Stack) -> Step
     ensures { IsStep (ord_row (typing stack.old types.old.items live.old)) result
         (typing stack.new types.new.items live.new) }
