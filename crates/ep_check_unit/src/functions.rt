@@ -238,10 +238,11 @@ impl Block {
     {
         match (self.own.result, found) {
             (Some(own), Outcome::Passes(statements)) => {
-                !own.named || {
-                    let variable = TypedPlace::Own(own.variable);
-                    threatens(&self.routines, &variable, statements.items())
-                }
+                !own.named
+                    || {
+                        let variable = TypedPlace::Own(own.variable);
+                        threatens(&self.routines, &variable, statements.items())
+                    }
             }
             _ => true,
         }

@@ -1,5 +1,5 @@
 -- The auxiliary variables of a block with a `for` are there.
-use Rattle.std.proofs.Common.{◌≡◌, ℕ, zero, suc, ◌+◌, List, [], ◌∷◌, ◌++◌, length, Some, slice_get, refl, sym, ap, ◌∙◌, subst, arith}
+use Rattle.std.proofs.Common.{◌≡◌, ℕ, suc, ◌+◌, List, [], ◌∷◌, ◌++◌, length, Some, slice_get, refl, sym, ap, ◌∙◌, subst, arith}
 use Rattle.std.specs.Prelude.{if◌then◌else◌}
 use Rattle.ep_typed.proofs.Auxiliaries.{auxiliary_host}
 use Rattle.ep_typed.specs.Auxiliaries.{auxiliary_variable, auxiliary_variables, first_for}
@@ -10,9 +10,9 @@ use Rattle.ep_typed.specs.Valid.{Declarations, in_routine, own}
 use Rattle.ep_typed.specs.Viewed.{denoter_of, stmt_of}
 use Rattle.ep_typed.specs.declared.unit.Unit.{Unit as TypedUnit}
 use Rattle.ep_typed.specs.declared.unit.UnitVariable.{UnitVariable}
-use Rattle.ep_scope.specs.Scopes.{Region, Row}
+use Rattle.ep_scope.specs.Scopes.{Region}
 use Rattle.ep_check_stmt.specs.Laws.{AuxiliariesAreThere}
-use Rattle.ep_check_stmt.specs.Statements.{Locals, OfUnit, OfRoutine}
+use Rattle.ep_check_stmt.specs.Statements.{OfUnit, OfRoutine}
 use Rattle.ep_check_unit.specs.Blocks.{Block, first_own, own_count}
 use Rattle.ep_check_unit.specs.Declarations.{is_outermost}
 use Rattle.ep_check_unit.specs.Routines.{locals_of}
@@ -46,9 +46,10 @@ module _ (u : TypedUnit) (c : Block) (line at : ℕ) (called : List ℕ) where
   pub own_auxiliaries : (first : Region) (others : List Region) → c.scopes.outer ≡ first ∷ others → AuxiliariesAreThere within (locals_of c)
   own_auxiliaries first others inner =
       let v : UnitVariable = auxiliary_variable at in
-      subst (λ rs. AuxiliariesAreThere within (if is_outermost rs then OfUnit c.unit (length c.variables) else OfRoutine (first_own c.own) (own_count c.own))) (sym inner)
-      ((v, subst (λ n. slice_get its_variables n ≡ Some v) many (first_behind (variables_in line called c.own) v v), auxiliary_host u.types at),
-        (v, subst (λ n. slice_get its_variables (n + 1) ≡ Some v) many (second_behind (variables_in line called c.own) v v), auxiliary_host u.types at))
+      subst (λ rs. AuxiliariesAreThere within (if is_outermost rs then OfUnit c.unit (length c.variables) else OfRoutine (first_own c.own) (own_count c.own))) (sym inner) (
+        (v, subst (λ n. slice_get its_variables n ≡ Some v) many (first_behind (variables_in line called c.own) v v), auxiliary_host u.types at),
+        (v, subst (λ n. slice_get its_variables (n + 1) ≡ Some v) many (second_behind (variables_in line called c.own) v v), auxiliary_host u.types at),
+      )
 
 -- in the block of a unit
 pub unit_auxiliaries : (u : TypedUnit) (b : Block) (at : ℕ) → b.unit ≡ u.name → u.variables ≡ b.variables → first_for (stmt_of u.start) ≡ Some at → b.scopes.outer ≡ [] → AuxiliariesAreThere (own u) (locals_of b)
@@ -56,6 +57,7 @@ unit_auxiliaries u b at named variables has outermost =
     let v : UnitVariable = auxiliary_variable at in
     let all : unit_variables u ≡ b.variables ++ v ∷ v ∷ [] = ap (λ o. u.variables ++ auxiliary_variables o) has ∙ ap (λ l. l ++ v ∷ v ∷ []) variables in
     let typed : host_of ((own u).types b.unit) (denoter_of v.denoter) ≡ Some host.Integer = ap (λ ts. host_of ts (denoter_of v.denoter)) (types_own u b.unit named) ∙ auxiliary_host u.types at in
-    subst (λ rs. AuxiliariesAreThere (own u) (if is_outermost rs then OfUnit b.unit (length b.variables) else OfRoutine (first_own b.own) (own_count b.own))) (sym outermost)
-    ((v, variables_own u b.unit (length b.variables) named ∙ (ap (λ l. slice_get l (length b.variables)) all ∙ first_behind b.variables v v), typed),
-      (v, variables_own u b.unit (length b.variables + 1) named ∙ (ap (λ l. slice_get l (length b.variables + 1)) all ∙ second_behind b.variables v v), typed))
+    subst (λ rs. AuxiliariesAreThere (own u) (if is_outermost rs then OfUnit b.unit (length b.variables) else OfRoutine (first_own b.own) (own_count b.own))) (sym outermost) (
+      (v, variables_own u b.unit (length b.variables) named ∙ (ap (λ l. slice_get l (length b.variables)) all ∙ first_behind b.variables v v), typed),
+      (v, variables_own u b.unit (length b.variables + 1) named ∙ (ap (λ l. slice_get l (length b.variables + 1)) all ∙ second_behind b.variables v v), typed),
+    )
