@@ -29,6 +29,7 @@ use Rattle.ep_scope.specs.declared.thing.Declaration.TheVariants as declaration
 use Rattle.ep_scope.specs.declared.thing.Thing.{Thing}
 use Rattle.ep_scope.specs.declared.thing.Thing.TheVariants as thing
 use Rattle.ep_check_expr.proofs.Nodes.{expression-judged, comparison-judged, simple-judged, addend-judged, term-judged, multiplier-judged, name-judged, arguments-judged, argument-judged, wide-judged, number-judged, parenthesized-judged, string-judged}
+use Rattle.ep_check_expr.specs.Arguments.{callee_at}
 use Rattle.ep_check_expr.specs.declared.access.Access.TheVariants as access
 use Rattle.ep_check_expr.specs.Constants.{constant_expression, bound_judged}
 use Rattle.ep_check_expr.specs.Expressions.{judged}
@@ -149,16 +150,16 @@ constant_quotient_by_zero = simp (expression-judged, simple-judged, term-judged,
 
 -- f(3)
 called_by_value : judged scope (bare (call (codes "f") (plain (number 3) ∷ [])))
-    ≡ Accepts (record { form = Some (Function (codes "p") 0 (next_actual (Evaluated (Constant (pos 3))) no_actual)); kind = kind.Ordinal color; depth = 2; access = access.Value })
+    ≡ Accepts (record { form = Some (Function (callee_at (codes "p") 0) (next_actual (Evaluated (Constant (pos 3))) no_actual)); kind = kind.Ordinal color; depth = 2; access = access.Value })
 called_by_value = simp (expression-judged, simple-judged, term-judged, name-judged, arguments-judged, argument-judged, number-judged) refl
 
 -- g(x)
 called_by_variable : judged scope (bare (call (codes "g") (plain (name (codes "x")) ∷ [])))
-    ≡ Accepts (record { form = Some (Function (codes "p") 1 (next_actual (Accessed (Variable (codes "p") 0)) no_actual)); kind = kind.Ordinal color; depth = 3; access = access.Value })
+    ≡ Accepts (record { form = Some (Function (callee_at (codes "p") 1) (next_actual (Accessed (Variable (codes "p") 0)) no_actual)); kind = kind.Ordinal color; depth = 3; access = access.Value })
 called_by_variable = simp (expression-judged, simple-judged, term-judged, name-judged, arguments-judged, argument-judged) refl
 
 -- h
-called_alone : judged scope (bare (name (codes "h"))) ≡ Accepts (record { form = Some (Function (codes "p") 2 no_actual); kind = integer; depth = 1; access = access.Value })
+called_alone : judged scope (bare (name (codes "h"))) ≡ Accepts (record { form = Some (Function (callee_at (codes "p") 2) no_actual); kind = integer; depth = 1; access = access.Value })
 called_alone = simp (expression-judged, simple-judged, term-judged, name-judged) refl
 
 -- f

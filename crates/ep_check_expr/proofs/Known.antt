@@ -164,7 +164,7 @@ module _ (declared : Declarations) where
   known-of_kind (Short operation x y) (valid.Ordinal h) z v f =
       as_host h host.Boolean z v.0 (short_folded-known (λ z. IsTrue (is_of_host host.Boolean z)) operation (folded x) (folded y) z (λ w e. known-of_kind x (valid.Ordinal host.Boolean) w v.1 e) (λ w e. known-of_kind y (valid.Ordinal host.Boolean) w v.2 e) f)
   known-of_kind (Step down low high x y) (valid.Ordinal h) z v f = let p = two_folded-known (step_answer down low high) (folded x) (folded y) z f in step-of_host down low high h v.0 p.left p.right z v.1 v.2 v.3 p.is_answer
-  known-of_kind (Function unit number given) (valid.Ordinal h) z v f = cc
+  known-of_kind (Function callee given) (valid.Ordinal h) z v f = cc
 
   -- of a valid form of a host it is a value of the host
   pub known-of_host : (e : Expr) (h : Host) (z : ℤ) → IsExpr declared (valid.Ordinal h) e → folded e ≡ Known z → IsTrue (is_of_host h z)
@@ -224,7 +224,7 @@ module _ (declared : Declarations) where
   constant-fits (kind.Ordinal h) (Some (Two operation x y)) s = folded-constant h (Two operation x y) (folded (Two operation x y)) refl s.0 s.1
   constant-fits (kind.Ordinal h) (Some (Short operation x y)) s = folded-constant h (Short operation x y) (folded (Short operation x y)) refl s.0 s.1
   constant-fits (kind.Ordinal h) (Some (Step down low high x y)) s = folded-constant h (Step down low high x y) (folded (Step down low high x y)) refl s.0 s.1
-  constant-fits (kind.Ordinal h) (Some (Function unit number given)) s = tt
+  constant-fits (kind.Ordinal h) (Some (Function callee given)) s = tt
   constant-fits kind.Text None s = tt
   constant-fits kind.Text (Some (Text bytes)) s = tt
   constant-fits kind.Text (Some (Constant z)) s = let e = s.1 in cc
@@ -233,7 +233,7 @@ module _ (declared : Declarations) where
   constant-fits kind.Text (Some (Two operation x y)) s = absurd (binary-bytes operation s.0 s.1 s.2)
   constant-fits kind.Text (Some (Short operation x y)) s = let e = s.0 in cc
   constant-fits kind.Text (Some (Step down low high x y)) s = let e = s.1 in cc
-  constant-fits kind.Text (Some (Function unit number given)) s = tt
+  constant-fits kind.Text (Some (Function callee given)) s = tt
   constant-fits kind.File None s = absurd s
   constant-fits kind.File (Some (Text bytes)) s = absurd s
   constant-fits kind.File (Some (Constant z)) s = absurd s
@@ -242,4 +242,4 @@ module _ (declared : Declarations) where
   constant-fits kind.File (Some (Two operation x y)) s = absurd s
   constant-fits kind.File (Some (Short operation x y)) s = absurd s
   constant-fits kind.File (Some (Step down low high x y)) s = absurd s
-  constant-fits kind.File (Some (Function unit number given)) s = absurd s
+  constant-fits kind.File (Some (Function callee given)) s = absurd s

@@ -168,7 +168,7 @@ same_kind k (Some (One operation x)) c e = folded_kind k (folded (One operation 
 same_kind k (Some (Two operation x y)) c e = folded_kind k (folded (Two operation x y)) c e
 same_kind k (Some (Short operation x y)) c e = folded_kind k (folded (Short operation x y)) c e
 same_kind k (Some (Step down low high x y)) c e = folded_kind k (folded (Step down low high x y)) c e
-same_kind k (Some (Function unit number given)) c e = folded_kind k (folded (Function unit number given)) c e
+same_kind k (Some (Function callee given)) c e = folded_kind k (folded (Function callee given)) c e
 
 -- a constant has the kind of its expression
 known_constant : (scopes : List Region) (kind : Kind) (form : Option Expr) → IsKnownKind scopes kind → (c : ConstantForm) → constant_of kind form ≡ Accepts c → IsKnownKind scopes c.kind

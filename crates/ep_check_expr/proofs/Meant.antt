@@ -112,7 +112,7 @@ module _ (declared : Declarations) (types : TypeValues) where
   value_declared-fits unit number (declaration.Constant k v) s = (constant-fits k v s, tt)
   value_declared-fits unit number (declaration.«Type» of host) s = tt
   value_declared-fits unit number (declaration.Variable of k) s = (variable-fits (Variable unit number) k s.0, (Variable unit number, refl, s.1))
-  value_declared-fits unit number (declaration.Own of k guarded) s = (variable-fits (Own number) k s.0, (Own number, refl, s.1))
+  value_declared-fits unit number (declaration.Own of k guarded) s = (variable-fits (Own 0 number) k s.0, (Own 0 number, refl, s.1))
   value_declared-fits unit number (declaration.Procedure parameters) s = tt
   value_declared-fits unit number (declaration.Function parameters of h) s = function_called-fits declared types unit number parameters h [] s tt
 

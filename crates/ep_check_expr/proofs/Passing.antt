@@ -22,7 +22,7 @@ use Rattle.ep_scope.specs.declared.rule.TheConstants as rule
 use Rattle.ep_check_expr.specs.declared.access.Access.{Access}
 use Rattle.ep_check_expr.specs.declared.access.Access.TheVariants as access
 use Rattle.ep_check_expr.specs.Agreement.{AreActuals, AreParameters, IsAccessOf, IsFormOf, IsFunctionOf, IsOfType, IsParameter, TypeValues}
-use Rattle.ep_check_expr.specs.Arguments.{Taken, accessed, actual_taken, argument_judged, argument_taken, arguments_judged, function_called, function_typed, given_to, joined, one_taken, threatened, value_taken, variable_taken}
+use Rattle.ep_check_expr.specs.Arguments.{Taken, accessed, actual_taken, argument_judged, argument_taken, arguments_judged, callee_at, function_called, function_typed, given_to, joined, one_taken, threatened, value_taken, variable_taken}
 use Rattle.ep_check_expr.specs.Functions.{Given, given_faults, unless_faults}
 use Rattle.ep_check_expr.specs.Hosts.{typed_host}
 use Rattle.ep_check_expr.specs.Judgements.{Judged, Accepts, Breaks, Typed}
@@ -160,7 +160,7 @@ module _ (declared : Declarations) (types : TypeValues) where
   -- ---- function designators
 
   function-form : (unit : List ℕ) (number : ℕ) (ps : List FormalParameter) (h : Host) (s : IsFunctionOf declared types unit number ps h) (xs : Option (List Actual))
-      → AreActuals declared (declared.types unit) s.0.formals xs → IsFormOf declared (kind.Ordinal h) (option_map (λ zs. tree.Function unit number (actuals zs)) xs)
+      → AreActuals declared (declared.types unit) s.0.formals xs → IsFormOf declared (kind.Ordinal h) (option_map (λ zs. tree.Function (callee_at unit number) (actuals zs)) xs)
   function-form unit number ps h s None x = s.3
   function-form unit number ps h s (Some xs) x = (s.3, (typed_host h, refl, s.0, s.1, s.2, x))
 

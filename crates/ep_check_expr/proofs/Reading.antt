@@ -37,7 +37,7 @@ declared-placed : (unit : List ℕ) (number : ℕ) (d : Declaration) → Satisfi
 declared-placed unit number (declaration.Constant k v) = tt
 declared-placed unit number (declaration.«Type» of h) = tt
 declared-placed unit number (declaration.Variable of k) = (Variable unit number, refl)
-declared-placed unit number (declaration.Own of k guarded) = (Own number, refl)
+declared-placed unit number (declaration.Own of k guarded) = (Own 0 number, refl)
 declared-placed unit number (declaration.Procedure parameters) = tt
 declared-placed unit number (declaration.Function parameters of h) = function-placed unit number h (arguments_judged parameters [])
 

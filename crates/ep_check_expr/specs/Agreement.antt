@@ -1,10 +1,10 @@
 -- Declarations that hold what scopes declare, under which typed forms are valid.
-use Rattle.std.specs.Prelude.{◌≡◌, ℕ, pos, List, [], ◌∷◌, Option, Some, None, IsTrue, int_le, slice_get, ⊤}
+use Rattle.std.specs.Prelude.{◌≡◌, ℕ, pos, List, [], ◌∷◌, Option, Some, None, IsTrue, int_le, ⊤}
 use Rattle.ep_typed.specs.Denoters.{host_of, type_of}
 use Rattle.ep_typed.specs.Hosts.{greatest, is_of_host}
 use Rattle.ep_typed.specs.Operations.{maxint}
 use Rattle.ep_typed.specs.Trees.{Place, Variable, Own, Expr, Constant, Text, Read, One, Two, Short, Step, Function, Actual, actuals}
-use Rattle.ep_typed.specs.Valid.{Declarations, AreGiven, IsFunction, IsPlace, IsExpr, IsProcedure, IsVariableOf}
+use Rattle.ep_typed.specs.Valid.{Declarations, AreGiven, IsCallee, IsFunction, IsPlace, IsExpr, IsProcedure, IsVariableOf}
 use Rattle.ep_typed.specs.Valid as valid
 use Rattle.ep_typed.specs.Viewed.{denoter_of}
 use Rattle.ep_typed.specs.declared.interface.Formal.{Formal}
@@ -25,7 +25,7 @@ use Rattle.ep_scope.specs.declared.thing.Thing.{Thing}
 use Rattle.ep_scope.specs.declared.thing.Thing.TheVariants as thing
 use Rattle.ep_check_expr.specs.declared.access.Access.{Access}
 use Rattle.ep_check_expr.specs.declared.access.Access.TheVariants as access
-use Rattle.ep_check_expr.specs.Arguments.{Taken}
+use Rattle.ep_check_expr.specs.Arguments.{Taken, callee_at}
 use Rattle.ep_check_expr.specs.Hosts.{typed_host}
 use Rattle.ep_check_expr.specs.Judgements.{Typed}
 
@@ -50,7 +50,7 @@ IsFile (One operation x) = ⊥
 IsFile (Two operation x y) = ⊥
 IsFile (Short operation x y) = ⊥
 IsFile (Step down low high x y) = ⊥
-IsFile (Function unit number given) = ⊥
+IsFile (Function callee given) = ⊥
 
 -- the type value of each type, where it has one
 abbrev pub TypeValues : Type 0
@@ -101,20 +101,20 @@ module _ (declared : Declarations) (types : TypeValues) where
   IsAccessOf access.Constant form = ⊤
   IsAccessOf access.Value form = ⊤
 
-  -- the routine is declared, and a procedure with these formal parameters
+  -- the routine is declared in no other one, and a procedure with these formal parameters
   abbrev pub IsProcedureOf : List ℕ → ℕ → List FormalParameter → Type 0
-  IsProcedureOf unit number ps = (r : RoutineEntry) × (slice_get (declared.routines unit) number ≡ Some r) × IsProcedure r × AreParameters types (declared.types unit) ps r.formals
+  IsProcedureOf unit number ps = (r : RoutineEntry) × IsCallee declared (callee_at unit number) r × IsProcedure r × AreParameters types (declared.types unit) ps r.formals
 
-  -- the routine is declared, and a function with these formal parameters and a result of this host
+  -- the routine is declared in no other one, and a function with these formal parameters and a result of this host
   abbrev pub IsFunctionOf : List ℕ → ℕ → List FormalParameter → Host → Type 0
   IsFunctionOf unit number ps h =
-      (r : RoutineEntry) × (slice_get (declared.routines unit) number ≡ Some r) × IsFunction (declared.types unit) (typed_host h) r × IsHost h × AreParameters types (declared.types unit) ps r.formals
+      (r : RoutineEntry) × IsCallee declared (callee_at unit number) r × IsFunction (declared.types unit) (typed_host h) r × IsHost h × AreParameters types (declared.types unit) ps r.formals
 
   abbrev pub IsDeclaration : List ℕ → ℕ → Declaration → Type 0
   IsDeclaration unit number (declaration.Constant kind value) = IsConstantOf kind value
   IsDeclaration unit number (declaration.«Type» of host) = IsHost host
   IsDeclaration unit number (declaration.Variable of kind) = IsStoredIn declared (Variable unit number) kind × IsOfType (Variable unit number) of
-  IsDeclaration unit number (declaration.Own of kind guarded) = IsStoredIn declared (Own number) kind × IsOfType (Own number) of
+  IsDeclaration unit number (declaration.Own of kind guarded) = IsStoredIn declared (Own 0 number) kind × IsOfType (Own 0 number) of
   IsDeclaration unit number (declaration.Procedure parameters) = IsProcedureOf unit number parameters
   IsDeclaration unit number (declaration.Function parameters of host) = IsFunctionOf unit number parameters host
 

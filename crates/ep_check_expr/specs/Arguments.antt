@@ -2,7 +2,7 @@
 use Rattle.std.specs.Prelude.{◌≡◌, ⊤, ℕ, suc, max, List, [], ◌∷◌, ◌++◌, Option, Some, None, if◌then◌else◌}
 use Rattle.std.specs.Option.{option_map}
 use Rattle.ep_typed.specs.Trees as tree
-use Rattle.ep_typed.specs.Trees.{Actual, Expr, Place, actuals}
+use Rattle.ep_typed.specs.Trees.{Actual, Callee, Expr, Place, actuals}
 use Rattle.ep_typed.specs.declared.interface.FormalMode.{FormalMode}
 use Rattle.ep_typed.specs.declared.interface.FormalMode.TheVariants as mode
 use Rattle.ep_scope.specs.Kinds.{same_host}
@@ -109,9 +109,13 @@ arguments_judged ps gs = Breaks (rule.ARGUMENTS ∷ [])
 
 -- ---- function designators (ISO 10206, 6.8.5)
 
+-- the routine of this number of a unit, which is declared in no other one
+abbrev pub callee_at : List ℕ → ℕ → Callee
+callee_at unit number = record { unit = unit; number = number; levels = 0 }
+
 -- the function of this number of a unit, with a result of this host, is called
 abbrev pub function_typed : List ℕ → ℕ → Host → Taken → Judged Typed
-function_typed unit number h given = within_depth (option_map (λ xs. tree.Function unit number (actuals xs)) given.actuals) (kind.Ordinal h) (suc given.depth)
+function_typed unit number h given = within_depth (option_map (λ xs. tree.Function (callee_at unit number) (actuals xs)) given.actuals) (kind.Ordinal h) (suc given.depth)
 
 -- and has these formal parameters
 abbrev pub function_called : List ℕ → ℕ → List FormalParameter → Host → List Given → Judged Typed

@@ -45,7 +45,7 @@ folded (One operation x) = one_folded (unary_answer operation) (folded x)
 folded (Two operation x y) = two_folded (binary_answer operation) (folded x) (folded y)
 folded (Short operation x y) = short_folded operation (folded x) (folded y)
 folded (Step down low high x count) = two_folded (step_answer down low high) (folded x) (folded count)
-folded (Function unit number given) = Varies
+folded (Function callee given) = Varies
 
 -- two numbers, or what is known of a form of the two
 abbrev pub AnswersPair : Folded → Folded → Result (ℤ × ℤ) Folded → Type 0

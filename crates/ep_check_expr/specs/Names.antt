@@ -46,7 +46,7 @@ abbrev pub value_declared : List ℕ → ℕ → Declaration → Judged Typed
 value_declared unit number (declaration.Constant kind value) = leaf (value_form value) kind access.Constant
 value_declared unit number (declaration.«Type» of host) = Breaks (rule.OTHER_THING ∷ [])
 value_declared unit number (declaration.Variable of kind) = reading (Read (Variable unit number)) kind (access.Variable of protection.Unprotected)
-value_declared unit number (declaration.Own of kind guarded) = reading (Read (Own number)) kind (access.Variable of guarded)
+value_declared unit number (declaration.Own of kind guarded) = reading (Read (Own 0 number)) kind (access.Variable of guarded)
 value_declared unit number (declaration.Procedure parameters) = Breaks (rule.PROCEDURE ∷ rule.OTHER_THING ∷ [])
 value_declared unit number (declaration.Function parameters of host) = function_called unit number parameters host []
 

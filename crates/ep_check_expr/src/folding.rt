@@ -29,7 +29,7 @@ pub fn folded_form(e: &TypedExpr) -> Folded
         TypedExpr::Constant(value) => Folded::Known(*value),
         TypedExpr::Text(_) => Folded::Errs,
         TypedExpr::Read(_) => Folded::Varies,
-        TypedExpr::Function(_, _, _) => Folded::Varies,
+        TypedExpr::Function(_, _) => Folded::Varies,
         TypedExpr::Unary(operation, operand) => {
             match folded_form(operand.get()) {
                 Folded::Known(x) => unary(*operation, x),

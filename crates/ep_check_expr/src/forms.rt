@@ -20,7 +20,7 @@ use crate::access::Access;
 use crate::arguments::Taken;
 use ep_base::{Boxed, Bytes, Name, NoMemory};
 use ep_scope::{Host, Kind, rule};
-use ep_typed::{Binary, ShortOperation, TypedExpr, TypedPlace, Unary, Value};
+use ep_typed::{Binary, Callee, ShortOperation, TypedExpr, TypedPlace, Unary, Value};
 use std::alloc::{AllocError, Global};
 
 /// The greatest number of typed nodes of an expression that stand one below the other.
@@ -278,7 +278,12 @@ impl Typed {
             None => None,
             Some(actuals) => {
                 let unit = unit.copy(alloc)?;
-                Some(Boxed::new(alloc, TypedExpr::Function(unit, number, actuals))?)
+                let callee = Callee {
+                    unit,
+                    number,
+                    levels: 0,
+                };
+                Some(Boxed::new(alloc, TypedExpr::Function(callee, actuals))?)
             }
         };
         Ok(Typed {

@@ -67,7 +67,7 @@ fn declared_value(alloc: Global, d: &Declared) -> Result<Typed, Refusal>
         }
         Declaration::Own(of, kind, guarded) => {
             let access = Access::Variable(*of, *guarded);
-            Typed::read(alloc, TypedPlace::Own(d.number), *kind, access)
+            Typed::read(alloc, TypedPlace::Own(0, d.number), *kind, access)
         }
         Declaration::Procedure(_) => Err(Refusal::Rule(rule::PROCEDURE)),
         Declaration::Function(parameters, _, host) => {

@@ -20,6 +20,7 @@ use Rattle.ep_scope.specs.declared.thing.Declaration.{Declaration}
 use Rattle.ep_scope.specs.declared.thing.Declaration.TheVariants as declaration
 use Rattle.ep_scope.specs.declared.thing.Declared.{Declared}
 use Rattle.ep_scope.specs.declared.thing.Thing.TheVariants as thing
+use Rattle.ep_check_expr.specs.Arguments.{callee_at}
 use Rattle.ep_check_expr.proofs.Nodes.{argument-judged, expression-judged, simple-judged, term-judged, name-judged, number-judged}
 use Rattle.ep_check_expr.specs.Judgements.{Judged, Accepts, Breaks}
 use Rattle.ep_check_stmt.specs.Statements.{Context, OfRoutine, OfUnit, declared_called, declared_control, stmt_threat, unless_threatening}
@@ -67,7 +68,7 @@ abbrev called : List Argument → Judged (Option Stmt)
 called arguments = declared_called context 1 (declares 0 (declaration.Procedure parameters)) (declaration.Procedure parameters) arguments
 
 -- p(3, x)
-value_and_variable : called (number 3 ∷ name (codes "x") ∷ []) ≡ Accepts (Some (Procedure 1 (codes "u") 0 (actuals (Evaluated (Constant (pos 3)) ∷ Accessed (Variable (codes "u") 0) ∷ []))))
+value_and_variable : called (number 3 ∷ name (codes "x") ∷ []) ≡ Accepts (Some (Procedure 1 (callee_at (codes "u") 0) (actuals (Evaluated (Constant (pos 3)) ∷ Accessed (Variable (codes "u") 0) ∷ []))))
 value_and_variable = simp (argument-judged, expression-judged, simple-judged, term-judged, number-judged, name-judged) refl
 
 -- p(3)
@@ -95,7 +96,7 @@ counts_in_no_routine : declared_control (OfRoutine 1 3) (declares 0 x) x ≡ Bre
 counts_in_no_routine = refl
 
 -- in a routine of one parameter the first variable that it declares counts, and the parameter does not
-own_counts : declared_control (OfRoutine 1 3) (declares 1 own) own ≡ Accepts (record { place = Own 1; kind = kind.Ordinal host.Integer })
+own_counts : declared_control (OfRoutine 1 3) (declares 1 own) own ≡ Accepts (record { place = Own 0 1; kind = kind.Ordinal host.Integer })
 own_counts = refl
 
 parameter_does_not : declared_control (OfRoutine 1 3) (declares 0 own) own ≡ Breaks (rule.CONTROL_VARIABLE ∷ [])

@@ -12,7 +12,7 @@ use Rattle.ep_check_stmt.specs.Statements.{Context, FunctionResult, Locals, Pass
 -- the variable that has the result is one of the routine, and of its host
 abbrev pub ResultIsThere : Declarations → Option FunctionResult → Type 0
 ResultIsThere declared None = ⊤
-ResultIsThere declared (Some r) = IsHost r.host × IsPlace declared (typed_host r.host) (Own r.variable)
+ResultIsThere declared (Some r) = IsHost r.host × IsPlace declared (typed_host r.host) (Own 0 r.variable)
 
 -- the auxiliary variables are there and are integers
 abbrev pub AuxiliariesAreThere : Declarations → Locals → Type 0

@@ -5,7 +5,6 @@ use Rattle.ep_typed.specs.Viewed.{stmt_of}
 use Rattle.ep_typed.specs.declared.interface.Formal.{Formal}
 use Rattle.ep_typed.specs.declared.interface.RoutineResult.{RoutineResult}
 use Rattle.ep_typed.specs.declared.unit.UnitRoutine.{UnitRoutine}
-use Rattle.ep_typed.specs.declared.unit.UnitRoutine.TheViews.{out-UnitRoutine}
 use Rattle.ep_typed.specs.declared.unit.UnitVariable.{UnitVariable}
 
 -- a routine, whose block is a statement as plain data
@@ -16,20 +15,19 @@ pub record RoutineForm : Type 0 where
   pub formals : List Formal
   pub result : Option RoutineResult
   pub variables : List UnitVariable
-  pub routines : List UnitRoutine
+  pub around : List ℕ
   pub block : Stmt
 
 abbrev pub routine_form : UnitRoutine → RoutineForm
 routine_form r =
-    let parts = out-UnitRoutine r in
     record {
-      name = parts.name;
-      line = parts.line;
-      formals = parts.formals;
-      result = parts.result;
-      variables = parts.variables;
-      routines = parts.routines;
-      block = stmt_of parts.block;
+      name = r.name;
+      line = r.line;
+      formals = r.formals;
+      result = r.result;
+      variables = r.variables;
+      around = r.around;
+      block = stmt_of r.block;
     }
 
 -- the formal parameters of a routine, where there is one

@@ -40,7 +40,7 @@ use Rattle.ep_scope.specs.declared.rule.TheConstants as rule
 use Rattle.ep_scope.specs.declared.thing.Declaration.{Declaration}
 use Rattle.ep_scope.specs.declared.thing.Declaration.TheVariants as declaration
 use Rattle.ep_scope.specs.declared.thing.Declared.{Declared}
-use Rattle.ep_check_expr.specs.Arguments.{arguments_judged, given_to, unless_protected}
+use Rattle.ep_check_expr.specs.Arguments.{arguments_judged, callee_at, given_to, unless_protected}
 use Rattle.ep_check_expr.specs.Hosts.{typed_host}
 use Rattle.ep_check_expr.specs.Judgements.{Judged, Accepts, Breaks, Typed, unbuilt, when_accepted, both}
 use Rattle.ep_check_expr.specs.Functions.{Given}
@@ -113,12 +113,12 @@ has_result d r = nat_eq d.number r.function && bytes_eq d.unit r.unit
 -- the name of a function is assigned to in its own block alone (ISO 10206, 6.7.2)
 abbrev pub function_target : Declared → Option FunctionResult → Judged Target
 function_target d None = Breaks (rule.FUNCTION_ASSIGNED ∷ [])
-function_target d (Some r) = if has_result d r then Accepts (record { place = tree.Own r.variable; kind = kind.Ordinal r.host }) else Breaks (rule.FUNCTION_ASSIGNED ∷ [])
+function_target d (Some r) = if has_result d r then Accepts (record { place = tree.Own 0 r.variable; kind = kind.Ordinal r.host }) else Breaks (rule.FUNCTION_ASSIGNED ∷ [])
 
 -- a declared name that is assigned to
 abbrev pub declared_target : Option FunctionResult → Declared → Declaration → Judged Target
 declared_target result d (declaration.Variable of k) = Accepts (record { place = tree.Variable d.unit d.number; kind = k })
-declared_target result d (declaration.Own of k guarded) = when_accepted (λ done. Accepts (record { place = tree.Own d.number; kind = k })) (unless_protected guarded)
+declared_target result d (declaration.Own of k guarded) = when_accepted (λ done. Accepts (record { place = tree.Own 0 d.number; kind = k })) (unless_protected guarded)
 declared_target result d (declaration.Constant k value) = Breaks (rule.CONSTANT_THREATENED ∷ rule.VARIABLE_NEEDED ∷ [])
 declared_target result d (declaration.«Type» of h) = Breaks (rule.OTHER_THING ∷ rule.VARIABLE_NEEDED ∷ [])
 declared_target result d (declaration.Procedure parameters) = Breaks (rule.OTHER_THING ∷ rule.VARIABLE_NEEDED ∷ [])
@@ -286,11 +286,11 @@ pub data Locals : Type 0 where
 -- the auxiliary variables, which have the initial and the final value
 abbrev pub initial_place : Locals → Place
 initial_place (OfUnit unit auxiliary) = tree.Variable unit auxiliary
-initial_place (OfRoutine first auxiliary) = tree.Own auxiliary
+initial_place (OfRoutine first auxiliary) = tree.Own 0 auxiliary
 
 abbrev pub last_place : Locals → Place
 last_place (OfUnit unit auxiliary) = tree.Variable unit (auxiliary + 1)
-last_place (OfRoutine first auxiliary) = tree.Own (auxiliary + 1)
+last_place (OfRoutine first auxiliary) = tree.Own 0 (auxiliary + 1)
 
 -- whether a variable of a unit, or one of the routine, is declared in the block
 abbrev pub declares_variable : Locals → List ℕ → Bool
@@ -312,7 +312,7 @@ control_if false t = no_control []
 -- a declared name as a control variable
 abbrev pub declared_control : Locals → Declared → Declaration → Judged Target
 declared_control locals d (declaration.Variable of k) = control_if (declares_variable locals d.unit) (record { place = tree.Variable d.unit d.number; kind = k })
-declared_control locals d (declaration.Own of k guarded) = control_if (declares_own locals d.number) (record { place = tree.Own d.number; kind = k })
+declared_control locals d (declaration.Own of k guarded) = control_if (declares_own locals d.number) (record { place = tree.Own 0 d.number; kind = k })
 declared_control locals d (declaration.Constant k value) = no_control (rule.CONSTANT_THREATENED ∷ rule.VARIABLE_NEEDED ∷ [])
 declared_control locals d (declaration.«Type» of h) = no_control (rule.OTHER_THING ∷ rule.VARIABLE_NEEDED ∷ [])
 declared_control locals d (declaration.Procedure parameters) = no_control (rule.OTHER_THING ∷ rule.VARIABLE_NEEDED ∷ [])
@@ -454,7 +454,7 @@ module _ (context : Context) where
   -- a procedure of a unit is called (ISO 10206, 6.9.2.3)
   abbrev pub own_called : ℕ → Declared → List FormalParameter → List Argument → Judged (Option Stmt)
   own_called line d parameters arguments =
-      when_accepted (λ t. Accepts (option_map (λ xs. tree.Procedure line d.unit d.number (tree.actuals xs)) t.actuals)) (arguments_judged parameters (map (given context.scopes) arguments))
+      when_accepted (λ t. Accepts (option_map (λ xs. tree.Procedure line (callee_at d.unit d.number) (tree.actuals xs)) t.actuals)) (arguments_judged parameters (map (given context.scopes) arguments))
 
   -- nothing else that is declared is a statement; a function is none whatever its arguments
   abbrev pub declared_called : ℕ → Declared → Declaration → List Argument → Judged (Option Stmt)

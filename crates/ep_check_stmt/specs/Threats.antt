@@ -25,7 +25,7 @@ mode_threatens mode.ProtectedVariable = false
 -- whether a place is that of the variable
 abbrev pub is_variable : Place → Place → Bool
 is_variable (Variable unit number) (Variable other place) = bytes_eq unit other && number == place
-is_variable (Own number) (Own place) = number == place
+is_variable (Own up number) (Own other place) = up == other && number == place
 is_variable variable place = false
 
 -- by the formal parameters of each routine, for the variable at a place
@@ -40,7 +40,7 @@ module _ (formals_of : List ℕ → ℕ → List Formal) (variable : Place) wher
     expr_threatens (Two operation x y) = expr_threatens x || expr_threatens y
     expr_threatens (Short operation x y) = expr_threatens x || expr_threatens y
     expr_threatens (Step down low high x y) = expr_threatens x || expr_threatens y
-    expr_threatens (Function unit number given) = actuals_threaten (formals_of unit number) given
+    expr_threatens (Function callee given) = actuals_threaten (formals_of callee.unit callee.number) given
 
     -- whether what is given for a parameter of this mode threatens the variable: it is the variable itself, or an expression that threatens it
     pub actual_threatens : FormalMode → Actual → Bool
@@ -74,7 +74,7 @@ module _ (formals_of : List ℕ → ℕ → List Formal) (variable : Place) wher
     threatens (Repeat line ss x) = stmts_threaten ss || expr_threatens x
     -- the control variable of a `for` is threatened by it
     threatens (For line c x y s) = is_variable variable c.variable || (expr_threatens x || (expr_threatens y || threatens s))
-    threatens (Procedure line unit number given) = actuals_threaten (formals_of unit number) given
+    threatens (Procedure line callee given) = actuals_threaten (formals_of callee.unit callee.number) given
     threatens (Case line x arms other) = expr_threatens x || (arms_threaten arms || other_threatens other)
     threatens (Halt line) = false
     threatens (Write line items ends_line) = items_threaten items

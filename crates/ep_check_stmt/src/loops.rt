@@ -89,7 +89,7 @@ fn copied(alloc: Global, place: &TypedPlace) -> Result<TypedPlace, NoMemory>
             let unit = unit.copy(alloc)?;
             Ok(TypedPlace::Variable(unit, *number))
         }
-        TypedPlace::Own(number) => Ok(TypedPlace::Own(*number)),
+        TypedPlace::Own(up, number) => Ok(TypedPlace::Own(*up, *number)),
         TypedPlace::Standard(file) => Ok(TypedPlace::Standard(*file)),
     }
 }
@@ -148,7 +148,7 @@ fn declared_control(
             Ok(Target { place, kind: *kind })
         }
         Declaration::Own(_, kind, _) if declares_own(locals, declared.number) => {
-            let place = TypedPlace::Own(declared.number);
+            let place = TypedPlace::Own(0, declared.number);
             Ok(Target { place, kind: *kind })
         }
         _ => Err(Refusal::Rule(rule::CONTROL_VARIABLE)),
@@ -209,7 +209,7 @@ fn auxiliaries(alloc: Global, locals: Locals<'_>) -> Result<(TypedPlace, TypedPl
         }
         Locals::Routine(_, number) => match number.checked_add(1) {
             None => Err(AllocError),
-            Some(next) => Ok((TypedPlace::Own(number), TypedPlace::Own(next))),
+            Some(next) => Ok((TypedPlace::Own(0, number), TypedPlace::Own(0, next))),
         },
     }
 }

@@ -30,7 +30,9 @@ use ep_scope::{
 use ep_tree::{
     Access, Argument, Arm, ComponentValue, Compound, Direction, Expression, Selector, Statement,
 };
-use ep_typed::{CaseArm, CaseArms, TypedExpr, TypedPlace, TypedStmt, TypedStmts, UnitRoutine};
+use ep_typed::{
+    Callee, CaseArm, CaseArms, TypedExpr, TypedPlace, TypedStmt, TypedStmts, UnitRoutine,
+};
 use std::alloc::{AllocError, Global};
 
 /// The function in whose block the statements are, where its name is assigned to for the result (ISO 10206, 6.7.2).
@@ -114,7 +116,7 @@ fn function_target(
 {
     match function {
         Some(function) if has_result(declared, function) => Ok(Target {
-            place: TypedPlace::Own(function.variable),
+            place: TypedPlace::Own(0, function.variable),
             kind: Kind::Ordinal(function.host),
         }),
         _ => Err(Refusal::Rule(rule::FUNCTION_ASSIGNED)),
@@ -138,7 +140,7 @@ fn declared_target(
         }
         Declaration::Own(_, kind, protection) => {
             unless_protected(*protection)?;
-            let place = TypedPlace::Own(declared.number);
+            let place = TypedPlace::Own(0, declared.number);
             Ok(Target { place, kind: *kind })
         }
         Declaration::Constant(_, _) => Err(Refusal::Rule(rule::CONSTANT_THREATENED)),
@@ -596,7 +598,12 @@ impl Context<'_> {
             return Ok(None);
         };
         let unit = declared.unit.copy(self.alloc)?;
-        let call = TypedStmt::Procedure(line, unit, declared.number, actuals);
+        let callee = Callee {
+            unit,
+            number: declared.number,
+            levels: 0,
+        };
+        let call = TypedStmt::Procedure(line, callee, actuals);
         Ok(Some(Boxed::new(self.alloc, call)?))
     }
 

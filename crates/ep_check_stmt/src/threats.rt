@@ -77,8 +77,8 @@ pub(crate) fn statement_threatens(
                 || expr_threatens(last.get(), routines, variable)
                 || statement_threatens(body.get(), routines, variable)
         }
-        TypedStmt::Procedure(_, _, number, given) => {
-            let formals = formals_of(routines, *number);
+        TypedStmt::Procedure(_, callee, given) => {
+            let formals = formals_of(routines, callee.number);
             actuals_threaten(formals, given.items(), routines, variable)
         }
         TypedStmt::Case(_, selector, arms, None) => {
@@ -165,8 +165,8 @@ pub(crate) fn expr_threatens(x: &TypedExpr, routines: &[UnitRoutine], variable: 
             expr_threatens(value.get(), routines, variable)
                 || expr_threatens(count.get(), routines, variable)
         }
-        TypedExpr::Function(_, number, given) => {
-            let formals = formals_of(routines, *number);
+        TypedExpr::Function(callee, given) => {
+            let formals = formals_of(routines, callee.number);
             actuals_threaten(formals, given.items(), routines, variable)
         }
     }
@@ -229,7 +229,8 @@ pub(crate) fn is_variable(variable: &TypedPlace, place: &TypedPlace) -> bool
         (TypedPlace::Variable(unit, number), TypedPlace::Variable(other, own)) => {
             unit.bytes() == other.bytes() && *number == *own
         }
-        (TypedPlace::Own(number), TypedPlace::Own(own)) => *number == *own,
+        (TypedPlace::Own(up, number), TypedPlace::Own(other, own)) => *up == *other
+            && *number == *own,
         _ => false,
     }
 }

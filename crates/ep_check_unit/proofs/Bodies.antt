@@ -26,13 +26,13 @@ use Rattle.ep_check_unit.proofs.Subranges.{accepted_same}
 
 -- typed statements that give a result with a name of its own, or do not
 pub threatening : (b : Block) (rs : List UnitRoutine) (r : OwnResult) (ss : List TypedStmt) (row : Judgement Stmts) (answer : Bool) → b.own.result ≡ Some r → b.routines ≡ map routine_form rs → row ≡ Passes (stmts_of ss) → not r.named ≡ false
-    → answer ≡ stmts_threaten (formals_at (map routine_form rs)) (tree.Own r.variable) (stmts_of ss) → answer ≡ row_gives b row
+    → answer ≡ stmts_threaten (formals_at (map routine_form rs)) (tree.Own 0 r.variable) (stmts_of ss) → answer ≡ row_gives b row
 threatening b rs r ss row answer own routines passes named e =
     e
     ∙ sym
     (ap (row_gives b) passes
     ∙ (ap (λ o. is_threatened o b.routines (stmts_of ss)) own
-    ∙ (ap (λ fs. is_threatened (Some r) fs (stmts_of ss)) routines ∙ ap (λ n. n || stmts_threaten (formals_at (map routine_form rs)) (tree.Own r.variable) (stmts_of ss)) named)))
+    ∙ (ap (λ fs. is_threatened (Some r) fs (stmts_of ss)) routines ∙ ap (λ n. n || stmts_threaten (formals_at (map routine_form rs)) (tree.Own 0 r.variable) (stmts_of ss)) named)))
 
 -- a heading that is refused in the block of its routine
 pub heading_refused : (line : ℕ) (name : List ℕ) (ps : List Part) (c : Compound) (h : Headed) (scopes : Row) (own now : OwnVariables) (e : Refusal)

@@ -1,7 +1,6 @@
 -- Lists of routines that change, by the forms of the routines.
 use Rattle.std.proofs.Common.{◌≡◌, ℕ, zero, suc, ◌<◌, List, [], ◌∷◌, ◌++◌, map, length, Option, Some, None, slice_get, get_or, refl, sym, ap, ◌∙◌, subst, arith}
-use Rattle.std.proofs.lemmas.List.Elements.{All-cons, All-head, All-tail}
-use Rattle.std.specs.Prelude.{All, slice_set}
+use Rattle.std.specs.Prelude.{slice_set}
 use Rattle.ep_typed.specs.declared.unit.UnitRoutine.{UnitRoutine}
 use Rattle.ep_scope.specs.declared.parameter.FormalParameter.{FormalParameter}
 use Rattle.ep_scope.specs.declared.thing.Declaration.{Declaration}
@@ -13,11 +12,24 @@ use Rattle.ep_check_unit.specs.Functions.{routine_declaration}
 use Rattle.ep_check_unit.specs.Routines.{headed_first, headed_form, set_to, with_routine}
 use Rattle.ep_check_unit.specs.declared.functions.HeadingResult.{HeadingResult}
 
--- what holds of all items holds where one of them is replaced
-pub all_set : {X : Type 0} (P : X → Type 0) (xs : List X) (n : ℕ) (x : X) → All P xs → P x → All P (slice_set xs n x)
-all_set P [] n x h p = h
-all_set P (y ∷ ys) zero x h p = All-cons P x ys p (All-tail P y ys h)
-all_set P (y ∷ ys) (suc n) x h p = All-cons P y (slice_set ys n x) (All-head P y ys h) (all_set P ys n x (All-tail P y ys h) p)
+-- something holds of each item by its place
+abbrev pub Each : {X : Type 0} → (ℕ → X → Type 0) → List X → Type 0
+Each {X = X} P xs = (n : ℕ) (x : X) → slice_get xs n ≡ Some x → P n x
+
+-- it does where one of them is replaced
+pub each_set : {X : Type 0} (P : ℕ → X → Type 0) (xs : List X) (n : ℕ) (x : X) → Each P xs → P n x → Each P (slice_set xs n x)
+each_set P [] n x h p m z e = h m z e
+each_set P (y ∷ ys) zero x h p zero z e = let same : x ≡ z = cc in subst (P 0) same p
+each_set P (y ∷ ys) zero x h p (suc m) z e = h (suc m) z e
+each_set P (y ∷ ys) (suc n) x h p zero z e = h zero z e
+each_set P (y ∷ ys) (suc n) x h p (suc m) z e = each_set (λ k. P (suc k)) ys n x (λ k w f. h (suc k) w f) p m z e
+
+-- and where there is one more
+pub each_push : {X : Type 0} (P : ℕ → X → Type 0) (xs : List X) (x : X) → Each P xs → P (length xs) x → Each P (xs ++ x ∷ [])
+each_push P [] x h p zero z e = let same : x ≡ z = cc in subst (P 0) same p
+each_push P [] x h p (suc m) z e = cc
+each_push P (y ∷ ys) x h p zero z e = h zero z e
+each_push P (y ∷ ys) x h p (suc m) z e = each_push (λ k. P (suc k)) ys x (λ k w f. h (suc k) w f) p m z e
 
 map_push : {X Y : Type 0} (f : X → Y) (xs : List X) (x : X) → map f (xs ++ x ∷ []) ≡ map f xs ++ f x ∷ []
 map_push f [] x = refl

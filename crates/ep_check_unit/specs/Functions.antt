@@ -104,7 +104,7 @@ is_in_view (Some r) name b = r.named || is_that_function b.unit r.function (mean
 -- the statements threaten the variable that has the result, where this has a name of its own (ISO 10206, 6.9.4)
 abbrev pub is_threatened : Option OwnResult → List RoutineForm → Stmts → Bool
 is_threatened None routines ss = true
-is_threatened (Some r) routines ss = not r.named || stmts_threaten (formals_at routines) (tree.Own r.variable) ss
+is_threatened (Some r) routines ss = not r.named || stmts_threaten (formals_at routines) (tree.Own 0 r.variable) ss
 
 -- statements that break a rule, or wait for what is not built, count as those that do
 abbrev pub row_gives : Block → Judgement Stmts → Bool

@@ -94,7 +94,7 @@ formal_of p = record { name = p.name; mode = p.mode; section = p.section; denote
 
 -- a routine with these formal parameters and this result, which has no block so far and does nothing
 abbrev pub headed_form : List ℕ → ℕ → List FormalParameter → Option HeadingResult → RoutineForm
-headed_form name line ps r = record { name = name; line = line; formals = map formal_of ps; result = typed_result r; variables = []; routines = []; block = tree.Empty }
+headed_form name line ps r = record { name = name; line = line; formals = map formal_of ps; result = typed_result r; variables = []; around = []; block = tree.Empty }
 
 -- one more
 abbrev pub with_routine : List ℕ → ℕ → List FormalParameter → Option HeadingResult → Block → Block

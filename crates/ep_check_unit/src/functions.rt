@@ -240,7 +240,7 @@ impl Block {
             (Some(own), Outcome::Passes(statements)) => {
                 !own.named
                     || {
-                        let variable = TypedPlace::Own(own.variable);
+                        let variable = TypedPlace::Own(0, own.variable);
                         threatens(&self.routines, &variable, statements.items())
                     }
             }

@@ -57,7 +57,7 @@ impl Heading {
     }
 }
 
-/// A routine that does nothing, without variables and without routines of its own.
+/// A routine that does nothing, without variables, and declared in no other one.
 fn routine(
     alloc: Global,
     name: Name,
@@ -72,7 +72,7 @@ fn routine(
       formals = formals;
       result = given;
       variables = [];
-      routines = [];
+      around = [];
       block = stmt_of block;
     } }
 {
@@ -82,7 +82,7 @@ fn routine(
         formals,
         result: given,
         variables: List::new(alloc),
-        routines: List::new(alloc),
+        around: List::new(alloc),
         block,
     }
 }

@@ -8,6 +8,7 @@ use Rattle.ep_object.specs.Tells.{Tells}
 use Rattle.ep_typed.proofs.Lasting.{meanings_last}
 use Rattle.ep_typed.specs.Auxiliaries.{auxiliary_variables, first_for}
 use Rattle.ep_typed.specs.Calls.{Argument, Handler, in_call}
+use Rattle.ep_typed.specs.Trees.{Callee}
 use Rattle.ep_typed.specs.Events.{Trace, Does}
 use Rattle.ep_typed.specs.Laws.{IsLonger}
 use Rattle.ep_typed.specs.Meaning.{activation, takes_all, make_all_own, results_given, found_among, routine_does, routine_of, meaning, make_all, exec}
@@ -156,18 +157,18 @@ settled_status units ticks m l e s (Stopped end trace) (inr t) h room few = absu
 -- ---- texts and units
 
 -- what a routine of a unit with these types does, by its form
-abbrev form_does : Handler → ℕ → List ℕ → ℕ → List ℕ → List UnitType → Option RoutineForm → List Argument → Computation (List Result)
-form_does call g from line unit types None xs = cut
-form_does call g from line unit types (Some f) xs =
-    in_call (activation f.name from line)
-    (spend 1 (bind (takes_all call g unit types f.line 0 f.formals xs)
-    (λ _. bind (make_all_own call g unit types (length f.formals) (result_variable f.name f.line f.result ++ (f.variables ++ auxiliary_variables (first_for f.block))))
-    (λ _. bind (exec call g unit f.block) (λ _. results_given unit f.line (length f.formals) f.result)))))
+abbrev form_does : Handler → ℕ → List ℕ → ℕ → Callee → List UnitType → Option RoutineForm → List Argument → Computation (List Result)
+form_does call g from line callee types None xs = cut
+form_does call g from line callee types (Some f) xs =
+    in_call callee.levels (activation f.name from line)
+    (spend 1 (bind (takes_all call g callee.unit types f.line 0 f.formals xs)
+    (λ _. bind (make_all_own call g callee.unit types (length f.formals) (result_variable f.name f.line f.result ++ (f.variables ++ auxiliary_variables (first_for f.block))))
+    (λ _. bind (exec call g callee.unit f.block) (λ _. results_given callee.unit f.line (length f.formals) f.result)))))
 
-does_form : (call : Handler) (g : ℕ) (from : List ℕ) (line : ℕ) (unit : List ℕ) (types : List UnitType) (o : Option UnitRoutine) (xs : List Argument)
-    → routine_does call g from line unit (found_among types o) xs ≡ form_does call g from line unit types (option_map routine_form o) xs
-does_form call g from line unit types None xs = refl
-does_form call g from line unit types (Some r) xs = refl
+does_form : (call : Handler) (g : ℕ) (from : List ℕ) (line : ℕ) (callee : Callee) (types : List UnitType) (o : Option UnitRoutine) (xs : List Argument)
+    → routine_does call g from line callee (found_among types o) xs ≡ form_does call g from line callee types (option_map routine_form o) xs
+does_form call g from line callee types None xs = refl
+does_form call g from line callee types (Some r) xs = refl
 
 -- the form of this number
 form_at : (rs : List UnitRoutine) (number : ℕ) → option_map routine_form (slice_get rs number) ≡ slice_get (map routine_form rs) number
@@ -175,24 +176,24 @@ form_at [] number = refl
 form_at (r ∷ rs) zero = refl
 form_at (r ∷ rs) (suc n) = form_at rs n
 
-does_if : (b : Bool) (call : Handler) (g : ℕ) (from : List ℕ) (line : ℕ) (unit : List ℕ) (number : ℕ) (types : List UnitType) (rs : List UnitRoutine) (xs : List Argument)
-    → routine_does call g from line unit (if b then found_among types (slice_get rs number) else None) xs ≡ form_does call g from line unit types (if b then slice_get (map routine_form rs) number else None) xs
-does_if true call g from line unit number types rs xs =
-    does_form call g from line unit types (slice_get rs number) xs ∙ ap (λ o. form_does call g from line unit types o xs) (form_at rs number)
-does_if false call g from line unit number types rs xs = refl
+does_if : (b : Bool) (call : Handler) (g : ℕ) (from : List ℕ) (line : ℕ) (callee : Callee) (number : ℕ) (types : List UnitType) (rs : List UnitRoutine) (xs : List Argument)
+    → routine_does call g from line callee (if b then found_among types (slice_get rs number) else None) xs ≡ form_does call g from line callee types (if b then slice_get (map routine_form rs) number else None) xs
+does_if true call g from line callee number types rs xs =
+    does_form call g from line callee types (slice_get rs number) xs ∙ ap (λ o. form_does call g from line callee types o xs) (form_at rs number)
+does_if false call g from line callee number types rs xs = refl
 
 -- a call of two units alike, where the calls in it are
-call_alike : (u v : TypedUnit) (d : ℕ) → routine_of (u ∷ []) d ≡ routine_of (v ∷ []) d → u.name ≡ v.name → u.types ≡ v.types → map routine_form u.routines ≡ map routine_form v.routines → (from : List ℕ) (line : ℕ) (unit : List ℕ) (number : ℕ) (xs : List Argument)
-    → routine_does (routine_of (u ∷ []) d) d from line unit (if bytes_eq u.name unit then found_among u.types (slice_get u.routines number) else None) xs ≡ routine_does (routine_of (v ∷ []) d) d from line unit (if bytes_eq v.name unit then found_among v.types (slice_get v.routines number) else None) xs
-call_alike u v d calls a t r from line unit number xs =
-    let inner : form_does (routine_of (u ∷ []) d) d from line unit u.types (if bytes_eq u.name unit then slice_get (map routine_form u.routines) number else None) xs ≡ form_does (routine_of (v ∷ []) d) d from line unit v.types (if bytes_eq v.name unit then slice_get (map routine_form v.routines) number else None) xs =
-    λ j. form_does (calls j) d from line unit (t j) (if bytes_eq (a j) unit then slice_get (r j) number else None) xs in
-    does_if (bytes_eq u.name unit) (routine_of (u ∷ []) d) d from line unit number u.types u.routines xs ∙ (inner ∙ sym (does_if (bytes_eq v.name unit) (routine_of (v ∷ []) d) d from line unit number v.types v.routines xs))
+call_alike : (u v : TypedUnit) (d : ℕ) → routine_of (u ∷ []) d ≡ routine_of (v ∷ []) d → u.name ≡ v.name → u.types ≡ v.types → map routine_form u.routines ≡ map routine_form v.routines → (from : List ℕ) (line : ℕ) (callee : Callee) (xs : List Argument)
+    → routine_does (routine_of (u ∷ []) d) d from line callee (if bytes_eq u.name callee.unit then found_among u.types (slice_get u.routines callee.number) else None) xs ≡ routine_does (routine_of (v ∷ []) d) d from line callee (if bytes_eq v.name callee.unit then found_among v.types (slice_get v.routines callee.number) else None) xs
+call_alike u v d calls a t r from line callee xs =
+    let inner : form_does (routine_of (u ∷ []) d) d from line callee u.types (if bytes_eq u.name callee.unit then slice_get (map routine_form u.routines) callee.number else None) xs ≡ form_does (routine_of (v ∷ []) d) d from line callee v.types (if bytes_eq v.name callee.unit then slice_get (map routine_form v.routines) callee.number else None) xs =
+    λ j. form_does (calls j) d from line callee (t j) (if bytes_eq (a j) callee.unit then slice_get (r j) callee.number else None) xs in
+    does_if (bytes_eq u.name callee.unit) (routine_of (u ∷ []) d) d from line callee callee.number u.types u.routines xs ∙ (inner ∙ sym (does_if (bytes_eq v.name callee.unit) (routine_of (v ∷ []) d) d from line callee callee.number v.types v.routines xs))
 
 -- the calls of a unit are those of its name, its types and its routines' forms
 same_calls : (u v : TypedUnit) (n : ℕ) → u.name ≡ v.name → u.types ≡ v.types → map routine_form u.routines ≡ map routine_form v.routines → routine_of (u ∷ []) n ≡ routine_of (v ∷ []) n
-same_calls u v zero a t r = λ i from line unit number arguments. cut
-same_calls u v (suc d) a t r = λ i from line unit number arguments. call_alike u v d (same_calls u v d a t r) a t r from line unit number arguments i
+same_calls u v zero a t r = λ i from line callee arguments. cut
+same_calls u v (suc d) a t r = λ i from line callee arguments. call_alike u v d (same_calls u v d a t r) a t r from line callee arguments i
 
 -- the meaning is that of the name, the types, the variables, the routines and the statements
 same_meaning : (u v : TypedUnit) (m : ℕ) → AreAlike u v → meaning (u ∷ []) m ≡ meaning (v ∷ []) m

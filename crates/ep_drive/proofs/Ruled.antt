@@ -11,7 +11,6 @@ use Rattle.ep_typed.specs.Nodes.{unit_nodes, heading_nodes, type_nodes, constant
 use Rattle.ep_typed.specs.Viewed.{stmt_of}
 use Rattle.ep_typed.specs.declared.unit.Unit.{Unit as TypedUnit}
 use Rattle.ep_typed.specs.declared.unit.UnitRoutine.{UnitRoutine}
-use Rattle.ep_typed.proofs.Routines.{routine_is}
 use Rattle.ep_check_stmt.specs.Statements.{Judgement, Passes, Waits, Fails, fails_at}
 use Rattle.ep_check_unit.specs.Blocks.{RoutineForm, routine_form}
 use Rattle.ep_check_unit.specs.Units.{ProgramForm, IsUnitOf, IsTyped, BreaksAt, WaitsAt, component_judged}
@@ -41,11 +40,11 @@ has_form (component_is.Module m) u t = absurd t
 
 -- the typed nodes of a routine, by its form
 abbrev form_nodes : RoutineForm → ℕ
-form_nodes f = heading_nodes f.formals f.result + sum (map variable_nodes f.variables) + sum (map routine_nodes f.routines) + stmt_nodes f.block
+form_nodes f = heading_nodes f.formals f.result + sum (map variable_nodes f.variables) + stmt_nodes f.block
 
 routines_nodes : (rs : List UnitRoutine) → map routine_nodes rs ≡ map form_nodes (map routine_form rs)
 routines_nodes [] = refl
-routines_nodes (r ∷ rs) = λ i. routine_is r i ∷ routines_nodes rs i
+routines_nodes (r ∷ rs) = ap (λ ns. routine_nodes r ∷ ns) (routines_nodes rs)
 
 -- two units that have the same parts, to all that is said of them
 pub record SameParts (u v : TypedUnit) : Type 0 where

@@ -4,7 +4,7 @@ use Rattle.std.proofs.lemmas.List.{map_more}
 use Rattle.ep_object.specs.declared.code.Instr.{Instr}
 use Rattle.ep_object.specs.declared.code.Reference.{Reference}
 use Rattle.ep_object.specs.declared.op.TheConstants as op
-use Rattle.ep_typed.specs.Trees.{Place, Expr, Function, Actual, Evaluated, Accessed, Actuals, actuals}
+use Rattle.ep_typed.specs.Trees.{Callee, Place, Expr, Function, Actual, Evaluated, Accessed, Actuals, actuals}
 use Rattle.ep_gen_expr.specs.ExprCode.{IsActualCode, AreActualsCode, instr, reference}
 use Rattle.ep_gen_expr.specs.Growth.{Grows, NumbersReference, AppendsPlace, AppendsExpr, AppendsActual, AppendsActuals}
 use Rattle.ep_gen_expr.specs.Jumps.{IsNextPlace}
@@ -52,23 +52,23 @@ actuals_more {a = a} {c = c} view xs k x h e p q =
     subst (λ l. AppendsActuals a c (actuals l)) (ap (λ y. map view (take k xs) ++ view y ∷ []) e ∙ sym (map_more view xs k x h)) (actuals_push (map view (take k xs)) (view x) p q)
 
 -- the actual parameters, a call, and the jump behind it
-pub appends_call : {a b c d e : Code} (unit : List ℕ) (number : ℕ) (given : Actuals) (k n : ℕ) → AppendsActuals a b given → NumbersReference b c (reference unit number) k
-    → Grows c d (instr op.CALL (pos k) 0 c.line ∷ []) → IsNextPlace d n → Grows d e (instr op.JUMP (pos (n + 1)) 0 d.line ∷ []) → AppendsExpr a e (Function unit number given)
-appends_call {a = a} {b = b} {d = d} {e = e} unit number given k n p q call next jump =
+pub appends_call : {a b c d e : Code} (callee : Callee) (given : Actuals) (k n : ℕ) → AppendsActuals a b given → NumbersReference b c (reference callee.unit callee.number) k
+    → Grows c d (instr op.CALL (pos k) callee.levels c.line ∷ []) → IsNextPlace d n → Grows d e (instr op.JUMP (pos (n + 1)) 0 d.line ∷ []) → AppendsExpr a e (Function callee given)
+appends_call {a = a} {b = b} {d = d} {e = e} callee given k n p q call next jump =
     let xs = p.code in
     let at = length a.instructions in
-    let calls : Grows b d (instr op.CALL (pos k) 0 b.line ∷ []) = grows_at (λ l. instr op.CALL (pos k) 0 l ∷ []) q.grows call in
-    let after : Grows b e (instr op.CALL (pos k) 0 b.line ∷ instr op.JUMP (pos (n + 1)) 0 b.line ∷ []) = grows_at (λ l. instr op.JUMP (pos (n + 1)) 0 l ∷ []) calls jump in
-    let whole_code : Grows a e (xs ++ instr op.CALL (pos k) 0 a.line ∷ instr op.JUMP (pos (n + 1)) 0 a.line ∷ []) = grows_at (λ l. instr op.CALL (pos k) 0 l ∷ instr op.JUMP (pos (n + 1)) 0 l ∷ []) p.grows after in
-    let there : slice_get e.references k ≡ Some (reference unit number) = get_later k (reference unit number) jump.references.begins (get_later k (reference unit number) call.references.begins q.there) in
+    let calls : Grows b d (instr op.CALL (pos k) callee.levels b.line ∷ []) = grows_at (λ l. instr op.CALL (pos k) callee.levels l ∷ []) q.grows call in
+    let after : Grows b e (instr op.CALL (pos k) callee.levels b.line ∷ instr op.JUMP (pos (n + 1)) 0 b.line ∷ []) = grows_at (λ l. instr op.JUMP (pos (n + 1)) 0 l ∷ []) calls jump in
+    let whole_code : Grows a e (xs ++ instr op.CALL (pos k) callee.levels a.line ∷ instr op.JUMP (pos (n + 1)) 0 a.line ∷ []) = grows_at (λ l. instr op.CALL (pos k) callee.levels l ∷ instr op.JUMP (pos (n + 1)) 0 l ∷ []) p.grows after in
+    let there : slice_get e.references k ≡ Some (reference callee.unit callee.number) = get_later k (reference callee.unit callee.number) jump.references.begins (get_later k (reference callee.unit callee.number) call.references.begins q.there) in
     let next_is : n + 1 ≡ at + length xs + 2 = omega (arith, next.is_length, grows_length calls, grows_length p.grows) in
-    whole_expr (Function unit number given) (xs ++ instr op.CALL (pos k) 0 a.line ∷ instr op.JUMP (pos (at + length xs + 2)) 0 a.line ∷ []) (
+    whole_expr (Function callee given) (xs ++ instr op.CALL (pos k) callee.levels a.line ∷ instr op.JUMP (pos (at + length xs + 2)) 0 a.line ∷ []) (
       xs,
       k,
       actuals_code_stays b.texts e.texts b.references e.references a.line after.texts.begins after.references.begins at given xs p.is_code,
       there,
       refl,
     )
-    (subst (λ m. Grows a e (xs ++ instr op.CALL (pos k) 0 a.line ∷ instr op.JUMP (pos m) 0 a.line ∷ [])) next_is whole_code)
+    (subst (λ m. Grows a e (xs ++ instr op.CALL (pos k) callee.levels a.line ∷ instr op.JUMP (pos m) 0 a.line ∷ [])) next_is whole_code)
 
 pub ruleset actual_forms = (appends_value, appends_accessed)

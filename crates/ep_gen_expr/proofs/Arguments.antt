@@ -53,7 +53,7 @@ Fits declared k a = ⊥
 -- a variable of a type value is a place of it
 place_type : (declared : Declarations) (t : TypeValue) (q : Place) → IsVariableOf declared t q → HasPlaceType declared q t
 place_type declared t (tree.Variable unit k) h = (h.0, h.1, types_are_instances (declared.types unit) (denoter_of (h.0).denoter) t h.2)
-place_type declared t (tree.Own k) h = (h.0, h.1, types_are_instances declared.routine_types (denoter_of (h.0).denoter) t h.2)
+place_type declared t (tree.Own up k) h = (h.0, h.1, types_are_instances declared.routine_types (denoter_of (h.0).denoter) t h.2)
 place_type declared t (tree.Standard file) h = absurd h
 
 -- What is given for a formal parameter fits how that takes it.

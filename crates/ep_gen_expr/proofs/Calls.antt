@@ -9,7 +9,9 @@ use Rattle.ep_gen_expr.proofs.Placed.{code_back, jump_has}
 use Rattle.ep_object.proofs.following.Fragments.{fragment_to, fragment_credit, fragment_less, fragment_one, fragment_give, inside_bind}
 use Rattle.ep_object.proofs.following.Promising.{call_follows}
 use Rattle.ep_object.proofs.matching.Growing.{grown_trans, inside_here, same_routine-trans, unit_in-same}
+use Rattle.ep_object.proofs.matching.Names.{callable}
 use Rattle.ep_object.proofs.rows.Rows.{jump_jumps}
+use Rattle.ep_object.specs.Activations.{KnowsNames}
 use Rattle.ep_object.specs.Follows.{Facts, Lasts, Fragment, SameRoutine, Inside, Operands, OnTop, operand_of, point}
 use Rattle.ep_object.specs.Matching.{Memory, Injection, Slots, AreAmong, Grown, kept_slots}
 use Rattle.ep_object.specs.Operands.{Operand, Word}
@@ -28,8 +30,8 @@ use Rattle.ep_typed.specs.Calls.{Argument, Handler}
 use Rattle.ep_typed.specs.Meaning.{arguments, one_result, weight_of}
 use Rattle.ep_typed.specs.Printing.{Result, Number}
 use Rattle.ep_typed.specs.Steps.{Computation, bind, give, spend}
-use Rattle.ep_typed.specs.Trees.{Function, Actuals}
-use Rattle.ep_typed.specs.Valid.{Declarations, Kind, Ordinal, IsFunction}
+use Rattle.ep_typed.specs.Trees.{Callee, Function, Actuals}
+use Rattle.ep_typed.specs.Valid.{Declarations, Kind, Ordinal, IsDeclaredUp, IsFunction}
 use Rattle.ep_typed.specs.Viewed.{denoter_of}
 use Rattle.ep_typed.specs.declared.interface.RoutineEntry.{RoutineEntry}
 use Rattle.ep_typed.specs.declared.interface.RoutineResult.{RoutineResult}
@@ -77,50 +79,50 @@ module _ {declared : Declarations} {G : Image} {untouched : Slots} {Here : Facts
       fragment_less {n = suc n} (omega arith) (fragment_one {d1 = e a}
       (λ s matches. jump_jumps G (p.instructions.before + at) line operands (p.instructions.before + next) (omega (arith, room, inside)) (jump_has G ps p references line at next [] inside stands) memory s.trace) enough (fragment_give (omega arith) (inside_here top)))
 
-  module _ (lasts : Lasts untouched Here) (among : AreAmong untouched (kept_slots declared G)) (call : Handler) (steady_call : IsSteadyHandler call) (g : ℕ) (unit : List ℕ) (n : ℕ) where
+  module _ (knows : KnowsNames declared Here) (types_are : declared.types declared.routine_unit ≡ declared.routine_types) (lasts : Lasts untouched Here) (among : AreAmong untouched (kept_slots declared G)) (call : Handler) (steady_call : IsSteadyHandler call) (g : ℕ) (unit : List ℕ) (n : ℕ) where
     -- the call, where the arguments are on the operands, and what comes after it
-    call_passes : {B : Type 0} {Then : B → Operands} {e : B → ℕ} {to : ℕ} {rest : List Result → Computation B} (line at : ℕ) (of_unit : List ℕ) (number k : ℕ) (r : RoutineEntry) (keeps : RoutineKeeps declared G ps call n of_unit number r)
-        → slice_get references k ≡ Some (reference of_unit number)
-        → (is : List Instr) → CodeStands G ps p references at (instr op.CALL (pos k) 0 line ∷ is)
+    call_passes : {B : Type 0} {Then : B → Operands} {e : B → ℕ} {to : ℕ} {rest : List Result → Computation B} (line at : ℕ) (callee : Callee) (k : ℕ) (r : RoutineEntry) (keeps : RoutineKeeps declared G ps call n callee.unit callee.number r)
+        → IsDeclaredUp declared callee callee.levels → slice_get references k ≡ Some (reference callee.unit callee.number)
+        → (is : List Instr) → CodeStands G ps p references at (instr op.CALL (pos k) callee.levels line ∷ is)
         → (injection : Injection) (memory : Memory) (below operands : List Operand) (xs : List Argument) → AreArguments injection memory keeps.formals xs below operands
         → (d : ℕ) → unit_in G memory.frames ≡ unit → ((rs : List Result) → Steady (rest rs))
         → ((rs : List Result) (longer : Injection) (after : Memory) (pushed : List Operand) → Grown untouched injection memory longer after → SameRoutine untouched memory.frames after.frames → ResultsOnTop keeps.results below rs longer after pushed → Fragment declared G Here n (point longer after (p.instructions.before + (at + 1)) pushed) (rest rs) to (λ b. Inside untouched longer after (Then b)) d e)
-        → Fragment declared G Here n (point injection memory (p.instructions.before + at) operands) (bind (call unit line of_unit number xs) rest) to (λ b. Inside untouched injection memory (Then b)) d e
-    call_passes line at of_unit number k r keeps named is stands injection memory below operands xs are d home steady behind =
+        → Fragment declared G Here n (point injection memory (p.instructions.before + at) operands) (bind (call unit line callee xs) rest) to (λ b. Inside untouched injection memory (Then b)) d e
+    call_passes line at callee k r keeps is_declared named is stands injection memory below operands xs are d home steady behind =
         let place : ℕ = p.instructions.before + at in
-        let calls : CallsAt G place keeps.routine line =
-        record { instruction = instr op.CALL (pos keeps.routine) 0 line; stands = stands.0 ∙ ap (λ i. Some i) (rw named (keeps.placed (instr op.CALL (pos k) 0 line))); is_call = refl; names = refl; parent = refl; at_line = refl } in
-        let called : Fragment declared G Here n (point injection memory place operands) (call unit line of_unit number xs) (place + 1) (λ rs. Inside untouched injection memory (ResultsOnTop keeps.results below rs)) 0 (λ rs. 0) =
-        subst (λ u. Fragment declared G Here n (point injection memory place operands) (call u line of_unit number xs) (place + 1) (λ rs. Inside untouched injection memory (ResultsOnTop keeps.results below rs)) 0 (λ rs. 0)) home
-        (call_follows keeps.promise lasts among place line calls injection memory below operands xs are) in
+        let calls : CallsAt G place keeps.routine callee.levels line =
+        record { instruction = instr op.CALL (pos keeps.routine) callee.levels line; stands = stands.0 ∙ ap (λ i. Some i) (rw named (keeps.placed (instr op.CALL (pos k) callee.levels line))); is_call = refl; names = refl; parent = refl; at_line = refl } in
+        let called : Fragment declared G Here n (point injection memory place operands) (call unit line callee xs) (place + 1) (λ rs. Inside untouched injection memory (ResultsOnTop keeps.results below rs)) 0 (λ rs. 0) =
+        subst (λ u. Fragment declared G Here n (point injection memory place operands) (call u line callee xs) (place + 1) (λ rs. Inside untouched injection memory (ResultsOnTop keeps.results below rs)) 0 (λ rs. 0)) home
+        (call_follows keeps.promise lasts among place callee.levels line calls injection memory (λ s held. callable (knows injection s memory held) types_are callee callee.levels is_declared) below operands xs are) in
         inside_bind {e = λ rs. d} steady (fragment_to {to2 = p.instructions.before + (at + 1)} (omega arith) (fragment_credit {d = 0} {e = λ rs. 0} (omega arith) (λ rs. omega arith) called)) behind
 
     -- the actual parameters, the call, and what comes after it
-    pub passed_then : {B : Type 0} {Then : B → Operands} {e : B → ℕ} {to : ℕ} (line at : ℕ) (of_unit : List ℕ) (number k : ℕ) (given : Actuals) (xs : List Instr) (r : RoutineEntry) (keeps : RoutineKeeps declared G ps call n of_unit number r)
-        → AreArgumentsFollowed declared G untouched Here p call g unit n keeps.formals given line at xs → slice_get references k ≡ Some (reference of_unit number)
-        → (is : List Instr) → CodeStands G ps p references at (xs ++ instr op.CALL (pos k) 0 line ∷ is)
+    pub passed_then : {B : Type 0} {Then : B → Operands} {e : B → ℕ} {to : ℕ} (line at : ℕ) (callee : Callee) (k : ℕ) (given : Actuals) (xs : List Instr) (r : RoutineEntry) (keeps : RoutineKeeps declared G ps call n callee.unit callee.number r)
+        → AreArgumentsFollowed declared G untouched Here p call g unit n keeps.formals given line at xs → IsDeclaredUp declared callee callee.levels → slice_get references k ≡ Some (reference callee.unit callee.number)
+        → (is : List Instr) → CodeStands G ps p references at (xs ++ instr op.CALL (pos k) callee.levels line ∷ is)
         → (injection : Injection) (memory : Memory) (below : List Operand) (d : ℕ) → least_credit ≤ d → unit_in G memory.frames ≡ unit
         → (rest : List Result → Computation B) → ((rs : List Result) → Steady (rest rs))
         → ((rs : List Result) (longer : Injection) (after : Memory) (pushed : List Operand) → Grown untouched injection memory longer after → SameRoutine untouched memory.frames after.frames → ResultsOnTop keeps.results below rs longer after pushed → Fragment declared G Here n (point longer after (p.instructions.before + (at + length xs + 1)) pushed) (rest rs) to (λ b. Inside untouched longer after (Then b)) d e)
-        → Fragment declared G Here n (point injection memory (p.instructions.before + at) below) (bind (arguments call g unit line given) (λ vs. bind (call unit line of_unit number vs) rest)) to (λ b. Inside untouched injection memory (Then b)) d e
-    passed_then line at of_unit number k given xs r keeps follows named is stands injection memory below d enough home rest steady behind =
-        inside_bind {First = λ values last final operands. AreArguments last final keeps.formals values below operands} {e = λ values. d} (λ values. steady_bind (steady_call unit line of_unit number values) steady)
+        → Fragment declared G Here n (point injection memory (p.instructions.before + at) below) (bind (arguments call g unit line given) (λ vs. bind (call unit line callee vs) rest)) to (λ b. Inside untouched injection memory (Then b)) d e
+    passed_then line at callee k given xs r keeps follows is_declared named is stands injection memory below d enough home rest steady behind =
+        inside_bind {First = λ values last final operands. AreArguments last final keeps.formals values below operands} {e = λ values. d} (λ values. steady_bind (steady_call unit line callee values) steady)
         (follows injection memory below d enough home)
         (λ values longer after operands grown routine are.
-        call_passes line (at + length xs) of_unit number k r keeps named is (code_back G ps p references at xs (instr op.CALL (pos k) 0 line ∷ is) stands) longer after below operands values are d (unit_in-same G routine ∙ home) steady
+        call_passes line (at + length xs) callee k r keeps is_declared named is (code_back G ps p references at xs (instr op.CALL (pos k) callee.levels line ∷ is) stands) longer after below operands values are d (unit_in-same G routine ∙ home) steady
         (λ rs last final pushed grown2 routine2 top. behind rs last final pushed (grown_trans grown grown2) (same_routine-trans routine routine2) top))
 
     -- a function designator
-    pub function_follows : (h : Host) (line at : ℕ) (of_unit : List ℕ) (number k : ℕ) (given : Actuals) (xs : List Instr) (r : RoutineEntry) (keeps : RoutineKeeps declared G ps call n of_unit number r) → IsFunction (declared.types of_unit) h r
-        → AreArgumentsFollowed declared G untouched Here p call g unit n keeps.formals given line at xs → slice_get references k ≡ Some (reference of_unit number)
-        → CodeStands G ps p references at (xs ++ instr op.CALL (pos k) 0 line ∷ instr op.JUMP (pos (at + length xs + 2)) 0 line ∷ []) → at + length xs + 2 < p.instructions.own
-        → IsFollowed declared G untouched Here p call g unit n (Ordinal h) (Function of_unit number given) line at (xs ++ instr op.CALL (pos k) 0 line ∷ instr op.JUMP (pos (at + length xs + 2)) 0 line ∷ [])
-    function_follows h line at of_unit number k given xs r keeps function follows named stands inside injection memory below d enough home =
+    pub function_follows : (h : Host) (line at : ℕ) (callee : Callee) (k : ℕ) (given : Actuals) (xs : List Instr) (r : RoutineEntry) (keeps : RoutineKeeps declared G ps call n callee.unit callee.number r) → IsFunction (declared.types callee.unit) h r
+        → AreArgumentsFollowed declared G untouched Here p call g unit n keeps.formals given line at xs → IsDeclaredUp declared callee callee.levels → slice_get references k ≡ Some (reference callee.unit callee.number)
+        → CodeStands G ps p references at (xs ++ instr op.CALL (pos k) callee.levels line ∷ instr op.JUMP (pos (at + length xs + 2)) 0 line ∷ []) → at + length xs + 2 < p.instructions.own
+        → IsFollowed declared G untouched Here p call g unit n (Ordinal h) (Function callee given) line at (xs ++ instr op.CALL (pos k) callee.levels line ∷ instr op.JUMP (pos (at + length xs + 2)) 0 line ∷ [])
+    function_follows h line at callee k given xs r keeps function follows is_declared named stands inside injection memory below d enough home =
         let jump : Instr = instr op.JUMP (pos (at + length xs + 2)) 0 line in
-        let behind : CodeStands G ps p references (at + length xs) (instr op.CALL (pos k) 0 line ∷ jump ∷ []) = code_back G ps p references at xs (instr op.CALL (pos k) 0 line ∷ jump ∷ []) stands in
-        let kinds : keeps.results ≡ Ordinal h ∷ [] = one_kind (declared.types of_unit) h r.result function.result keeps.results function.has_result function.has_host keeps.given in
-        fragment_to {to = p.instructions.before + (at + length xs + 2)} (omega (arith, length-append xs (instr op.CALL (pos k) 0 line ∷ jump ∷ [])))
-        (passed_then {Then = OnTop (Ordinal h) below} {e = λ a. d + 8 + weight_of a} line at of_unit number k given xs r keeps follows named (jump ∷ []) stands injection memory below d enough home (one_result call g unit) (steady_one call g unit)
+        let behind : CodeStands G ps p references (at + length xs) (instr op.CALL (pos k) callee.levels line ∷ jump ∷ []) = code_back G ps p references at xs (instr op.CALL (pos k) callee.levels line ∷ jump ∷ []) stands in
+        let kinds : keeps.results ≡ Ordinal h ∷ [] = one_kind (declared.types callee.unit) h r.result function.result keeps.results function.has_result function.has_host keeps.given in
+        fragment_to {to = p.instructions.before + (at + length xs + 2)} (omega (arith, length-append xs (instr op.CALL (pos k) callee.levels line ∷ jump ∷ [])))
+        (passed_then {Then = OnTop (Ordinal h) below} {e = λ a. d + 8 + weight_of a} line at callee k given xs r keeps follows is_declared named (jump ∷ []) stands injection memory below d enough home (one_result call g unit) (steady_one call g unit)
         (λ rs longer after pushed grown routine top.
         let value : GivesNumber h below pushed rs = gives_number h below pushed rs longer after (subst (λ ks. ResultsOnTop ks below rs longer after pushed) kinds top) in
         subst (λ x. Fragment declared G Here n (point longer after (p.instructions.before + (at + length xs + 1)) pushed) (one_result call g unit x) (p.instructions.before + (at + length xs + 2)) (λ a. Inside untouched longer after (OnTop (Ordinal h) below a)) d (λ a. d + 8 + weight_of a)) (sym value.gives)

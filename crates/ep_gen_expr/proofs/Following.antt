@@ -1,6 +1,6 @@
 -- The machine follows the meaning of an expression through the code of the expression.
-use Rattle.std.proofs.Common.{◌≡◌, ℕ, ℤ, pos, suc, ◌+◌, ◌<◌, ◌≤◌, Bool, IsTrue, List, [], ◌∷◌, ◌++◌, length, Some, slice_get, refl, sym, ap, ◌∙◌, subst, arith, append_assoc, length-append, true, false}
-use Rattle.ep_object.specs.Activations.{KnowsOwn}
+use Rattle.std.proofs.Common.{◌≡◌, ℕ, ℤ, pos, zero, suc, Option, None, ◌+◌, ◌<◌, ◌≤◌, Bool, IsTrue, List, [], ◌∷◌, ◌++◌, length, Some, slice_get, refl, sym, ap, ◌∙◌, subst, arith, append_assoc, length-append, true, false}
+use Rattle.ep_object.specs.Activations.{KnowsNames}
 use Rattle.ep_object.specs.Follows.{point, Facts, Lasts, Fragment, SameRoutine, Operands, OnTop, PlaceOnTop, Inside}
 use Rattle.ep_object.specs.Matching.{Slots, AreAmong, Grown, kept_slots, Memory, at, Injection, IsPlaceOf, Describes, HasType, HasOwnType, Matches}
 use Rattle.ep_object.specs.Matching.{at as standing}
@@ -17,7 +17,7 @@ use Rattle.ep_object.specs.declared.state.Place.{Place as PlaceOf}
 use Rattle.ep_object.proofs.following.Choices.{Reads, fragment_fetch, follows_fetch, fragment_using}
 use Rattle.ep_object.proofs.following.Fragments.{FailsWith, fragment_less, fragment_to, fragment_one, fragment_paid, fragment_give, fragment_credit, fragment_bind_place, fragment_bind_number}
 use Rattle.ep_object.proofs.matching.Growing.{unit_in-same, inside_here}
-use Rattle.ep_object.proofs.rows.OwnRows.{own_reads}
+use Rattle.ep_object.proofs.rows.OwnRows.{own_reads, level_reads}
 use Rattle.ep_object.proofs.rows.PlaceRows.{unit_reads, load_fails, load_reads}
 use Rattle.ep_object.proofs.rows.Rows.{push_pushes}
 use Rattle.ep_object.proofs.rows.TextRows.{text_pushes}
@@ -32,8 +32,8 @@ use Rattle.ep_typed.specs.Printing.{Result, number_of}
 use Rattle.ep_typed.specs.Printing as result
 use Rattle.ep_typed.specs.Steps.{Computation, bind, word_at, own_variable, has_ended}
 use Rattle.ep_typed.specs.Steps as meaning
-use Rattle.ep_typed.specs.Trees.{Place, Variable, Own, Standard, Expr, Constant, Text, Read, One, Two, Short, Step, Function, Actual, Evaluated, Accessed, Actuals, no_actual, next_actual}
-use Rattle.ep_typed.specs.Valid.{Declarations, Kind, Ordinal, Bytes, IsUnary, IsBinary, IsTypeOf, IsPlace, IsExpr, AreGiven}
+use Rattle.ep_typed.specs.Trees.{Callee, Place, Variable, Own, Standard, Expr, Constant, Text, Read, One, Two, Short, Step, Function, Actual, Evaluated, Accessed, Actuals, no_actual, next_actual}
+use Rattle.ep_typed.specs.Valid.{Declarations, Kind, Ordinal, Bytes, IsUnary, IsBinary, IsTypeOf, IsPlace, IsExpr, AreGiven, IsDeclaredUp, Level, variables_at, variables_up}
 use Rattle.ep_typed.specs.Viewed.{denoter_of}
 use Rattle.ep_typed.specs.declared.interface.Formal.{Formal}
 use Rattle.ep_typed.specs.declared.interface.RoutineEntry.{RoutineEntry}
@@ -73,8 +73,8 @@ typed_place declared types_valid own_valid h (Variable unit k) (v, is_declared, 
       has_type = (v, is_declared, types_are_instances (declared.types unit) (denoter_of v.denoter) valid.type_value valid.has_type);
       of_host = subst (λ h. IsTypeOf h valid.type_value) (same_Some valid.host h (sym valid.has_host ∙ is_host)) valid.is_type;
     }
-typed_place declared types_valid own_valid h (Own k) (v, is_declared, is_host) =
-    let valid = own_valid k v is_declared in
+typed_place declared types_valid own_valid h (Own up k) (v, is_declared, is_host) =
+    let valid = own_valid up k v is_declared in
     record {
       type_value = valid.type_value;
       has_type = (v, is_declared, types_are_instances declared.routine_types (denoter_of v.denoter) valid.type_value valid.has_type);
@@ -94,7 +94,7 @@ load_ends declared G unit at_place line h (type.Ordinal low high) of_host has in
     subst (λ u. FailsWith G (at at_place (operand.Place q ∷ below) memory s.trace) 0 11 u line s) unit_is (load_fails declared G at_place line below low high a q has injection memory place_of described s matches ended)
 load_ends declared G unit at_place line h type.Text of_host has injection memory below a q place_of described unit_is s matches ended = absurd of_host
 
-module _ {declared : Declarations} {G : Image} {untouched : Slots} {Here : Facts} (ps : List Placement) (p : Placement) (texts : List (List ℕ)) (references : List Reference) (scene : Scene declared G ps p texts) (knows : KnowsOwn declared Here) (call : Handler) (steady_call : IsSteadyHandler call) (g : ℕ) (unit : List ℕ) where
+module _ {declared : Declarations} {G : Image} {untouched : Slots} {Here : Facts} (ps : List Placement) (p : Placement) (texts : List (List ℕ)) (references : List Reference) (scene : Scene declared G ps p texts) (knows : KnowsNames declared Here) (call : Handler) (steady_call : IsSteadyHandler call) (g : ℕ) (unit : List ℕ) where
   -- a constant, by `Push`
   constant_follows : (n : ℕ) (host : Host) (z : ℤ) → IsTrue (is_of_host host z) → (line at : ℕ) → CodeStands G ps p references at (push line z ∷ []) → (injection : Injection) (memory : Memory) (below : List Operand) (d : ℕ) → Fragment declared G Here n (point injection memory (p.instructions.before + at) below) (eval call g unit line (Constant z)) (p.instructions.before + (at + 1)) (λ r. Inside untouched injection memory (OnTop (Ordinal host) below r)) d (λ r. d + 8 + weight_of r)
   constant_follows n host z of_host line at stands injection memory below d =
@@ -122,18 +122,34 @@ module _ {declared : Declarations} {G : Image} {untouched : Slots} {Here : Facts
       let has : CodeStands G ps p references at (instr op.UNIT (pos r) 0 line ∷ []) = subst (λ c. CodeStands G ps p references at c) is stands in
       fragment_less {n = suc n} (omega arith) (fragment_to (omega (arith, ap length is)) (fragment_fetch {n = n} (λ s. s.variables of_unit k) (λ m. m) (λ s matches here. unit_finds (p.instructions.before + at) line k of_unit v t is_declared has_type variable (variable_at G ps p references line r (p.instructions.before + at) k of_unit variable there has.0) injection memory below unit_is s matches here) (omega (arith, le)) (λ m. omega arith)))
 
-  -- the place of a variable of the routine, by `Slot`
-  own_follows : (n k : ℕ) (v : UnitVariable) (t : TypeValue) → slice_get declared.routine_variables k ≡ Some v → HasOwnType declared v t → (line at : ℕ) (code : List Instr) → IsPlaceCode references line (Own k) code → CodeStands G ps p references at code → (injection : Injection) (memory : Memory) (below : List Operand) (d : ℕ) → least_credit ≤ d → unit_in G memory.frames ≡ unit → Fragment declared G Here n (point injection memory (p.instructions.before + at) below) (place call g unit line (Own k)) (p.instructions.before + (at + length code)) (λ a. Inside untouched injection memory (PlaceOnTop t below a)) d (λ a. d + 8)
-  own_follows n k v t is_declared has_type line at code is stands injection memory below d le unit_is =
-      let has : CodeStands G ps p references at (instr op.SLOT (pos k) 0 line ∷ []) = subst (λ c. CodeStands G ps p references at c) is stands in
-      fragment_less {n = suc n} (omega arith) (fragment_to (omega (arith, ap length is)) (fragment_fetch {n = n} (own_variable k) (λ m. m) (λ s matches here.
-      subst (λ u. Reads declared G Here (standing (p.instructions.before + at) below memory s.trace) 1 u line (p.instructions.before + at + 1) (λ n. Inside untouched injection memory (PlaceOnTop t below n)) s (own_variable k s)) unit_is
-      (own_reads declared G (p.instructions.before + at) line below k v t has.0 has_type injection memory s matches (knows injection s memory here k v is_declared) here)) (omega (arith, le)) (λ m. omega arith)))
+  -- what `Slot` finds of a variable of the routine or of one around it
+  slot_finds : (at_place line : ℕ) (up k : ℕ) (v : UnitVariable) (t : TypeValue) → slice_get (variables_up declared up) k ≡ Some v → HasOwnType declared v t → slice_get G.instructions at_place ≡ Some (instr op.SLOT (pos k) up line)
+      → (injection : Injection) (memory : Memory) (below : List Operand) (s : meaning.State) → Matches declared G injection s memory → Here injection s memory
+      → Reads declared G Here (standing at_place below memory s.trace) 1 (unit_in G memory.frames) line (at_place + 1) (λ n. Inside untouched injection memory (PlaceOnTop t below n)) s (own_variable up k s)
+  slot_finds at_place line zero k v t is_declared has_type has injection memory below s matches here =
+      let names = knows injection s memory here in
+      own_reads declared G at_place line below k v t has has_type injection memory s matches (names.own k v is_declared) here
+  slot_finds at_place line (suc up) k v t is_declared has_type has injection memory below s matches here = at_level (slice_get declared.levels (suc up)) refl is_declared
+    where
+      at_level : (o : Option Level) → slice_get declared.levels (suc up) ≡ o → slice_get (variables_at o) k ≡ Some v
+          → Reads declared G Here (standing at_place below memory s.trace) 1 (unit_in G memory.frames) line (at_place + 1) (λ n. Inside untouched injection memory (PlaceOnTop t below n)) s (own_variable (suc up) k s)
+      at_level None e is = cc
+      at_level (Some level) e is =
+          let names = knows injection s memory here in
+          level_reads declared G at_place line below (suc up) k level v t has has_type is injection memory s matches (names.around up level e) here
+
+  -- the place of a variable of the routine or of one around it, by `Slot`
+  own_follows : (n up k : ℕ) (v : UnitVariable) (t : TypeValue) → slice_get (variables_up declared up) k ≡ Some v → HasOwnType declared v t → (line at : ℕ) (code : List Instr) → IsPlaceCode references line (Own up k) code → CodeStands G ps p references at code → (injection : Injection) (memory : Memory) (below : List Operand) (d : ℕ) → least_credit ≤ d → unit_in G memory.frames ≡ unit → Fragment declared G Here n (point injection memory (p.instructions.before + at) below) (place call g unit line (Own up k)) (p.instructions.before + (at + length code)) (λ a. Inside untouched injection memory (PlaceOnTop t below a)) d (λ a. d + 8)
+  own_follows n up k v t is_declared has_type line at code is stands injection memory below d le unit_is =
+      let has : CodeStands G ps p references at (instr op.SLOT (pos k) up line ∷ []) = subst (λ c. CodeStands G ps p references at c) is stands in
+      fragment_less {n = suc n} (omega arith) (fragment_to (omega (arith, ap length is)) (fragment_fetch {n = n} (own_variable up k) (λ m. m) (λ s matches here.
+      subst (λ u. Reads declared G Here (standing (p.instructions.before + at) below memory s.trace) 1 u line (p.instructions.before + at + 1) (λ n. Inside untouched injection memory (PlaceOnTop t below n)) s (own_variable up k s)) unit_is
+      (slot_finds (p.instructions.before + at) line up k v t is_declared has_type has.0 injection memory below s matches here)) (omega (arith, le)) (λ m. omega arith)))
 
   -- the place of a variable
   pub place_follows : (n : ℕ) (q : Place) (t : TypeValue) → HasPlaceType declared q t → (line at : ℕ) (code : List Instr) → IsPlaceCode references line q code → CodeStands G ps p references at code → (injection : Injection) (memory : Memory) (below : List Operand) (d : ℕ) → least_credit ≤ d → unit_in G memory.frames ≡ unit → Fragment declared G Here n (point injection memory (p.instructions.before + at) below) (place call g unit line q) (p.instructions.before + (at + length code)) (λ a. Inside untouched injection memory (PlaceOnTop t below a)) d (λ a. d + 8)
   place_follows n (Variable of_unit k) t (v, is_declared, has_type) line at code is stands injection memory below d le unit_is = variable_follows n of_unit k v t is_declared has_type line at code is stands injection memory below d le unit_is
-  place_follows n (Own k) t (v, is_declared, has_type) line at code is stands injection memory below d le unit_is = own_follows n k v t is_declared has_type line at code is stands injection memory below d le unit_is
+  place_follows n (Own up k) t (v, is_declared, has_type) line at code is stands injection memory below d le unit_is = own_follows n up k v t is_declared has_type line at code is stands injection memory below d le unit_is
   place_follows n (Standard file) t has_type line at code is stands injection memory below d le unit_is = absurd has_type
 
   -- what `Load` finds of a variable of a type of the host
@@ -259,14 +275,14 @@ module _ {declared : Declarations} {G : Image} {untouched : Slots} {Here : Facts
             (expression_follows (Ordinal h) x is_x line at xs x_code (code_front G ps p references at xs (ys ++ step_code line down low high) all) (omega (arith, ends, inside)))
             (expression_follows (Ordinal host.Integer) y is_y line (at + length xs) ys y_code (code_front G ps p references (at + length xs) ys (step_code line down low high) rest) (omega (arith, ends, inside)))
             (code_back G ps p references (at + length xs) ys (step_code line down low high) rest))
-        expression_follows kind (Function of_unit number given) (h, is_kind, r, is_routine, is_function, are_given) line at code (xs, k, given_code, named, is) stands inside =
-            let all : CodeStands G ps p references at (xs ++ instr op.CALL (pos k) 0 line ∷ instr op.JUMP (pos (at + length xs + 2)) 0 line ∷ []) = subst (λ c. CodeStands G ps p references at c) is stands in
-            let ends : length code ≡ length xs + 2 = omega (arith, ap length is, length-append xs (instr op.CALL (pos k) 0 line ∷ instr op.JUMP (pos (at + length xs + 2)) 0 line ∷ [])) in
-            let keeps : RoutineKeeps declared G ps call n of_unit number r = kept of_unit number r is_routine in
-            followed_as n kind (Ordinal h) (Function of_unit number given) line at code (xs ++ instr op.CALL (pos k) 0 line ∷ instr op.JUMP (pos (at + length xs + 2)) 0 line ∷ []) is_kind is
-            (function_follows ps p references room lasts among call steady_call g unit n h line at of_unit number k given xs r keeps is_function
-            (arguments_follow (declared.types of_unit) r.formals keeps.formals given keeps.passed are_given line at xs given_code (code_front G ps p references at xs (instr op.CALL (pos k) 0 line ∷ instr op.JUMP (pos (at + length xs + 2)) 0 line ∷ []) all) (omega (arith, ends, inside)))
-            named all (omega (arith, ends, inside)))
+        expression_follows kind (Function callee given) (h, is_kind, r, is_callee, is_function, are_given) line at code (xs, k, given_code, named, is) stands inside =
+            let all : CodeStands G ps p references at (xs ++ instr op.CALL (pos k) callee.levels line ∷ instr op.JUMP (pos (at + length xs + 2)) 0 line ∷ []) = subst (λ c. CodeStands G ps p references at c) is stands in
+            let ends : length code ≡ length xs + 2 = omega (arith, ap length is, length-append xs (instr op.CALL (pos k) callee.levels line ∷ instr op.JUMP (pos (at + length xs + 2)) 0 line ∷ [])) in
+            let keeps : RoutineKeeps declared G ps call n callee.unit callee.number r = kept callee.unit callee.number r is_callee.there in
+            followed_as n kind (Ordinal h) (Function callee given) line at code (xs ++ instr op.CALL (pos k) callee.levels line ∷ instr op.JUMP (pos (at + length xs + 2)) 0 line ∷ []) is_kind is
+            (function_follows ps p references room knows scene.own_types_are lasts among call steady_call g unit n h line at callee k given xs r keeps is_function
+            (arguments_follow (declared.types callee.unit) r.formals keeps.formals given keeps.passed are_given line at xs given_code (code_front G ps p references at xs (instr op.CALL (pos k) callee.levels line ∷ instr op.JUMP (pos (at + length xs + 2)) 0 line ∷ []) all) (omega (arith, ends, inside)))
+            is_callee.declared_up named all (omega (arith, ends, inside)))
 
         -- an actual parameter
         argument_follows : (k : Passing) (a : Actual) → Fits declared k a → (line at : ℕ) (is : List Instr) → IsActualCode texts references line at a is → CodeStands G ps p references at is → at + length is < p.instructions.own → IsArgumentFollowed declared G untouched Here p call g unit n k a line at is
@@ -293,14 +309,14 @@ module _ {declared : Declarations} {G : Image} {untouched : Slots} {Here : Facts
             (arguments_follow types fs formals given passed.1 valid.1 line (at + length h.0) h.1 h.3 (code_back G ps p references at h.0 h.1 all) (omega (arith, ends, inside)))
 
       -- The actual parameters, the call, and what comes after it. Where the results lie on the operands behind the call, in a memory that has grown, what comes after it is followed from there.
-      pub call_then : {B : Type 0} {Then : B → Operands} {e : B → ℕ} {to : ℕ} (line at : ℕ) (of_unit : List ℕ) (number k : ℕ) (given : Actuals) (xs : List Instr) (r : RoutineEntry) (keeps : RoutineKeeps declared G ps call n of_unit number r)
-          → AreGiven declared (declared.types of_unit) r.formals given → AreActualsCode texts references line at given xs → slice_get references k ≡ Some (reference of_unit number)
-          → CodeStands G ps p references at (xs ++ instr op.CALL (pos k) 0 line ∷ instr op.JUMP (pos (at + length xs + 2)) 0 line ∷ []) → at + length xs + 2 < p.instructions.own
+      pub call_then : {B : Type 0} {Then : B → Operands} {e : B → ℕ} {to : ℕ} (line at : ℕ) (callee : Callee) (k : ℕ) (given : Actuals) (xs : List Instr) (r : RoutineEntry) (keeps : RoutineKeeps declared G ps call n callee.unit callee.number r)
+          → AreGiven declared (declared.types callee.unit) r.formals given → AreActualsCode texts references line at given xs → IsDeclaredUp declared callee callee.levels → slice_get references k ≡ Some (reference callee.unit callee.number)
+          → CodeStands G ps p references at (xs ++ instr op.CALL (pos k) callee.levels line ∷ instr op.JUMP (pos (at + length xs + 2)) 0 line ∷ []) → at + length xs + 2 < p.instructions.own
           → (injection : Injection) (memory : Memory) (below : List Operand) (d : ℕ) → least_credit ≤ d → unit_in G memory.frames ≡ unit
           → (rest : List Result → Computation B) → ((rs : List Result) → Steady (rest rs))
           → ((rs : List Result) (longer : Injection) (after : Memory) (pushed : List Operand) → Grown untouched injection memory longer after → SameRoutine untouched memory.frames after.frames → ResultsOnTop keeps.results below rs longer after pushed → Fragment declared G Here n (point longer after (p.instructions.before + (at + length xs + 1)) pushed) (rest rs) to (λ b. Inside untouched longer after (Then b)) d e)
-          → Fragment declared G Here n (point injection memory (p.instructions.before + at) below) (bind (arguments call g unit line given) (λ vs. bind (call unit line of_unit number vs) rest)) to (λ b. Inside untouched injection memory (Then b)) d e
-      call_then line at of_unit number k given xs r keeps valid is_code named stands inside injection memory below d enough home rest steady behind =
-          passed_then ps p references room lasts among call steady_call g unit n line at of_unit number k given xs r keeps
-          (arguments_follow (declared.types of_unit) r.formals keeps.formals given keeps.passed valid line at xs is_code (code_front G ps p references at xs (instr op.CALL (pos k) 0 line ∷ instr op.JUMP (pos (at + length xs + 2)) 0 line ∷ []) stands) (omega (arith, inside)))
-          named (instr op.JUMP (pos (at + length xs + 2)) 0 line ∷ []) stands injection memory below d enough home rest steady behind
+          → Fragment declared G Here n (point injection memory (p.instructions.before + at) below) (bind (arguments call g unit line given) (λ vs. bind (call unit line callee vs) rest)) to (λ b. Inside untouched injection memory (Then b)) d e
+      call_then line at callee k given xs r keeps valid is_code is_declared named stands inside injection memory below d enough home rest steady behind =
+          passed_then ps p references room knows scene.own_types_are lasts among call steady_call g unit n line at callee k given xs r keeps
+          (arguments_follow (declared.types callee.unit) r.formals keeps.formals given keeps.passed valid line at xs is_code (code_front G ps p references at xs (instr op.CALL (pos k) callee.levels line ∷ instr op.JUMP (pos (at + length xs + 2)) 0 line ∷ []) stands) (omega (arith, inside)))
+          is_declared named (instr op.JUMP (pos (at + length xs + 2)) 0 line ∷ []) stands injection memory below d enough home rest steady behind

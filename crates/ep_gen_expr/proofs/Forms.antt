@@ -78,8 +78,8 @@ pub appends_variable : {a b c : Code} (unit : List ℕ) (number k : ℕ) → Num
 appends_variable {a = a} unit number k p q =
     whole_place (Variable unit number) (instr op.UNIT (pos k) 0 a.line ∷ []) (k, get_later k (reference unit number) q.references.begins p.there, refl) (grows_at (λ line. instr op.UNIT (pos k) 0 line ∷ []) p.grows q)
 
-pub appends_own : {a b : Code} (number : ℕ) → Grows a b (instr op.SLOT (pos number) 0 a.line ∷ []) → AppendsPlace a b (Own number)
-appends_own {a = a} number g = whole_place (Own number) (instr op.SLOT (pos number) 0 a.line ∷ []) refl g
+pub appends_own : {a b : Code} (levels number : ℕ) → Grows a b (instr op.SLOT (pos number) levels a.line ∷ []) → AppendsPlace a b (Own levels number)
+appends_own {a = a} levels number g = whole_place (Own levels number) (instr op.SLOT (pos number) levels a.line ∷ []) refl g
 
 pub appends_standard : {a b : Code} (file : StandardFile) → Grows a b (standard_code a.line file ∷ []) → AppendsPlace a b (Standard file)
 appends_standard {a = a} file g = whole_place (Standard file) (standard_code a.line file ∷ []) refl g

@@ -15,7 +15,7 @@ use Rattle.ep_object.specs.declared.op.TheConstants as op
 
 pub place_code_stays : (rs ss : List Reference) (line : ℕ) (p : Place) (is : List Instr) → IsPrefix rs ss → IsPlaceCode rs line p is → IsPlaceCode ss line p is
 place_code_stays rs ss line (Variable unit number) is b h = (h.0, get_later h.0 (reference unit number) b h.1, h.2)
-place_code_stays rs ss line (Own number) is b h = h
+place_code_stays rs ss line (Own levels number) is b h = h
 place_code_stays rs ss line (Standard file) is b h = h
 
 module _ (ts us : List (List ℕ)) (rs ss : List Reference) (line : ℕ) (a : IsPrefix ts us) (b : IsPrefix rs ss) where
@@ -29,7 +29,7 @@ module _ (ts us : List (List ℕ)) (rs ss : List Reference) (line : ℕ) (a : Is
     expr_code_stays at (Short operation x y) is h =
         (h.0, h.1, expr_code_stays at x h.0 h.2, expr_code_stays (at + length h.0 + length (keep_code line operation) + 2) y h.1 h.3, h.4)
     expr_code_stays at (Step down low high x n) is h = (h.0, h.1, expr_code_stays at x h.0 h.2, expr_code_stays (at + length h.0) n h.1 h.3, h.4)
-    expr_code_stays at (Function unit number given) is h = (h.0, h.1, actuals_code_stays at given h.0 h.2, get_later h.1 (reference unit number) b h.3, h.4)
+    expr_code_stays at (Function callee given) is h = (h.0, h.1, actuals_code_stays at given h.0 h.2, get_later h.1 (reference callee.unit callee.number) b h.3, h.4)
 
     -- the code of an actual parameter
     pub actual_code_stays : (at : ℕ) (x : Actual) (is : List Instr) → IsActualCode ts rs line at x is → IsActualCode us ss line at x is
@@ -67,7 +67,7 @@ call_short xs i j is e k p = omega (arith, ap length e, length-append xs (i ∷ 
 
 pub place_code_short : (rs : List Reference) (line : ℕ) (p : Place) (is : List Instr) → IsPlaceCode rs line p is → length is ≤ 32 * place_nodes p
 place_code_short rs line (Variable unit number) is h = omega (arith, ap length h.2)
-place_code_short rs line (Own number) is h = omega (arith, ap length h)
+place_code_short rs line (Own levels number) is h = omega (arith, ap length h)
 place_code_short rs line (Standard file) is h = omega (arith, ap length h)
 
 module _ (ts : List (List ℕ)) (rs : List Reference) (line : ℕ) where
@@ -83,7 +83,7 @@ module _ (ts : List (List ℕ)) (rs : List Reference) (line : ℕ) where
         short_short h.0 (keep_code line operation) h.1 _ _ is h.4 (expr_nodes x) (expr_nodes y) (keep_short line operation) (expr_code_short at x h.0 h.2) (expr_code_short (at + length h.0 + length (keep_code line operation) + 2) y h.1 h.3)
     expr_code_short at (Step down low high x n) is h =
         omega (arith, ap length h.4, length-append h.0 (h.1 ++ step_code line down low high), length-append h.1 (step_code line down low high), expr_code_short at x h.0 h.2, expr_code_short (at + length h.0) n h.1 h.3, step_short line down low high)
-    expr_code_short at (Function unit number given) is h = call_short h.0 _ _ is h.4 (actuals_nodes given) (actuals_code_short at given h.0 h.2)
+    expr_code_short at (Function callee given) is h = call_short h.0 _ _ is h.4 (actuals_nodes given) (actuals_code_short at given h.0 h.2)
 
     -- the code of an actual parameter is short
     pub actual_code_short : (at : ℕ) (x : Actual) (is : List Instr) → IsActualCode ts rs line at x is → length is ≤ 32 * actual_nodes x

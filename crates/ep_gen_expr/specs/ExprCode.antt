@@ -88,7 +88,7 @@ standard_code line file = instr op.UNIT constant.STANDARD_UNIT (standard_number 
 -- the code of a place, whose instructions have this line
 abbrev pub IsPlaceCode : List Reference → ℕ → Place → List Instr → Type 0
 IsPlaceCode references line (Variable unit number) is = (k : ℕ) × (slice_get references k ≡ Some (reference unit number)) × (is ≡ instr op.UNIT (pos k) 0 line ∷ [])
-IsPlaceCode references line (Own number) is = is ≡ instr op.SLOT (pos number) 0 line ∷ []
+IsPlaceCode references line (Own levels number) is = is ≡ instr op.SLOT (pos number) levels line ∷ []
 IsPlaceCode references line (Standard file) is = is ≡ standard_code line file ∷ []
 
 module _ (texts : List (List ℕ)) (references : List Reference) (line : ℕ) where
@@ -106,9 +106,9 @@ module _ (texts : List (List ℕ)) (references : List Reference) (line : ℕ) wh
     IsExprCode at (Step down low high x n) is = (xs ns : List Instr) × IsExprCode at x xs × IsExprCode (at + length xs) n ns × (is ≡ xs ++ (ns ++ step_code line down low high))
     -- A function designator (ISO 10206, 6.8.5): the actual parameters, the call, and a jump to what comes next, which has the
     -- tick for the step that is spent when the call is done.
-    IsExprCode at (Function unit number given) is =
-        (xs : List Instr) × (k : ℕ) × AreActualsCode at given xs × (slice_get references k ≡ Some (reference unit number))
-        × (is ≡ xs ++ instr op.CALL (pos k) 0 line ∷ instr op.JUMP (pos (at + length xs + 2)) 0 line ∷ [])
+    IsExprCode at (Function callee given) is =
+        (xs : List Instr) × (k : ℕ) × AreActualsCode at given xs × (slice_get references k ≡ Some (reference callee.unit callee.number))
+        × (is ≡ xs ++ instr op.CALL (pos k) callee.levels line ∷ instr op.JUMP (pos (at + length xs + 2)) 0 line ∷ [])
 
     -- the code of an actual parameter: that of the value, or of the variable (ISO 10206, 6.7.3)
     pub IsActualCode : ℕ → Actual → List Instr → Type 0

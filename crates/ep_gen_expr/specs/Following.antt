@@ -1,7 +1,7 @@
 -- The machine follows expressions and places: wherever their code stands in an image, it does what they mean.
 use Rattle.std.specs.Prelude.{◌≡◌, ℕ, ◌+◌, ◌<◌, ◌≤◌, List, length, Some, slice_get}
 use Rattle.ep_gen_expr.specs.ExprCode.{IsPlaceCode, IsExprCode}
-use Rattle.ep_object.specs.Activations.{MatchesOwn, OwnAreKept}
+use Rattle.ep_object.specs.Activations.{MatchesNames, OwnAreKept}
 use Rattle.ep_object.specs.Follows.{point, Since, Fragment, Inside, Operands, OnTop, PlaceOnTop}
 use Rattle.ep_object.specs.Matching.{Memory, Injection, Slots, AreAmong, kept_slots, HasType, HasOwnType}
 use Rattle.ep_object.specs.Operands.{Operand}
@@ -17,7 +17,7 @@ use Rattle.ep_typed.specs.Calls.{Handler}
 use Rattle.ep_typed.specs.Meaning.{eval, place, weight_of}
 use Rattle.ep_typed.specs.Steps.{State, Computation}
 use Rattle.ep_typed.specs.Trees.{Place, Variable, Own, Standard, Expr}
-use Rattle.ep_typed.specs.Valid.{Declarations, Kind, IsExpr}
+use Rattle.ep_typed.specs.Valid.{Declarations, Kind, IsExpr, variables_up}
 use Rattle.ep_typed.specs.declared.unit.UnitVariable.{UnitVariable}
 use Rattle.ep_typed.specs.declared.value.TypeValue.{TypeValue}
 
@@ -25,17 +25,17 @@ use Rattle.ep_typed.specs.declared.value.TypeValue.{TypeValue}
 abbrev pub least_credit : ℕ
 least_credit = 32
 
--- From every memory of a routine of the unit in which its own variables match, with any operands below and up to this number of steps, the machine follows the computation through the code at this place of the object. Behind the code the same routine runs, memory has grown, the slots that are named are untouched, and what held and lasts still does, what the computation gives lies on the operands below, and the credit has risen by this gain.
+-- From every memory of a routine of the unit in which its own variables and those of the routines around it match, with any operands below and up to this number of steps, the machine follows the computation through the code at this place of the object. Behind the code the same routine runs, memory has grown, the slots that are named are untouched, and what held and lasts still does, what the computation gives lies on the operands below, and the credit has risen by this gain.
 abbrev pub IsFollowedThrough : {A : Type 0} → Declarations → Image → Placement → List ℕ → Slots → ℕ → ℕ → List Instr → Computation A → (List Operand → A → Operands) → (A → ℕ) → Type 0
 IsFollowedThrough declared G p unit untouched n at code c Then gain =
-    OwnAreKept declared untouched → (begun : State) (injection : Injection) (memory : Memory) → MatchesOwn declared injection begun memory
+    OwnAreKept declared untouched → (begun : State) (injection : Injection) (memory : Memory) → MatchesNames declared injection begun memory
     → (below : List Operand) (credit : ℕ) → least_credit ≤ credit → unit_in G memory.frames ≡ unit
     → Fragment declared G (Since untouched injection begun memory) n (point injection memory (p.instructions.before + at) below) c (p.instructions.before + (at + length code)) (λ a. Inside untouched injection memory (Then below a)) credit (λ a. credit + gain a)
 
--- the type value of a place: that of a variable which is declared, or of one of the routine
+-- the type value of a place: that of a variable which is declared, or of one of the routine or of those around it
 abbrev pub HasPlaceType : Declarations → Place → TypeValue → Type 0
 HasPlaceType declared (Variable unit k) t = (v : UnitVariable) × (declared.variables unit k ≡ Some v) × HasType declared unit v t
-HasPlaceType declared (Own k) t = (v : UnitVariable) × (slice_get declared.routine_variables k ≡ Some v) × HasOwnType declared v t
+HasPlaceType declared (Own up k) t = (v : UnitVariable) × (slice_get (variables_up declared up) k ≡ Some v) × HasOwnType declared v t
 HasPlaceType declared (Standard file) t = ⊥
 
 -- Wherever the code of the place of a variable stands in an image with a scene, the machine follows the place through the code with any number of steps, whatever slots are named, and leaves it on top, of a type that describes the variable's.

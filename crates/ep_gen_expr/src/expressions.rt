@@ -3,7 +3,7 @@
 ghost use Rattle.std.specs.Prelude.{OnOk, map};
 ghost use Rattle.ep_typed.specs.Trees as tree;
 ghost use Rattle.ep_typed.specs.Trees.{Constant, Function, One, Own, Read, Short, Step, Text, Two, Variable};
-ghost use Rattle.ep_typed.specs.Viewed.{actual_of, expr_of, place_of};
+ghost use Rattle.ep_typed.specs.Viewed.{actual_of, callee_of, expr_of, place_of};
 ghost use Rattle.ep_gen_expr.specs.Growth.{AppendsActual, AppendsActuals, AppendsExpr, AppendsPlace};
 
 use crate::code::{Code, emit};
@@ -13,7 +13,7 @@ use crate::standard::standard_code;
 use crate::tables::{reference_number, text_number};
 use ep_base::{Name, NoMemory};
 use ep_object::op;
-use ep_typed::{Actual, Binary, ShortOperation, TypedExpr, TypedPlace, Unary};
+use ep_typed::{Actual, Binary, Callee, ShortOperation, TypedExpr, TypedPlace, Unary};
 use std::alloc::Global;
 
 /// Appends the code of a place, which leaves the place.
@@ -23,7 +23,7 @@ pub fn place_code(alloc: Global, p: &TypedPlace, code: &mut Code) -> Result<(), 
 {
     match p {
         TypedPlace::Variable(unit, number) => variable_code(alloc, unit, *number, code),
-        TypedPlace::Own(number) => own_code(*number, code),
+        TypedPlace::Own(levels, number) => own_code(*levels, *number, code),
         TypedPlace::Standard(file) => standard_code(*file, code),
     }
 }
@@ -37,12 +37,12 @@ fn variable_code(alloc: Global, unit: &Name, number: u32, code: &mut Code) -> Re
     emit(code, op::UNIT, place as i64, 0)
 }
 
-/// Appends the code of a variable of the routine, in whose frame it has a slot.
+/// Appends the code of a variable of the routine so many levels up, in whose frame it has a slot.
 #[tactic(auto, using(crate::proofs::Forms::forms))]
-fn own_code(number: u32, code: &mut Code) -> Result<(), NoMemory>
-    ensures { OnOk result (AppendsPlace code.old code.new (Own number)) }
+fn own_code(levels: u32, number: u32, code: &mut Code) -> Result<(), NoMemory>
+    ensures { OnOk result (AppendsPlace code.old code.new (Own levels number)) }
 {
-    emit(code, op::SLOT, number as i64, 0)
+    emit(code, op::SLOT, number as i64, levels)
 }
 
 /// Appends the code of an expression, which leaves its value.
@@ -64,9 +64,7 @@ pub fn expression_code(alloc: Global, e: &TypedExpr, code: &mut Code) -> Result<
         TypedExpr::Step(down, low, high, value, count) => {
             step_code(alloc, *down, *low, *high, value.get(), count.get(), code)
         }
-        TypedExpr::Function(unit, number, given) => {
-            call_code(alloc, unit, *number, given.items(), code)
-        }
+        TypedExpr::Function(callee, given) => call_code(alloc, callee, given.items(), code),
     }
 }
 
@@ -171,17 +169,16 @@ fn step_code(
 #[cycle(expression)]
 pub fn call_code(
     alloc: Global,
-    unit: &Name,
-    number: u32,
+    callee: &Callee,
     given: &[Actual],
     code: &mut Code,
 ) -> Result<(), NoMemory>
     ensures { OnOk result (AppendsExpr code.old code.new
-        (Function unit.now number (tree.actuals (map actual_of given.now)))) }
+        (Function (callee_of callee.now) (tree.actuals (map actual_of given.now)))) }
 {
     actuals_code(alloc, given, code)?;
-    let routine = reference_number(alloc, unit, number, code)?;
-    emit(code, op::CALL, routine as i64, 0)?;
+    let routine = reference_number(alloc, &callee.unit, callee.number, code)?;
+    emit(code, op::CALL, routine as i64, callee.levels)?;
     let next = next_place(code)? + 1;
     emit(code, op::JUMP, next as i64, 0)
 }

@@ -43,7 +43,7 @@ use Rattle.ep_typed.proofs.Denoters.{types_are_instances}
 use Rattle.ep_typed.proofs.Steady.{grows_refl, grows_made_own, steady_bind, steady_allocate_own, steady_make_all_own, steady_initialized, steady_takes_all}
 use Rattle.ep_typed.specs.Meaning.{elaborate, elaborated, make_own, make_all_own, initialized, takes_by, takes_all}
 use Rattle.ep_typed.specs.Steps.{Undefined, Computation, bind, spend, change, with_own_bound, with_type, counted, made_own, allocate_own}
-use Rattle.ep_typed.specs.Valid.{Declarations, Kind, IsTypeOf, IsDenoter, formal_variable}
+use Rattle.ep_typed.specs.Valid.{variables_up, Declarations, Kind, IsTypeOf, IsDenoter, formal_variable}
 use Rattle.ep_typed.specs.Valid as kind
 use Rattle.ep_typed.specs.Viewed.{denoter_of}
 use Rattle.ep_typed.specs.Hosts.{Host}
@@ -65,10 +65,10 @@ still_later : {before memory : Memory} {below : List Operand} → StillRuns befo
 still_later runs longer after operands h = record { runs = still_runs-trans runs h.runs; operands_are = h.operands_are }
 
 module _ (declared : Declarations) (G : Image) (untouched : Slots) (first : Injection) (start : Memory) (lasts : Lasts untouched (InActivation declared untouched first start)) (ps : List Placement) (p : Placement) (references : List Reference) (call : Handler) (steady_call : IsSteadyHandler call) (n : ℕ) (unit : List ℕ) (types_valid : HaveValidTypes declared) (own_valid : HaveValidOwnTypes declared) where
-  module _ (number line at : ℕ) (v : UnitVariable) (is_declared : slice_get declared.routine_variables number ≡ Some v) where
+  module _ (number line at : ℕ) (v : UnitVariable) (is_declared : slice_get (variables_up declared 0) number ≡ Some v) where
     -- `Make`, over the number of the type
     make_row_moves : (low high : ℤ) (type_number : ℕ) → IsValueOf (type.Ordinal low high) Undefined
-        → ((w : UnitVariable) → slice_get declared.routine_variables number ≡ Some w → HasOwnType declared w (type.Ordinal low high))
+        → ((w : UnitVariable) → slice_get (variables_up declared 0) number ≡ Some w → HasOwnType declared w (type.Ordinal low high))
         → (place : ℕ) → slice_get G.instructions place ≡ Some (instr op.MAKE (pos number) 0 line)
         → (injection : Injection) (memory : Memory) (below : List Operand) (d : ℕ) → 1 ≤ d
         → Describes memory.types type_number (type.Ordinal low high)
@@ -90,7 +90,7 @@ module _ (declared : Declarations) (G : Image) (untouched : Slots) (first : Inje
 
     -- the code that makes a variable of a type
     make_typed : (g : ℕ) (t : TypeValue) (host : Host) → IsTypeOf host t → IsValueOf t Undefined
-        → ((w : UnitVariable) → slice_get declared.routine_variables number ≡ Some w → HasOwnType declared w t)
+        → ((w : UnitVariable) → slice_get (variables_up declared 0) number ≡ Some w → HasOwnType declared w t)
         → CodeStands G ps p references at (type_code line t ++ instr op.MAKE (pos number) 0 line ∷ [])
         → MovesOwn declared G untouched first start p n at (at + length (type_code line t ++ instr op.MAKE (pos number) 0 line ∷ [])) (bind (elaborated call g unit (Some t)) (λ a. allocate_own number a))
     make_typed g type.Text host valid fits declared_so stands injection memory below d enough = absurd valid
@@ -110,7 +110,7 @@ module _ (declared : Declarations) (G : Image) (untouched : Slots) (first : Inje
 
     -- the code by which a value formal of a type takes its argument
     value_typed : (g : ℕ) (t : TypeValue) (host : Host) → IsTypeOf host t → IsValueOf t Undefined
-        → ((w : UnitVariable) → slice_get declared.routine_variables number ≡ Some w → HasOwnType declared w t)
+        → ((w : UnitVariable) → slice_get (variables_up declared 0) number ≡ Some w → HasOwnType declared w t)
         → CodeStands G ps p references at (type_code line t ++ instr op.MAKE (pos number) 0 line ∷ instr op.SLOT (pos number) 0 line ∷ instr op.ARG (pos number) 0 line ∷ bare line op.STORE ∷ [])
         → (z : ℤ) (injection : Injection) (memory : Memory) (below : List Operand) (d : ℕ) → least_credit ≤ d → unit_in G memory.frames ≡ unit
         → argument_at (arguments_in memory.frames.calls) number ≡ Some (Word z) → suc number ≤ length (arguments_in memory.frames.calls)
@@ -146,16 +146,16 @@ module _ (declared : Declarations) (G : Image) (untouched : Slots) (first : Inje
         ))
 
   -- a variable is made in its slot
-  one_moves : (g number at : ℕ) (v : UnitVariable) → slice_get declared.routine_variables number ≡ Some v
+  one_moves : (g number at : ℕ) (v : UnitVariable) → slice_get (variables_up declared 0) number ≡ Some v
       → CodeStands G ps p references at (make_code declared.routine_types number v)
       → MovesOwn declared G untouched first start p n at (at + length (make_code declared.routine_types number v)) (make_own call g unit declared.routine_types number v)
   one_moves g number at v is_declared stands =
       subst (λ o. CodeStands G ps p references at (elaborating_code v.line o ++ instr op.MAKE (pos number) 0 v.line ∷ []) → MovesOwn declared G untouched first start p n at (at + length (elaborating_code v.line o ++ instr op.MAKE (pos number) 0 v.line ∷ [])) (bind (elaborated call g unit o) (λ a. allocate_own number a))) (sym valid.has_type) typed stands
     where
       valid : IsDenoter declared.routine_types (denoter_of v.denoter)
-      valid = own_valid number v is_declared
+      valid = own_valid 0 number v is_declared
 
-      has_type : (w : UnitVariable) → slice_get declared.routine_variables number ≡ Some w
+      has_type : (w : UnitVariable) → slice_get (variables_up declared 0) number ≡ Some w
           → HasOwnType declared w valid.type_value
       has_type w e = subst (λ (u : UnitVariable). HasOwnType declared u valid.type_value) (same_Some v w (sym is_declared ∙ e)) (types_are_instances declared.routine_types (denoter_of v.denoter) valid.type_value valid.has_type)
 
@@ -165,7 +165,7 @@ module _ (declared : Declarations) (G : Image) (untouched : Slots) (first : Inje
           make_typed number v.line at v is_declared g valid.type_value valid.host valid.is_type (integer_bounds valid.host valid.type_value valid.is_type) has_type s
 
   -- and so are the variables from this number on
-  pub make_all_own_moves : (g number at : ℕ) (vs : List UnitVariable) → ((i : ℕ) (v : UnitVariable) → slice_get vs i ≡ Some v → slice_get declared.routine_variables (number + i) ≡ Some v)
+  pub make_all_own_moves : (g number at : ℕ) (vs : List UnitVariable) → ((i : ℕ) (v : UnitVariable) → slice_get vs i ≡ Some v → slice_get (variables_up declared 0) (number + i) ≡ Some v)
       → CodeStands G ps p references at (make_all_code declared.routine_types number vs)
       → MovesOwn declared G untouched first start p n at (at + length (make_all_code declared.routine_types number vs)) (make_all_own call g unit declared.routine_types number vs)
   make_all_own_moves g number at [] are_declared stands injection memory below d enough =
@@ -174,21 +174,21 @@ module _ (declared : Declarations) (G : Image) (untouched : Slots) (first : Inje
       let types = declared.routine_types in
       let parts = code_stands-parts G ps p references at (make_code types number v) (make_all_code types (suc number) vs) stands in
       let ends : at + length (make_code types number v) + length (make_all_code types (suc number) vs) ≡ at + length (make_code types number v ++ make_all_code types (suc number) vs) = omega (arith, length-append (make_code types number v) (make_all_code types (suc number) vs)) in
-      let this : slice_get declared.routine_variables number ≡ Some v = subst (λ k. slice_get declared.routine_variables k ≡ Some v) (omega arith) (are_declared 0 v refl) in
+      let this : slice_get (variables_up declared 0) number ≡ Some v = subst (λ k. slice_get (variables_up declared 0) k ≡ Some v) (omega arith) (are_declared 0 v refl) in
       fragment_to (ap (λ k. p.instructions.before + k) ends)
       (fragment_bind {e = λ a. d} (λ a. steady_make_all_own call steady_call g unit types (suc number) vs) (one_moves g number at v this parts.0 injection memory below d enough) (λ a longer after pushed still. (
         still.runs,
         subst (λ o. Fragment declared G (InActivation declared untouched first start) n (point longer after (p.instructions.before + (at + length (make_code types number v))) o) (make_all_own call g unit types (suc number) vs) (p.instructions.before + (at + length (make_code types number v) + length (make_all_code types (suc number) vs))) (λ b. StillBare memory below) d (λ b. d)) (sym still.operands_are)
-            (fragment_post (λ b. still_later still.runs) (make_all_own_moves g (suc number) (at + length (make_code types number v)) vs (λ i w e. subst (λ k. slice_get declared.routine_variables k ≡ Some w) (omega arith) (are_declared (suc i) w e)) parts.1 longer after below d enough)),
+            (fragment_post (λ b. still_later still.runs) (make_all_own_moves g (suc number) (at + length (make_code types number v)) vs (λ i w e. subst (λ k. slice_get (variables_up declared 0) k ≡ Some w) (omega arith) (are_declared (suc i) w e)) parts.1 longer after below d enough)),
       )))
 
   -- ---- formal parameters
 
-  module _ (g line number at : ℕ) (f : Formal) (is_declared : slice_get declared.routine_variables number ≡ Some (formal_variable line f)) where
+  module _ (g line number at : ℕ) (f : Formal) (is_declared : slice_get (variables_up declared 0) number ≡ Some (formal_variable line f)) where
     its : IsDenoter declared.routine_types (denoter_of f.denoter)
-    its = own_valid number (formal_variable line f) is_declared
+    its = own_valid 0 number (formal_variable line f) is_declared
 
-    has_its_type : (w : UnitVariable) → slice_get declared.routine_variables number ≡ Some w → HasOwnType declared w its.type_value
+    has_its_type : (w : UnitVariable) → slice_get (variables_up declared 0) number ≡ Some w → HasOwnType declared w its.type_value
     has_its_type w e = subst (λ (u : UnitVariable). HasOwnType declared u its.type_value) (same_Some (formal_variable line f) w (sym is_declared ∙ e)) (types_are_instances declared.routine_types (denoter_of f.denoter) its.type_value its.has_type)
 
     -- a value formal takes a number
@@ -213,7 +213,7 @@ module _ (declared : Declarations) (G : Image) (untouched : Slots) (first : Inje
     reference_moves stands m t q has_type injection memory below d enough home there within place_of described =
         by_calls memory.frames.calls refl there within
       where
-        typed : (w : UnitVariable) → slice_get declared.routine_variables number ≡ Some w → HasOwnType declared w t
+        typed : (w : UnitVariable) → slice_get (variables_up declared 0) number ≡ Some w → HasOwnType declared w t
         typed w e = subst (λ (u : UnitVariable). HasOwnType declared u t) (same_Some (formal_variable line f) w (sym is_declared ∙ e)) (types_are_instances declared.routine_types (denoter_of f.denoter) t has_type)
 
         by_calls : (calls : List Frame) → memory.frames.calls ≡ calls → argument_at (arguments_in calls) number ≡ Some (operand.Place q) → suc number ≤ length (arguments_in calls)
@@ -259,7 +259,7 @@ module _ (declared : Declarations) (G : Image) (untouched : Slots) (first : Inje
 
   -- the formal parameters take their arguments, from this number on
   pub takes_all_moves : (g line number at : ℕ) (fs : List Formal) (qs : List Passing) (xs : List Argument) → ArePassed declared.routine_types fs qs
-      → ((i : ℕ) (f : Formal) → slice_get fs i ≡ Some f → slice_get declared.routine_variables (number + i) ≡ Some (formal_variable line f))
+      → ((i : ℕ) (f : Formal) → slice_get fs i ≡ Some f → slice_get (variables_up declared 0) (number + i) ≡ Some (formal_variable line f))
       → CodeStands G ps p references at (take_all_code declared.routine_types line number fs)
       → (injection : Injection) (memory : Memory) (below : List Operand) (d : ℕ) → least_credit ≤ d → unit_in G memory.frames ≡ unit
       → AreAwaited injection memory qs xs number (arguments_in memory.frames.calls)
@@ -277,13 +277,13 @@ module _ (declared : Declarations) (G : Image) (untouched : Slots) (first : Inje
       let inside : List (Option Operand) = arguments_in memory.frames.calls in
       let parts = code_stands-parts G ps p references at code more stands in
       let ends : at + length code + length more ≡ at + length (code ++ more) = omega (arith, length-append code more) in
-      let this : slice_get declared.routine_variables number ≡ Some (formal_variable line f) = subst (λ k. slice_get declared.routine_variables k ≡ Some (formal_variable line f)) (omega arith) (are_declared 0 f refl) in
+      let this : slice_get (variables_up declared 0) number ≡ Some (formal_variable line f) = subst (λ k. slice_get (variables_up declared 0) k ≡ Some (formal_variable line f)) (omega arith) (are_declared 0 f refl) in
       fragment_to (ap (λ k. p.instructions.before + k) ends)
       (fragment_bind {P = λ a. Taken untouched injection memory (without_argument number inside) below} {e = λ a. d} (λ a. steady_takes_all call steady_call g unit types line (suc number) fs xs)
       (take_moves g line number at f this f.mode q x passed.0 parts.0 o injection memory below d enough home there within is)
       (λ a longer after pushed taken. (
         taken.runs,
         subst (λ st. Fragment declared G (InActivation declared untouched first start) n (point longer after (p.instructions.before + (at + length code)) st) (takes_all call g unit types line (suc number) fs xs) (p.instructions.before + (at + length code + length more)) (λ b. StillBare memory below) d (λ b. d)) (sym taken.operands_are)
-            (fragment_post (λ b. still_later taken.runs) (takes_all_moves g line (suc number) (at + length code) fs qs xs passed.1 (λ i w e. subst (λ k. slice_get declared.routine_variables k ≡ Some (formal_variable line w)) (omega arith) (are_declared (suc i) w e)) parts.1 longer after below d enough (unit_in-still G taken.runs ∙ home)
+            (fragment_post (λ b. still_later taken.runs) (takes_all_moves g line (suc number) (at + length code) fs qs xs passed.1 (λ i w e. subst (λ k. slice_get (variables_up declared 0) k ≡ Some (formal_variable line w)) (omega arith) (are_declared (suc i) w e)) parts.1 longer after below d enough (unit_in-still G taken.runs ∙ home)
             (subst (λ l. AreAwaited longer after qs xs (suc number) l) (sym taken.left_are) (awaited-grown taken.grown qs xs (suc number) (without_argument number inside) (awaited-taken injection memory number inside within qs xs (suc number) (omega arith) rest))))),
       )))

@@ -18,8 +18,8 @@ use Rattle.ep_typed.specs.Printing.{Result}
 use Rattle.ep_typed.specs.Calls.{Handler}
 use Rattle.ep_typed.specs.Meaning.{place, eval, arguments, weight_of}
 use Rattle.ep_typed.specs.Steps.{Computation, bind}
-use Rattle.ep_typed.specs.Trees.{Place, Expr, Actuals}
-use Rattle.ep_typed.specs.Valid.{Declarations, Kind, IsExpr, IsTypeOf, AreGiven}
+use Rattle.ep_typed.specs.Trees.{Callee, Place, Expr, Actuals}
+use Rattle.ep_typed.specs.Valid.{IsDeclaredUp, Declarations, Kind, IsExpr, IsTypeOf, AreGiven}
 use Rattle.ep_typed.specs.Hosts.{Host}
 use Rattle.ep_typed.specs.declared.interface.RoutineEntry.{RoutineEntry}
 use Rattle.ep_typed.specs.declared.value.TypeValue.{TypeValue}
@@ -68,11 +68,11 @@ module _ (declared : Declarations) (G : Image) (untouched : Slots) (Here : Facts
   -- the machine follows a call of a routine with its actual parameters, and what a statement does behind it
   abbrev pub CallsFollow : Type 0
   CallsFollow =
-      (line at to : ℕ) (of_unit : List ℕ) (number k : ℕ) (given : Actuals) (xs : List Instr) (r : RoutineEntry) (keeps : RoutineKeeps declared G ps call n of_unit number r)
-      → AreGiven declared (declared.types of_unit) r.formals given → AreActualsCode texts references line at given xs → slice_get references k ≡ Some (reference of_unit number)
-      → CodeStands G ps p references at (xs ++ instr op.CALL (pos k) 0 line ∷ instr op.JUMP (pos (at + length xs + 2)) 0 line ∷ []) → at + length xs + 2 < p.instructions.own
+      (line at to : ℕ) (callee : Callee) (k : ℕ) (given : Actuals) (xs : List Instr) (r : RoutineEntry) (keeps : RoutineKeeps declared G ps call n callee.unit callee.number r)
+      → AreGiven declared (declared.types callee.unit) r.formals given → AreActualsCode texts references line at given xs → IsDeclaredUp declared callee callee.levels → slice_get references k ≡ Some (reference callee.unit callee.number)
+      → CodeStands G ps p references at (xs ++ instr op.CALL (pos k) callee.levels line ∷ instr op.JUMP (pos (at + length xs + 2)) 0 line ∷ []) → at + length xs + 2 < p.instructions.own
       → (injection : Injection) (memory : Memory) (below : List Operand) (d : ℕ) → least_credit ≤ d → unit_in G memory.frames ≡ unit
       → (rest : List Result → Computation (Unit {0})) → ((rs : List Result) → Steady (rest rs))
       → ((rs : List Result) (longer : Injection) (after : Memory) (pushed : List Operand) → Grown untouched injection memory longer after → SameRoutine untouched memory.frames after.frames → ResultsOnTop keeps.results below rs longer after pushed
       → Fragment declared G Here n (point longer after (p.instructions.before + (at + length xs + 1)) pushed) (rest rs) to (λ b. Inside untouched longer after (Bare below b)) d (λ b. d))
-      → Fragment declared G Here n (point injection memory (p.instructions.before + at) below) (bind (arguments call n unit line given) (λ vs. bind (call unit line of_unit number vs) rest)) to (λ b. Inside untouched injection memory (Bare below b)) d (λ b. d)
+      → Fragment declared G Here n (point injection memory (p.instructions.before + at) below) (bind (arguments call n unit line given) (λ vs. bind (call unit line callee vs) rest)) to (λ b. Inside untouched injection memory (Bare below b)) d (λ b. d)

@@ -18,7 +18,7 @@ use Rattle.ep_typed.specs.Calls.{Handler}
 use Rattle.ep_typed.specs.Meaning.{exec}
 use Rattle.ep_typed.specs.Printing.{Result}
 use Rattle.ep_typed.specs.Steps.{give, spend}
-use Rattle.ep_typed.specs.Trees.{Actuals, Procedure}
+use Rattle.ep_typed.specs.Trees.{Callee, Actuals, Procedure}
 use Rattle.ep_typed.specs.Valid.{Declarations, Kind, IsStmt}
 use Rattle.ep_typed.specs.declared.interface.RoutineResult.{RoutineResult}
 use Rattle.ep_typed.specs.declared.unit.UnitType.{UnitType}
@@ -41,15 +41,16 @@ module _ {declared : Declarations} {G : Image} {untouched : Slots} {Here : Facts
     (room : p.instructions.before + p.instructions.own ≤ length G.instructions) where
   -- the actual parameters, the call, and the jump behind it
   pub procedure_moves : (calls : CallsFollow declared G untouched Here ps p texts references call n unit) (kept : CallsAreKept declared G ps call n)
-      → (line at : ℕ) (of_unit : List ℕ) (number k : ℕ) (given : Actuals) (xs : List Instr) → IsStmt declared (Procedure line of_unit number given)
-      → AreActualsCode texts references line at given xs → slice_get references k ≡ Some (reference of_unit number)
-      → CodeStands G ps p references at (xs ++ instr op.CALL (pos k) 0 line ∷ instr op.JUMP (pos (at + length xs + 2)) 0 line ∷ []) → at + length xs + 2 < p.instructions.own
-      → Moves declared G untouched Here ps p texts references call n unit at (at + length xs + 2) (exec call n unit (Procedure line of_unit number given))
-  procedure_moves calls kept line at of_unit number k given xs valid codes named stands inside injection memory below d enough home =
-      let keeps = kept of_unit number valid.0 valid.1 in
-      let none : keeps.results ≡ [] = no_kinds (declared.types of_unit) (valid.0).result keeps.results valid.2 keeps.given in
-      let behind : CodeStands G ps p references (at + length xs) (instr op.CALL (pos k) 0 line ∷ instr op.JUMP (pos (at + length xs + 2)) 0 line ∷ []) = code_back G ps p references at xs (instr op.CALL (pos k) 0 line ∷ instr op.JUMP (pos (at + length xs + 2)) 0 line ∷ []) stands in
-      calls line at (p.instructions.before + (at + length xs + 2)) of_unit number k given xs valid.0 keeps valid.3 codes named stands inside injection memory below d (omega (arith, enough)) home
+      → (line at : ℕ) (callee : Callee) (k : ℕ) (given : Actuals) (xs : List Instr) → IsStmt declared (Procedure line callee given)
+      → AreActualsCode texts references line at given xs → slice_get references k ≡ Some (reference callee.unit callee.number)
+      → CodeStands G ps p references at (xs ++ instr op.CALL (pos k) callee.levels line ∷ instr op.JUMP (pos (at + length xs + 2)) 0 line ∷ []) → at + length xs + 2 < p.instructions.own
+      → Moves declared G untouched Here ps p texts references call n unit at (at + length xs + 2) (exec call n unit (Procedure line callee given))
+  procedure_moves calls kept line at callee k given xs valid codes named stands inside injection memory below d enough home =
+      let called = valid.1 in
+      let keeps = kept callee.unit callee.number valid.0 called.there in
+      let none : keeps.results ≡ [] = no_kinds (declared.types callee.unit) (valid.0).result keeps.results valid.2 keeps.given in
+      let behind : CodeStands G ps p references (at + length xs) (instr op.CALL (pos k) callee.levels line ∷ instr op.JUMP (pos (at + length xs + 2)) 0 line ∷ []) = code_back G ps p references at xs (instr op.CALL (pos k) callee.levels line ∷ instr op.JUMP (pos (at + length xs + 2)) 0 line ∷ []) stands in
+      calls line at (p.instructions.before + (at + length xs + 2)) callee k given xs valid.0 keeps valid.3 codes called.declared_up named stands inside injection memory below d (omega (arith, enough)) home
       (λ rs. spend 1 (give tt)) (λ rs. steady_spend 1 (steady_give tt))
       (λ rs longer after pushed grown routine results.
       call_ends ps p references room n tt line (at + length xs + 1) (at + length xs + 2) behind.1 inside longer after pushed d (omega arith) (no_results below pushed keeps.results rs longer after none results))

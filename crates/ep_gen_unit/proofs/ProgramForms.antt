@@ -13,7 +13,6 @@ use Rattle.ep_typed.specs.Viewed.{denoter_of, stmt_of}
 use Rattle.ep_typed.specs.declared.value.TypeValue.TheVariants.{Ordinal}
 use Rattle.ep_typed.specs.declared.unit.Unit.{Unit as TypedUnit}
 use Rattle.ep_typed.specs.declared.unit.UnitRoutine.{UnitRoutine}
-use Rattle.ep_typed.specs.declared.unit.UnitRoutine.TheViews.{out-UnitRoutine}
 use Rattle.ep_typed.specs.declared.interface.Formal.{Formal}
 use Rattle.ep_typed.specs.declared.interface.RoutineResult.{RoutineResult}
 use Rattle.ep_typed.specs.declared.run_error.TheConstants as run_error
@@ -124,27 +123,25 @@ make_append types number (v ∷ vs) ws =
     ∙ sym (append_assoc (make_code types number v) (make_all_code types (suc number) vs) (make_all_code types (number + length (v ∷ vs)) ws))
 
 -- a procedure has no variable for a result
-pub makes_none : (a : Code) (types : List UnitType) (r : UnitRoutine) (fs : List Formal) (o : Option RoutineResult) (slot : ℕ) → fs ≡ (out-UnitRoutine r).formals → o ≡ (out-UnitRoutine r).result → o ≡ None → slot ≡ length fs
+pub makes_none : (a : Code) (types : List UnitType) (r : UnitRoutine) (fs : List Formal) (o : Option RoutineResult) (slot : ℕ) → fs ≡ r.formals → o ≡ r.result → o ≡ None → slot ≡ length fs
     → MakesResult a a types r slot
 makes_none a types r fs o slot formals_are result_is none many =
-    let parts = out-UnitRoutine r in
-    let is : result_variable parts.name parts.line parts.result ≡ [] = ap (result_variable parts.name parts.line) (sym result_is ∙ none) in
+    let is : result_variable r.name r.line r.result ≡ [] = ap (result_variable r.name r.line) (sym result_is ∙ none) in
     record {
-      follows = subst (λ l. Follows a a (make_all_code types (length parts.formals) l)) (sym is) (follows_none a);
+      follows = subst (λ l. Follows a a (make_all_code types (length r.formals) l)) (sym is) (follows_none a);
       count = omega (arith, many, ap length formals_are, ap length is);
     }
 
 -- the variable of a function's result
-pub makes_one : {b c : Code} (a : Code) (types : List UnitType) (r : UnitRoutine) (fs : List Formal) (o : Option RoutineResult) (x : RoutineResult) (slot first : ℕ) → fs ≡ (out-UnitRoutine r).formals → o ≡ (out-UnitRoutine r).result → o ≡ Some x → slot ≡ length fs
-    → Grows (record a { line = (out-UnitRoutine r).line }) b (elaborating_code (out-UnitRoutine r).line (type_of types (denoter_of x.denoter))) → Grows b c (instr op.MAKE (pos slot) 0 b.line ∷ []) → first ≡ slot + 1
+pub makes_one : {b c : Code} (a : Code) (types : List UnitType) (r : UnitRoutine) (fs : List Formal) (o : Option RoutineResult) (x : RoutineResult) (slot first : ℕ) → fs ≡ r.formals → o ≡ r.result → o ≡ Some x → slot ≡ length fs
+    → Grows (record a { line = r.line }) b (elaborating_code r.line (type_of types (denoter_of x.denoter))) → Grows b c (instr op.MAKE (pos slot) 0 b.line ∷ []) → first ≡ slot + 1
     → MakesResult a c types r first
 makes_one {c = c} a types r fs o x slot first formals_are result_is some many elaborates make behind =
-    let parts = out-UnitRoutine r in
-    let is : result_variable parts.name parts.line parts.result ≡ result_variable parts.name parts.line (Some x) = ap (result_variable parts.name parts.line) (sym result_is ∙ some) in
-    let made : Follows a c (elaborating_code parts.line (type_of types (denoter_of x.denoter)) ++ instr op.MAKE (pos slot) 0 parts.line ∷ []) = follows_line a parts.line (follows_grows (grows_at (λ l. instr op.MAKE (pos slot) 0 l ∷ []) elaborates make)) in
+    let is : result_variable r.name r.line r.result ≡ result_variable r.name r.line (Some x) = ap (result_variable r.name r.line) (sym result_is ∙ some) in
+    let made : Follows a c (elaborating_code r.line (type_of types (denoter_of x.denoter)) ++ instr op.MAKE (pos slot) 0 r.line ∷ []) = follows_line a r.line (follows_grows (grows_at (λ l. instr op.MAKE (pos slot) 0 l ∷ []) elaborates make)) in
     record {
-      follows = subst (λ l. Follows a c (make_all_code types (length parts.formals) l)) (sym is)
-          (subst (λ l. Follows a c l) (sym (append-nil _)) (subst (λ n. Follows a c (elaborating_code parts.line (type_of types (denoter_of x.denoter)) ++ instr op.MAKE (pos n) 0 parts.line ∷ [])) (many ∙ ap length formals_are) made));
+      follows = subst (λ l. Follows a c (make_all_code types (length r.formals) l)) (sym is)
+          (subst (λ l. Follows a c l) (sym (append-nil _)) (subst (λ n. Follows a c (elaborating_code r.line (type_of types (denoter_of x.denoter)) ++ instr op.MAKE (pos n) 0 r.line ∷ [])) (many ∙ ap length formals_are) made));
       count = omega (arith, many, behind, ap length formals_are, ap length is);
     }
 
@@ -167,16 +164,15 @@ block_made {b = b} {c = c} a types first middle behind vs ws ys zs block at is s
     }
 
 -- and all of a routine
-pub makes_own : {b c : Code} (a : Code) (types : List UnitType) (r : UnitRoutine) (vs : List UnitVariable) (first slots : ℕ) → vs ≡ (out-UnitRoutine r).variables → MakesResult a b types r first → MakesBlock b c types first vs (stmt_of (out-UnitRoutine r).block) slots
+pub makes_own : {b c : Code} (a : Code) (types : List UnitType) (r : UnitRoutine) (vs : List UnitVariable) (first slots : ℕ) → vs ≡ r.variables → MakesResult a b types r first → MakesBlock b c types first vs (stmt_of r.block) slots
     → MakesOwn a c types r slots
 makes_own {b = b} {c = c} a types r vs first slots variables_are result makes =
-    let parts = out-UnitRoutine r in
-    let results : List UnitVariable = result_variable parts.name parts.line parts.result in
-    let more : List UnitVariable = auxiliary_variables (first_for (stmt_of parts.block)) in
-    let others : Follows b c (make_all_code types (length parts.formals + length results) (parts.variables ++ more)) = subst (λ n. Follows b c (make_all_code types n (parts.variables ++ more))) result.count (subst (λ l. Follows b c (make_all_code types first (l ++ more))) variables_are makes.follows) in
+    let results : List UnitVariable = result_variable r.name r.line r.result in
+    let more : List UnitVariable = auxiliary_variables (first_for (stmt_of r.block)) in
+    let others : Follows b c (make_all_code types (length r.formals + length results) (r.variables ++ more)) = subst (λ n. Follows b c (make_all_code types n (r.variables ++ more))) result.count (subst (λ l. Follows b c (make_all_code types first (l ++ more))) variables_are makes.follows) in
     record {
-      follows = subst (λ l. Follows a c l) (sym (make_append types (length parts.formals) results (parts.variables ++ more))) (follows_then result.follows others);
-      count = omega (arith, makes.count, result.count, ap length variables_are, length-append vs more, length-append parts.variables more, length-append results (parts.variables ++ more));
+      follows = subst (λ l. Follows a c l) (sym (make_append types (length r.formals) results (r.variables ++ more))) (follows_then result.follows others);
+      count = omega (arith, makes.count, result.count, ap length variables_are, length-append vs more, length-append r.variables more, length-append results (r.variables ++ more));
     }
 
 -- what a function ends with
@@ -203,21 +199,20 @@ ends_function {e = e} d line number o result x is some last =
     subst (λ r. Follows d e (end_code line number (length d.instructions) r)) (sym some ∙ is) (follows_line d line (follows_grows last))
 
 -- the code of a routine, from that of its formal parameters, its variables, its block and its end
-pub appends_routine : {b c d e : Code} (a : Code) (types : List UnitType) (r : UnitRoutine) (fs : List Formal) (entry arguments slots : ℕ) (x : CodeRoutine) → fs ≡ (out-UnitRoutine r).formals → arguments ≡ length fs
-    → IsNextPlace a entry → Follows a b (take_all_code types (out-UnitRoutine r).line 0 fs) → MakesOwn b c types r slots → AppendsStmt c d (stmt_of (out-UnitRoutine r).block)
-    → Follows d e (end_code (out-UnitRoutine r).line arguments (length d.instructions) (out-UnitRoutine r).result) → x ≡ routine_at entry arguments slots → AppendsRoutine a e types r x
+pub appends_routine : {b c d e : Code} (a : Code) (types : List UnitType) (r : UnitRoutine) (fs : List Formal) (entry arguments slots : ℕ) (x : CodeRoutine) → fs ≡ r.formals → arguments ≡ length fs
+    → IsNextPlace a entry → Follows a b (take_all_code types r.line 0 fs) → MakesOwn b c types r slots → AppendsStmt c d (stmt_of r.block)
+    → Follows d e (end_code r.line arguments (length d.instructions) r.result) → x ≡ routine_at entry arguments slots → AppendsRoutine a e types r x
 appends_routine {b = b} {c = c} {d = d} {e = e} a types r fs entry arguments slots x formals_are many next takes makes s last is =
-    let parts = out-UnitRoutine r in
     let made = makes.follows in
-    let m : Follows a c (own_code types r) = follows_then (subst (λ l. Follows a b (take_all_code types parts.line 0 l)) formals_are takes) made in
+    let m : Follows a c (own_code types r) = follows_then (subst (λ l. Follows a b (take_all_code types r.line 0 l)) formals_are takes) made in
     let place : length d.instructions ≡ length a.instructions + length (own_code types r) + length s.code = omega (arith, grown_length m, grown_length s.follows) in
-    let number : arguments ≡ length parts.formals = many ∙ ap length formals_are in
+    let number : arguments ≡ length r.formals = many ∙ ap length formals_are in
     let ends : Follows d e (its_end (length a.instructions + length (own_code types r) + length s.code) r) =
-    subst (λ k. Follows d e (end_code parts.line k (length a.instructions + length (own_code types r) + length s.code) parts.result)) number (subst (λ k. Follows d e (end_code parts.line arguments k parts.result)) place last) in
+    subst (λ k. Follows d e (end_code r.line k (length a.instructions + length (own_code types r) + length s.code) r.result)) number (subst (λ k. Follows d e (end_code r.line arguments k r.result)) place last) in
     record {
-      plain = is ∙ (ap (λ k. routine_at k arguments slots) next.is_length ∙ (ap (λ k. routine_at (length a.instructions) k slots) number ∙ ap (λ k. routine_at (length a.instructions) (length parts.formals) k) makes.count));
+      plain = is ∙ (ap (λ k. routine_at k arguments slots) next.is_length ∙ (ap (λ k. routine_at (length a.instructions) k slots) number ∙ ap (λ k. routine_at (length a.instructions) (length r.formals) k) makes.count));
       code = s.code;
-      is_code = subst (λ at. IsStmtCode e.texts e.references at (stmt_of parts.block) s.code) (grown_length m) (stmt_later (length c.instructions) (stmt_of parts.block) s.code (later_follows ends) s.is_code);
+      is_code = subst (λ at. IsStmtCode e.texts e.references at (stmt_of r.block) s.code) (grown_length m) (stmt_later (length c.instructions) (stmt_of r.block) s.code (later_follows ends) s.is_code);
       follows = follows_then m (follows_then s.follows ends);
     }
 
@@ -238,7 +233,7 @@ routine_longer {a = a} {b = b} {is = is} types r x p h =
     record {
       plain = h.plain;
       code = h.code;
-      is_code = stmt_later (x.entry + length (own_code types r)) (stmt_of (out-UnitRoutine r).block) h.code (later_follows p) h.is_code;
+      is_code = stmt_later (x.entry + length (own_code types r)) (stmt_of r.block) h.code (later_follows p) h.is_code;
       stands = stands_longer is p.instructions h.stands;
     }
 
@@ -266,7 +261,7 @@ routines_then {b = b} {c = c} types rs entries r x p q =
         record {
           plain = q.plain ∙ ap (λ k. entry_of k r) (sym entry);
           code = q.code;
-          is_code = subst (λ k. IsStmtCode c.texts c.references (k + length (own_code types r)) (stmt_of (out-UnitRoutine r).block) q.code) (sym entry) q.is_code;
+          is_code = subst (λ k. IsStmtCode c.texts c.references (k + length (own_code types r)) (stmt_of r.block) q.code) (sym entry) q.is_code;
           stands = subst (λ k. StandsIn c.instructions k (own_code types r ++ (q.code ++ its_end (k + length (own_code types r) + length q.code) r))) (sym entry) (record {
             before = b.instructions;
             after = [];

@@ -11,7 +11,7 @@ use Rattle.ep_object.proofs.matching.Growing.{not_left-here, still_routine, unit
 use Rattle.ep_object.proofs.rows.OwnRows.{own_reads}
 use Rattle.ep_object.proofs.rows.PlaceRows.{defined_fails, defined_tells, load_reads}
 use Rattle.ep_object.proofs.rows.Rows.{RowPushes, outcome_at, fail_fails, jump_false_jumps}
-use Rattle.ep_object.specs.Activations.{KnowsOwn}
+use Rattle.ep_object.specs.Activations.{KnowsNames}
 use Rattle.ep_object.specs.Follows.{Facts, Follows, Fragment, Lands, Inside, OnTop, PlaceOnTop, IsNotLeft, point}
 use Rattle.ep_object.specs.Matching.{Memory, Injection, Matches, Slots, HasOwnType, IsPlaceOf, Describes, at as standing}
 use Rattle.ep_object.specs.Operands.{Operand, Word}
@@ -34,7 +34,7 @@ use Rattle.ep_typed.specs.Printing as result
 use Rattle.ep_typed.specs.Steps.{Computation, bind, fetch, found, give, using, word_at, own_variable, has_ended}
 use Rattle.ep_typed.specs.Steps as meaning
 use Rattle.ep_typed.specs.Valid as kind
-use Rattle.ep_typed.specs.Valid.{Declarations, IsTypeOf}
+use Rattle.ep_typed.specs.Valid.{variables_up, Declarations, IsTypeOf}
 use Rattle.ep_typed.specs.declared.run_error.TheConstants as run_error
 use Rattle.ep_typed.specs.declared.unit.UnitVariable.{UnitVariable}
 use Rattle.ep_typed.specs.declared.value.TypeValue.{TypeValue}
@@ -54,7 +54,7 @@ dup_place G place line below q has memory trace = outcome_at G (instr op.DUP (po
 same_number : (w z : ℤ) → result.Number w ≡ result.Number z → w ≡ z
 same_number w z e = cc
 
-module _ {declared : Declarations} {G : Image} {Here : Facts} (untouched : Slots) (knows : KnowsOwn declared Here) (ps : List Placement) (p : Placement) (references : List Reference) (n : ℕ) (unit : List ℕ) (room : p.instructions.before + p.instructions.own ≤ length G.instructions)
+module _ {declared : Declarations} {G : Image} {Here : Facts} (untouched : Slots) (knows : KnowsNames declared Here) (ps : List Placement) (p : Placement) (references : List Reference) (n : ℕ) (unit : List ℕ) (room : p.instructions.before + p.instructions.own ≤ length G.instructions)
     (number line at : ℕ) (h : Host) (low high : ℤ) (of_host : IsTypeOf h (type.Ordinal low high)) (stands : CodeStands G ps p references at (result_code line number at)) (inside : at + 6 < p.instructions.own) where
   -- from the instruction that tells whether the variable has a value, where it lives
   given_follows : (injection : Injection) (memory : Memory) (below : List Operand) (a : ℕ) (q : PlaceOf) → IsPlaceOf injection memory.segments a q → Describes memory.types q.type_number (type.Ordinal low high) → (d : ℕ) → 8 ≤ d → unit_in G memory.frames ≡ unit
@@ -103,15 +103,15 @@ module _ {declared : Declarations} {G : Image} {Here : Facts} (untouched : Slots
           }))))))
 
   -- the end of a function: the place of the variable, whether that has a value, and the value
-  ordinal_moves : (v : UnitVariable) → slice_get declared.routine_variables number ≡ Some v → HasOwnType declared v (type.Ordinal low high)
+  ordinal_moves : (v : UnitVariable) → slice_get (variables_up declared 0) number ≡ Some v → HasOwnType declared v (type.Ordinal low high)
       → (injection : Injection) (memory : Memory) (below : List Operand) (d : ℕ) → 16 ≤ d → unit_in G memory.frames ≡ unit
       → Fragment declared G Here n (point injection memory (p.instructions.before + at) below) (result_at unit line number) ((p.instructions.before + at) + 5) (λ rs. ResultsOnTop (kind.Ordinal h ∷ []) below rs) d (λ rs. 1)
   ordinal_moves v is_declared has_type injection memory below d enough home =
       fragment_bind {middle = (p.instructions.before + at) + 1} {P = λ a. Inside untouched injection memory (PlaceOnTop (type.Ordinal low high) below a)} {e = λ a. d - 1}
       (λ a. steady_using (meaning.Error run_error.DISPOSED unit line) a (steady_bind (steady_fetch (meaning.Error run_error.RESULT_UNDEFINED unit line) (word_at a)) (λ w. steady_give (result.Number w ∷ []))))
-      (fragment_fetched (own_variable number) (λ s matches here.
-      subst (λ u. Reads declared G Here (standing (p.instructions.before + at) below memory s.trace) 1 u line ((p.instructions.before + at) + 1) (λ a. Inside untouched injection memory (PlaceOnTop (type.Ordinal low high) below a)) s (own_variable number s)) home
-      (own_reads declared G (p.instructions.before + at) line below number v (type.Ordinal low high) stands.0 has_type injection memory s matches (knows injection s memory here number v is_declared) here)) (omega (arith, enough)))
+      (fragment_fetched (own_variable 0 number) (λ s matches here.
+      subst (λ u. Reads declared G Here (standing (p.instructions.before + at) below memory s.trace) 1 u line ((p.instructions.before + at) + 1) (λ a. Inside untouched injection memory (PlaceOnTop (type.Ordinal low high) below a)) s (own_variable 0 number s)) home
+      (own_reads declared G (p.instructions.before + at) line below number v (type.Ordinal low high) stands.0 has_type injection memory s matches ((knows injection s memory here).own number v is_declared) here)) (omega (arith, enough)))
       (λ a longer after pushed i.
       let top = i.operands_are in
       let at_home : unit_in G after.frames ≡ unit = unit_in-same G i.routine ∙ home in (
@@ -126,9 +126,9 @@ module _ {declared : Declarations} {G : Image} {Here : Facts} (untouched : Slots
       ))
 
 -- the end of a function, whose result is in a variable of a type of the host
-pub result_moves : {declared : Declarations} {G : Image} {Here : Facts} (untouched : Slots) (knows : KnowsOwn declared Here) (ps : List Placement) (p : Placement) (references : List Reference) (n : ℕ) (unit : List ℕ) (room : p.instructions.before + p.instructions.own ≤ length G.instructions)
+pub result_moves : {declared : Declarations} {G : Image} {Here : Facts} (untouched : Slots) (knows : KnowsNames declared Here) (ps : List Placement) (p : Placement) (references : List Reference) (n : ℕ) (unit : List ℕ) (room : p.instructions.before + p.instructions.own ≤ length G.instructions)
     (number line at : ℕ) (h : Host) (t : TypeValue) → IsTypeOf h t → CodeStands G ps p references at (result_code line number at) → at + 6 < p.instructions.own
-    → (v : UnitVariable) → slice_get declared.routine_variables number ≡ Some v → HasOwnType declared v t
+    → (v : UnitVariable) → slice_get (variables_up declared 0) number ≡ Some v → HasOwnType declared v t
     → (injection : Injection) (memory : Memory) (below : List Operand) (d : ℕ) → 16 ≤ d → unit_in G memory.frames ≡ unit
     → Fragment declared G Here n (point injection memory (p.instructions.before + at) below) (result_at unit line number) (p.instructions.before + at + 5) (λ rs. ResultsOnTop (kind.Ordinal h ∷ []) below rs) d (λ rs. 1)
 result_moves untouched knows ps p references n unit room number line at h type.Text of_host stands inside v is_declared has_type injection memory below d enough home = absurd of_host

@@ -16,11 +16,12 @@ use Rattle.ep_gen_unit.proofs.StmtMoves.{statement_moves}
 use Rattle.ep_gen_unit.proofs.Units.{of_object, room, routine_there, scene_of, moved_own}
 use Rattle.ep_object.proofs.following.Declaring.{fragment_outside, calls_kept-inside}
 use Rattle.ep_object.proofs.following.Fragments.{fragment_bind, fragment_cut, fragment_from, fragment_give, fragment_to}
-use Rattle.ep_object.proofs.following.Routines.{begun_memory, grown_begun, routine_keeps}
+use Rattle.ep_object.proofs.following.Routines.{begun_memory, grown_begun, parent_of_call, routine_keeps}
 use Rattle.ep_object.proofs.matching.Awaiting.{AreAwaited, AreLight, IsLight, Handed, arguments_in, awaited-grown, handed}
 use Rattle.ep_object.proofs.matching.Growing.{among_same, slice_get-prefix, still_routine, unit_in-same, unit_in-still}
+use Rattle.ep_object.proofs.matching.Names.{activation_knows}
 use Rattle.ep_object.proofs.matching.OwnVariables.{in_activation-lasts}
-use Rattle.ep_object.specs.Activations.{KnowsOwn, InActivation}
+use Rattle.ep_object.specs.Activations.{KnowsNames, IsCallable, InActivation}
 use Rattle.ep_object.specs.Follows.{Facts, Lasts, Since, Fragment, Inside, Bare, point}
 use Rattle.ep_object.specs.Matching.{Memory, Injection, Slots, kept_slots}
 use Rattle.ep_object.specs.Operands.{Operand}
@@ -36,6 +37,8 @@ use Rattle.ep_object.specs.declared.code.Image.{Image}
 use Rattle.ep_object.specs.declared.code.ImageRoutine.{ImageRoutine}
 use Rattle.ep_object.specs.declared.code.Instr.{Instr}
 use Rattle.ep_object.specs.declared.code.Object.{Object}
+use Rattle.ep_object.specs.declared.state.FrameNumber.{FrameNumber}
+use Rattle.ep_object.specs.declared.state.FrameNumber.TheVariants as frame
 use Rattle.ep_object.specs.declared.op.TheConstants as op
 use Rattle.ep_typed.proofs.Steady.{steady_bind, steady_routine_of, steady_runs_routine, steady_results_given, steady_make_all_own, steady_exec}
 use Rattle.ep_typed.specs.Auxiliaries.{auxiliary_variables, first_for}
@@ -45,8 +48,9 @@ use Rattle.ep_typed.specs.Printing.{Result}
 use Rattle.ep_typed.specs.Routines.{made_variables, result_name, result_variable}
 use Rattle.ep_typed.specs.Steps.{Computation, bind}
 use Rattle.ep_typed.specs.Steps as meaning
+use Rattle.ep_typed.specs.Trees.{Callee}
 use Rattle.ep_typed.specs.Valid as kind
-use Rattle.ep_typed.specs.Valid.{Declarations, Kind, in_routine, IsResult, IsDenoter, IsFormal, IsValid, IsRoutine, IsVariable, formal_variable, variables_of, heading_of, own}
+use Rattle.ep_typed.specs.Valid.{Declarations, Kind, in_block, levels_of, around_in, variables_in, variables_at, variables_up, IsResult, IsDenoter, IsFormal, IsValid, IsRoutine, IsVariable, formal_variable, variables_of, heading_of, own}
 use Rattle.ep_typed.specs.Steady.{Steady, IsSteadyHandler}
 use Rattle.ep_typed.specs.Viewed.{denoter_of, stmt_of}
 use Rattle.ep_typed.specs.declared.interface.Formal.{Formal}
@@ -57,7 +61,6 @@ use Rattle.ep_typed.specs.declared.interface.RoutineResult.{RoutineResult}
 use Rattle.ep_typed.specs.declared.unit.Unit.{Unit as TypedUnit}
 use Rattle.ep_typed.specs.declared.unit.UnitRoutine.{UnitRoutine}
 use Rattle.ep_typed.specs.declared.unit.UnitVariable.{UnitVariable}
-use Rattle.ep_typed.specs.declared.unit.UnitRoutine.TheViews.{out-UnitRoutine}
 
 -- a routine that a unit alone declares is one of its own
 record OwnRoutine (u : TypedUnit) (unit : List ℕ) (number : ℕ) (r : RoutineEntry) : Type 0 where
@@ -100,7 +103,7 @@ module _ (u : TypedUnit) (o : Object) (is : IsProgramCode u o) (valid : IsValid 
     in_object : slice_get o.routines number ≡ Some entry
     plain : entry ≡ entry_of entry.entry r
     code : List Instr
-    is_code : IsStmtCode o.texts o.references (entry.entry + length (own_code u.types r)) (stmt_of (out-UnitRoutine r).block) code
+    is_code : IsStmtCode o.texts o.references (entry.entry + length (own_code u.types r)) (stmt_of r.block) code
     makes_stand : CodeStands G ps p o.references entry.entry (own_code u.types r)
     code_stands : CodeStands G ps p o.references (entry.entry + length (own_code u.types r)) code
     end_stands : CodeStands G ps p o.references (entry.entry + length (own_code u.types r) + length code) (its_end (entry.entry + length (own_code u.types r) + length code) r)
@@ -169,15 +172,46 @@ module _ (u : TypedUnit) (o : Object) (is : IsProgramCode u o) (valid : IsValid 
   made_valid name line (Some y) valid vs each zero v e = subst (λ (w : UnitVariable). IsDenoter u.types (denoter_of w.denoter)) (same_Some (record { name = result_name name y.name; line = line; declaration = 0; denoter = y.denoter; tuple = []; parameter = false }) v e) valid
   made_valid name line (Some y) valid vs each (suc k) v e = each k v e
 
+  -- the variables of a routine have valid denoters
+  variables_typed : (number : ℕ) (r : UnitRoutine) → slice_get u.routines number ≡ Some r → (k : ℕ) (v : UnitVariable) → slice_get (variables_of r) k ≡ Some v → IsDenoter u.types (denoter_of v.denoter)
+  variables_typed number r there k v e = either (slice_get-either (map (formal_variable r.line) r.formals) (made_variables r) k v e)
+    where
+      its : IsRoutine u number r
+      its = valid.routines number r there
+
+      made_typed : (j : ℕ) (w : UnitVariable) → slice_get (made_variables r) j ≡ Some w → IsDenoter u.types (denoter_of w.denoter)
+      made_typed = made_valid r.name r.line r.result its.result (r.variables ++ auxiliary_variables (first_for (stmt_of r.block)))
+          (λ j w q. (variables_valid u.types r.variables (first_for (stmt_of r.block)) its.variables j w q).denoter)
+
+      either : (slice_get (map (formal_variable r.line) r.formals) k ≡ Some v) ⊎ ((j : ℕ) × (slice_get (made_variables r) j ≡ Some v)) → IsDenoter u.types (denoter_of v.denoter)
+      either (inl at) = of_formal (slice_get r.formals k) refl (sym (slice_get-map (formal_variable r.line) r.formals k) ∙ at)
+        where
+          of_formal : (y : Option Formal) → slice_get r.formals k ≡ y → option_map (formal_variable r.line) y ≡ Some v → IsDenoter u.types (denoter_of v.denoter)
+          of_formal None q is = cc
+          of_formal (Some f) q is =
+              let valid_formal : IsFormal u.types f = subst (λ w. IsFormal u.types w) (get_or_from_slice_get r.formals k f f q) (its.formals k f (slice_get_within r.formals k f q)) in
+              subst (λ (w : UnitVariable). IsDenoter u.types (denoter_of w.denoter)) (same_Some (formal_variable r.line f) v is) valid_formal.denoter
+      either (inr at) = made_typed at.0 v at.1
+
+  -- and so have those of the routines around one
+  around_typed : (ns : List ℕ) (up k : ℕ) (v : UnitVariable) → slice_get (variables_at (slice_get (levels_of u.routines ns) up)) k ≡ Some v → IsDenoter u.types (denoter_of v.denoter)
+  around_typed [] up k v e = cc
+  around_typed (n ∷ ns) (suc up) k v e = around_typed ns up k v e
+  around_typed (n ∷ ns) zero k v e = of_routine (slice_get u.routines n) refl e
+    where
+      of_routine : (y : Option UnitRoutine) → slice_get u.routines n ≡ y → slice_get (variables_in y) k ≡ Some v → IsDenoter u.types (denoter_of v.denoter)
+      of_routine None q is = cc
+      of_routine (Some r) q is = variables_typed n r q k v is
+
   module _ (m : ℕ) (kept : CallsAreKept (own u) G ps (routine_of (u ∷ []) m) m) (number : ℕ) (r : UnitRoutine) (there : slice_get u.routines number ≡ Some r) where
     x : Placed number r
     x = placed_at number r there
 
     abbrev formals : List Formal
-    formals = (out-UnitRoutine r).formals
+    formals = r.formals
 
-    its : IsRoutine (own u) u.types r
-    its = subst (λ y. IsRoutine (own u) u.types y) (get_or_from_slice_get u.routines number r r there) (valid.routines number r (slice_get_within u.routines number r there))
+    its : IsRoutine u number r
+    its = valid.routines number r there
 
     passings : (qs : List Passing) × ArePassed u.types formals qs × AreLight qs × (length qs ≡ length formals)
     passings = passings_of formals (λ k f e. subst (λ w. IsFormal u.types w) (get_or_from_slice_get formals k f f e) (its.formals k f (slice_get_within formals k f e)))
@@ -209,19 +243,19 @@ module _ (u : TypedUnit) (o : Object) (is : IsProgramCode u o) (valid : IsValid 
     takes = ap (λ (c : CodeRoutine). c.arguments) x.plain
 
     entry : image_routine.entry ≡ p.instructions.before + x.entry.entry
-    entry = moved_own p.instructions x.entry.entry (omega (arith, x.room_for, end_length (out-UnitRoutine r).line (length formals) (x.entry.entry + length (own_code u.types r) + length x.code) (out-UnitRoutine r).result))
+    entry = moved_own p.instructions x.entry.entry (omega (arith, x.room_for, end_length r.line (length formals) (x.entry.entry + length (own_code u.types r) + length x.code) r.result))
 
     abbrev variables : List UnitVariable
     variables = variables_of r
 
     many : length variables ≡ length formals + length (made_variables r)
-    many = omega (arith, length-append (map (formal_variable (out-UnitRoutine r).line) formals) (made_variables r), length-map formals (formal_variable (out-UnitRoutine r).line))
+    many = omega (arith, length-append (map (formal_variable r.line) formals) (made_variables r), length-map formals (formal_variable r.line))
 
     -- the declarations in its block
     abbrev within : Declarations
-    within = in_routine variables u.types (own u)
+    within = in_block u number r
 
-    enough_slots : length within.routine_variables ≤ image_routine.slots
+    enough_slots : length (variables_up within 0) ≤ image_routine.slots
     enough_slots = omega (arith, many, ap (λ (c : CodeRoutine). c.slots) x.plain)
 
     abbrev found_routine : Found
@@ -231,39 +265,25 @@ module _ (u : TypedUnit) (o : Object) (is : IsProgramCode u o) (valid : IsValid 
     body xs = runs_routine call m u.name found_routine xs
 
     -- a formal parameter is the variable of its number, and the others stand behind them
-    formal_is : (k : ℕ) (f : Formal) → slice_get formals k ≡ Some f → slice_get variables (0 + k) ≡ Some (formal_variable (out-UnitRoutine r).line f)
+    formal_is : (k : ℕ) (f : Formal) → slice_get formals k ≡ Some f → slice_get variables (0 + k) ≡ Some (formal_variable r.line f)
     formal_is k f e =
-        let mapped : slice_get (map (formal_variable (out-UnitRoutine r).line) formals) k ≡ Some (formal_variable (out-UnitRoutine r).line f) = slice_get-map (formal_variable (out-UnitRoutine r).line) formals k ∙ ap (option_map (formal_variable (out-UnitRoutine r).line)) e in
-        subst (λ i. slice_get variables i ≡ Some (formal_variable (out-UnitRoutine r).line f)) {x = k} {y = 0 + k} (omega arith)
-        (slice_get-prefix (map (formal_variable (out-UnitRoutine r).line) formals) variables k (formal_variable (out-UnitRoutine r).line f) (record { rest = made_variables r; is = refl }) mapped)
+        let mapped : slice_get (map (formal_variable r.line) formals) k ≡ Some (formal_variable r.line f) = slice_get-map (formal_variable r.line) formals k ∙ ap (option_map (formal_variable r.line)) e in
+        subst (λ i. slice_get variables i ≡ Some (formal_variable r.line f)) {x = k} {y = 0 + k} (omega arith)
+        (slice_get-prefix (map (formal_variable r.line) formals) variables k (formal_variable r.line f) (record { rest = made_variables r; is = refl }) mapped)
 
     variable_is : (k : ℕ) (v : UnitVariable) → slice_get (made_variables r) k ≡ Some v → slice_get variables (length formals + k) ≡ Some v
     variable_is k v e =
-        ap (λ i. slice_get variables (i + k)) (sym (length-map formals (formal_variable (out-UnitRoutine r).line)))
-        ∙ (slice_get-behind (map (formal_variable (out-UnitRoutine r).line) formals) (made_variables r) k ∙ e)
-
-    -- the variables that it makes
-    made_typed : (k : ℕ) (v : UnitVariable) → slice_get (made_variables r) k ≡ Some v → IsDenoter u.types (denoter_of v.denoter)
-    made_typed = made_valid (out-UnitRoutine r).name (out-UnitRoutine r).line (out-UnitRoutine r).result its.result ((out-UnitRoutine r).variables ++ auxiliary_variables (first_for (stmt_of (out-UnitRoutine r).block)))
-        (λ k v e. (variables_valid u.types (out-UnitRoutine r).variables (first_for (stmt_of (out-UnitRoutine r).block)) its.variables k v e).denoter)
+        ap (λ i. slice_get variables (i + k)) (sym (length-map formals (formal_variable r.line)))
+        ∙ (slice_get-behind (map (formal_variable r.line) formals) (made_variables r) k ∙ e)
 
     own_types_valid : HaveValidOwnTypes within
-    own_types_valid k v e = either (slice_get-either (map (formal_variable (out-UnitRoutine r).line) formals) (made_variables r) k v e)
-      where
-        either : (slice_get (map (formal_variable (out-UnitRoutine r).line) formals) k ≡ Some v) ⊎ ((j : ℕ) × (slice_get (made_variables r) j ≡ Some v)) → IsDenoter u.types (denoter_of v.denoter)
-        either (inl at) = of_formal (slice_get formals k) refl (sym (slice_get-map (formal_variable (out-UnitRoutine r).line) formals k) ∙ at)
-          where
-            of_formal : (y : Option Formal) → slice_get formals k ≡ y → option_map (formal_variable (out-UnitRoutine r).line) y ≡ Some v → IsDenoter u.types (denoter_of v.denoter)
-            of_formal None q is = cc
-            of_formal (Some f) q is =
-                let valid_formal : IsFormal u.types f = subst (λ w. IsFormal u.types w) (get_or_from_slice_get formals k f f q) (its.formals k f (slice_get_within formals k f q)) in
-                subst (λ (w : UnitVariable). IsDenoter u.types (denoter_of w.denoter)) (same_Some (formal_variable (out-UnitRoutine r).line f) v is) valid_formal.denoter
-        either (inr at) = made_typed at.0 v at.1
+    own_types_valid zero k v e = variables_typed number r there k v e
+    own_types_valid (suc up) k v e = around_typed r.around up k v e
 
     scene : Scene within G ps p o.texts
     scene =
         let outer = scene_of u o is G ps p stands valid.variables in
-        record { texts_stand = outer.texts_stand; variables_stand = outer.variables_stand; types_valid = outer.types_valid; own_types_valid = own_types_valid }
+        record { texts_stand = outer.texts_stand; variables_stand = outer.variables_stand; types_valid = outer.types_valid; own_types_valid = own_types_valid; own_types_are = own_types u }
 
     in_code : p.instructions.before + p.instructions.own ≤ length G.instructions
     in_code = room u o is G ps p stands
@@ -272,13 +292,13 @@ module _ (u : TypedUnit) (o : Object) (is : IsProgramCode u o) (valid : IsValid 
     untouched = kept_slots within G
 
     kept_inside : CallsAreKept within G ps call m
-    kept_inside = calls_kept-inside variables u.types (own u) kept
+    kept_inside = calls_kept-inside within.levels (own u) kept
 
     abbrev end : ℕ
     end = x.entry.entry + length (own_code u.types r) + length x.code
 
     abbrev line_of : ℕ
-    line_of = (out-UnitRoutine r).line
+    line_of = r.line
 
     abbrev takes_code : List Instr
     takes_code = take_all_code u.types line_of 0 formals
@@ -288,7 +308,7 @@ module _ (u : TypedUnit) (o : Object) (is : IsProgramCode u o) (valid : IsValid 
 
     -- the results that it gives
     abbrev results : List Kind
-    results = (kinds_of (out-UnitRoutine r).result its.result).0
+    results = (kinds_of r.result its.result).0
 
     -- where a routine with this result leaves its call, from where its block ends
     record Ends (y : Option RoutineResult) (ks : List Kind) : Type 1 where
@@ -298,10 +318,10 @@ module _ (u : TypedUnit) (o : Object) (is : IsProgramCode u o) (valid : IsValid 
       returns : op_of instruction.op ≡ Some table.Return
       first_field : instruction.a ≡ pos 0
       second_field : instruction.b ≡ 0
-      moves : {Here : Facts} → KnowsOwn within Here → (longer : Injection) (after : Memory) (below : List Operand) → unit_in G after.frames ≡ u.name
+      moves : {Here : Facts} → KnowsNames within Here → (longer : Injection) (after : Memory) (below : List Operand) → unit_in G after.frames ≡ u.name
           → Fragment within G Here m (point longer after (p.instructions.before + end) below) (results_given u.name line_of (length formals) y) place (λ rs. ResultsOnTop ks below rs) 63 (λ rs. 1)
 
-    ends_of : (y : Option RoutineResult) (valid_result : IsResult u.types y) → (out-UnitRoutine r).result ≡ y → CodeStands G ps p o.references end (end_code line_of (length formals) end y)
+    ends_of : (y : Option RoutineResult) (valid_result : IsResult u.types y) → r.result ≡ y → CodeStands G ps p o.references end (end_code line_of (length formals) end y)
         → end + length (end_code line_of (length formals) end y) ≤ p.instructions.own → Ends y (kinds_of y valid_result).0
     ends_of None valid_result is_none end_stands room_for =
         record {
@@ -314,8 +334,8 @@ module _ (u : TypedUnit) (o : Object) (is : IsProgramCode u o) (valid : IsValid 
           moves = λ knows longer after below home. fragment_give (omega arith) refl;
         }
     ends_of (Some y) valid_result is_some end_stands room_for =
-        let result : UnitVariable = record { name = result_name (out-UnitRoutine r).name y.name; line = line_of; declaration = 0; denoter = y.denoter; tuple = []; parameter = false } in
-        let first : slice_get (made_variables r) 0 ≡ Some result = ap (λ z. slice_get (result_variable (out-UnitRoutine r).name line_of z ++ ((out-UnitRoutine r).variables ++ auxiliary_variables (first_for (stmt_of (out-UnitRoutine r).block)))) 0) is_some in
+        let result : UnitVariable = record { name = result_name r.name y.name; line = line_of; declaration = 0; denoter = y.denoter; tuple = []; parameter = false } in
+        let first : slice_get (made_variables r) 0 ≡ Some result = ap (λ z. slice_get (result_variable r.name line_of z ++ (r.variables ++ auxiliary_variables (first_for (stmt_of r.block)))) 0) is_some in
         let numbered_so : slice_get variables (length formals) ≡ Some result = ap (slice_get variables) {x = length formals} {y = length formals + 0} (omega arith) ∙ variable_is 0 result first in
         record {
           place = p.instructions.before + end + 5;
@@ -329,16 +349,16 @@ module _ (u : TypedUnit) (o : Object) (is : IsProgramCode u o) (valid : IsValid 
               result numbered_so (types_are_instances u.types (denoter_of y.denoter) valid_result.type_value valid_result.has_type) longer after below 63 (omega arith) home;
         }
 
-    ends : Ends (out-UnitRoutine r).result results
-    ends = ends_of (out-UnitRoutine r).result its.result refl x.end_stands x.room_for
+    ends : Ends r.result results
+    ends = ends_of r.result its.result refl x.end_stands x.room_for
 
     -- a call that hands over such operands
-    module _ (place line : ℕ) (injection : Injection) (memory : Memory) (below operands : List Operand) (xs : List Argument) (hands : Handed injection memory passings.0 xs below operands) where
+    module _ (place : ℕ) (parent : FrameNumber) (injection : Injection) (memory : Memory) (below operands : List Operand) (xs : List Argument) (hands : Handed injection memory passings.0 xs below operands) where
       counted : length hands.top ≡ image_routine.arguments
       counted = hands.many ∙ (passings.3 ∙ sym takes)
 
       abbrev begun : Memory
-      begun = begun_memory (own u) G (moved p.routines number) image_routine exists numbered hands.top counted hands.light place memory
+      begun = begun_memory (own u) G (moved p.routines number) image_routine exists numbered hands.top counted hands.light parent place memory
 
       home : unit_in G begun.frames ≡ u.name
       home = rw (among, stands.routines number x.entry x.in_object, stands.unit) is.name
@@ -349,35 +369,35 @@ module _ (u : TypedUnit) (o : Object) (is : IsProgramCode u o) (valid : IsValid 
       lasts : Lasts untouched Here
       lasts = in_activation-lasts (λ k v e. refl)
 
-      knows : KnowsOwn within Here
-      knows longer s after h = h.own
+      knows : KnowsNames within Here
+      knows = activation_knows within untouched injection begun
 
       -- the arguments lie in the frame
       awaited : AreAwaited injection begun passings.0 xs 0 (arguments_in begun.frames.calls)
       awaited =
           let none : hands.top ++ [] ≡ hands.top = append-nil hands.top in
-          awaited-grown (grown_begun (own u) G (moved p.routines number) image_routine exists numbered hands.top counted hands.light {untouched = untouched} place injection memory) passings.0 xs 0 (map Some hands.top) (subst (λ l. AreAwaited injection memory passings.0 xs 0 (map Some l)) none (hands.awaited 0 [] refl))
+          awaited-grown (grown_begun (own u) G (moved p.routines number) image_routine exists numbered hands.top counted hands.light {untouched = untouched} parent place injection memory) passings.0 xs 0 (map Some hands.top) (subst (λ l. AreAwaited injection memory passings.0 xs 0 (map Some l)) none (hands.awaited 0 [] refl))
 
       -- the block, once the arguments are taken and the variables are made
       runs_block : (longer : Injection) (after : Memory) (pushed : List Operand) → unit_in G after.frames ≡ u.name → pushed ≡ below
-          → Fragment within G Here m (point longer after (p.instructions.before + (x.entry.entry + length (own_code u.types r))) pushed) (exec call m u.name (stmt_of (out-UnitRoutine r).block)) (p.instructions.before + end) (λ b. Inside untouched longer after (Bare below b)) 63 (λ b. 63)
+          → Fragment within G Here m (point longer after (p.instructions.before + (x.entry.entry + length (own_code u.types r))) pushed) (exec call m u.name (stmt_of r.block)) (p.instructions.before + end) (λ b. Inside untouched longer after (Bare below b)) 63 (λ b. 63)
       runs_block longer after pushed at_home is_below =
-          subst (λ o. Fragment within G Here m (point longer after (p.instructions.before + (x.entry.entry + length (own_code u.types r))) o) (exec call m u.name (stmt_of (out-UnitRoutine r).block)) (p.instructions.before + end) (λ b. Inside untouched longer after (Bare below b)) 63 (λ b. 63)) (sym is_below)
+          subst (λ o. Fragment within G Here m (point longer after (p.instructions.before + (x.entry.entry + length (own_code u.types r))) o) (exec call m u.name (stmt_of r.block)) (p.instructions.before + end) (λ b. Inside untouched longer after (Bare below b)) 63 (λ b. 63)) (sym is_below)
           (statement_moves lasts ps p o.texts o.references call steady_call m u.name in_code scene
           (λ x_kind e is_x line at code is_code x_stands inside v1 m1 operands d enough x_home. expression_follows {untouched = untouched} ps p o.texts o.references scene knows call steady_call m u.name in_code lasts among_same m kept_inside x_kind e is_x line at code is_code x_stands inside v1 m1 operands d (omega arith) x_home)
           (λ q t has_type line at code is_code x_stands v1 m1 operands d enough x_home. place_follows ps p o.texts o.references scene knows call steady_call m u.name m q t has_type line at code is_code x_stands v1 m1 operands d (omega arith) x_home)
-          (λ line at to of_unit number k given xs r keeps given_valid is_code named xs_stands xs_inside v1 m1 operands d enough x_home rest steady behind. call_then {untouched = untouched} ps p o.texts o.references scene knows call steady_call m u.name in_code lasts among_same m kept_inside {to = to} line at of_unit number k given xs r keeps given_valid is_code named xs_stands xs_inside v1 m1 operands d enough x_home rest steady behind)
-          kept_inside (stmt_of (out-UnitRoutine r).block) (x.entry.entry + length (own_code u.types r)) x.code its.block x.is_code x.code_stands (omega (arith, x.room_for, end_length line_of (length formals) end (out-UnitRoutine r).result)) longer after below 63 (omega arith) at_home)
+          (λ line at to callee k given xs r keeps given_valid is_code is_declared named xs_stands xs_inside v1 m1 operands d enough x_home rest steady behind. call_then {untouched = untouched} ps p o.texts o.references scene knows call steady_call m u.name in_code lasts among_same m kept_inside {to = to} line at callee k given xs r keeps given_valid is_code is_declared named xs_stands xs_inside v1 m1 operands d enough x_home rest steady behind)
+          kept_inside (stmt_of r.block) (x.entry.entry + length (own_code u.types r)) x.code its.block x.is_code x.code_stands (omega (arith, x.room_for, end_length line_of (length formals) end r.result)) longer after below 63 (omega arith) at_home)
 
       abbrev gives : Computation (List Result)
-      gives = results_given u.name line_of (length formals) (out-UnitRoutine r).result
+      gives = results_given u.name line_of (length formals) r.result
 
       steady_gives : Steady gives
-      steady_gives = steady_results_given u.name line_of (length formals) (out-UnitRoutine r).result
+      steady_gives = steady_results_given u.name line_of (length formals) r.result
 
       -- and then what it gives
       blocks : (longer : Injection) (after : Memory) (pushed : List Operand) → unit_in G after.frames ≡ u.name → pushed ≡ below
-          → Fragment within G Here m (point longer after (p.instructions.before + (x.entry.entry + length (own_code u.types r))) pushed) (bind (exec call m u.name (stmt_of (out-UnitRoutine r).block)) (λ b. gives)) ends.place (λ rs. ResultsOnTop results below rs) 63 (λ rs. 1)
+          → Fragment within G Here m (point longer after (p.instructions.before + (x.entry.entry + length (own_code u.types r))) pushed) (bind (exec call m u.name (stmt_of r.block)) (λ b. gives)) ends.place (λ rs. ResultsOnTop results below rs) 63 (λ rs. 1)
       blocks longer after pushed at_home is_below =
           fragment_bind {middle = p.instructions.before + end} {P = λ b. Inside untouched longer after (Bare below b)} {e = λ b. 63} (λ b. steady_gives)
           (runs_block longer after pushed at_home is_below)
@@ -385,12 +405,12 @@ module _ (u : TypedUnit) (o : Object) (is : IsProgramCode u o) (valid : IsValid 
 
       -- the making of the variables, and then the block
       makes : (longer : Injection) (after : Memory) (pushed : List Operand) → unit_in G after.frames ≡ u.name → pushed ≡ below
-          → Fragment within G Here m (point longer after (p.instructions.before + (x.entry.entry + length takes_code)) pushed) (bind (make_all_own call m u.name u.types (length formals) (made_variables r)) (λ a. bind (exec call m u.name (stmt_of (out-UnitRoutine r).block)) (λ b. gives))) ends.place (λ rs. ResultsOnTop results below rs) 63 (λ rs. 1)
+          → Fragment within G Here m (point longer after (p.instructions.before + (x.entry.entry + length takes_code)) pushed) (bind (make_all_own call m u.name u.types (length formals) (made_variables r)) (λ a. bind (exec call m u.name (stmt_of r.block)) (λ b. gives))) ends.place (λ rs. ResultsOnTop results below rs) 63 (λ rs. 1)
       makes longer after pushed at_home is_below =
           let parts = code_stands-parts G ps p o.references x.entry.entry takes_code makes_code x.makes_stand in
           let size : x.entry.entry + length takes_code + length makes_code ≡ x.entry.entry + length (own_code u.types r) = omega (arith, length-append takes_code makes_code) in
-          subst (λ st. Fragment within G Here m (point longer after (p.instructions.before + (x.entry.entry + length takes_code)) st) (bind (make_all_own call m u.name u.types (length formals) (made_variables r)) (λ a. bind (exec call m u.name (stmt_of (out-UnitRoutine r).block)) (λ b. gives))) ends.place (λ rs. ResultsOnTop results below rs) 63 (λ rs. 1)) (sym is_below)
-          (fragment_bind {middle = p.instructions.before + (x.entry.entry + length (own_code u.types r))} {e = λ a. 63} (λ a. steady_bind (steady_exec call steady_call m u.name (stmt_of (out-UnitRoutine r).block)) (λ b. steady_gives))
+          subst (λ st. Fragment within G Here m (point longer after (p.instructions.before + (x.entry.entry + length takes_code)) st) (bind (make_all_own call m u.name u.types (length formals) (made_variables r)) (λ a. bind (exec call m u.name (stmt_of r.block)) (λ b. gives))) ends.place (λ rs. ResultsOnTop results below rs) 63 (λ rs. 1)) (sym is_below)
+          (fragment_bind {middle = p.instructions.before + (x.entry.entry + length (own_code u.types r))} {e = λ a. 63} (λ a. steady_bind (steady_exec call steady_call m u.name (stmt_of r.block)) (λ b. steady_gives))
           (fragment_to (ap (λ k. p.instructions.before + k) size) (make_all_own_moves within G untouched injection begun lasts ps p o.references call steady_call m u.name scene.types_valid scene.own_types_valid m (length formals) (x.entry.entry + length takes_code) (made_variables r) variable_is parts.1 longer after below 63 (omega arith)))
           (λ a last final above still. (still.runs, blocks last final above (unit_in-still G still.runs ∙ at_home) still.operands_are)))
 
@@ -398,8 +418,8 @@ module _ (u : TypedUnit) (o : Object) (is : IsProgramCode u o) (valid : IsValid 
       follows : Fragment (own u) G Here m (point injection begun image_routine.entry below) (body xs) ends.place (λ rs. ResultsOnTop results below rs) 63 (λ rs. 1)
       follows =
           let parts = code_stands-parts G ps p o.references x.entry.entry takes_code makes_code x.makes_stand in
-          fragment_outside variables u.types (own u) (fragment_from entry
-          (fragment_bind {middle = p.instructions.before + (x.entry.entry + length takes_code)} {e = λ a. 63} (λ a. steady_bind (steady_make_all_own call steady_call m u.name u.types (length formals) (made_variables r)) (λ b. steady_bind (steady_exec call steady_call m u.name (stmt_of (out-UnitRoutine r).block)) (λ c. steady_gives)))
+          fragment_outside within.levels (own u) (fragment_from entry
+          (fragment_bind {middle = p.instructions.before + (x.entry.entry + length takes_code)} {e = λ a. 63} (λ a. steady_bind (steady_make_all_own call steady_call m u.name u.types (length formals) (made_variables r)) (λ b. steady_bind (steady_exec call steady_call m u.name (stmt_of r.block)) (λ c. steady_gives)))
           (takes_all_moves within G untouched injection begun lasts ps p o.references call steady_call m u.name scene.types_valid scene.own_types_valid m line_of 0 x.entry.entry formals passings.0 xs passings.1 formal_is parts.0 injection begun below 63 (omega arith) home awaited)
           (λ a longer after pushed still. (still.runs, makes longer after pushed (unit_in-still G still.runs ∙ home) still.operands_are))))
 
@@ -407,18 +427,31 @@ module _ (u : TypedUnit) (o : Object) (is : IsProgramCode u o) (valid : IsValid 
     found : routine_in us u.name number ≡ Some found_routine
     found = ap (λ b. if b then found_among u.types (slice_get u.routines number) else None) (name_same u.name u.name refl) ∙ ap (found_among u.types) there
 
-    go : (place line : ℕ) → CallsAt G place (moved p.routines number) line
-        → (injection : Injection) (began : meaning.State) (memory : Memory) (below operands : List Operand) (arguments : List Argument)
+    -- the routines around it are the levels in its block but the first
+    around_is : (own u).around u.name number ≡ levels_of u.routines r.around
+    around_is = ap (λ b. if b then around_in u.routines (slice_get u.routines number) else []) (name_same u.name u.name refl) ∙ ap (around_in u.routines) there
+
+    -- a call of it
+    abbrev callee : ℕ → Callee
+    callee levels = record { unit = u.name; number = number; levels = levels }
+
+    go : (place levels line : ℕ) → CallsAt G place (moved p.routines number) levels line
+        → (injection : Injection) (began : meaning.State) (memory : Memory)
+        → IsCallable ((own u).types u.name) levels ((own u).around u.name number) injection began.calls memory
+        → (below operands : List Operand) (arguments : List Argument)
         → AreArguments injection memory passings.0 arguments below operands
-        → Fragment (own u) G (Since (kept_slots (own u) G) injection began memory) (suc m) (point injection memory place operands) (routine_of us (suc m) (unit_in G memory.frames) line u.name number arguments) (place + 1) (λ rs. Inside (kept_slots (own u) G) injection memory (ResultsOnTop results below rs)) 0 (λ rs. 0)
-    go place line calls injection began memory below operands xs are =
+        → Fragment (own u) G (Since (kept_slots (own u) G) injection began memory) (suc m) (point injection memory place operands) (routine_of us (suc m) (unit_in G memory.frames) line (callee levels) arguments) (place + 1) (λ rs. Inside (kept_slots (own u) G) injection memory (ResultsOnTop results below rs)) 0 (λ rs. 0)
+    go place levels line calls injection began memory callable below operands xs are =
         let hands : Handed injection memory passings.0 xs below operands = handed injection memory passings.0 passings.2 xs below operands are in
-        let does : Option Found → Type 0 = λ y. Fragment (own u) G (Since (kept_slots (own u) G) injection began memory) (suc m) (point injection memory place (hands.top ++ below)) (routine_does call m (unit_in G memory.frames) line u.name y xs) (place + 1) (λ rs. Inside (kept_slots (own u) G) injection memory (ResultsOnTop results below rs)) 0 (λ rs. 0) in
+        let does : Option Found → Type 0 = λ y. Fragment (own u) G (Since (kept_slots (own u) G) injection began memory) (suc m) (point injection memory place (hands.top ++ below)) (routine_does call m (unit_in G memory.frames) line (callee levels) y xs) (place + 1) (λ rs. Inside (kept_slots (own u) G) injection memory (ResultsOnTop results below rs)) 0 (λ rs. 0) in
+        let counts = counted place (frame.Unit 0) injection memory below operands xs hands in
+        let here : IsCallable u.types levels ((own u).around u.name number) injection began.calls memory = subst (λ ts. IsCallable ts levels ((own u).around u.name number) injection began.calls memory) (own_types u) callable in
+        let parent = parent_of_call (own u) G (moved p.routines number) image_routine exists numbered hands.top counts hands.light u.types levels ((own u).around u.name number) injection began.calls memory here in
         let keeps : does (Some found_routine) =
-        routine_keeps (own u) G (moved p.routines number) image_routine exists numbered hands.top (counted place line injection memory below operands xs hands) hands.light ends.place ends.instruction ends.stands_there ends.returns ends.first_field ends.second_field within enough_slots m place line calls injection began memory below (out-UnitRoutine r).name (unit_in G memory.frames) results (body xs) (steady_runs_routine call steady_call m u.name found_routine xs) (kept_slots (own u) G)
-        (follows place line injection memory below operands xs hands) in
+        routine_keeps (own u) G (moved p.routines number) image_routine exists numbered hands.top counts hands.light ends.place ends.instruction ends.stands_there ends.returns ends.first_field ends.second_field within enough_slots ((own u).around u.name number) (λ k. ap (λ ls. slice_get ls k) (sym around_is)) m place levels line calls parent.0 injection began memory below parent.1 here r.name (unit_in G memory.frames) results (body xs) (steady_runs_routine call steady_call m u.name found_routine xs) (kept_slots (own u) G)
+        (follows place parent.0 injection memory below operands xs hands) in
         let meant : does (routine_in us u.name number) = subst does (sym found) keeps in
-        subst (λ st. Fragment (own u) G (Since (kept_slots (own u) G) injection began memory) (suc m) (point injection memory place st) (routine_of us (suc m) (unit_in G memory.frames) line u.name number xs) (place + 1) (λ rs. Inside (kept_slots (own u) G) injection memory (ResultsOnTop results below rs)) 0 (λ rs. 0)) (sym hands.is) meant
+        subst (λ st. Fragment (own u) G (Since (kept_slots (own u) G) injection began memory) (suc m) (point injection memory place st) (routine_of us (suc m) (unit_in G memory.frames) line (callee levels) xs) (place + 1) (λ rs. Inside (kept_slots (own u) G) injection memory (ResultsOnTop results below rs)) 0 (λ rs. 0)) (sym hands.is) meant
 
     -- with one step more than the routines keep theirs
     keeps_own : RoutineKeeps (own u) G ps (routine_of (u ∷ []) (suc m)) (suc m) u.name number (heading_of r)
@@ -428,25 +461,25 @@ module _ (u : TypedUnit) (o : Object) (is : IsProgramCode u o) (valid : IsValid 
           formals = passings.0;
           passed = subst (λ ts. ArePassed ts formals passings.0) (sym (own_types u)) passings.1;
           results = results;
-          given = subst (λ ts. AreResults ts (out-UnitRoutine r).result results) (sym (own_types u)) (kinds_of (out-UnitRoutine r).result its.result).1;
+          given = subst (λ ts. AreResults ts r.result results) (sym (own_types u)) (kinds_of r.result its.result).1;
           placed = call_placed number;
-          promise = record { by = λ place line calls injection began memory below operands arguments are. go place line calls injection began memory below operands arguments are };
+          promise = record { by = λ place levels line calls injection began memory callable below operands arguments are. go place levels line calls injection began memory callable below operands arguments are };
         }
 
   -- with no step there is nothing to keep
   keeps_none : (unit : List ℕ) (number : ℕ) (r : UnitRoutine) → slice_get u.routines number ≡ Some r → u.name ≡ unit → RoutineKeeps (own u) G ps (routine_of (u ∷ []) 0) 0 unit number (heading_of r)
   keeps_none unit number r there named =
-      let formals : List Formal = (out-UnitRoutine r).formals in
-      let its : IsRoutine (own u) u.types r = subst (λ y. IsRoutine (own u) u.types y) (get_or_from_slice_get u.routines number r r there) (valid.routines number r (slice_get_within u.routines number r there)) in
+      let formals : List Formal = r.formals in
+      let its : IsRoutine u number r = valid.routines number r there in
       let passings = passings_of formals (λ k f e. subst (λ w. IsFormal u.types w) (get_or_from_slice_get formals k f f e) (its.formals k f (slice_get_within formals k f e))) in
       record {
         routine = moved p.routines number;
         formals = passings.0;
         passed = subst (λ n. ArePassed ((own u).types n) formals passings.0) named (subst (λ ts. ArePassed ts formals passings.0) (sym (own_types u)) passings.1);
-        results = (kinds_of (out-UnitRoutine r).result its.result).0;
-        given = subst (λ n. AreResults ((own u).types n) (out-UnitRoutine r).result (kinds_of (out-UnitRoutine r).result its.result).0) named (subst (λ ts. AreResults ts (out-UnitRoutine r).result (kinds_of (out-UnitRoutine r).result its.result).0) (sym (own_types u)) (kinds_of (out-UnitRoutine r).result its.result).1);
+        results = (kinds_of r.result its.result).0;
+        given = subst (λ n. AreResults ((own u).types n) r.result (kinds_of r.result its.result).0) named (subst (λ ts. AreResults ts r.result (kinds_of r.result its.result).0) (sym (own_types u)) (kinds_of r.result its.result).1);
         placed = λ i. subst (λ n. placed_call ps (Some (record { unit = n; number = number })) i ≡ record i { a = pos (moved p.routines number) }) named (call_placed number i);
-        promise = record { by = λ place line calls injection began memory below operands arguments are. fragment_cut };
+        promise = record { by = λ place levels line calls injection began memory callable below operands arguments are. fragment_cut };
       }
 
   -- the routines keep their promises with any number of steps

@@ -3,7 +3,7 @@ use Rattle.std.proofs.Common.{◌≡◌, ℕ, pos, ◌+◌, ◌<◌, Bool, List,
 use Rattle.std.proofs.lemmas.List.{map_more}
 use Rattle.ep_object.specs.declared.code.Instr.{Instr}
 use Rattle.ep_object.specs.declared.code.Reference.{Reference}
-use Rattle.ep_typed.specs.Trees.{Place, Expr, Function, Actuals, Item, Stmt, Stmts, Empty, Compound, Assign, If, While, Repeat, Procedure, Halt, Write, stmts}
+use Rattle.ep_typed.specs.Trees.{Callee, Place, Expr, Function, Actuals, Item, Stmt, Stmts, Empty, Compound, Assign, If, While, Repeat, Procedure, Halt, Write, stmts}
 use Rattle.ep_gen_expr.specs.ExprCode.{IsExprCode, bare, instr}
 use Rattle.ep_gen_expr.specs.Growth.{Grows, AppendsPlace, AppendsExpr}
 use Rattle.ep_gen_expr.specs.Jumps.{IsNextPlace, LeavesHole, landed}
@@ -38,8 +38,8 @@ appends_assign {b = b} {c = c} {d = d} a line place x p q r =
     (follows_line a line (follows_grows (grows_at (λ l. q.code ++ bare l op.STORE ∷ []) p.grows after)))
 
 -- a call
-pub appends_procedure : {b : Code} (a : Code) (line : ℕ) (unit : List ℕ) (number : ℕ) (given : Actuals) → AppendsExpr (record a { line = line }) b (Function unit number given) → AppendsStmt a b (Procedure line unit number given)
-appends_procedure a line unit number given p = whole a (Procedure line unit number given) p.code p.is_code (follows_line a line (follows_grows p.grows))
+pub appends_procedure : {b : Code} (a : Code) (line : ℕ) (callee : Callee) (given : Actuals) → AppendsExpr (record a { line = line }) b (Function callee given) → AppendsStmt a b (Procedure line callee given)
+appends_procedure a line callee given p = whole a (Procedure line callee given) p.code p.is_code (follows_line a line (follows_grows p.grows))
 
 pub appends_halt : {b : Code} (a : Code) (line : ℕ) → Grows (record a { line = line }) b (bare line op.HALT ∷ []) → AppendsStmt a b (Halt line)
 appends_halt a line p = whole a (Halt line) (bare line op.HALT ∷ []) refl (follows_line a line (follows_grows p))

@@ -79,11 +79,11 @@ module _ {declared : Declarations} {G : Image} {untouched : Slots} {Here : Facts
         let body_moves = statements_move ss at h.0 valid.0 h.2 first.0 (omega (arith, ends, inside)) in
         subst (λ k. Moves declared G untouched Here ps p texts references call n unit at k (exec call n unit (Repeat line ss x))) ends
         (repeat_parts ps p texts references call steady_call n unit room expressions line at body_end test_end ss x h.1 valid.1 h.3 refl (omega (arith, ends, inside)) (omega arith) second.0 second.1 body_moves)
-    statement_moves (Procedure line of_unit number given) at is valid h stands inside =
-        let calls : List Instr = instr op.CALL (pos h.1) 0 line ∷ instr op.JUMP (pos (at + length h.0 + 2)) 0 line ∷ [] in
+    statement_moves (Procedure line callee given) at is valid h stands inside =
+        let calls : List Instr = instr op.CALL (pos h.1) callee.levels line ∷ instr op.JUMP (pos (at + length h.0 + 2)) 0 line ∷ [] in
         let ends : at + length h.0 + 2 ≡ at + length is = omega (arith, ap length h.4, length-append h.0 calls) in
-        subst (λ k. Moves declared G untouched Here ps p texts references call n unit at k (exec call n unit (Procedure line of_unit number given))) ends
-        (procedure_moves ps p texts references call n unit room calls_follow kept line at of_unit number h.1 given h.0 valid h.2 h.3 (subst (λ k. CodeStands G ps p references at k) h.4 stands) (omega (arith, ends, inside)))
+        subst (λ k. Moves declared G untouched Here ps p texts references call n unit at k (exec call n unit (Procedure line callee given))) ends
+        (procedure_moves ps p texts references call n unit room calls_follow kept line at callee h.1 given h.0 valid h.2 h.3 (subst (λ k. CodeStands G ps p references at k) h.4 stands) (omega (arith, ends, inside)))
     statement_moves (Case line x arms o) at is valid h stands inside =
         let start : ℕ = at + length h.0 + 2 in
         let leave : ℕ = at + length h.0 + 1 in

@@ -65,7 +65,7 @@ module _ (ts us : List (List ℕ)) (rs ss : List Reference) (a : IsPrefix ts us)
       (h.11.0, place_code_stays rs ss line c.variable h.11.0 b h.11.1, h.11.2),
       h.12,
     )
-    stmt_code_stays at (Procedure line unit number given) is h = expr_code_stays ts us rs ss line a b at (Function unit number given) is h
+    stmt_code_stays at (Procedure line callee given) is h = expr_code_stays ts us rs ss line a b at (Function callee given) is h
     stmt_code_stays at (Case line x arms o) is h =
         (h.0, h.1, h.2, expr_code_stays ts us rs ss line a b at x h.0 h.3, arms_code_stays line (at + length h.0 + 1) (at + length h.0 + 2) arms h.1 h.4, other_code_stays line (at + length h.0 + 2 + length h.1) o h.2 h.5, h.6)
     stmt_code_stays at (Halt line) is h = h
@@ -138,7 +138,7 @@ arms_short xs ss rest i j l is e c k m p q r = omega (arith, ap length e, length
 
 place_one : (p : Place) → place_nodes p ≡ 1
 place_one (Variable unit number) = refl
-place_one (Own number) = refl
+place_one (Own levels number) = refl
 place_one (Standard file) = refl
 
 module _ (ts : List (List ℕ)) (rs : List Reference) where
@@ -166,7 +166,7 @@ module _ (ts : List (List ℕ)) (rs : List Reference) where
 
   place_length : (line : ℕ) (p : Place) (is : List Instr) → IsPlaceCode rs line p is → length is ≡ 1
   place_length line (Variable unit number) is h = ap length h.2
-  place_length line (Own number) is h = ap length h
+  place_length line (Own levels number) is h = ap length h
   place_length line (Standard file) is h = ap length h
 
   read_short : (line at : ℕ) (p : Place) (is : List Instr) → IsExprCode ts rs line at (Read p) is → length is ≤ 2
@@ -252,7 +252,7 @@ module _ (ts : List (List ℕ)) (rs : List Reference) where
           undefine_short line c.variable h.5 h.11,
           place_one c.variable,
         )
-    stmt_code_room at (Procedure line unit number given) is h = expr_code_short ts rs line at (Function unit number given) is h
+    stmt_code_room at (Procedure line callee given) is h = expr_code_short ts rs line at (Function callee given) is h
     stmt_code_room at (Case line x arms o) is h =
         case_short h.0 h.1 h.2 _ _ is h.6 (expr_nodes x) (arms_nodes arms) (other_nodes o)
         (expr_code_short ts rs line at x h.0 h.3) (arms_code_short line (at + length h.0 + 1) (at + length h.0 + 2) arms h.1 h.4) (other_code_short line (at + length h.0 + 2 + length h.1) o h.2 h.5)

@@ -14,12 +14,13 @@ use Rattle.ep_gen_unit.proofs.Starts.{MakesFollow, body_follows}
 use Rattle.ep_object.proofs.following.Bind.{follows_less, follows_post, follows_from, follows_give}
 use Rattle.ep_object.proofs.following.Fragments.{fragment_to}
 use Rattle.ep_object.proofs.rows.MakeRow.{RunsInUnit}
+use Rattle.ep_object.proofs.matching.Names.{none_named}
 use Rattle.ep_object.proofs.matching.Growing.{among_same, inside_here, no_calls, since_here, since_lasts}
 use Rattle.ep_object.specs.Effects.{Returns, light}
 use Rattle.ep_object.specs.Table.{obey}
 use Rattle.ep_typed.specs.Routines.{unit_variables}
 use Rattle.ep_typed.specs.Events.{Trace}
-use Rattle.ep_object.specs.Activations.{KnowsOwn}
+use Rattle.ep_object.specs.Activations.{KnowsNames}
 use Rattle.ep_object.specs.Follows.{Facts, Lasts, Since, Bare}
 use Rattle.ep_object.specs.Matching.{Memory, Injection, is_undeclared, is_hidden_in, kept_slots, at as standing}
 use Rattle.ep_object.specs.Operands.{Operand}
@@ -41,7 +42,7 @@ use Rattle.ep_typed.specs.Calls.{Handler}
 use Rattle.ep_typed.specs.Meaning.{make_all, exec, start_of}
 use Rattle.ep_typed.specs.Steps.{Computation, bind, give}
 use Rattle.ep_typed.specs.Steps as meaning
-use Rattle.ep_typed.specs.Valid.{Declarations, IsVariable, IsStmt, IsValid, own}
+use Rattle.ep_typed.specs.Valid.{variables_up, Declarations, IsVariable, IsStmt, IsValid, own}
 use Rattle.ep_typed.specs.Viewed.{stmt_of}
 use Rattle.ep_typed.specs.declared.unit.UnitVariable.{UnitVariable}
 use Rattle.ep_typed.specs.declared.unit.Unit.{Unit as TypedUnit}
@@ -168,7 +169,7 @@ module _ (u : TypedUnit) (o : Object) (is : IsProgramCode u o) (G : Image) (ps :
             }));
       }
 
-  module _ (declared : Declarations) (types : declared.types u.name ≡ u.types) (are_declared : AreDeclared declared u.name 0 (unit_variables u)) (valid : IsStmt declared (stmt_of u.start)) (distinct : HasDistinctNames G) (scene : Scene declared G ps p o.texts) (call : Handler) (steady_call : IsSteadyHandler call) (n : ℕ) (kept : CallsAreKept declared G ps call n) (no_routine : declared.routine_variables ≡ []) where
+  module _ (declared : Declarations) (types : declared.types u.name ≡ u.types) (are_declared : AreDeclared declared u.name 0 (unit_variables u)) (valid : IsStmt declared (stmt_of u.start)) (distinct : HasDistinctNames G) (scene : Scene declared G ps p o.texts) (call : Handler) (steady_call : IsSteadyHandler call) (n : ℕ) (kept : CallsAreKept declared G ps call n) (no_routine : declared.levels ≡ []) where
     -- the slots of the variables are not hidden
     free : VariablesAreFree declared G (kept_slots declared G) (placed_object_unit p o)
     free unit there k v is_declared hidden = not_hidden (subst IsTrue (ap (λ x. is_hidden_in declared x k) there ∙ ap is_undeclared is_declared) hidden)
@@ -194,11 +195,11 @@ module _ (u : TypedUnit) (o : Object) (is : IsProgramCode u o) (G : Image) (ps :
           called = refl;
           follows = λ m le injection memory below s k enters.
               let whole = of_object in
-              let knows : KnowsOwn declared (Since (kept_slots declared G) injection s memory) = λ longer t after since slot v is. absurd (none_declared declared.routine_variables no_routine slot v is) in
+              let knows : KnowsNames declared (Since (kept_slots declared G) injection s memory) = λ longer t after since. none_named declared no_routine longer t after in
               let body = body_follows {Here = Since (kept_slots declared G) injection s memory} since_lasts ps p call steady_call n u o is stands.code room whole.instructions scene
               (λ x_kind x is_x line at code is_code x_stands inside v1 m1 operands d enough x_home. expression_follows ps p o.texts o.references scene knows call steady_call n u.name room since_lasts among_same n kept x_kind x is_x line at code is_code x_stands inside v1 m1 operands d (omega arith) x_home)
               (λ q t has_type line at code is_code x_stands v1 m1 operands d enough x_home. place_follows ps p o.texts o.references scene knows call steady_call n u.name n q t has_type line at code is_code x_stands v1 m1 operands d (omega arith) x_home)
-              (λ line at to of_unit number k given xs r keeps given_valid is_code named xs_stands xs_inside v1 m1 operands d enough x_home rest steady behind. call_then ps p o.texts o.references scene knows call steady_call n u.name room since_lasts among_same n kept {to = to} line at of_unit number k given xs r keeps given_valid is_code named xs_stands xs_inside v1 m1 operands d enough x_home rest steady behind)
+              (λ line at to callee k given xs r keeps given_valid is_code is_declared named xs_stands xs_inside v1 m1 operands d enough x_home rest steady behind. call_then ps p o.texts o.references scene knows call steady_call n u.name room since_lasts among_same n kept {to = to} line at callee k given xs r keeps given_valid is_code is_declared named xs_stands xs_inside v1 m1 operands d enough x_home rest steady behind)
               kept valid (makes since_lasts) injection memory below routine_credit (omega arith) (home o.start (plain_at 0) start_is memory.frames enters.without_calls enters.runs) (record { calls = enters.without_calls; unit = enters.in_unit }) in
               follows_from (at_entry o.start (plain_at 0) start_is (omega (arith, instructions_own)) enters)
               (follows_less {n = n} (omega arith) (follows_post (λ a t l lands. record { place = p.instructions.before + ends_block; instruction = return_code; stands = returns_stand.0; returns = (let routine = lands.post.routine in subst (λ (x : State). obey G return_code x ≡ light Returns) (sym lands.is) (returns_from (p.instructions.before + ends_block) lands.operands lands.memory t.trace (no_calls memory.frames.calls lands.memory.frames.calls routine.calls enters.without_calls))); lands = lands }) (body.by s enters.matches (since_here injection s memory))));
@@ -229,7 +230,8 @@ module _ (u : TypedUnit) (o : Object) (is : IsProgramCode u o) (G : Image) (ps :
         texts_stand = λ k bytes h. let within = slice_get_within o.texts k bytes h in record { own = lt-ltb k p.texts.own (omega (arith, whole.texts, within)); there = stands.texts k bytes h };
         variables_stand = variable_stands;
         types_valid = own_valid u variables;
-        own_types_valid = λ k v is. absurd (none_declared (own u).routine_variables refl k v is);
+        own_types_valid = λ up k v is. absurd (none_declared (variables_up (own u) up) refl k v is);
+        own_types_are = own_types u;
       }
 
   pub unit_simulates : IsValid u → HasDistinctNames G → (call : Handler) → IsSteadyHandler call → (n : ℕ) → CallsAreKept (own u) G ps call n

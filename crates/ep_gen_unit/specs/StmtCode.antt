@@ -129,7 +129,7 @@ module _ (texts : List (List ℕ)) (references : List Reference) where
         × IsAssignCode line (at + length bounds + 1 + length first + length body + length test + 1) c.variable (next_value c) step × IsUndefineCode line c.variable ends
         × (is ≡ for_code line at bounds first body test step ends)
     -- that of a function designator: the jump behind the call has the tick for the step that the statement spends when the call is done
-    IsStmtCode at (Procedure line unit number given) is = IsExprCode texts references line at (Function unit number given) is
+    IsStmtCode at (Procedure line callee given) is = IsExprCode texts references line at (Function callee given) is
     IsStmtCode at (Case line x arms o) is =
         (xs ys zs : List Instr) × IsExprCode texts references line at x xs × AreArmsCode line (at + length xs + 1) (at + length xs + 2) arms ys × IsOtherCode line (at + length xs + 2 + length ys) o zs
         × (is ≡ xs ++ instr op.JUMP (pos (at + length xs + 2)) 0 line ∷ instr op.JUMP (pos (at + length xs + 2 + length ys + length zs)) 0 line ∷ (ys ++ zs))

@@ -16,7 +16,6 @@ use Rattle.ep_typed.specs.Routines.{made_variables, result_variable, unit_variab
 use Rattle.ep_typed.specs.Viewed.{stmt_of}
 use Rattle.ep_typed.specs.declared.unit.Unit.{Unit as TypedUnit}
 use Rattle.ep_typed.specs.declared.unit.UnitRoutine.{UnitRoutine}
-use Rattle.ep_typed.specs.declared.unit.UnitRoutine.TheViews.{out-UnitRoutine}
 use Rattle.ep_typed.specs.declared.unit.UnitType.{UnitType}
 use Rattle.ep_typed.specs.declared.unit.UnitVariable.{UnitVariable}
 use Rattle.ep_object.specs.declared.code.Reference.{Reference}
@@ -121,7 +120,7 @@ pub record AppendsStart (old new : Code) (u : TypedUnit) (stop_entry : ℕ) : Ty
 pub record AppendsRoutine (old new : Code) (types : List UnitType) (r : UnitRoutine) (x : CodeRoutine) : Type 0 where
   pub plain : x ≡ entry_of (length old.instructions) r
   pub code : List Instr
-  pub is_code : IsStmtCode new.texts new.references (length old.instructions + length (own_code types r)) (stmt_of (out-UnitRoutine r).block) code
+  pub is_code : IsStmtCode new.texts new.references (length old.instructions + length (own_code types r)) (stmt_of r.block) code
   pub follows : Follows old new (own_code types r ++ (code ++ its_end (length old.instructions + length (own_code types r) + length code) r))
 
 -- the code of routines is appended, and these are their entries
@@ -159,8 +158,8 @@ assembled name code routines start slots = record {
 -- The code that makes the variables of a routine's own is appended, of a unit with these types, and the routine has so many
 -- slots.
 pub record MakesOwn (old new : Code) (types : List UnitType) (r : UnitRoutine) (slots : ℕ) : Type 0 where
-  pub follows : Follows old new (let parts = out-UnitRoutine r in make_all_code types (length parts.formals) (made_variables r))
-  pub count : slots ≡ (let parts = out-UnitRoutine r in length parts.formals + length (made_variables r))
+  pub follows : Follows old new (make_all_code types (length r.formals) (made_variables r))
+  pub count : slots ≡ (length r.formals + length (made_variables r))
 
 -- The code that makes these variables of a unit with these types, and the auxiliary ones of its block, is appended, from
 -- this number on, and the first number behind them is that.
@@ -171,9 +170,9 @@ pub record MakesBlock (old new : Code) (types : List UnitType) (first : ℕ) (vs
 -- The code that makes the variable of a routine's result is appended, where it has one, and the first variable behind it
 -- has this number.
 pub record MakesResult (old new : Code) (types : List UnitType) (r : UnitRoutine) (first : ℕ) : Type 0 where
-  pub follows : Follows old new (let parts = out-UnitRoutine r in make_all_code types (length parts.formals) (result_variable parts.name parts.line parts.result))
-  pub count : first ≡ (let parts = out-UnitRoutine r in length parts.formals + length (result_variable parts.name parts.line parts.result))
+  pub follows : Follows old new (make_all_code types (length r.formals) (result_variable r.name r.line r.result))
+  pub count : first ≡ (length r.formals + length (result_variable r.name r.line r.result))
 
 -- the code with which a routine ends is appended, where a function has its result in the variable of this number
 abbrev pub AppendsEnd : Code → Code → UnitRoutine → ℕ → Type 0
-AppendsEnd old new r number = let parts = out-UnitRoutine r in Follows old new (end_code parts.line number (length old.instructions) parts.result)
+AppendsEnd old new r number = Follows old new (end_code r.line number (length old.instructions) r.result)

@@ -10,7 +10,6 @@ use Rattle.ep_typed.specs.Routines.{made_variables, unit_variables}
 use Rattle.ep_typed.specs.Viewed.{stmt_of}
 use Rattle.ep_typed.specs.declared.unit.Unit.{Unit as TypedUnit}
 use Rattle.ep_typed.specs.declared.unit.UnitRoutine.{UnitRoutine}
-use Rattle.ep_typed.specs.declared.unit.UnitRoutine.TheViews.{out-UnitRoutine}
 use Rattle.ep_typed.specs.declared.unit.UnitType.{UnitType}
 
 -- a routine with this entry, and with so many arguments and slots of its own
@@ -32,16 +31,15 @@ pub record StandsIn (instructions : List Instr) (place : ℕ) (code : List Instr
 -- variables of its own are made, of which the one that has its result is the first
 abbrev pub own_code : List UnitType → UnitRoutine → List Instr
 own_code types r =
-    let parts = out-UnitRoutine r in
-    take_all_code types parts.line 0 parts.formals ++ make_all_code types (length parts.formals) (made_variables r)
+    take_all_code types r.line 0 r.formals ++ make_all_code types (length r.formals) (made_variables r)
 
 -- the entry of a routine, with an argument for each formal parameter and a slot for each variable
 abbrev pub entry_of : ℕ → UnitRoutine → CodeRoutine
-entry_of entry r = let parts = out-UnitRoutine r in routine_at entry (length parts.formals) (length parts.formals + length (made_variables r))
+entry_of entry r = routine_at entry (length r.formals) (length r.formals + length (made_variables r))
 
 -- the code with which a routine ends, at this place
 abbrev pub its_end : ℕ → UnitRoutine → List Instr
-its_end at r = let parts = out-UnitRoutine r in end_code parts.line (length parts.formals) at parts.result
+its_end at r = end_code r.line (length r.formals) at r.result
 
 -- At the entry of a routine of a unit with these types stands the code with which it begins, and behind that the one of its
 -- block, and that with which it ends.
@@ -49,7 +47,7 @@ pub record IsRoutineCode (texts : List (List ℕ)) (references : List Reference)
     (types : List UnitType) (r : UnitRoutine) (x : CodeRoutine) : Type 0 where
   pub plain : x ≡ entry_of x.entry r
   pub code : List Instr
-  pub is_code : IsStmtCode texts references (x.entry + length (own_code types r)) (stmt_of (out-UnitRoutine r).block) code
+  pub is_code : IsStmtCode texts references (x.entry + length (own_code types r)) (stmt_of r.block) code
   pub stands : StandsIn instructions x.entry (own_code types r ++ (code ++ its_end (x.entry + length (own_code types r) + length code) r))
 
 -- the routines of a unit have these entries, one for each and in order

@@ -4,20 +4,20 @@
 
 ghost use Rattle.std.specs.Prelude.{OnOk, map, IfOk, ◌<◌, length, [], ◌∷◌};
 ghost use Rattle.ep_typed.specs.Trees.{Compound, Assign, If, While, Repeat, For, Procedure, Halt, Write, stmts};
-ghost use Rattle.ep_typed.specs.Viewed.{expr_of, actual_of, control_of, item_of, place_of, stmt_of, arm_of};
+ghost use Rattle.ep_typed.specs.Viewed.{expr_of, actual_of, callee_of, control_of, item_of, place_of, stmt_of, arm_of};
 ghost use Rattle.ep_gen_unit.specs.StmtGrowth.{AppendsStmt, AppendsStmts, AppendsArms, ClosesCase, OpensCase};
 ghost use Rattle.ep_typed.specs.Trees as tree;
 
 use crate::items::items_code;
 use crate::loops::{bounds_code, first_code, next_code, test_code, undefine_code};
 use crate::ranges::tests_code;
-use ep_base::{Line, Name, NoMemory};
+use ep_base::{Line, NoMemory};
 use ep_gen_expr::{
     Code, call_code, emit, expression_code, land, leave_hole, next_place, place_code,
 };
 use ep_object::op;
 use ep_typed::{
-    Actual, CaseArm, ForControl, TypedExpr, TypedPlace, TypedStmt, WriteItem, run_error,
+    Actual, Callee, CaseArm, ForControl, TypedExpr, TypedPlace, TypedStmt, WriteItem, run_error,
 };
 use std::alloc::Global;
 
@@ -60,8 +60,8 @@ pub fn statement_code(alloc: Global, s: &TypedStmt, code: &mut Code) -> Result<(
                 code,
             )
         }
-        TypedStmt::Procedure(line, unit, number, given) => {
-            procedure_code(alloc, *line, unit, *number, given.items(), code)
+        TypedStmt::Procedure(line, callee, given) => {
+            procedure_code(alloc, *line, callee, given.items(), code)
         }
         TypedStmt::Case(line, selector, arms, other) => {
             let leave = open_case(alloc, *line, arms.items(), selector.get(), code)?;
@@ -206,16 +206,15 @@ fn for_code(
 fn procedure_code(
     alloc: Global,
     line: Line,
-    unit: &Name,
-    number: u32,
+    callee: &Callee,
     given: &[Actual],
     code: &mut Code,
 ) -> Result<(), NoMemory>
     ensures { OnOk result (AppendsStmt code.old code.new
-        (Procedure line unit.now number (tree.actuals (map actual_of given.now)))) }
+        (Procedure line (callee_of callee.now) (tree.actuals (map actual_of given.now)))) }
 {
     code.line = line;
-    call_code(alloc, unit, number, given, code)
+    call_code(alloc, callee, given, code)
 }
 
 /// Appends the beginning of the code of a `case`: the selector, the jump over the one jump out of the `case`, a filler for

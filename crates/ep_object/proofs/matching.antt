@@ -6,6 +6,8 @@ pub mod Elements
 pub mod Endings
 pub mod Growing
 pub mod HiddenWords
+pub mod Levels
+pub mod Names
 pub mod NewVariables
 pub mod OwnVariables
 pub mod Standing

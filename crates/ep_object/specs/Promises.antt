@@ -10,6 +10,7 @@ use Rattle.ep_typed.specs.declared.interface.FormalMode.TheVariants as mode
 use Rattle.ep_typed.specs.declared.unit.UnitType.{UnitType}
 use Rattle.ep_typed.specs.declared.value.TypeValue.{TypeValue}
 use Rattle.ep_object.specs.Follows.{end_of, Operands, point, state_at, operand_of, Fragment, Since, Lands, Inside, GivesUp}
+use Rattle.ep_object.specs.Activations.{IsCallable}
 use Rattle.ep_object.specs.Matching.{Memory, Injection, Matches, IsPlaceOf, Describes, kept_slots}
 use Rattle.ep_object.specs.Operands.{Operand, Place}
 use Rattle.ep_object.specs.Runs.{run, unit_in}
@@ -27,7 +28,7 @@ use Rattle.ep_typed.specs.Printing.{Result, Number, Bytes}
 use Rattle.ep_typed.specs.Steps.{Outcome, Gives, Ends, Cut, Computation, state_of}
 use Rattle.ep_typed.specs.Steps as meaning
 use Rattle.ep_typed.specs.Valid as kind
-use Rattle.ep_typed.specs.Valid.{Declarations, Kind}
+use Rattle.ep_typed.specs.Valid.{Declarations, Kind, Level}
 use Rattle.ep_typed.specs.declared.interface.RoutineEntry.{RoutineEntry}
 use Rattle.ep_typed.specs.declared.interface.RoutineResult.{RoutineResult}
 
@@ -81,31 +82,35 @@ ResultsOnTop (k ∷ ks) below [] injection memory operands = ⊥
 ResultsOnTop (k ∷ ks) below (r ∷ rs) injection memory operands =
     IsOfKind k r × ResultsOnTop ks (operand_of r ∷ below) rs injection memory operands
 
--- what a call of one routine does, by the unit and the line of what makes the call and by the arguments
+-- what a call of one routine does, by the unit and the line of what makes the call, by how many levels up it is declared,
+-- and by the arguments
 abbrev pub Called : Type 0
-Called = List ℕ → ℕ → List Argument → Computation (List Result)
+Called = List ℕ → ℕ → ℕ → List Argument → Computation (List Result)
 
--- at this place of the code stands a `Call` of the routine of this number, with its unit's frame as the parent
-pub record CallsAt (G : Image) (place routine line : ℕ) : Type 0 where
+-- At this place of the code stands a `Call` of the routine of this number. Its parent is the frame of its unit for 0, and
+-- else the one so many levels less one up.
+pub record CallsAt (G : Image) (place routine levels line : ℕ) : Type 0 where
   pub instruction : Instr
   pub stands : slice_get G.instructions place ≡ Some instruction
   pub is_call : op_of instruction.op ≡ Some table.Call
   pub names : instruction.a ≡ pos routine
-  pub parent : instruction.b ≡ 0
+  pub parent : instruction.b ≡ levels
   pub at_line : instruction.line ≡ line
 
--- The routine of this number keeps its promise for what calls of it do, with up to n steps. Wherever the machine matches
--- and stands at a `Call` of it with such arguments on the operands below, it follows the call to the next instruction,
+-- The routine of this number, of a unit with these types and with these routines around it, keeps its promise for what calls
+-- of it do, with up to n steps. Wherever the machine matches and stands at a `Call` of it with such arguments on the
+-- operands below, in an activation around which those are as the call says, it follows the call to the next instruction,
 -- where the results are on the operands below. The allocations that the routine made have ended then on both sides, if
 -- they do at all, and what the caller knows of its own activation holds as before. No credit is there before or after.
-pub record Promises (declared : Declarations) (G : Image) (routine n : ℕ) (formals : List Passing)
-    (results : List Kind) (called : Called) : Type 0 where
-  pub by : (place line : ℕ) → CallsAt G place routine line
+pub record Promises (declared : Declarations) (G : Image) (routine n : ℕ) (types : List UnitType) (around : List Level)
+    (formals : List Passing) (results : List Kind) (called : Called) : Type 0 where
+  pub by : (place levels line : ℕ) → CallsAt G place routine levels line
       → (injection : Injection) (begun : meaning.State) (memory : Memory)
+      → IsCallable types levels around injection begun.calls memory
       → (below operands : List Operand) (arguments : List Argument)
       → AreArguments injection memory formals arguments below operands
       → Fragment declared G (Since (kept_slots declared G) injection begun memory) n
-      (point injection memory place operands) (called (unit_in G memory.frames) line arguments) (place + 1)
+      (point injection memory place operands) (called (unit_in G memory.frames) line levels arguments) (place + 1)
       (λ rs. Inside (kept_slots declared G) injection memory (ResultsOnTop results below rs)) 0 (λ rs. 0)
 
 -- The kinds of what a routine of a unit with these types gives: a procedure gives nothing, and a function one value of
@@ -127,7 +132,7 @@ pub record RoutineKeeps (declared : Declarations) (G : Image) (ps : List Placeme
   pub results : List Kind
   pub given : AreResults (declared.types unit) r.result results
   pub placed : (i : Instr) → placed_call ps (Some (record { unit = unit; number = number })) i ≡ record i { a = pos routine }
-  pub promise : Promises declared G routine n formals results (λ from line arguments. call from line unit number arguments)
+  pub promise : Promises declared G routine n (declared.types unit) (declared.around unit number) formals results (λ from line levels arguments. call from line (record { unit = unit; number = number; levels = levels }) arguments)
 
 -- every routine that is declared does so
 abbrev pub CallsAreKept : Declarations → Image → List Placement → Handler → ℕ → Type 0
@@ -161,14 +166,15 @@ CallComesTo declared G injection begun memory Then to k steps (Cut s) = StaysAft
 -- to n, or ends for want of room within 64 ticks for each of them.
 abbrev pub CallsAnswer : Type 0
 CallsAnswer =
-    (declared : Declarations) (G : Image) (routine n : ℕ)
-    → (formals : List Passing) (results : List Kind) (called : Called) → Promises declared G routine n formals results called
-    → (place line : ℕ) → CallsAt G place routine line
+    (declared : Declarations) (G : Image) (routine n : ℕ) (types : List UnitType) (around : List Level)
+    → (formals : List Passing) (results : List Kind) (called : Called) → Promises declared G routine n types around formals results called
+    → (place levels line : ℕ) → CallsAt G place routine levels line
     → (injection : Injection) (memory : Memory) (below operands : List Operand)
     → (arguments : List Argument) → AreArguments injection memory formals arguments below operands
-    → (s : meaning.State) → Matches declared G injection s memory → (steps : ℕ) → steps ≤ n
+    → (s : meaning.State) → Matches declared G injection s memory → IsCallable types levels around injection s.calls memory
+    → (steps : ℕ) → steps ≤ n
     → CallComesTo declared G injection s memory (ResultsOnTop results below) (place + 1)
     (state_at (point injection memory place operands) s.trace) steps
-    (called (unit_in G memory.frames) line arguments steps s)
+    (called (unit_in G memory.frames) line levels arguments steps s)
     ⊎ GivesUp G (state_at (point injection memory place operands) s.trace) steps 0
-    (state_of (called (unit_in G memory.frames) line arguments steps s))
+    (state_of (called (unit_in G memory.frames) line levels arguments steps s))

@@ -4,7 +4,7 @@ use Rattle.ep_object.specs.Placing.{Placement, placed_unit}
 use Rattle.ep_object.specs.declared.code.Image.{Image}
 use Rattle.ep_object.specs.declared.code.ImageUnit.{ImageUnit}
 use Rattle.ep_object.specs.declared.code.Instr.{Instr}
-use Rattle.ep_typed.specs.Valid.{Declarations, IsDenoter}
+use Rattle.ep_typed.specs.Valid.{Declarations, variables_up, IsDenoter}
 use Rattle.ep_typed.specs.Viewed.{denoter_of}
 use Rattle.ep_typed.specs.declared.unit.UnitVariable.{UnitVariable}
 
@@ -26,14 +26,15 @@ pub record VariableStands (G : Image) (ps : List Placement) (unit : List ℕ) (k
 abbrev pub HaveValidTypes : Declarations → Type 0
 HaveValidTypes declared = (unit : List ℕ) (k : ℕ) (v : UnitVariable) → declared.variables unit k ≡ Some v → IsDenoter (declared.types unit) (denoter_of v.denoter)
 
--- and so are those of the variables of the routine in whose block names are declared so
+-- and so are those of the variables of the routine in whose block names are declared so, and of the routines around it
 abbrev pub HaveValidOwnTypes : Declarations → Type 0
-HaveValidOwnTypes declared = (k : ℕ) (v : UnitVariable) → slice_get declared.routine_variables k ≡ Some v → IsDenoter declared.routine_types (denoter_of v.denoter)
+HaveValidOwnTypes declared = (up k : ℕ) (v : UnitVariable) → slice_get (variables_up declared up) k ≡ Some v → IsDenoter declared.routine_types (denoter_of v.denoter)
 
--- The texts of an object and all variables that are declared stand in the image, and the types of the variables are
--- valid.
+-- The texts of an object and all variables that are declared stand in the image, the types of the variables are valid, and
+-- the routine in whose block names are declared so has the types of its unit.
 pub record Scene (declared : Declarations) (G : Image) (ps : List Placement) (p : Placement) (texts : List (List ℕ)) : Type 0 where
   pub texts_stand : (k : ℕ) (bytes : List ℕ) → slice_get texts k ≡ Some bytes → TextStands G p k bytes
   pub variables_stand : (unit : List ℕ) (k : ℕ) (v : UnitVariable) → declared.variables unit k ≡ Some v → VariableStands G ps unit k
   pub types_valid : HaveValidTypes declared
   pub own_types_valid : HaveValidOwnTypes declared
+  pub own_types_are : declared.types declared.routine_unit ≡ declared.routine_types

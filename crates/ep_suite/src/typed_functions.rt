@@ -166,7 +166,7 @@ fn routine(alloc: Global, function: Function) -> Result<UnitRoutine, Unbuilt> {
             denoter,
         }),
         variables: List::new(alloc),
-        routines: List::new(alloc),
+        around: List::new(alloc),
         block: TypedStmt::Compound(statements),
     })
 }

@@ -12,8 +12,8 @@ use ep_object::{
 };
 use ep_outside::SureSink;
 use ep_typed::{
-    Binary, Bound, Denoter, Formal, FormalMode, Formals, Print, RequiredType, TypedStmt, Unary,
-    UnitRoutine, UnitRoutines, UnitVariables,
+    Binary, Bound, Denoter, Formal, FormalMode, Formals, Print, RequiredType, RoutineNumbers,
+    TypedStmt, Unary, UnitRoutine, UnitRoutines, UnitVariables,
 };
 use std::alloc::{AllocError, Global};
 use std::test::Fail;
@@ -25,12 +25,13 @@ pub(crate) struct Parameter {
     digit: bool,
 }
 
-/// A procedure: its formal parameters, how many integer variables it has, which are numbered behind them, and its
-/// statements.
+/// A procedure: its formal parameters, how many integer variables it has, which are numbered behind them, the procedures
+/// around it, the innermost first, and its statements.
 #[derive(Clone, Copy)]
 struct Routine {
     formals: &'static [Parameter],
     variables: u32,
+    around: &'static [u32],
     steps: &'static [Step],
 }
 
@@ -127,6 +128,7 @@ const RUNS: &[Run] = &[
         &[Routine {
             formals: &[],
             variables: 0,
+            around: &[],
             steps: &[
                 Step::Variable(0),
                 Step::Constant(1),
@@ -153,6 +155,7 @@ const RUNS: &[Run] = &[
             Routine {
                 formals: &[],
                 variables: 0,
+                around: &[],
                 steps: &[
                     Step::Variable(0),
                     Step::Constant(1),
@@ -168,6 +171,7 @@ const RUNS: &[Run] = &[
             Routine {
                 formals: &[],
                 variables: 0,
+                around: &[],
                 steps: &[
                     Step::Procedure(6, 0),
                     Step::Empty,
@@ -182,11 +186,63 @@ const RUNS: &[Run] = &[
         10_000,
         "321|normal",
     ),
+    // The third procedure is declared in the second, and that one in the first, of which there are three activations. It adds
+    // the parameter of the first one to its variable, twice in each.
+    (
+        &[
+            Routine {
+                formals: &[BY_VALUE],
+                variables: 1,
+                around: &[],
+                steps: &[
+                    Step::Constant(0),
+                    Step::AssignOwn(2, 1),
+                    Step::Own(0),
+                    Step::Constant(1),
+                    Step::Two(Binary::Subtract),
+                    Step::Given,
+                    Step::Procedure(3, 0),
+                    Step::Empty,
+                    Step::Constant(1),
+                    Step::Own(0),
+                    Step::Two(Binary::Less),
+                    Step::If(3),
+                    Step::Inner(4, 1, 1),
+                    Step::Inner(4, 1, 1),
+                    Step::Own(1),
+                    Step::Constant(1),
+                    Step::Wide(Print::Integer),
+                    Step::Write(5, false),
+                ],
+            },
+            Routine {
+                formals: &[],
+                variables: 0,
+                around: &[0],
+                steps: &[Step::Inner(7, 2, 1)],
+            },
+            Routine {
+                formals: &[],
+                variables: 0,
+                around: &[1, 0],
+                steps: &[
+                    Step::Above(2, 1),
+                    Step::Above(2, 0),
+                    Step::Two(Binary::Add),
+                    Step::AssignAbove(8, 2, 1),
+                ],
+            },
+        ],
+        &[Step::Constant(3), Step::Given, Step::Procedure(10, 0)],
+        10_000,
+        "246|normal",
+    ),
     // an error in a procedure is told with its own line
     (
         &[Routine {
             formals: &[],
             variables: 0,
+            around: &[],
             steps: &[
                 Step::Constant(i64::MAX),
                 Step::Constant(1),
@@ -203,6 +259,7 @@ const RUNS: &[Run] = &[
         &[Routine {
             formals: &[],
             variables: 0,
+            around: &[],
             steps: &[Step::Procedure(2, 0)],
         }],
         &[Step::Procedure(4, 0)],
@@ -213,6 +270,7 @@ const RUNS: &[Run] = &[
         &[Routine {
             formals: &[],
             variables: 0,
+            around: &[],
             steps: &[Step::Procedure(2, 0)],
         }],
         &[Step::Procedure(4, 0)],
@@ -224,6 +282,7 @@ const RUNS: &[Run] = &[
         &[Routine {
             formals: &[],
             variables: 0,
+            around: &[],
             steps: FALLING,
         }],
         &[
@@ -238,6 +297,7 @@ const RUNS: &[Run] = &[
         &[Routine {
             formals: &[],
             variables: 0,
+            around: &[],
             steps: FALLING,
         }],
         &[
@@ -252,6 +312,7 @@ const RUNS: &[Run] = &[
         &[Routine {
             formals: &[],
             variables: 0,
+            around: &[],
             steps: FALLING,
         }],
         &[
@@ -267,6 +328,7 @@ const RUNS: &[Run] = &[
         &[Routine {
             formals: &[],
             variables: 1,
+            around: &[],
             steps: &[
                 Step::Variable(0),
                 Step::AssignOwn(2, 0),
@@ -295,6 +357,7 @@ const RUNS: &[Run] = &[
         &[Routine {
             formals: &[],
             variables: 2,
+            around: &[],
             steps: &[
                 Step::Constant(7),
                 Step::AssignOwn(2, 0),
@@ -311,6 +374,7 @@ const RUNS: &[Run] = &[
         &[Routine {
             formals: &[BY_VALUE],
             variables: 1,
+            around: &[],
             steps: &[
                 Step::Own(0),
                 Step::Constant(1),
@@ -341,6 +405,7 @@ const RUNS: &[Run] = &[
         &[Routine {
             formals: &[BY_VALUE, PROTECTED],
             variables: 1,
+            around: &[],
             steps: &[
                 Step::Own(0),
                 Step::Own(1),
@@ -375,6 +440,7 @@ const RUNS: &[Run] = &[
         &[Routine {
             formals: &[BY_REFERENCE, BY_VALUE, BY_REFERENCE],
             variables: 0,
+            around: &[],
             steps: &[
                 Step::Own(1),
                 Step::AssignOwn(2, 0),
@@ -408,6 +474,7 @@ const RUNS: &[Run] = &[
             Routine {
                 formals: &[BY_REFERENCE],
                 variables: 0,
+                around: &[],
                 steps: &[
                     Step::Own(0),
                     Step::Constant(2),
@@ -418,6 +485,7 @@ const RUNS: &[Run] = &[
             Routine {
                 formals: &[],
                 variables: 1,
+                around: &[],
                 steps: &[
                     Step::Constant(5),
                     Step::AssignOwn(4, 0),
@@ -441,6 +509,7 @@ const RUNS: &[Run] = &[
         &[Routine {
             formals: &[DIGIT],
             variables: 0,
+            around: &[],
             steps: &[],
         }],
         &[Step::Constant(10), Step::Given, Step::Procedure(9, 0)],
@@ -452,6 +521,7 @@ const RUNS: &[Run] = &[
         &[Routine {
             formals: &[DIGIT, BY_VALUE],
             variables: 0,
+            around: &[],
             steps: &[],
         }],
         &[
@@ -525,6 +595,15 @@ fn integers(alloc: Global, count: u32) -> Result<UnitVariables, Unbuilt> {
     Ok(variables)
 }
 
+/// The numbers of procedures.
+fn around(alloc: Global, numbers: &[u32]) -> Result<RoutineNumbers, Unbuilt> {
+    let mut all = List::new(alloc);
+    for number in numbers {
+        all.push(*number)?;
+    }
+    Ok(all)
+}
+
 /// A procedure, which is declared on line 1.
 fn procedure(alloc: Global, routine: Routine) -> Result<UnitRoutine, Unbuilt> {
     let statements = Builder::after(alloc, routine.steps)?.into_statements();
@@ -536,7 +615,7 @@ fn procedure(alloc: Global, routine: Routine) -> Result<UnitRoutine, Unbuilt> {
         formals,
         result: None,
         variables,
-        routines: List::new(alloc),
+        around: around(alloc, routine.around)?,
         block: TypedStmt::Compound(statements),
     })
 }

@@ -88,11 +88,11 @@ otherwise = refl
 
 -- what every call gives after three steps
 abbrev gives_five : Handler
-gives_five from line unit number arguments = spend 3 (give (Number (pos 5) ∷ []))
+gives_five from line callee arguments = spend 3 (give (Number (pos 5) ∷ []))
 
 -- a function designator spends the steps of its arguments and of the call, and one of its own
 abbrev designator : Outcome Result
-designator = eval gives_five 0 (codes "p") 3 (Function (codes "p") 0 (next_actual (Evaluated (Constant (pos 1))) no_actual)) 5 first_state
+designator = eval gives_five 0 (codes "p") 3 (Function (record { unit = codes "p"; number = 0; levels = 0 }) (next_actual (Evaluated (Constant (pos 1))) no_actual)) 5 first_state
 
 given : designator ≡ Gives 0 (Number (pos 5)) first_state
 given = refl

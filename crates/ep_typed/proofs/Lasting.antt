@@ -3,7 +3,7 @@ use Rattle.std.proofs.Common.{◌≡◌, ℕ, ℤ, pos, negsuc, zero, suc, ◌+�
 use Rattle.std.specs.Prelude.{if◌then◌else◌}
 use Rattle.ep_typed.specs.Controls.{in_order, next_value}
 use Rattle.ep_typed.specs.Denoters.{type_of}
-use Rattle.ep_typed.specs.Meaning.{argument, arguments, one_result, weight_of, results_given, initialized, takes_by, takes_all, elaborate, answered, place, eval, write_piece, write_wide, write_item, write_items, assign, turns, turns_until, assigns, undefines, turns_to, counts, exec, exec_all, elaborated, make, make_all, make_own, make_all_own, start_of, starts_of, Found, routine_in, runs_routine, routine_does, routine_of, read, assign_living, tried, exec_arms, exec_other}
+use Rattle.ep_typed.specs.Meaning.{argument, arguments, one_result, weight_of, results_given, initialized, takes_by, takes_all, elaborate, answered, place, eval, write_piece, write_wide, write_item, write_items, assign, turns, turns_until, assigns, undefines, turns_to, counts, exec, exec_all, elaborated, make, make_all, make_own, make_all_own, start_of, starts_of, Found, routine_in, activation, runs_routine, routine_does, routine_of, read, assign_living, tried, exec_arms, exec_other}
 use Rattle.ep_typed.specs.Operations.{Answer, Number, Fault, is_same, is_true, decides, is_in}
 use Rattle.ep_typed.specs.Printing.{Result, number_of, plain_text, wide_text, piece_events}
 use Rattle.ep_typed.specs.Printing as result
@@ -11,7 +11,7 @@ use Rattle.ep_typed.specs.Calls.{Argument, Value, Handler, entered, given_back, 
 use Rattle.ep_typed.specs.Calls as argument_is
 use Rattle.ep_typed.specs.Steady.{Grows, Steady, IsSteadyHandler}
 use Rattle.ep_typed.specs.Steps.{Call, End, Normal, Halted, Error, Word, Undefined, State, Outcome, Gives, Ends, Cut, state_of, Computation, give, cut, stop, go_on, bind, spend, change, found, fetch, assigned, type_at, is_within, size_of, with_type, counted, made, made_own, allocate, allocate_own, newest_assigned, with_own_bound, standard_file, first_state, using, has_ended, own_variable, word_at}
-use Rattle.ep_typed.specs.Trees.{Place, Variable, Own, Standard, Expr, Constant, Text, Read, One, Two, Short, Step, Function, Actual, Evaluated, Accessed, Actuals, no_actual, next_actual, Item, Plain, Wide, Stmt, Stmts, Empty, Compound, Assign, If, While, Repeat, Control, For, Procedure, Halt, Write, none, next, Case, Arms, no_arm, next_arm, Other, no_other, otherwise_do}
+use Rattle.ep_typed.specs.Trees.{Callee, Place, Variable, Own, Standard, Expr, Constant, Text, Read, One, Two, Short, Step, Function, Actual, Evaluated, Accessed, Actuals, no_actual, next_actual, Item, Plain, Wide, Stmt, Stmts, Empty, Compound, Assign, If, While, Repeat, Control, For, Procedure, Halt, Write, none, next, Case, Arms, no_arm, next_arm, Other, no_other, otherwise_do}
 use Rattle.ep_typed.specs.Routines.{made_variables, unit_variables}
 use Rattle.ep_typed.specs.Viewed.{denoter_of, stmt_of}
 use Rattle.ep_typed.specs.declared.interface.Formal.{Formal}
@@ -20,7 +20,6 @@ use Rattle.ep_typed.specs.declared.interface.FormalMode.TheVariants as mode
 use Rattle.ep_typed.specs.declared.interface.RoutineResult.{RoutineResult}
 use Rattle.ep_typed.specs.declared.operations.Print.{Print}
 use Rattle.ep_typed.specs.declared.unit.Unit.{Unit as TypedUnit}
-use Rattle.ep_typed.specs.declared.unit.UnitRoutine.TheViews.{out-UnitRoutine}
 use Rattle.ep_typed.specs.declared.unit.UnitType.{UnitType}
 use Rattle.ep_typed.specs.declared.unit.UnitVariable.{UnitVariable}
 use Rattle.ep_typed.specs.declared.tree.CaseRange.{CaseRange}
@@ -37,7 +36,7 @@ pub record Lasting {A : Type 0} (c d : Computation A) : Type 0 where
 -- What calls do, calls that may nest deeper do with more steps.
 record IsLastingHandler (call other : Handler) : Type 0 where
   steady : IsSteadyHandler other
-  by : (from : List ℕ) (line : ℕ) (unit : List ℕ) (routine : ℕ) (arguments : List Argument) → Lasting (call from line unit routine arguments) (other from line unit routine arguments)
+  by : (from : List ℕ) (line : ℕ) (callee : Callee) (arguments : List Argument) → Lasting (call from line callee arguments) (other from line callee arguments)
 
 -- ---- computations
 
@@ -147,7 +146,7 @@ module _ (call other : Handler) (lasts : IsLastingHandler call other) (g j : ℕ
   -- a place
   lasting_place : (line : ℕ) (p : Place) → Lasting (place call g unit line p) (place other (g + j) unit line p)
   lasting_place line (Variable u k) = lasting_bind (lasting_fetch _ _) (λ n. lasting_spend 1 (lasting_give n))
-  lasting_place line (Own k) = lasting_bind (lasting_fetch _ _) (λ n. lasting_spend 1 (lasting_give n))
+  lasting_place line (Own levels k) = lasting_bind (lasting_fetch _ _) (λ n. lasting_spend 1 (lasting_give n))
   lasting_place line (Standard file) = lasting_spend 1 (lasting_give (standard_file file))
 
   -- the value of an allocation
@@ -174,8 +173,8 @@ module _ (call other : Handler) (lasts : IsLastingHandler call other) (g j : ℕ
         lasting_bind (lasting_eval line x) (λ a. lasting_if (decides operation (number_of a)) (lasting_spend 1 (lasting_give a)) (lasting_bind (lasting_eval line y) (λ b. lasting_spend 1 (lasting_give b))))
     lasting_eval line (Step down low high x y) =
         lasting_bind (lasting_eval line x) (λ a. lasting_bind (lasting_eval line y) (λ b. lasting_bind (lasting_answered line _) (λ z. lasting_spend 1 (lasting_give (result.Number z)))))
-    lasting_eval line (Function of_unit number given) =
-        lasting_bind (lasting_arguments line given) (λ xs. lasting_bind (lasts.by unit line of_unit number xs) lasting_one_result)
+    lasting_eval line (Function callee given) =
+        lasting_bind (lasting_arguments line given) (λ xs. lasting_bind (lasts.by unit line callee xs) lasting_one_result)
 
     -- arguments
     lasting_argument : (line : ℕ) (a : Actual) → Lasting (argument call g unit line a) (argument other (g + j) unit line a)
@@ -257,8 +256,8 @@ module _ (call other : Handler) (lasts : IsLastingHandler call other) (g j : ℕ
         lasting_bind (lasting_assigns line c.initial x) (λ _. lasting_bind (lasting_assigns line c.last y) (λ _.
         lasting_bind (lasting_bind (lasting_eval line (in_order c)) (λ r. lasting_if (is_true (number_of r)) (lasting_counts line c (lasting_exec s)) (lasting_give tt))) (λ _.
         lasting_bind (lasting_undefines line c.variable) (λ _. lasting_spend 1 (lasting_give tt)))))
-    lasting_exec (Procedure line of_unit number given) =
-        lasting_bind (lasting_arguments line given) (λ xs. lasting_bind (lasts.by unit line of_unit number xs) (λ results. lasting_spend 1 (lasting_give tt)))
+    lasting_exec (Procedure line callee given) =
+        lasting_bind (lasting_arguments line given) (λ xs. lasting_bind (lasts.by unit line callee xs) (λ results. lasting_spend 1 (lasting_give tt)))
     lasting_exec (Case line x arms o) = lasting_bind (lasting_eval line x) (λ r. lasting_exec_arms (number_of r) arms (lasting_exec_other line o))
     lasting_exec (Halt line) = lasting_stop Halted
     lasting_exec (Write line items ends_line) = lasting_write_items line items ends_line
@@ -318,8 +317,8 @@ lasting_starts_of call other lasts g j [] = lasting_stop Normal
 lasting_starts_of call other lasts g j (u ∷ us) = lasting_bind (lasting_start_of call other lasts g j u) (λ _. lasting_starts_of call other lasts g j us)
 
 -- while a call is under way
-pub lasting_in_call : {A : Type 0} (x : Call) {c d : Computation A} → Lasting c d → Lasting (in_call x c) (in_call x d)
-lasting_in_call {A = A} x {c = c} {d = d} p = record { steady = steady_in_call x p.steady; by = λ m k s. go k s (c m (entered x s)) (d (m + k) (entered x s)) (p.by m k (entered x s)) }
+pub lasting_in_call : {A : Type 0} (levels : ℕ) (x : Call) {c d : Computation A} → Lasting c d → Lasting (in_call levels x c) (in_call levels x d)
+lasting_in_call {A = A} levels x {c = c} {d = d} p = record { steady = steady_in_call levels x p.steady; by = λ m k s. go k s (c m (entered levels x s)) (d (m + k) (entered levels x s)) (p.by m k (entered levels x s)) }
   where
     after : (s t : State) (o : Outcome A) → Grows t (state_of o) → Grows t (state_of (given_back s o))
     after s t (Gives left a u) h = record { events = h.events; lost = h.lost }
@@ -365,22 +364,22 @@ module _ (call other : Handler) (lasts : IsLastingHandler call other) (g j : ℕ
 lasting_results_given : (unit : List ℕ) (line number : ℕ) (r : Option RoutineResult) → Lasting (results_given unit line number r) (results_given unit line number r)
 lasting_results_given unit line number None = lasting_give []
 lasting_results_given unit line number (Some r) =
-    lasting_bind (lasting_fetch (Error run_error.UNDEFINED_VALUE unit line) (own_variable number)) (λ n.
+    lasting_bind (lasting_fetch (Error run_error.UNDEFINED_VALUE unit line) (own_variable 0 number)) (λ n.
     lasting_using (Error run_error.DISPOSED unit line) n (lasting_bind (lasting_fetch (Error run_error.RESULT_UNDEFINED unit line) (word_at n)) (λ w. lasting_give (result.Number w ∷ []))))
 
 -- a routine
 lasting_runs_routine : (call other : Handler) → IsLastingHandler call other → (g j : ℕ) (unit : List ℕ) (f : Found) (xs : List Argument) → Lasting (runs_routine call g unit f xs) (runs_routine other (g + j) unit f xs)
 lasting_runs_routine call other lasts g j unit f xs =
-    let r = out-UnitRoutine f.routine in
+    let r = f.routine in
     lasting_bind (lasting_takes_all call other lasts g j unit f.types r.line 0 r.formals xs)
     (λ _. lasting_bind (lasting_make_all_own call other lasts g j unit f.types (length r.formals) (made_variables f.routine))
     (λ _. lasting_bind (lasting_exec call other lasts g j unit (stmt_of r.block)) (λ _. lasting_results_given unit r.line (length r.formals) r.result)))
 
-lasting_routine_does : (call other : Handler) → IsLastingHandler call other → (g j : ℕ) (from : List ℕ) (line : ℕ) (unit : List ℕ) (o : Option Found) (xs : List Argument)
-    → Lasting (routine_does call g from line unit o xs) (routine_does other (g + j) from line unit o xs)
-lasting_routine_does call other lasts g j from line unit None xs = lasting_cut
-lasting_routine_does call other lasts g j from line unit (Some f) xs =
-    lasting_in_call _ (lasting_spend 1 (lasting_runs_routine call other lasts g j unit f xs))
+lasting_routine_does : (call other : Handler) → IsLastingHandler call other → (g j : ℕ) (from : List ℕ) (line : ℕ) (callee : Callee) (o : Option Found) (xs : List Argument)
+    → Lasting (routine_does call g from line callee o xs) (routine_does other (g + j) from line callee o xs)
+lasting_routine_does call other lasts g j from line callee None xs = lasting_cut
+lasting_routine_does call other lasts g j from line callee (Some f) xs =
+    lasting_in_call callee.levels (activation f.routine.name from line) (lasting_spend 1 (lasting_runs_routine call other lasts g j callee.unit f xs))
 
 -- where calls may nest deeper
 lasting_routine_of : (units : List TypedUnit) (depth more : ℕ) → IsLastingHandler (routine_of units depth) (routine_of units (depth + more))
@@ -388,15 +387,15 @@ lasting_routine_of units zero more =
     let steady = steady_routine_of units (0 + more) in
     record {
       steady = steady;
-      by = λ from line unit number arguments.
-          let longer = steady from line unit number arguments in
+      by = λ from line callee arguments.
+          let longer = steady from line callee arguments in
           record { steady = longer; by = λ m k s. longer.by (m + k) s };
     }
 lasting_routine_of units (suc depth) more =
     let one : suc depth + more ≡ suc (depth + more) = omega arith in
     rw one (record {
       steady = steady_routine_of units (suc (depth + more));
-      by = λ from line unit number arguments. lasting_routine_does (routine_of units depth) (routine_of units (depth + more)) (lasting_routine_of units depth more) depth more from line unit (routine_in units unit number) arguments;
+      by = λ from line callee arguments. lasting_routine_does (routine_of units depth) (routine_of units (depth + more)) (lasting_routine_of units depth more) depth more from line callee (routine_in units callee.unit callee.number) arguments;
     })
 
 -- The meaning of units with more steps.

@@ -4,5 +4,5 @@ pub mod Done
 pub mod Examples
 pub mod Forms
 pub mod Lasting
-pub mod Routines
+pub mod Levels
 pub mod Steady

@@ -6,7 +6,7 @@ use Rattle.ep_outside.specs.Known.{IsPrefix}
 use Rattle.ep_typed.specs.Controls.{in_order, next_value}
 use Rattle.ep_typed.specs.Denoters.{type_of}
 use Rattle.ep_typed.specs.Events.{Trace}
-use Rattle.ep_typed.specs.Meaning.{argument, arguments, one_result, weight_of, result_at, results_given, initialized, takes_by, takes_all, elaborate, answered, place, eval, write_piece, write_wide, write_item, write_items, assign, turns, turns_until, assigns, undefines, turns_to, counts, exec, exec_all, elaborated, make, make_all, make_own, make_all_own, start_of, starts_of, Found, routine_in, runs_routine, routine_does, routine_of, read, assign_living, tried, exec_arms, exec_other}
+use Rattle.ep_typed.specs.Meaning.{argument, arguments, one_result, weight_of, result_at, results_given, initialized, takes_by, takes_all, elaborate, answered, place, eval, write_piece, write_wide, write_item, write_items, assign, turns, turns_until, assigns, undefines, turns_to, counts, exec, exec_all, elaborated, make, make_all, make_own, make_all_own, start_of, starts_of, Found, routine_in, activation, runs_routine, routine_does, routine_of, read, assign_living, tried, exec_arms, exec_other}
 use Rattle.ep_typed.specs.Operations.{Answer, Number, Fault, is_same, is_true, decides, is_in}
 use Rattle.ep_typed.specs.Printing.{Result, number_of, plain_text, wide_text, piece_events}
 use Rattle.ep_typed.specs.Printing as result
@@ -14,7 +14,7 @@ use Rattle.ep_typed.specs.Calls.{Argument, Value, Handler, entered, given_back, 
 use Rattle.ep_typed.specs.Calls as argument_is
 use Rattle.ep_typed.specs.Steady.{Grows, Steady, IsSteadyHandler}
 use Rattle.ep_typed.specs.Steps.{Call, End, Normal, Halted, Error, Word, Undefined, State, Outcome, Gives, Ends, Cut, state_of, Computation, give, cut, stop, go_on, bind, spend, change, found, fetch, with_events, assigned, type_at, is_within, size_of, same_type, Resources, watched, words_of_type, met, with_type, counted, made, made_own, allocate, allocate_own, newest_assigned, with_own_bound, standard_file, using, has_ended, own_variable, word_at}
-use Rattle.ep_typed.specs.Trees.{Place, Variable, Own, Standard, Expr, Constant, Text, Read, One, Two, Short, Step, Function, Actual, Evaluated, Accessed, Actuals, no_actual, next_actual, Item, Plain, Wide, Stmt, Stmts, Empty, Compound, Assign, If, While, Repeat, Control, For, Procedure, Halt, Write, none, next, Case, Arms, no_arm, next_arm, Other, no_other, otherwise_do}
+use Rattle.ep_typed.specs.Trees.{Callee, Place, Variable, Own, Standard, Expr, Constant, Text, Read, One, Two, Short, Step, Function, Actual, Evaluated, Accessed, Actuals, no_actual, next_actual, Item, Plain, Wide, Stmt, Stmts, Empty, Compound, Assign, If, While, Repeat, Control, For, Procedure, Halt, Write, none, next, Case, Arms, no_arm, next_arm, Other, no_other, otherwise_do}
 use Rattle.ep_typed.specs.Routines.{made_variables, unit_variables}
 use Rattle.ep_typed.specs.Viewed.{denoter_of, stmt_of}
 use Rattle.ep_typed.specs.declared.interface.Formal.{Formal}
@@ -25,7 +25,6 @@ use Rattle.ep_typed.specs.declared.operations.Print.{Print}
 use Rattle.ep_typed.specs.declared.tree.CaseRange.{CaseRange}
 use Rattle.ep_typed.specs.declared.value.TypeValue.{TypeValue}
 use Rattle.ep_typed.specs.declared.unit.Unit.{Unit as TypedUnit}
-use Rattle.ep_typed.specs.declared.unit.UnitRoutine.TheViews.{out-UnitRoutine}
 use Rattle.ep_typed.specs.declared.unit.UnitType.{UnitType}
 use Rattle.ep_typed.specs.declared.unit.UnitVariable.{UnitVariable}
 use Rattle.ep_typed.specs.declared.run_error.TheConstants as run_error
@@ -178,7 +177,7 @@ module _ (call : Handler) (steady : IsSteadyHandler call) (g : ℕ) (unit : List
   -- a place
   pub steady_place : (line : ℕ) (p : Place) → Steady (place call g unit line p)
   steady_place line (Variable u k) = steady_bind (steady_fetch _ _) (λ n. steady_spend 1 (steady_give n))
-  steady_place line (Own k) = steady_bind (steady_fetch _ _) (λ n. steady_spend 1 (steady_give n))
+  steady_place line (Own levels k) = steady_bind (steady_fetch _ _) (λ n. steady_spend 1 (steady_give n))
   steady_place line (Standard file) = steady_spend 1 (steady_give (standard_file file))
 
   -- the value of an allocation
@@ -205,7 +204,7 @@ module _ (call : Handler) (steady : IsSteadyHandler call) (g : ℕ) (unit : List
         steady_bind (steady_eval line x) (λ a. steady_if (decides operation (number_of a)) (steady_spend 1 (steady_give a)) (steady_bind (steady_eval line y) (λ b. steady_spend 1 (steady_give b))))
     steady_eval line (Step down low high x y) =
         steady_bind (steady_eval line x) (λ a. steady_bind (steady_eval line y) (λ b. steady_bind (steady_answered line _) (λ z. steady_spend 1 (steady_give (result.Number z)))))
-    steady_eval line (Function of_unit number given) = steady_bind (steady_arguments line given) (λ xs. steady_bind (steady unit line of_unit number xs) steady_one_result)
+    steady_eval line (Function callee given) = steady_bind (steady_arguments line given) (λ xs. steady_bind (steady unit line callee xs) steady_one_result)
 
     -- arguments
     steady_argument : (line : ℕ) (a : Actual) → Steady (argument call g unit line a)
@@ -287,8 +286,8 @@ module _ (call : Handler) (steady : IsSteadyHandler call) (g : ℕ) (unit : List
         steady_bind (steady_assigns line c.initial x) (λ _. steady_bind (steady_assigns line c.last y) (λ _.
         steady_bind (steady_bind (steady_eval line (in_order c)) (λ r. steady_if (is_true (number_of r)) (steady_counts line c (steady_exec s)) (steady_give tt))) (λ _.
         steady_bind (steady_undefines line c.variable) (λ _. steady_spend 1 (steady_give tt)))))
-    steady_exec (Procedure line of_unit number given) =
-        steady_bind (steady_arguments line given) (λ xs. steady_bind (steady unit line of_unit number xs) (λ results. steady_spend 1 (steady_give tt)))
+    steady_exec (Procedure line callee given) =
+        steady_bind (steady_arguments line given) (λ xs. steady_bind (steady unit line callee xs) (λ results. steady_spend 1 (steady_give tt)))
     steady_exec (Case line x arms o) = steady_bind (steady_eval line x) (λ r. steady_exec_arms (number_of r) arms (steady_exec_other line o))
     steady_exec (Halt line) = steady_stop Halted
     steady_exec (Write line items ends_line) = steady_write_items line items ends_line
@@ -340,10 +339,10 @@ steady_starts_of call steady g (u ∷ us) = steady_bind (steady_start_of call st
 -- ---- calls
 
 -- while a call is under way, and after it
-pub steady_in_call : {A : Type 0} (x : Call) {c : Computation A} → Steady c → Steady (in_call x c)
-steady_in_call {A = A} x {c = c} g = record { by = λ m s. go m s (c m (entered x s)) (grows_trans (grows_entered s) (g.by m (entered x s))) }
+pub steady_in_call : {A : Type 0} (levels : ℕ) (x : Call) {c : Computation A} → Steady c → Steady (in_call levels x c)
+steady_in_call {A = A} levels x {c = c} g = record { by = λ m s. go m s (c m (entered levels x s)) (grows_trans (grows_entered s) (g.by m (entered levels x s))) }
   where
-    grows_entered : (s : State) → Grows s (entered x s)
+    grows_entered : (s : State) → Grows s (entered levels x s)
     grows_entered s = record { events = record { rest = []; is = sym (append-nil s.trace) }; lost = λ h. rw h refl }
 
     go : (m : ℕ) (s : State) (o : Outcome A) → Grows s (state_of o) → Grows s (state_of (given_back s o))
@@ -383,7 +382,7 @@ module _ (call : Handler) (steady : IsSteadyHandler call) (g : ℕ) (unit : List
 -- the result of a function
 pub steady_result_at : (unit : List ℕ) (line number : ℕ) → Steady (result_at unit line number)
 steady_result_at unit line number =
-    steady_bind (steady_fetch (Error run_error.UNDEFINED_VALUE unit line) (own_variable number)) (λ n.
+    steady_bind (steady_fetch (Error run_error.UNDEFINED_VALUE unit line) (own_variable 0 number)) (λ n.
     steady_using (Error run_error.DISPOSED unit line) n (steady_bind (steady_fetch (Error run_error.RESULT_UNDEFINED unit line) (word_at n)) (λ w. steady_give (result.Number w ∷ []))))
 
 -- what a routine gives
@@ -394,19 +393,19 @@ steady_results_given unit line number (Some r) = steady_result_at unit line numb
 -- a routine
 pub steady_runs_routine : (call : Handler) → IsSteadyHandler call → (g : ℕ) (unit : List ℕ) (f : Found) (xs : List Argument) → Steady (runs_routine call g unit f xs)
 steady_runs_routine call steady g unit f xs =
-    let r = out-UnitRoutine f.routine in
+    let r = f.routine in
     steady_bind (steady_takes_all call steady g unit f.types r.line 0 r.formals xs)
     (λ _. steady_bind (steady_make_all_own call steady g unit f.types (length r.formals) (made_variables f.routine))
     (λ _. steady_bind (steady_exec call steady g unit (stmt_of r.block)) (λ _. steady_results_given unit r.line (length r.formals) r.result)))
 
-steady_routine_does : (call : Handler) → IsSteadyHandler call → (g : ℕ) (from : List ℕ) (line : ℕ) (unit : List ℕ) (o : Option Found) (xs : List Argument)
-    → Steady (routine_does call g from line unit o xs)
-steady_routine_does call steady g from line unit None xs = steady_cut
-steady_routine_does call steady g from line unit (Some f) xs =
-    steady_in_call _ (steady_spend 1 (steady_runs_routine call steady g unit f xs))
+steady_routine_does : (call : Handler) → IsSteadyHandler call → (g : ℕ) (from : List ℕ) (line : ℕ) (callee : Callee) (o : Option Found) (xs : List Argument)
+    → Steady (routine_does call g from line callee o xs)
+steady_routine_does call steady g from line callee None xs = steady_cut
+steady_routine_does call steady g from line callee (Some f) xs =
+    steady_in_call callee.levels (activation f.routine.name from line) (steady_spend 1 (steady_runs_routine call steady g callee.unit f xs))
 
 -- however deep calls nest
 pub steady_routine_of : (units : List TypedUnit) (depth : ℕ) → IsSteadyHandler (routine_of units depth)
-steady_routine_of units zero from line unit number arguments = steady_cut
-steady_routine_of units (suc depth) from line unit number arguments =
-    steady_routine_does (routine_of units depth) (steady_routine_of units depth) depth from line unit (routine_in units unit number) arguments
+steady_routine_of units zero from line callee arguments = steady_cut
+steady_routine_of units (suc depth) from line callee arguments =
+    steady_routine_does (routine_of units depth) (steady_routine_of units depth) depth from line callee (routine_in units callee.unit callee.number) arguments

@@ -17,7 +17,7 @@ abbrev mutual
   first_for (While line x s) = first_for s
   first_for (Repeat line ss x) = first_for_of ss
   first_for (For line c x y s) = Some line
-  first_for (Procedure line unit number given) = None
+  first_for (Procedure line callee given) = None
   first_for (Case line x arms o) = option_or (first_for_arms arms) (first_for_other o)
   first_for (Halt line) = None
   first_for (Write line items ends_line) = None

@@ -1,17 +1,18 @@
 -- Calls of routines: what is handed over, what a call does, and how long it is under way.
 use Rattle.std.specs.Prelude.{ℕ, suc, ◌+◌, ◌||◌, not, nat_le, List, [], ◌∷◌, length}
 use Rattle.ep_typed.specs.Printing.{Result}
-use Rattle.ep_typed.specs.Steps.{Call, State, Resources, Outcome, Gives, Ends, Cut, Computation, watched, with_all_ended}
+use Rattle.ep_typed.specs.Steps.{Call, State, Resources, Outcome, Gives, Ends, Cut, Computation, watched, with_all_ended, around_by}
+use Rattle.ep_typed.specs.Trees.{Callee}
 
 -- what is handed over for a formal: a value, or a variable by the number of its allocation (ISO 10206, 6.7.3)
 pub data Argument : Type 0 where
   Value : (result : Result) → Argument
   Variable : (allocation : ℕ) → Argument
 
--- What calls do: by the unit and the line of the statement or declaration that makes the call, the unit and the number
--- of the routine, and the arguments. A call gives as many results as the routine has.
+-- What calls do: by the unit and the line of the statement or declaration that makes the call, the routine, and the
+-- arguments. A call gives as many results as the routine has.
 abbrev pub Handler : Type 0
-Handler = List ℕ → ℕ → List ℕ → ℕ → List Argument → Computation (List Result)
+Handler = List ℕ → ℕ → Callee → List Argument → Computation (List Result)
 
 -- The words that are set aside for an activation. With the two auxiliary variables of `for`, of two words each, none counts more than 64 besides its own variables.
 abbrev pub activation_words : ℕ
@@ -25,11 +26,11 @@ room_for_calls = 9000
 abbrev pub nested : ℕ → Resources → Resources
 nested depth r = record r { lost = r.lost || not (nat_le depth room_for_calls) }
 
--- one more call is under way, and words are set aside for its activation
-abbrev pub entered : Call → State → State
-entered x s =
+-- one more call is under way, of a routine that is declared so many levels up, and words are set aside for its activation
+abbrev pub entered : ℕ → Call → State → State
+entered levels x s =
     record s {
-      calls = x ∷ s.calls;
+      calls = record x { around = around_by levels s.calls } ∷ s.calls;
       resources = nested (suc (length s.calls)) (watched (record s.resources { reserved = s.resources.reserved + activation_words }));
     }
 
@@ -51,6 +52,6 @@ given_back before (Gives left a s) = Gives left a (left_from before s)
 given_back before (Ends left e s) = Ends left e s
 given_back before (Cut s) = Cut s
 
--- a computation while a call is under way
-abbrev pub in_call : {A : Type 0} → Call → Computation A → Computation A
-in_call x c m s = given_back s (c m (entered x s))
+-- a computation while a call is under way, of a routine that is declared so many levels up
+abbrev pub in_call : {A : Type 0} → ℕ → Call → Computation A → Computation A
+in_call levels x c m s = given_back s (c m (entered levels x s))

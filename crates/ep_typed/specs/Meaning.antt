@@ -5,7 +5,7 @@ use Rattle.ep_typed.specs.Calls.{Argument, Value, Handler, in_call}
 use Rattle.ep_typed.specs.Calls as argument_is
 use Rattle.ep_typed.specs.Controls.{in_order, next_value}
 use Rattle.ep_typed.specs.Denoters.{type_of}
-use Rattle.ep_typed.specs.Trees.{Denoter, Place, Variable, Own, Standard, Expr, Constant, Text, Read, One, Two, Short, Step, Function, Actual, Evaluated, Accessed, Actuals, no_actual, next_actual, Item, Plain, Wide, Stmt, Stmts, Empty, Compound, Assign, If, While, Repeat, Control, For, Procedure, Halt, Write, none, next, Case, Arms, no_arm, next_arm, Other, no_other, otherwise_do}
+use Rattle.ep_typed.specs.Trees.{Denoter, Callee, Place, Variable, Own, Standard, Expr, Constant, Text, Read, One, Two, Short, Step, Function, Actual, Evaluated, Accessed, Actuals, no_actual, next_actual, Item, Plain, Wide, Stmt, Stmts, Empty, Compound, Assign, If, While, Repeat, Control, For, Procedure, Halt, Write, none, next, Case, Arms, no_arm, next_arm, Other, no_other, otherwise_do}
 use Rattle.ep_typed.specs.Routines.{made_variables, unit_variables}
 use Rattle.ep_typed.specs.Viewed.{denoter_of, stmt_of}
 use Rattle.ep_typed.specs.Steps.{Call, Normal, Halted, Error, Word, Undefined, Outcome, Computation, give, cut, stop, bind, spend, change, fetch, with_events, word_at, assigned, type_at, is_within, with_type, allocate, allocate_own, own_variable, newest_assigned, with_own_bound, standard_file, first_state, using}
@@ -19,7 +19,6 @@ use Rattle.ep_typed.specs.declared.interface.RoutineResult.{RoutineResult}
 use Rattle.ep_typed.specs.declared.operations.Print.{Print}
 use Rattle.ep_typed.specs.declared.run_error.TheConstants as run_error
 use Rattle.ep_typed.specs.declared.unit.UnitRoutine.{UnitRoutine}
-use Rattle.ep_typed.specs.declared.unit.UnitRoutine.TheViews.{out-UnitRoutine}
 use Rattle.ep_typed.specs.declared.tree.CaseRange.{CaseRange}
 use Rattle.ep_typed.specs.declared.unit.UnitType.{UnitType}
 use Rattle.ep_typed.specs.declared.unit.UnitVariable.{UnitVariable}
@@ -40,7 +39,7 @@ module _ (call : Handler) (g : ℕ) (unit : List ℕ) where
   -- a place is an allocation; an undefined value where the variable is not made yet
   abbrev pub place : ℕ → Place → Computation ℕ
   place line (Variable u k) = bind (fetch (Error run_error.UNDEFINED_VALUE unit line) (λ s. s.variables u k)) (λ n. spend 1 (give n))
-  place line (Own k) = bind (fetch (Error run_error.UNDEFINED_VALUE unit line) (own_variable k)) (λ n. spend 1 (give n))
+  place line (Own levels k) = bind (fetch (Error run_error.UNDEFINED_VALUE unit line) (own_variable levels k)) (λ n. spend 1 (give n))
   place line (Standard file) = spend 1 (give (standard_file file))
 
   -- the value of an allocation: an error where that has ended, and else where the value is undefined
@@ -66,7 +65,7 @@ module _ (call : Handler) (g : ℕ) (unit : List ℕ) where
         bind (eval line x) (λ a. if decides operation (number_of a) then spend 1 (give a) else bind (eval line y) (λ b. spend 1 (give b)))
     eval line (Step down low high x y) =
         bind (eval line x) (λ a. bind (eval line y) (λ b. bind (answered line (step_answer down low high (number_of a) (number_of b))) (λ z. spend 1 (give (result.Number z)))))
-    eval line (Function of_unit number given) = bind (arguments line given) (λ xs. bind (call unit line of_unit number xs) one_result)
+    eval line (Function callee given) = bind (arguments line given) (λ xs. bind (call unit line callee xs) one_result)
 
     -- an argument: a value, or the allocation of a variable (ISO 10206, 6.7.3)
     pub argument : ℕ → Actual → Computation Argument
@@ -157,8 +156,8 @@ module _ (call : Handler) (g : ℕ) (unit : List ℕ) where
         bind (assigns line c.initial x) (λ _. bind (assigns line c.last y) (λ _.
         bind (bind (eval line (in_order c)) (λ r. if is_true (number_of r) then counts line c (exec s) else give tt)) (λ _.
         bind (undefines line c.variable) (λ _. spend 1 (give tt)))))
-    exec (Procedure line of_unit number given) =
-        bind (arguments line given) (λ xs. bind (call unit line of_unit number xs) (λ results. spend 1 (give tt)))
+    exec (Procedure line callee given) =
+        bind (arguments line given) (λ xs. bind (call unit line callee xs) (λ results. spend 1 (give tt)))
     exec (Case line x arms o) = bind (eval line x) (λ r. exec_arms (number_of r) arms (exec_other line o))
     exec (Halt line) = stop Halted
     exec (Write line items ends_line) = write_items line items ends_line
@@ -227,7 +226,7 @@ routine_in (u ∷ us) unit number = if bytes_eq u.name unit then found_among u.t
 
 -- the activation of a routine of this name, in which nothing is made yet, by a call from a line of a unit
 abbrev pub activation : List ℕ → List ℕ → ℕ → Call
-activation routine from line = record { routine = routine; unit = from; line = line; variables = λ k. None; made = [] }
+activation routine from line = record { routine = routine; unit = from; line = line; variables = λ k. None; around = []; made = [] }
 
 -- The newest variable of the routine, which is of a type, gets its value: an error where that is outside the type.
 abbrev pub initialized : List ℕ → ℕ → TypeValue → ℤ → Computation (Unit {0})
@@ -257,7 +256,7 @@ module _ (call : Handler) (g : ℕ) (unit : List ℕ) (types : List UnitType) wh
 -- the result of a function that was never given (ISO 10206, 6.7.2).
 abbrev pub result_at : List ℕ → ℕ → ℕ → Computation (List Result)
 result_at unit line number =
-    bind (fetch (Error run_error.UNDEFINED_VALUE unit line) (own_variable number)) (λ n.
+    bind (fetch (Error run_error.UNDEFINED_VALUE unit line) (own_variable 0 number)) (λ n.
     using (Error run_error.DISPOSED unit line) n (bind (fetch (Error run_error.RESULT_UNDEFINED unit line) (word_at n)) (λ w. give (result.Number w ∷ []))))
 
 -- what a routine gives when it is done: a function the value of the variable of this number, and a procedure nothing
@@ -270,23 +269,23 @@ results_given unit line number (Some r) = result_at unit line number
 -- or in giving the result is on the line of the declaration (own).
 abbrev pub runs_routine : Handler → ℕ → List ℕ → Found → List Argument → Computation (List Result)
 runs_routine call g unit f xs =
-    let r = out-UnitRoutine f.routine in
+    let r = f.routine in
     bind (takes_all call g unit f.types r.line 0 r.formals xs)
     (λ _. bind (make_all_own call g unit f.types (length r.formals) (made_variables f.routine))
     (λ _. bind (exec call g unit (stmt_of r.block)) (λ _. results_given unit r.line (length r.formals) r.result)))
 
 -- What a call of a routine does: it spends a step, and then the routine runs. What is none has no meaning, and no valid
 -- unit calls one.
-abbrev pub routine_does : Handler → ℕ → List ℕ → ℕ → List ℕ → Option Found → List Argument → Computation (List Result)
-routine_does call g from line unit None xs = cut
-routine_does call g from line unit (Some f) xs =
-    in_call (activation (out-UnitRoutine f.routine).name from line) (spend 1 (runs_routine call g unit f xs))
+abbrev pub routine_does : Handler → ℕ → List ℕ → ℕ → Callee → Option Found → List Argument → Computation (List Result)
+routine_does call g from line callee None xs = cut
+routine_does call g from line callee (Some f) xs =
+    in_call callee.levels (activation f.routine.name from line) (spend 1 (runs_routine call g callee.unit f xs))
 
 -- What a call does, where calls nest at most so deep, and loops turn at most so often in each.
 abbrev pub routine_of : List TypedUnit → ℕ → Handler
-routine_of units zero from line unit number arguments = cut
-routine_of units (suc depth) from line unit number arguments =
-    routine_does (routine_of units depth) depth from line unit (routine_in units unit number) arguments
+routine_of units zero from line callee arguments = cut
+routine_of units (suc depth) from line callee arguments =
+    routine_does (routine_of units depth) depth from line callee (routine_in units callee.unit callee.number) arguments
 
 -- The meaning of joined units within so many steps. Loops turn and calls nest at most that often, which is enough,
 -- since each turn and each call spends a step.

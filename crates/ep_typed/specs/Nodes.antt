@@ -9,8 +9,6 @@ use Rattle.ep_typed.specs.declared.interface.SchemaFormal.{SchemaFormal}
 use Rattle.ep_typed.specs.declared.tree.TypedExpr.{TypedExpr}
 use Rattle.ep_typed.specs.declared.unit.Unit.{Unit as TypedUnit}
 use Rattle.ep_typed.specs.declared.unit.UnitRoutine.{UnitRoutine}
-use Rattle.ep_typed.specs.declared.unit.UnitRoutine.TheOpen.{UnitRoutine-F}
-use Rattle.ep_typed.specs.declared.unit.UnitRoutine.TheFolds.{fold-UnitRoutine}
 use Rattle.ep_typed.specs.declared.unit.UnitType.{UnitType}
 use Rattle.ep_typed.specs.declared.unit.UnitVariable.{UnitVariable}
 
@@ -27,7 +25,7 @@ denoter_nodes (Enumeration names) = 1
 
 abbrev pub place_nodes : Place → ℕ
 place_nodes (Variable unit number) = 1
-place_nodes (Own number) = 1
+place_nodes (Own levels number) = 1
 place_nodes (Standard file) = 1
 
 abbrev mutual
@@ -39,7 +37,7 @@ abbrev mutual
   expr_nodes (Two operation x y) = 1 + expr_nodes x + expr_nodes y
   expr_nodes (Short operation x y) = 1 + expr_nodes x + expr_nodes y
   expr_nodes (Step down low high x y) = 1 + expr_nodes x + expr_nodes y
-  expr_nodes (Function unit number given) = 1 + actuals_nodes given
+  expr_nodes (Function callee given) = 1 + actuals_nodes given
 
   pub actual_nodes : Actual → ℕ
   actual_nodes (Evaluated x) = expr_nodes x
@@ -69,7 +67,7 @@ abbrev mutual
   stmt_nodes (Repeat line ss x) = 1 + stmts_nodes ss + expr_nodes x
   -- the auxiliary variables are no nodes
   stmt_nodes (For line c x y s) = 1 + place_nodes c.variable + expr_nodes x + expr_nodes y + stmt_nodes s
-  stmt_nodes (Procedure line unit number given) = 1 + actuals_nodes given
+  stmt_nodes (Procedure line callee given) = 1 + actuals_nodes given
   stmt_nodes (Case line x arms o) = 1 + expr_nodes x + arms_nodes arms + other_nodes o
   stmt_nodes (Halt line) = 1
   stmt_nodes (Write line items ends_line) = 1 + items_nodes items
@@ -125,12 +123,9 @@ result_nodes (Some r) = denoter_nodes (denoter_of r.denoter)
 abbrev pub heading_nodes : List Formal → Option RoutineResult → ℕ
 heading_nodes formals result = 1 + sum (map formal_nodes formals) + result_nodes result
 
--- a routine with its variables, the routines in it, and its block
-abbrev pub routine_step : UnitRoutine-F ℕ → ℕ
-routine_step r = heading_nodes r.formals r.result + sum (map variable_nodes r.variables) + sum r.routines + stmt_nodes (stmt_of r.block)
-
+-- a routine with its variables and its block
 abbrev pub routine_nodes : UnitRoutine → ℕ
-routine_nodes = fold-UnitRoutine ℕ routine_step
+routine_nodes r = heading_nodes r.formals r.result + sum (map variable_nodes r.variables) + stmt_nodes (stmt_of r.block)
 
 -- the imports of a unit, each of which is one node, its types, its constants and its variables
 abbrev pub declared_nodes : TypedUnit → ℕ

@@ -7,12 +7,11 @@ use Rattle.ep_typed.specs.declared.interface.RoutineEntry.{RoutineEntry}
 use Rattle.ep_typed.specs.declared.interface.RoutineResult.{RoutineResult}
 use Rattle.ep_typed.specs.declared.unit.Unit.{Unit as TypedUnit}
 use Rattle.ep_typed.specs.declared.unit.UnitRoutine.{UnitRoutine}
-use Rattle.ep_typed.specs.declared.unit.UnitRoutine.TheViews.{out-UnitRoutine}
 use Rattle.ep_typed.specs.declared.unit.UnitVariable.{UnitVariable}
 
 -- the heading of a routine
 abbrev pub heading_of : UnitRoutine → RoutineEntry
-heading_of r = let parts = out-UnitRoutine r in record { name = parts.name; formals = parts.formals; result = parts.result }
+heading_of r = record { name = r.name; formals = r.formals; result = r.result }
 
 -- a formal parameter as a variable of its routine, which is declared on this line
 abbrev pub formal_variable : ℕ → Formal → UnitVariable
@@ -31,7 +30,7 @@ result_variable name line (Some r) =
 
 -- the variables that a routine makes: the one that has its result, those that it declares, and the auxiliary ones of its block
 abbrev pub made_variables : UnitRoutine → List UnitVariable
-made_variables r = let parts = out-UnitRoutine r in result_variable parts.name parts.line parts.result ++ (parts.variables ++ auxiliary_variables (first_for (stmt_of parts.block)))
+made_variables r = result_variable r.name r.line r.result ++ (r.variables ++ auxiliary_variables (first_for (stmt_of r.block)))
 
 -- the variables that a unit makes: those that it declares, and the auxiliary ones of its start
 abbrev pub unit_variables : TypedUnit → List UnitVariable
@@ -39,4 +38,4 @@ unit_variables u = u.variables ++ auxiliary_variables (first_for (stmt_of u.star
 
 -- the variables of a routine: its formal parameters, and those that it makes
 abbrev pub variables_of : UnitRoutine → List UnitVariable
-variables_of r = let parts = out-UnitRoutine r in map (formal_variable parts.line) parts.formals ++ made_variables r
+variables_of r = map (formal_variable r.line) r.formals ++ made_variables r

@@ -3,6 +3,7 @@ use Rattle.std.specs.Prelude.{ℕ, IsTrue, List}
 use Rattle.ep_outside.specs.Known.{IsPrefix}
 use Rattle.ep_typed.specs.Calls.{Argument, Handler}
 use Rattle.ep_typed.specs.Steps.{State, Computation, state_of}
+use Rattle.ep_typed.specs.Trees.{Callee}
 
 -- events are added, and room that was lost stays lost
 pub record Grows (before after : State) : Type 0 where
@@ -15,5 +16,4 @@ pub record Steady {A : Type 0} (c : Computation A) : Type 0 where
 
 -- whatever is called, the state grows
 abbrev pub IsSteadyHandler : Handler → Type 0
-IsSteadyHandler call = (from : List ℕ) (line : ℕ) (unit : List ℕ) (routine : ℕ) (arguments : List Argument)
-    → Steady (call from line unit routine arguments)
+IsSteadyHandler call = (from : List ℕ) (line : ℕ) (callee : Callee) (arguments : List Argument) → Steady (call from line callee arguments)

@@ -1,5 +1,5 @@
 -- Computations, which spend steps and change a state.
-use Rattle.std.specs.Prelude.{ℕ, ℤ, pos, neg_ℤ, zero, suc, ◌+◌, ◌-◌, Bool, true, false, ◌&&◌, ◌||◌, not, nat_le, List, [], ◌∷◌, ◌++◌, Option, Some, None, length, slice_get, slice_set, if◌then◌else◌}
+use Rattle.std.specs.Prelude.{ℕ, ℤ, pos, neg_ℤ, zero, suc, ◌+◌, ◌-◌, Bool, true, false, ◌&&◌, ◌||◌, not, nat_le, List, [], ◌∷◌, ◌++◌, Option, Some, None, length, slice_get, slice_set, drop, if◌then◌else◌}
 use Rattle.std.specs.List.{list_any}
 use Rattle.std.specs.Str.{bytes_eq}
 use Rattle.std.specs.Prelude.{int_le}
@@ -42,14 +42,20 @@ pub record Resources : Type 0 where
 abbrev pub held : Resources → ℕ
 held r = r.allocated + r.reserved
 
+-- the variables of an activation (ISO 10206, 6.2.3.2): the allocation of each variable of the routine, once it is made
+abbrev pub Variables : Type 0
+Variables = ℕ → Option ℕ
+
 -- A call under way: the name of its routine, and the unit and the line of the statement or declaration that made it; and
--- its activation (ISO 10206, 6.2.3.2): the allocation of each variable of the routine, once it is made, and the
--- allocations that were made in it, in order.
+-- its activation: its variables, those of the activations around it, in which its routine and the ones around that are
+-- declared, the innermost first, and the allocations that were made in it, in order. While it is under way nothing is made
+-- in the activations around it.
 pub record Call : Type 0 where
   pub routine : List ℕ
   pub unit : List ℕ
   pub line : ℕ
-  pub variables : ℕ → Option ℕ
+  pub variables : Variables
+  pub around : List Variables
   pub made : List ℕ
 
 -- the state of a run
@@ -235,13 +241,27 @@ made unit number t s =
       variables = bound unit number (suc (length s.allocations)) s.variables;
     }
 
--- the allocation of a variable of the routine that runs
-abbrev pub own_in : List Call → ℕ → Option ℕ
-own_in [] k = None
-own_in (c ∷ calls) k = c.variables k
+-- the variables of the activation that runs and of those around it, the innermost first
+abbrev pub named_in : List Call → List Variables
+named_in [] = []
+named_in (c ∷ calls) = c.variables ∷ c.around
 
-abbrev pub own_variable : ℕ → State → Option ℕ
-own_variable k s = own_in s.calls k
+abbrev pub variable_in : Option Variables → ℕ → Option ℕ
+variable_in None k = None
+variable_in (Some variables) k = variables k
+
+-- the allocation of a variable of the routine so many levels up from the one that runs
+abbrev pub own_in : List Call → ℕ → ℕ → Option ℕ
+own_in calls levels k = variable_in (slice_get (named_in calls) levels) k
+
+abbrev pub own_variable : ℕ → ℕ → State → Option ℕ
+own_variable levels k s = own_in s.calls levels k
+
+-- The variables that an activation has around it: none where its routine is one of the unit, and else those of the
+-- activation so many levels less one up from the one that runs, in which its routine is declared, and of those around that.
+abbrev pub around_by : ℕ → List Call → List Variables
+around_by zero calls = []
+around_by (suc up) calls = drop up (named_in calls)
 
 -- the variable of this number of a routine is the allocation
 abbrev pub bound_own : ℕ → ℕ → (ℕ → Option ℕ) → ℕ → Option ℕ

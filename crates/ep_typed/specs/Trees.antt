@@ -24,9 +24,16 @@ pub data Denoter : Type 0 where
 pub data Place : Type 0 where
   -- the variable of this number of the unit of this name
   Variable : (unit : List ℕ) (number : ℕ) → Place
-  -- the variable of this number of the routine that runs
-  Own : (number : ℕ) → Place
+  -- the variable of this number of the routine so many levels up from the one that runs
+  Own : (levels number : ℕ) → Place
   Standard : (file : StandardFile) → Place
+
+-- A routine that is called: its unit, its number in that unit, and 0 for a routine of the unit, or one more than how many
+-- levels up from the one that runs stands that in which it is declared.
+pub record Callee : Type 0 where
+  pub unit : List ℕ
+  pub number : ℕ
+  pub levels : ℕ
 
 mutual
   -- an expression
@@ -40,8 +47,8 @@ mutual
     Short : (operation : ShortOperation) (left right : Expr) → Expr
     -- `succ`, or `pred` where the mark says that the count is taken away, within the least and the greatest value
     Step : (down : Bool) (low high : ℤ) (value count : Expr) → Expr
-    -- the function of this number of the unit of this name is called with these parameters
-    Function : (unit : List ℕ) (number : ℕ) (given : Actuals) → Expr
+    -- the function is called with these parameters
+    Function : (callee : Callee) (given : Actuals) → Expr
 
   -- an actual parameter: the value of an expression, or a variable that is accessed
   pub data Actual : Type 0 where
@@ -84,8 +91,8 @@ mutual
     Repeat : (line : ℕ) (body : Stmts) (condition : Expr) → Stmt
     -- the control, the initial and the final value, and the body
     For : (line : ℕ) (control : Control) (initial last : Expr) (body : Stmt) → Stmt
-    -- the procedure of this number of the unit of this name is called with these parameters
-    Procedure : (line : ℕ) (unit : List ℕ) (number : ℕ) (given : Actuals) → Stmt
+    -- the procedure is called with these parameters
+    Procedure : (line : ℕ) (callee : Callee) (given : Actuals) → Stmt
     -- the selector, the arms, and what is done where no range of theirs has its value
     Case : (line : ℕ) (selector : Expr) (arms : Arms) (other : Other) → Stmt
     Halt : (line : ℕ) → Stmt

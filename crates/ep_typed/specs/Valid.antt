@@ -1,12 +1,12 @@
 -- Which typed trees the static rules give: each form has parts of the kinds, types and numbers that it asks for.
-use Rattle.std.specs.Prelude.{◌≡◌, ℕ, Bool, true, false, All, List, [], ◌∷◌, ◌++◌, map, slice_get, Option, Some, None, IsTrue, int_le, ⊤, if◌then◌else◌}
+use Rattle.std.specs.Prelude.{◌≡◌, ℕ, zero, suc, ◌<◌, Bool, true, false, All, List, [], ◌∷◌, ◌++◌, map, slice_get, drop, length, Option, Some, None, IsTrue, int_le, ⊤, if◌then◌else◌}
 use Rattle.std.specs.Str.{bytes_eq}
 use Rattle.ep_typed.specs.Denoters.{definition_of, type_of, host_of}
 use Rattle.ep_typed.specs.Hosts.{Host, least, greatest, is_of_host}
 use Rattle.ep_typed.specs.Hosts as host
 use Rattle.ep_typed.specs.Operations.{is_integer, is_apart}
 use Rattle.ep_typed.specs.Steps.{is_within}
-use Rattle.ep_typed.specs.Trees.{Denoter, Place, Variable, Own, Standard, Expr, Constant, Text, Read, One, Two, Short, Step, Function, Actual, Evaluated, Accessed, Actuals, no_actual, next_actual, Item, Plain, Wide, Stmt, Stmts, Empty, Compound, Assign, If, While, Repeat, Control, For, Procedure, Halt, Write, none, next, Case, Arms, no_arm, next_arm, Other, no_other, otherwise_do}
+use Rattle.ep_typed.specs.Trees.{Denoter, Callee, Place, Variable, Own, Standard, Expr, Constant, Text, Read, One, Two, Short, Step, Function, Actual, Evaluated, Accessed, Actuals, no_actual, next_actual, Item, Plain, Wide, Stmt, Stmts, Empty, Compound, Assign, If, While, Repeat, Control, For, Procedure, Halt, Write, none, next, Case, Arms, no_arm, next_arm, Other, no_other, otherwise_do}
 pub use Rattle.ep_typed.specs.Routines.{heading_of, formal_variable, variables_of, unit_variables}
 use Rattle.ep_typed.specs.Viewed.{denoter_of, stmt_of}
 use Rattle.ep_typed.specs.declared.operations.Unary.{Unary}
@@ -27,7 +27,6 @@ use Rattle.ep_typed.specs.declared.value.TypeValue.TheVariants as type
 use Rattle.ep_typed.specs.declared.value.Value.{Value}
 use Rattle.ep_typed.specs.declared.value.Value.TheVariants as value
 use Rattle.ep_typed.specs.declared.unit.UnitRoutine.{UnitRoutine}
-use Rattle.ep_typed.specs.declared.unit.UnitRoutine.TheViews.{out-UnitRoutine}
 use Rattle.ep_typed.specs.declared.unit.UnitType.{UnitType}
 use Rattle.ep_typed.specs.declared.unit.UnitVariable.{UnitVariable}
 use Rattle.ep_typed.specs.declared.unit.Unit.{Unit as TypedUnit}
@@ -37,6 +36,11 @@ pub data Kind : Type 0 where
   Ordinal : (host : Host) → Kind
   Bytes : Kind
 
+-- a routine by its number, with its variables
+pub record Level : Type 0 where
+  pub number : ℕ
+  pub variables : List UnitVariable
+
 -- what the units whose declarations may be named declare, by the unit's name
 pub record Declarations : Type 0 where
   -- the variable of this number of the unit
@@ -45,13 +49,36 @@ pub record Declarations : Type 0 where
   pub types : List ℕ → List UnitType
   pub constants : List ℕ → List ConstantEntry
   pub routines : List ℕ → List RoutineEntry
-  -- the variables of the routine in whose block they may be named, and the types of its unit
-  pub routine_variables : List UnitVariable
+  -- the routines around the routine of this number of the unit, the innermost first
+  pub around : List ℕ → ℕ → List Level
+  -- the routine in whose block they may be named and the ones around it, the innermost first, and their unit and its types
+  pub levels : List Level
+  pub routine_unit : List ℕ
   pub routine_types : List UnitType
 
--- the same declarations in the block of a routine with these variables, of a unit with these types
-abbrev pub in_routine : List UnitVariable → List UnitType → Declarations → Declarations
-in_routine variables types declared = record declared { routine_variables = variables; routine_types = types }
+-- the same declarations in the block of a routine of the unit, by its levels
+abbrev pub in_routine : List Level → Declarations → Declarations
+in_routine levels declared = record declared { levels = levels }
+
+abbrev pub variables_at : Option Level → List UnitVariable
+variables_at None = []
+variables_at (Some level) = level.variables
+
+-- the variables of the routine so many levels up
+abbrev pub variables_up : Declarations → ℕ → List UnitVariable
+variables_up declared up = variables_at (slice_get declared.levels up)
+
+-- A routine is declared so: 0 says that it is one of the unit, and other numbers that the routine in which it is declared
+-- is the one so many levels less one up from the one in which code stands.
+abbrev pub IsDeclaredUp : Declarations → Callee → ℕ → Type 0
+IsDeclaredUp declared callee zero = declared.around callee.unit callee.number ≡ []
+IsDeclaredUp declared callee (suc up) =
+    (callee.unit ≡ declared.routine_unit) × (up < length declared.levels) × (declared.around callee.unit callee.number ≡ drop up declared.levels)
+
+-- the routine has this heading, and is declared as many levels up as the call says
+pub record IsCallee (declared : Declarations) (callee : Callee) (r : RoutineEntry) : Type 0 where
+  pub there : slice_get (declared.routines callee.unit) callee.number ≡ Some r
+  pub declared_up : IsDeclaredUp declared callee callee.levels
 
 -- the kinds of an operation's operand and result; a value of which the number is taken is of a host whose numbers are integers
 abbrev pub IsUnary : Unary → Kind → Kind → Type 0
@@ -121,13 +148,13 @@ module _ (declared : Declarations) where
   -- the place of a variable that is declared or of one of the routine, whose type has this host; a standard file is of no ordinal type
   abbrev pub IsPlace : Host → Place → Type 0
   IsPlace h (Variable unit number) = (v : UnitVariable) × (declared.variables unit number ≡ Some v) × (host_of (declared.types unit) (denoter_of v.denoter) ≡ Some h)
-  IsPlace h (Own number) = (v : UnitVariable) × (slice_get declared.routine_variables number ≡ Some v) × (host_of declared.routine_types (denoter_of v.denoter) ≡ Some h)
+  IsPlace h (Own up number) = (v : UnitVariable) × (slice_get (variables_up declared up) number ≡ Some v) × (host_of declared.routine_types (denoter_of v.denoter) ≡ Some h)
   IsPlace h (Standard file) = ⊥
 
   -- the place of a variable of this type value (ISO 10206, 6.7.3.3)
   abbrev pub IsVariableOf : TypeValue → Place → Type 0
   IsVariableOf t (Variable unit number) = (v : UnitVariable) × (declared.variables unit number ≡ Some v) × (type_of (declared.types unit) (denoter_of v.denoter) ≡ Some t)
-  IsVariableOf t (Own number) = (v : UnitVariable) × (slice_get declared.routine_variables number ≡ Some v) × (type_of declared.routine_types (denoter_of v.denoter) ≡ Some t)
+  IsVariableOf t (Own up number) = (v : UnitVariable) × (slice_get (variables_up declared up) number ≡ Some v) × (type_of declared.routine_types (denoter_of v.denoter) ≡ Some t)
   IsVariableOf t (Standard file) = ⊥
 
   abbrev mutual
@@ -140,8 +167,8 @@ module _ (declared : Declarations) where
     IsExpr kind (Two operation x y) = (k l : Kind) × IsBinary operation k l kind × IsExpr k x × IsExpr l y
     IsExpr kind (Short operation x y) = (kind ≡ Ordinal host.Boolean) × IsExpr (Ordinal host.Boolean) x × IsExpr (Ordinal host.Boolean) y
     IsExpr kind (Step down low high x y) = (h : Host) × (kind ≡ Ordinal h) × (low ≡ least h) × (high ≡ greatest h) × IsExpr (Ordinal h) x × IsExpr (Ordinal host.Integer) y
-    IsExpr kind (Function unit number given) =
-        (h : Host) × (kind ≡ Ordinal h) × (r : RoutineEntry) × (slice_get (declared.routines unit) number ≡ Some r) × IsFunction (declared.types unit) h r × AreGiven (declared.types unit) r.formals given
+    IsExpr kind (Function callee given) =
+        (h : Host) × (kind ≡ Ordinal h) × (r : RoutineEntry) × IsCallee declared callee r × IsFunction (declared.types callee.unit) h r × AreGiven (declared.types callee.unit) r.formals given
 
     -- What may be given for a formal parameter of a unit with these types: for a value parameter an expression of its host,
     -- and for a variable parameter a variable of its type.
@@ -199,8 +226,8 @@ module _ (declared : Declarations) where
     IsStmt (While line x s) = IsExpr (Ordinal host.Boolean) x × IsStmt s
     IsStmt (Repeat line ss x) = AreStmts ss × IsExpr (Ordinal host.Boolean) x
     IsStmt (For line c x y s) = ((h : Host) × IsControl h c × IsExpr (Ordinal h) x × IsExpr (Ordinal h) y) × IsStmt s
-    IsStmt (Procedure line unit number given) =
-        (r : RoutineEntry) × (slice_get (declared.routines unit) number ≡ Some r) × IsProcedure r × AreGiven (declared.types unit) r.formals given
+    IsStmt (Procedure line callee given) =
+        (r : RoutineEntry) × IsCallee declared callee r × IsProcedure r × AreGiven (declared.types callee.unit) r.formals given
     IsStmt (Case line x arms o) = ((h : Host) × IsExpr (Ordinal h) x × AreArms h arms) × IsOther o × AreApart (ranges_of arms)
     IsStmt (Halt line) = ⊤
     IsStmt (Write line items ends_line) = AreItems items × WritesSomething items ends_line
@@ -255,6 +282,19 @@ pub record IsVariable (types : List UnitType) (v : UnitVariable) : Type 0 where
 abbrev pub own_list : {A : Type 0} → List ℕ → List A → List ℕ → List A
 own_list name items unit = if bytes_eq name unit then items else []
 
+abbrev pub variables_in : Option UnitRoutine → List UnitVariable
+variables_in None = []
+variables_in (Some r) = variables_of r
+
+-- the routines of these numbers
+abbrev pub levels_of : List UnitRoutine → List ℕ → List Level
+levels_of routines [] = []
+levels_of routines (n ∷ ns) = record { number = n; variables = variables_in (slice_get routines n) } ∷ levels_of routines ns
+
+abbrev pub around_in : List UnitRoutine → Option UnitRoutine → List Level
+around_in routines None = []
+around_in routines (Some r) = levels_of routines r.around
+
 -- the declarations of one unit alone
 abbrev pub own : TypedUnit → Declarations
 own u =
@@ -263,9 +303,15 @@ own u =
       types = own_list u.name u.types;
       constants = own_list u.name u.constants;
       routines = own_list u.name (map heading_of u.routines);
-      routine_variables = [];
-      routine_types = [];
+      around = λ unit number. if bytes_eq u.name unit then around_in u.routines (slice_get u.routines number) else [];
+      levels = [];
+      routine_unit = u.name;
+      routine_types = u.types;
     }
+
+-- the same in the block of the routine of this number
+abbrev pub in_block : TypedUnit → ℕ → UnitRoutine → Declarations
+in_block u number r = in_routine (record { number = number; variables = variables_of r } ∷ levels_of u.routines r.around) (own u)
 
 -- a formal parameter of a valid denoter
 pub record IsFormal (types : List UnitType) (f : Formal) : Type 0 where
@@ -276,13 +322,18 @@ abbrev pub IsResult : List UnitType → Option RoutineResult → Type 0
 IsResult types None = ⊤
 IsResult types (Some r) = IsDenoter types (denoter_of r.denoter)
 
--- A routine under these declarations, of a unit with these types, which so far has no routines of its own.
-pub record IsRoutine (declared : Declarations) (types : List UnitType) (r : UnitRoutine) : Type 0 where
-  pub formals : All (IsFormal types) (out-UnitRoutine r).formals
-  pub result : IsResult types (out-UnitRoutine r).result
-  pub variables : All (IsVariable types) (out-UnitRoutine r).variables
-  pub routines : (out-UnitRoutine r).routines ≡ []
-  pub block : IsStmt (in_routine (variables_of r) types declared) (stmt_of (out-UnitRoutine r).block)
+-- The routines around one of this number: the innermost stands before it, and the others are those around that one.
+abbrev pub IsAround : List UnitRoutine → ℕ → List ℕ → Type 0
+IsAround routines number [] = ⊤
+IsAround routines number (n ∷ ns) = (n < number) × ((r : UnitRoutine) × (slice_get routines n ≡ Some r) × (r.around ≡ ns))
+
+-- The routine of this number of a unit: the one in which it is declared stands before it in the text.
+pub record IsRoutine (u : TypedUnit) (number : ℕ) (r : UnitRoutine) : Type 0 where
+  pub formals : All (IsFormal u.types) r.formals
+  pub result : IsResult u.types r.result
+  pub variables : All (IsVariable u.types) r.variables
+  pub around : IsAround u.routines number r.around
+  pub block : IsStmt (in_block u number r) (stmt_of r.block)
 
 -- a unit that names no other one, and so far has no interface and nothing to do when it is stopped
 pub record IsValid (u : TypedUnit) : Type 0 where
@@ -290,6 +341,6 @@ pub record IsValid (u : TypedUnit) : Type 0 where
   pub types : All (IsType u.types) u.types
   pub constants : All (IsConstant u.types) u.constants
   pub variables : All (IsVariable u.types) u.variables
-  pub routines : All (IsRoutine (own u) u.types) u.routines
+  pub routines : (number : ℕ) (r : UnitRoutine) → slice_get u.routines number ≡ Some r → IsRoutine u number r
   pub start : IsStmt (own u) (stmt_of u.start)
   pub stop : stmt_of u.stop ≡ Empty

@@ -10,6 +10,7 @@ use Rattle.ep_typed.specs.declared.denoter.Denoter.TheOpen.{Denoter-F}
 use Rattle.ep_typed.specs.declared.denoter.Denoter.TheFolds.{fold-Denoter}
 use Rattle.ep_typed.specs.declared.operations.Print.{Print}
 use Rattle.ep_typed.specs.declared.tree.Actual.{Actual}
+use Rattle.ep_typed.specs.declared.tree.Callee.{Callee}
 use Rattle.ep_typed.specs.declared.tree.TypedPlace.{TypedPlace}
 use Rattle.ep_typed.specs.declared.tree.TypedPlace.TheVariants.{Variable, Own, Standard}
 use Rattle.ep_typed.specs.declared.tree.TypedExpr.{TypedExpr}
@@ -38,8 +39,11 @@ denoter_of = fold-Denoter tree.Denoter denoter_step
 
 abbrev pub place_of : TypedPlace → tree.Place
 place_of (Variable unit number) = tree.Variable unit number
-place_of (Own number) = tree.Own number
+place_of (Own levels number) = tree.Own levels number
 place_of (Standard file) = tree.Standard file
+
+abbrev pub callee_of : Callee → tree.Callee
+callee_of c = record { unit = c.unit; number = c.number; levels = c.levels }
 
 abbrev pub expr_step : TypedExpr-F tree.Actual tree.Expr → tree.Expr
 expr_step (expr.Constant value) = tree.Constant value
@@ -49,7 +53,7 @@ expr_step (expr.Unary operation operand) = tree.One operation operand
 expr_step (expr.Binary operation left right) = tree.Two operation left right
 expr_step (expr.Short operation left right) = tree.Short operation left right
 expr_step (expr.Step down low high value count) = tree.Step down low high value count
-expr_step (expr.Function unit number given) = tree.Function unit number (tree.actuals given)
+expr_step (expr.Function callee given) = tree.Function (callee_of callee) (tree.actuals given)
 
 abbrev pub actual_step : Actual-F tree.Actual tree.Expr → tree.Actual
 actual_step (expr.Value value) = tree.Evaluated value
@@ -80,7 +84,7 @@ stmt_step (stmt.If line condition then_part else_part) = tree.If line (expr_of c
 stmt_step (stmt.While line condition body) = tree.While line (expr_of condition) body
 stmt_step (stmt.Repeat line body condition) = tree.Repeat line (tree.stmts body) (expr_of condition)
 stmt_step (stmt.For line control initial last body) = tree.For line (control_of control) (expr_of initial) (expr_of last) body
-stmt_step (stmt.Procedure line unit number given) = tree.Procedure line unit number (tree.actuals (map actual_of given))
+stmt_step (stmt.Procedure line callee given) = tree.Procedure line (callee_of callee) (tree.actuals (map actual_of given))
 stmt_step (stmt.Case line selector arms other) = tree.Case line (expr_of selector) (tree.arms arms) (tree.other other)
 stmt_step (stmt.Halt line) = tree.Halt line
 stmt_step (stmt.Write line items ends_line) = tree.Write line (map item_of items) ends_line

@@ -71,7 +71,7 @@ pub fn first_for(s: &TypedStmt) -> Option<Line>
         }
         TypedStmt::Empty
         | TypedStmt::Assign(_, _, _)
-        | TypedStmt::Procedure(_, _, _, _)
+        | TypedStmt::Procedure(_, _, _)
         | TypedStmt::Halt(_)
         | TypedStmt::Write(_, _, _) => None,
     }

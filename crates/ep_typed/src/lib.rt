@@ -29,8 +29,11 @@ pub use laws::{laws_of_denoters, laws_of_meanings};
 pub use nodes::unit_nodes;
 pub use operations::{Binary, Print, ShortOperation, Unary};
 pub use tree::{
-    Actual, Actuals, CaseArm, CaseArms, CaseRange, CaseRanges, ForControl, StandardFile, TypedExpr,
-    TypedExprs, TypedPlace, TypedStmt, TypedStmts, WriteItem, WriteItems,
+    Actual, Actuals, Callee, CaseArm, CaseArms, CaseRange, CaseRanges, ForControl, StandardFile,
+    TypedExpr, TypedExprs, TypedPlace, TypedStmt, TypedStmts, WriteItem, WriteItems,
 };
-pub use unit::{Unit, UnitRoutine, UnitRoutines, UnitType, UnitTypes, UnitVariable, UnitVariables};
+pub use unit::{
+    RoutineNumbers, Unit, UnitRoutine, UnitRoutines, UnitType, UnitTypes, UnitVariable,
+    UnitVariables,
+};
 pub use value::{TypeValue, Value};

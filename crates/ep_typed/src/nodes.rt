@@ -89,7 +89,6 @@ fn variable_of_unit(v: &UnitVariable) -> u64
         .saturating_add(expressions(v.tuple.items()))
 }
 
-#[cycle(routines)]
 fn routines(all: &[UnitRoutine]) -> u64
     ensures { result ≡ min (sum (map nodes.routine_nodes all.now)) u64.MAX }
 {
@@ -100,13 +99,11 @@ fn routines(all: &[UnitRoutine]) -> u64
     total
 }
 
-#[cycle(routines)]
 fn routine(r: &UnitRoutine) -> u64
     ensures { result ≡ min (nodes.routine_nodes r.now) u64.MAX }
 {
     heading(r.formals.items(), &r.result)
         .saturating_add(variables(r.variables.items()))
-        .saturating_add(routines(r.routines.items()))
         .saturating_add(statement(&r.block))
 }
 
@@ -157,7 +154,7 @@ fn statement(s: &TypedStmt) -> u64
 {
     match s {
         TypedStmt::Empty | TypedStmt::Halt(_) => 1,
-        TypedStmt::Procedure(_, _, _, given) => actuals(given.items()).saturating_add(1),
+        TypedStmt::Procedure(_, _, given) => actuals(given.items()).saturating_add(1),
         TypedStmt::Compound(all) => statements(all.items()).saturating_add(1),
         TypedStmt::Assign(_, p, value) => {
             place(p)
@@ -276,7 +273,7 @@ fn place(p: &TypedPlace) -> u64
     ensures { result ≡ nodes.place_nodes (place_of p.now) }
 {
     match p {
-        TypedPlace::Variable(_, _) | TypedPlace::Own(_) | TypedPlace::Standard(_) => 1,
+        TypedPlace::Variable(_, _) | TypedPlace::Own(_, _) | TypedPlace::Standard(_) => 1,
     }
 }
 
@@ -313,6 +310,6 @@ fn expression(x: &TypedExpr) -> u64
                 .saturating_add(expression(count.get()))
                 .saturating_add(1)
         }
-        TypedExpr::Function(_, _, given) => actuals(given.items()).saturating_add(1),
+        TypedExpr::Function(_, given) => actuals(given.items()).saturating_add(1),
     }
 }

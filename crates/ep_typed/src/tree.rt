@@ -16,8 +16,8 @@ pub enum StandardFile {
 pub enum TypedPlace {
     /// The variable of this number of the unit of this name.
     Variable(Name, u32),
-    /// The variable of this number of the routine in whose block it stands.
-    Own(u32),
+    /// A variable of a routine around the place, or of the one in whose block it stands: so many levels up, and its number.
+    Own(u32, u32),
     /// A standard file.
     Standard(StandardFile),
 }
@@ -26,9 +26,30 @@ impl Drop for TypedPlace {
     fn drop(self) {
         match self {
             TypedPlace::Variable(_, _) => {}
-            TypedPlace::Own(_) => {}
+            TypedPlace::Own(_, _) => {}
             TypedPlace::Standard(_) => {}
         }
+    }
+}
+
+/// A routine that is called.
+pub struct Callee {
+    /// Its unit.
+    pub unit: Name,
+    /// Its number in that unit.
+    pub number: u32,
+    /// 0 for a routine of the unit, and else one more than how many levels up from the routine of the call stands the one
+    /// in which it is declared.
+    pub levels: u32,
+}
+
+impl Drop for Callee {
+    fn drop(self) {
+        let Callee {
+            unit: _,
+            number: _,
+            levels: _,
+        } = self;
     }
 }
 
@@ -51,9 +72,8 @@ pub enum TypedExpr {
     /// `succ` and `pred` with a count, which the flag says is taken away: the value and the count, and the
     /// least and the greatest value of the host type.
     Step(bool, i64, i64, Boxed<TypedExpr>, Boxed<TypedExpr>),
-    /// A function designator: the unit and the number of the function, and what it is given for its parameters
-    /// (ISO 10206, 6.8.5).
-    Function(Name, u32, Actuals),
+    /// A function designator: the function, and what it is given for its parameters (ISO 10206, 6.8.5).
+    Function(Callee, Actuals),
 }
 
 /// An owned list of expressions.
@@ -155,9 +175,8 @@ pub enum TypedStmt {
     Repeat(Line, TypedStmts, Boxed<TypedExpr>),
     /// `for`: what it counts with, the initial and the final value, and the statement.
     For(Line, ForControl, Boxed<TypedExpr>, Boxed<TypedExpr>, Boxed<TypedStmt>),
-    /// A procedure statement: the unit and the number of the procedure, and what it is given for its parameters
-    /// (ISO 10206, 6.9.2.3).
-    Procedure(Line, Name, u32, Actuals),
+    /// A procedure statement: the procedure, and what it is given for its parameters (ISO 10206, 6.9.2.3).
+    Procedure(Line, Callee, Actuals),
     /// `case`: the selector, the arms in order, and the statements where no range of theirs has its value.
     Case(Line, Boxed<TypedExpr>, CaseArms, Option<TypedStmts>),
     /// `halt`

@@ -56,8 +56,10 @@ impl Drop for UnitVariable {
 /// The variables of a unit or a routine, by number.
 pub type UnitVariables = List<UnitVariable>;
 
-/// A procedure or a function of a unit (ISO 10206, 6.7.1 and 6.7.2).
-#[derive(Drop)]
+/// The numbers of routines in the list of their unit.
+pub type RoutineNumbers = List<u32>;
+
+/// A procedure or a function of a unit, or one that is declared in another one (ISO 10206, 6.7.1 and 6.7.2).
 pub struct UnitRoutine {
     /// Its name.
     pub name: Name,
@@ -69,13 +71,27 @@ pub struct UnitRoutine {
     pub result: Option<RoutineResult>,
     /// Its own variables.
     pub variables: UnitVariables,
-    /// The routines that are declared in it.
-    pub routines: UnitRoutines,
+    /// The routines around it, in the innermost of which it is declared, the innermost first. A routine of the unit has none.
+    pub around: RoutineNumbers,
     /// What it does.
     pub block: TypedStmt,
 }
 
-/// The routines of a unit or a routine, by number.
+impl Drop for UnitRoutine {
+    fn drop(self) {
+        let UnitRoutine {
+            name: _,
+            line: _,
+            formals: _,
+            result: _,
+            variables: _,
+            around: _,
+            block: _,
+        } = self;
+    }
+}
+
+/// The routines of a unit with those that are declared in them, by number, in the order of their headings in the text.
 pub type UnitRoutines = List<UnitRoutine>;
 
 /// A whole unit (ISO 10206, 6.11.1 and 6.12).
@@ -94,7 +110,7 @@ pub struct Unit {
     pub constants: ConstantEntries,
     /// Its variables, in the order in which they are made.
     pub variables: UnitVariables,
-    /// Its routines.
+    /// Its routines, and those that are declared in them.
     pub routines: UnitRoutines,
     /// What it does when it is started. For a program this is its block.
     pub start: TypedStmt,

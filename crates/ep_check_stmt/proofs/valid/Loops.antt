@@ -51,7 +51,7 @@ module _ (declared : Declarations) (scopes : List Region) (agrees : Agrees decla
 
   declared_fits : (locals : Locals) (d : Declared) (what : Declaration) → IsDeclaration declared agrees.0 d.unit d.number what → Fits IsVariable (declared_control locals d what)
   declared_fits locals d (declaration.Variable of k) x = if_fits (declares_variable locals d.unit) (record { place = tree.Variable d.unit d.number; kind = k }) (stored_fits (tree.Variable d.unit d.number) k x.0)
-  declared_fits locals d (declaration.Own of k guarded) x = if_fits (declares_own locals d.number) (record { place = tree.Own d.number; kind = k }) (stored_fits (tree.Own d.number) k x.0)
+  declared_fits locals d (declaration.Own of k guarded) x = if_fits (declares_own locals d.number) (record { place = tree.Own 0 d.number; kind = k }) (stored_fits (tree.Own 0 d.number) k x.0)
   declared_fits locals d (declaration.Constant k v) x = tt
   declared_fits locals d (declaration.«Type» of h) x = tt
   declared_fits locals d (declaration.Procedure parameters) x = tt

@@ -39,7 +39,7 @@ use Rattle.ep_scope.specs.declared.thing.Declaration.{Declaration}
 use Rattle.ep_scope.specs.declared.thing.Declaration.TheVariants as declaration
 use Rattle.ep_scope.specs.declared.thing.Declared.{Declared}
 use Rattle.ep_check_expr.specs.Agreement.{Agrees, AreActuals, IsDeclaration, IsFormOf, IsProcedureOf, IsStoredIn}
-use Rattle.ep_check_expr.specs.Arguments.{Taken, arguments_judged, given_to, unless_protected}
+use Rattle.ep_check_expr.specs.Arguments.{Taken, arguments_judged, callee_at, given_to, unless_protected}
 use Rattle.ep_check_expr.specs.Expressions.{given, judged, judged_value}
 use Rattle.ep_check_expr.specs.Functions.{Given}
 use Rattle.ep_check_expr.specs.Hosts.{typed_host}
@@ -133,14 +133,14 @@ module _ (declared : Declarations) (expressions : ExpressionsAreSound) (passed :
   function_fits d None there = tt
   function_fits d (Some r) there = go (has_result d r)
     where
-      go : (own : Bool) → Fits (λ (t : Target). IsTarget t.kind t.place) (if own then Accepts (record { place = tree.Own r.variable; kind = kind.Ordinal r.host }) else Breaks (rule.FUNCTION_ASSIGNED ∷ []))
+      go : (own : Bool) → Fits (λ (t : Target). IsTarget t.kind t.place) (if own then Accepts (record { place = tree.Own 0 r.variable; kind = kind.Ordinal r.host }) else Breaks (rule.FUNCTION_ASSIGNED ∷ []))
       go true = there.1
       go false = tt
 
   declared_fits : (result : Option FunctionResult) → ResultIsThere declared result → (d : Declared) (what : Declaration) → IsDeclaration declared agrees.0 d.unit d.number what → Fits (λ t. IsTarget t.kind t.place) (declared_target result d what)
   declared_fits result there d (declaration.Variable of k) x = variable_fits (tree.Variable d.unit d.number) k x.0
   declared_fits result there d (declaration.Own of k guarded) x =
-      fits_then Any (λ t. IsTarget t.kind t.place) (λ done. Accepts (record { place = tree.Own d.number; kind = k })) (unless_protected guarded) (fits_any (unless_protected guarded)) (λ a i. variable_fits (tree.Own d.number) k x.0)
+      fits_then Any (λ t. IsTarget t.kind t.place) (λ done. Accepts (record { place = tree.Own 0 d.number; kind = k })) (unless_protected guarded) (fits_any (unless_protected guarded)) (λ a i. variable_fits (tree.Own 0 d.number) k x.0)
   declared_fits result there d (declaration.Constant k v) x = tt
   declared_fits result there d (declaration.«Type» of h) x = tt
   declared_fits result there d (declaration.Procedure parameters) x = tt
@@ -345,7 +345,7 @@ module _ (declared : Declarations) (expressions : ExpressionsAreSound) (passed :
 
   -- a call of a procedure with arguments that are valid for its formal parameters
   call_form : (line : ℕ) (d : Declared) (parameters : List FormalParameter) (x : IsProcedureOf declared agrees.0 d.unit d.number parameters) (given : Option (List Actual))
-      → AreActuals declared (declared.types d.unit) x.0.formals given → IfForm (IsStmt declared) (option_map (λ xs. tree.Procedure line d.unit d.number (tree.actuals xs)) given)
+      → AreActuals declared (declared.types d.unit) x.0.formals given → IfForm (IsStmt declared) (option_map (λ xs. tree.Procedure line (callee_at d.unit d.number) (tree.actuals xs)) given)
   call_form line d parameters x None h = tt
   call_form line d parameters x (Some given) h = (x.0, x.1, x.2, h)
 
@@ -356,7 +356,7 @@ module _ (declared : Declarations) (expressions : ExpressionsAreSound) (passed :
       (fits_then IsTaken (IfForm (IsStmt declared)) form (arguments_judged parameters (map (given scopes) arguments)) taken (λ t h. call_form line d parameters x t.actuals h))
     where
       form : Taken → Judged (Option Stmt)
-      form t = Accepts (option_map (λ xs. tree.Procedure line d.unit d.number (tree.actuals xs)) t.actuals)
+      form t = Accepts (option_map (λ xs. tree.Procedure line (callee_at d.unit d.number) (tree.actuals xs)) t.actuals)
 
       -- what is given is valid for the formal parameters of the procedure
       IsTaken : Taken → Type 0

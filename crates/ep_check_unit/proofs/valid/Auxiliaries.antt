@@ -16,7 +16,7 @@ use Rattle.ep_check_stmt.specs.Statements.{OfUnit, OfRoutine}
 use Rattle.ep_check_unit.specs.Blocks.{Block, first_own, own_count}
 use Rattle.ep_check_unit.specs.Declarations.{is_outermost}
 use Rattle.ep_check_unit.specs.Routines.{locals_of}
-use Rattle.ep_check_unit.proofs.valid.Holds.{types_own, variables_own}
+use Rattle.ep_check_unit.proofs.valid.Holds.{one_level, types_own, variables_own}
 use Rattle.ep_check_unit.proofs.valid.Items.{own_length}
 use Rattle.ep_check_unit.proofs.valid.Leading.{variables_in}
 
@@ -33,12 +33,12 @@ second_behind : {A : Type 0} (xs : List A) (a b : A) → slice_get (xs ++ a ∷ 
 second_behind xs a b = ap (slice_get (xs ++ a ∷ b ∷ [])) {x = length xs + 1} {y = suc (length xs)} (omega arith) ∙ next_behind xs a b
 
 -- in a routine, whose scopes have others around them
-module _ (u : TypedUnit) (c : Block) (line at : ℕ) (called : List ℕ) where
+module _ (u : TypedUnit) (number : ℕ) (c : Block) (line at : ℕ) (called : List ℕ) where
   abbrev its_variables : List UnitVariable
   its_variables = variables_in line called c.own ++ auxiliary_variables (Some at)
 
   abbrev within : Declarations
-  within = in_routine its_variables u.types (own u)
+  within = in_routine (one_level number its_variables) (own u)
 
   many : length (variables_in line called c.own) ≡ own_count c.own
   many = own_length line called c.own.parameters c.own.result c.own.variables

@@ -24,13 +24,13 @@ use Rattle.ep_check_expr.specs.declared.constants.ConstantForm.{ConstantForm}
 use Rattle.ep_check_stmt.proofs.judged.Fits.{Any, Fits, fits_any, fits_both, fits_is, fits_then}
 use Rattle.ep_check_unit.specs.Declarations.{constant_definition, constant_entered, enumerated, host_denoter, own_thing, scopes_of, unused, with_constant}
 use Rattle.ep_check_unit.specs.Blocks.{Block}
-use Rattle.ep_check_unit.proofs.valid.Holds.{Holds, Lists, ListsKind, constant_valid, holds_agrees, known_listed, lists_small, things_push}
-use Rattle.ep_check_unit.proofs.valid.Leading.{Grows, Leads, Enters, enters_refl, enters_then, heading_in, length_push, noted_leads, prefix_length, prefix_more, prefix_refl}
+use Rattle.ep_check_unit.proofs.valid.Holds.{Holds, Lists, ListsKind, constant_valid, holds_agrees, known_listed, lists_small, one_level, things_push}
+use Rattle.ep_check_unit.proofs.valid.Leading.{Grows, Leads, Enters, enters_refl, enters_then, head_in, length_push, noted_leads, prefix_length, prefix_more, prefix_refl}
 
 constant_grows : (name : List ℕ) (k : Kind) (v : Value) (b : Block) → Grows b (with_constant name k v b)
-constant_grows name (kind.Ordinal h) v b = record { types = prefix_refl b.types; constants = prefix_more b.constants _; variables = prefix_refl b.variables; own = prefix_refl b.own.variables; parameters = refl; result = refl; outer = refl; alone = λ e. refl; headings = prefix_refl (map heading_in b.routines); waits = λ w. w }
-constant_grows name kind.Text v b = record { types = prefix_refl b.types; constants = prefix_refl b.constants; variables = prefix_refl b.variables; own = prefix_refl b.own.variables; parameters = refl; result = refl; outer = refl; alone = λ e. refl; headings = prefix_refl (map heading_in b.routines); waits = λ w. w }
-constant_grows name kind.File v b = record { types = prefix_refl b.types; constants = prefix_refl b.constants; variables = prefix_refl b.variables; own = prefix_refl b.own.variables; parameters = refl; result = refl; outer = refl; alone = λ e. refl; headings = prefix_refl (map heading_in b.routines); waits = λ w. w }
+constant_grows name (kind.Ordinal h) v b = record { types = prefix_refl b.types; constants = prefix_more b.constants _; variables = prefix_refl b.variables; own = prefix_refl b.own.variables; parameters = refl; result = refl; outer = refl; alone = λ e. refl; headings = prefix_refl (map head_in b.routines); waits = λ w. w }
+constant_grows name kind.Text v b = record { types = prefix_refl b.types; constants = prefix_refl b.constants; variables = prefix_refl b.variables; own = prefix_refl b.own.variables; parameters = refl; result = refl; outer = refl; alone = λ e. refl; headings = prefix_refl (map head_in b.routines); waits = λ w. w }
+constant_grows name kind.File v b = record { types = prefix_refl b.types; constants = prefix_refl b.constants; variables = prefix_refl b.variables; own = prefix_refl b.own.variables; parameters = refl; result = refl; outer = refl; alone = λ e. refl; headings = prefix_refl (map head_in b.routines); waits = λ w. w }
 
 constant_types : (name : List ℕ) (k : Kind) (v : Value) (b : Block) → (with_constant name k v b).types ≡ b.types
 constant_types name (kind.Ordinal h) v b = refl
@@ -79,7 +79,7 @@ module _ (u : TypedUnit) (o : List UnitVariable) where
         let le : length b.types ≤ length u.types = prefix_length b.types u.types (subst (λ ts. IsPrefix ts u.types) (constant_types d.name form.kind form.value b) ext.types) in
         subst (λ ts. Holds u o (length ts) (with_constant d.name form.kind form.value b)) (sym (constant_types d.name form.kind form.value b))
         (constant_holds (length b.types) d.name form.kind form.value b le
-        (sound (scopes_of b) d.value form e (in_routine o u.types (own u)) (holds_agrees u o (length b.types) b le x))
+        (sound (scopes_of b) d.value form e (in_routine (one_level 0 o) (own u)) (holds_agrees u o 0 (length b.types) b le x))
         (known_listed u o (length b.types) b form.kind x (known (scopes_of b) d.value form e)) x);
   }
 

@@ -7,7 +7,7 @@ use Rattle.ep_typed.specs.Denoters.{definition_of, host_of, type_of}
 use Rattle.ep_typed.specs.Hosts as typed
 use Rattle.ep_typed.specs.Hosts.{is_of_host}
 use Rattle.ep_typed.specs.Trees as tree
-use Rattle.ep_typed.specs.Valid.{IsConstant, IsDenoter, IsFormal, IsFunction, IsPlace, IsProcedure, IsResult, IsStmt, IsType, IsVariable, formal_variable, heading_of, in_routine, own}
+use Rattle.ep_typed.specs.Valid.{IsCallee, IsConstant, IsDenoter, IsFormal, IsFunction, IsPlace, IsProcedure, IsResult, IsStmt, IsType, IsVariable, Level, around_in, formal_variable, heading_of, in_routine, levels_of, own, variables_at}
 use Rattle.ep_typed.specs.Auxiliaries.{auxiliary_variables, first_for}
 use Rattle.ep_typed.specs.Routines.{result_variable, unit_variables}
 use Rattle.ep_typed.specs.Viewed.{bound_of, denoter_of, denoter_step, stmt_of}
@@ -20,6 +20,7 @@ use Rattle.ep_typed.specs.declared.denoter.RequiredType.{RequiredType}
 use Rattle.ep_typed.specs.declared.denoter.RequiredType.TheVariants as simple
 use Rattle.ep_typed.specs.declared.interface.RoutineEntry.{RoutineEntry}
 use Rattle.ep_typed.specs.declared.unit.Unit.{Unit as TypedUnit}
+use Rattle.ep_typed.specs.declared.unit.UnitRoutine.{UnitRoutine}
 use Rattle.ep_typed.specs.declared.unit.UnitType.{UnitType}
 use Rattle.ep_typed.specs.declared.unit.UnitVariable.{UnitVariable}
 use Rattle.ep_typed.specs.declared.value.TypeValue.{TypeValue}
@@ -38,6 +39,7 @@ use Rattle.ep_scope.specs.declared.thing.Declaration.TheVariants as declaration
 use Rattle.ep_scope.specs.declared.thing.Thing.{Thing}
 use Rattle.ep_scope.specs.declared.thing.Thing.TheVariants as thing
 use Rattle.ep_check_expr.specs.Agreement.{Agrees, AgreesBy, AreInterfaces, AreParameters, AreThings, IsConstantOf, IsDeclaration, IsHost, IsOfType, IsThing, TypeValues}
+use Rattle.ep_check_expr.specs.Arguments.{callee_at}
 use Rattle.ep_check_expr.specs.Hosts.{typed_host}
 use Rattle.ep_check_expr.specs.Origins.{IsKnownHost, IsKnownKind, IsRequiredHost, HasHost, DeclaresHost, ThingHasHost, EntriesHaveHost, InterfacesHaveHost, ScopesHaveHost}
 use Rattle.ep_check_unit.specs.Declarations.{host_denoter, scopes_of, type_denoter}
@@ -77,6 +79,37 @@ slice_get-front : {A : Type 0} (xs ys : List A) (n : ℕ) (x : A) → slice_get 
 slice_get-front [] ys n x e = cc
 slice_get-front (y ∷ xs) ys zero x e = e
 slice_get-front (y ∷ xs) ys (suc n) x e = slice_get-front xs ys n x e
+
+-- ---- routines by their headings
+
+-- the heading of a routine, and the routines around it
+abbrev pub Head : Type 0
+Head = RoutineEntry × List ℕ
+
+abbrev pub head_of : UnitRoutine → Head
+head_of r = (heading_of r, r.around)
+
+-- the heading alone
+heading_there : (rs : List UnitRoutine) (n : ℕ) (e : RoutineEntry) (around : List ℕ) → slice_get (map head_of rs) n ≡ Some (e, around) → slice_get (map heading_of rs) n ≡ Some e
+heading_there [] n e around at = cc
+heading_there (r ∷ rs) zero e around at = let same : head_of r ≡ (e, around) = cc in ap (λ (h : Head). Some h.0) same
+heading_there (r ∷ rs) (suc n) e around at = heading_there rs n e around at
+
+-- a routine with none around it
+none_around : (all rs : List UnitRoutine) (n : ℕ) (e : RoutineEntry) → slice_get (map head_of rs) n ≡ Some (e, []) → around_in all (slice_get rs n) ≡ []
+none_around all [] n e at = cc
+none_around all (r ∷ rs) zero e at = let same : head_of r ≡ (e, []) = cc in ap (λ (h : Head). levels_of all h.1) same
+none_around all (r ∷ rs) (suc n) e at = none_around all rs n e at
+
+-- ---- levels
+
+-- the routine of this number, with these variables and none around it
+abbrev pub one_level : ℕ → List UnitVariable → List Level
+one_level number variables = record { number = number; variables = variables } ∷ []
+
+-- the variables of the innermost routine
+abbrev pub innermost : List Level → List UnitVariable
+innermost levels = variables_at (slice_get levels 0)
 
 module _ (u : TypedUnit) where
   -- ---- hosts
@@ -180,18 +213,18 @@ module _ (u : TypedUnit) where
     pub lists : Lists i p.host
     pub denotes : HasHostHere i (named_tree p.of) p.host
 
-  -- the routine of this number is a procedure with these formal parameters
+  -- the routine of this number is a procedure with these formal parameters, and there is none around it
   pub record HoldsProcedure (i number : ℕ) (ps : List FormalParameter) : Type 0 where
     pub heading : RoutineEntry
-    pub at : slice_get (map heading_of u.routines) number ≡ Some heading
+    pub at : slice_get (map head_of u.routines) number ≡ Some (heading, [])
     pub is_procedure : IsProcedure heading
     pub formals : heading.formals ≡ map formal_of ps
     pub parameters : All (HoldsParameter i) ps
 
-  -- the routine of this number is a function with these formal parameters, whose result has this type
+  -- the routine of this number is a function with these formal parameters, whose result has this type, and there is no routine around it
   pub record HoldsFunction (i number : ℕ) (ps : List FormalParameter) (of : TypeName) (h : Host) : Type 0 where
     pub heading : RoutineEntry
-    pub at : slice_get (map heading_of u.routines) number ≡ Some heading
+    pub at : slice_get (map head_of u.routines) number ≡ Some (heading, [])
     pub name : Option (List ℕ)
     pub result : heading.result ≡ Some (record { name = name; denoter = type_denoter of })
     pub formals : heading.formals ≡ map formal_of ps
@@ -199,13 +232,17 @@ module _ (u : TypedUnit) where
     pub lists : Lists i h
     pub denotes : HasHostHere i (named_tree of) h
 
-  -- The routine has no routines of its own. Its formal parameters, its result and its variables are valid, and so is what it does with them.
-  pub record HoldsRoutine (r : RoutineForm) : Type 0 where
+  -- There is none around the routine of this number. Its formal parameters, its result and its variables are valid, and so is what it does with them.
+  pub record HoldsRoutine (number : ℕ) (r : RoutineForm) : Type 0 where
     pub result : IsResult u.types r.result
-    pub alone : r.routines ≡ []
+    pub alone : r.around ≡ []
     pub formals : All (IsFormal u.types) r.formals
     pub variables : All (IsVariable u.types) r.variables
-    pub block : IsStmt (in_routine (map (formal_variable r.line) r.formals ++ (result_variable r.name r.line r.result ++ (r.variables ++ auxiliary_variables (first_for r.block)))) u.types (own u)) r.block
+    pub block : IsStmt (in_routine (one_level number (map (formal_variable r.line) r.formals ++ (result_variable r.name r.line r.result ++ (r.variables ++ auxiliary_variables (first_for r.block))))) (own u)) r.block
+
+  -- each of these, by its place
+  abbrev pub HoldsRoutines : List RoutineForm → Type 0
+  HoldsRoutines rs = (number : ℕ) (r : RoutineForm) → slice_get rs number ≡ Some r → HoldsRoutine number r
 
   -- the result of the function under way has a type, and its variable comes behind these formal parameters
   pub record HoldsOwnResult (i : ℕ) (ps : List FormalParameter) (r : OwnResult) : Type 0 where
@@ -300,8 +337,8 @@ module _ (u : TypedUnit) where
   variable_place i number unit of h le e x =
       (x.variable, declared_own unit number x.variable e x.at, ap (λ ts. host_of ts (denoter_of x.variable.denoter)) (types_own unit e) ∙ x.denotes.1.has_host (suc (length u.types)) (omega (arith, le)))
 
-  pub own_place : (o : List UnitVariable) (i number : ℕ) (of : TypeName) (h : Host) → i ≤ length u.types → HoldsOwn o i number of h → IsPlace (in_routine o u.types (own u)) (typed_host h) (tree.Own number)
-  own_place o i number of h le x = (x.variable, x.at, x.denotes.1.has_host (suc (length u.types)) (omega (arith, le)))
+  pub own_place : (levels : List Level) (i number : ℕ) (of : TypeName) (h : Host) → i ≤ length u.types → HoldsOwn (innermost levels) i number of h → IsPlace (in_routine levels (own u)) (typed_host h) (tree.Own 0 number)
+  own_place levels i number of h le x = (x.variable, x.at, x.denotes.1.has_host (suc (length u.types)) (omega (arith, le)))
 
   -- it has its type
   variable_typed : (i number : ℕ) (unit : List ℕ) (of : TypeName) (h : Host) → i ≤ length u.types → unit ≡ u.name → HoldsVariable i number of h → IsOfType (own u) type_values (tree.Variable unit number) of
@@ -311,8 +348,8 @@ module _ (u : TypedUnit) where
     (x.variable, declared_own unit number x.variable e x.at, ap (λ ts. type_of ts (denoter_of x.variable.denoter)) (types_own unit e) ∙ x.denotes.1.has_type (suc (length u.types)) (omega (arith, le))),
   )
 
-  own_typed : (o : List UnitVariable) (i number : ℕ) (of : TypeName) (h : Host) → i ≤ length u.types → HoldsOwn o i number of h → IsOfType (in_routine o u.types (own u)) type_values (tree.Own number) of
-  own_typed o i number of h le x = (
+  own_typed : (levels : List Level) (i number : ℕ) (of : TypeName) (h : Host) → i ≤ length u.types → HoldsOwn (innermost levels) i number of h → IsOfType (in_routine levels (own u)) type_values (tree.Own 0 number) of
+  own_typed levels i number of h le x = (
     x.denotes.0,
     x.denotes.2.has_type (suc (length u.types)) (omega (arith, le)),
     (x.variable, x.at, x.denotes.1.has_type (suc (length u.types)) (omega (arith, le))),
@@ -320,6 +357,16 @@ module _ (u : TypedUnit) where
 
   routines_own : (unit : List ℕ) → unit ≡ u.name → (own u).routines unit ≡ map heading_of u.routines
   routines_own unit e = ap (λ b. if b then map heading_of u.routines else []) (name_same u.name unit (sym e))
+
+  around_own : (unit : List ℕ) (number : ℕ) → unit ≡ u.name → (own u).around unit number ≡ around_in u.routines (slice_get u.routines number)
+  around_own unit number e = ap (λ b. if b then around_in u.routines (slice_get u.routines number) else []) (name_same u.name unit (sym e))
+
+  -- a routine that is held is called
+  callee_own : (levels : List Level) (number : ℕ) (unit : List ℕ) (heading : RoutineEntry) → unit ≡ u.name → slice_get (map head_of u.routines) number ≡ Some (heading, []) → IsCallee (in_routine levels (own u)) (callee_at unit number) heading
+  callee_own levels number unit heading e at = record {
+    there = ap (λ rs. slice_get rs number) (routines_own unit e) ∙ heading_there u.routines number heading [] at;
+    declared_up = around_own unit number e ∙ none_around u.routines u.routines number heading at;
+  }
 
   -- ---- hosts that are known are listed
 
@@ -424,30 +471,26 @@ module _ (u : TypedUnit) (o : List UnitVariable) where
 
 -- ---- declarations hold what the scopes declare
 
--- The types of the unit are those of the routine, where it has variables.
-module _ (u : TypedUnit) (o : List UnitVariable) (ts : List UnitType) (there : (k : ℕ) (v : UnitVariable) → slice_get o k ≡ Some v → ts ≡ u.types) where
-  declared_holds : (i number : ℕ) (unit : List ℕ) (d : Declaration) → i ≤ length u.types → unit ≡ u.name → HoldsDeclaration u o i number d → IsDeclaration (in_routine o ts (own u)) (type_values u) unit number d
+-- in the block of the innermost routine of these levels
+module _ (u : TypedUnit) (levels : List Level) where
+  declared_holds : (i number : ℕ) (unit : List ℕ) (d : Declaration) → i ≤ length u.types → unit ≡ u.name → HoldsDeclaration u (innermost levels) i number d → IsDeclaration (in_routine levels (own u)) (type_values u) unit number d
   declared_holds i number unit (declaration.Constant k v) le e x = x.0
   declared_holds i number unit (declaration.«Type» of h) le e x = lists_small u i h x.lists
   declared_holds i number unit (declaration.Variable of (kind.Ordinal h)) le e x = ((lists_small u i h x.lists, variable_place u i number unit of h le e x), variable_typed u i number unit of h le e x)
   declared_holds i number unit (declaration.Variable of kind.Text) le e x = absurd x
   declared_holds i number unit (declaration.Variable of kind.File) le e x = absurd x
-  declared_holds i number unit (declaration.Own of (kind.Ordinal h) guarded) le e x =
-      let here : u.types ≡ ts = sym (there number x.variable x.at) in (
-        (lists_small u i h x.lists, subst (λ types. IsPlace (in_routine o types (own u)) (typed_host h) (tree.Own number)) here (own_place u o i number of h le x)),
-        subst (λ types. IsOfType (in_routine o types (own u)) (type_values u) (tree.Own number) of) here (own_typed u o i number of h le x),
-      )
+  declared_holds i number unit (declaration.Own of (kind.Ordinal h) guarded) le e x = ((lists_small u i h x.lists, own_place u levels i number of h le x), own_typed u levels i number of h le x)
   declared_holds i number unit (declaration.Own of kind.Text guarded) le e x = absurd x
   declared_holds i number unit (declaration.Own of kind.File guarded) le e x = absurd x
   declared_holds i number unit (declaration.Procedure ps) le e x = (
     x.heading,
-    ap (λ rs. slice_get rs number) (routines_own u unit e) ∙ x.at,
+    callee_own u levels number unit x.heading e x.at,
     x.is_procedure,
     subst (λ types. AreParameters (type_values u) types ps x.heading.formals) (sym (types_own u unit e)) (subst (AreParameters (type_values u) u.types ps) (sym x.formals) (parameters_hold u i ps le x.parameters)),
   )
   declared_holds i number unit (declaration.Function ps of h) le e x = (
     x.heading,
-    ap (λ rs. slice_get rs number) (routines_own u unit e) ∙ x.at,
+    callee_own u levels number unit x.heading e x.at,
     subst (λ types. IsFunction types (typed_host h) x.heading) (sym (types_own u unit e)) (record {
       result = record { name = x.name; denoter = type_denoter of };
       has_result = x.result;
@@ -457,17 +500,17 @@ module _ (u : TypedUnit) (o : List UnitVariable) (ts : List UnitType) (there : (
     subst (λ types. AreParameters (type_values u) types ps x.heading.formals) (sym (types_own u unit e)) (subst (AreParameters (type_values u) u.types ps) (sym x.formals) (parameters_hold u i ps le x.parameters)),
   )
 
-  thing_holds : (i : ℕ) (t : Thing) → i ≤ length u.types → HoldsThing u o i t → IsThing (in_routine o ts (own u)) (type_values u) t
+  thing_holds : (i : ℕ) (t : Thing) → i ≤ length u.types → HoldsThing u (innermost levels) i t → IsThing (in_routine levels (own u)) (type_values u) t
   thing_holds i (thing.Declared d) le x = declared_holds i d.number d.unit d.what le x.0 x.1
   thing_holds i (thing.Standard file) le x = tt
 
-  things_hold : (i : ℕ) (es : Entries) → i ≤ length u.types → HoldsThings u o i es → AreThings (in_routine o ts (own u)) (type_values u) es
+  things_hold : (i : ℕ) (es : Entries) → i ≤ length u.types → HoldsThings u (innermost levels) i es → AreThings (in_routine levels (own u)) (type_values u) es
   things_hold i [] le x = tt
   things_hold i (e ∷ es) le x = (thing_holds i e.1 le x.0, things_hold i es le x.1)
 
-  pub scopes_hold : (i : ℕ) (rs : List Region) → i ≤ length u.types → HoldsScopes u o i rs → AgreesBy (in_routine o ts (own u)) (type_values u) rs
+  pub scopes_hold : (i : ℕ) (rs : List Region) → i ≤ length u.types → HoldsScopes u (innermost levels) i rs → AgreesBy (in_routine levels (own u)) (type_values u) rs
   scopes_hold i [] le x = tt
-  scopes_hold i (r ∷ rs) le x = (things_hold i r.entries le x.0, subst (AreInterfaces (in_routine o ts (own u)) (type_values u)) (sym x.1) tt, scopes_hold i rs le x.2)
+  scopes_hold i (r ∷ rs) le x = (things_hold i r.entries le x.0, subst (AreInterfaces (in_routine levels (own u)) (type_values u)) (sym x.1) tt, scopes_hold i rs le x.2)
 
 -- ---- what holds outside of routines holds in them too
 
@@ -516,7 +559,7 @@ module _ (u : TypedUnit) (o : List UnitVariable) where
     pub parameters : All (HoldsParameter u i) b.own.parameters
     pub result : HoldsResult u i b.own.parameters b.own.result
     pub owned : All (IsVariable u.types) b.own.variables
-    pub routines : All (HoldsRoutine u) b.routines
+    pub routines : HoldsRoutines u b.routines
 
   pub holds_more : (i j : ℕ) (b : Block) → i ≤ j → Holds i b → Holds j b
   holds_more i j b le x = record { unit = x.unit; things = things_more u o i j b.scopes.inner.entries le x.things; plain = x.plain; outer = scopes_more u [] i j b.scopes.outer le x.outer; routines = x.routines; types = x.types; constants = x.constants; variables = x.variables; parameters = parameters_more u i j b.own.parameters le x.parameters; result = result_more u i j b.own.parameters b.own.result le x.result; owned = x.owned }
@@ -525,9 +568,9 @@ module _ (u : TypedUnit) (o : List UnitVariable) where
   pub holds_scopes : (i : ℕ) (b : Block) → Holds i b → HoldsScopes u o i (scopes_of b)
   holds_scopes i b x = (x.things, x.plain, scopes_wider u o i b.scopes.outer x.outer)
 
-  -- so the declarations of the unit, in the block of the routine, hold what the scopes declare
-  pub holds_agrees : (i : ℕ) (b : Block) → i ≤ length u.types → Holds i b → Agrees (in_routine o u.types (own u)) (scopes_of b)
-  holds_agrees i b le x = (type_values u, scopes_hold u o u.types (λ k v e. refl) i (scopes_of b) le (holds_scopes i b x))
+  -- so the declarations of the unit, in the block of the routine, whatever its number, hold what the scopes declare
+  pub holds_agrees : (number i : ℕ) (b : Block) → i ≤ length u.types → Holds i b → Agrees (in_routine (one_level number o) (own u)) (scopes_of b)
+  holds_agrees number i b le x = (type_values u, scopes_hold u (one_level number o) i (scopes_of b) le (holds_scopes i b x))
 
   host_listed : (i : ℕ) (b : Block) (h : Host) → Holds i b → IsKnownHost (scopes_of b) h → Lists u i h
   host_listed i b h x (inl r) = required_listed u i h r
@@ -541,4 +584,4 @@ module _ (u : TypedUnit) (o : List UnitVariable) where
 
 -- the declarations of the unit alone do so outside of routines
 pub holds_agrees_outside : (u : TypedUnit) (i : ℕ) (b : Block) → i ≤ length u.types → Holds u [] i b → Agrees (own u) (scopes_of b)
-holds_agrees_outside u i b le x = (type_values u, scopes_hold u [] [] (λ k v e. cc) i (scopes_of b) le (holds_scopes u [] i b x))
+holds_agrees_outside u i b le x = (type_values u, scopes_hold u [] i (scopes_of b) le (holds_scopes u [] i b x))

@@ -38,7 +38,7 @@ use Rattle.ep_check_unit.specs.declared.block.OwnVariables.{OwnVariables}
 use Rattle.ep_check_unit.proofs.valid.Constants.{constant_definition-leads}
 use Rattle.ep_check_unit.proofs.valid.Denoting.{Denotes, denotes_named, denotes_valid}
 use Rattle.ep_check_unit.proofs.valid.Holds.{HasTypeHere, Holds, Lists, named_is, things_push}
-use Rattle.ep_check_unit.proofs.valid.Leading.{Enters, Extends, Grows, Leads, enters_refl, enters_then, entered_leads, extends_before, grows_refl, grows_trans, heading_in, leads_refl, leads_then, leads_trans, length_push, named_holds, prefix_last, prefix_length, prefix_more, prefix_refl, result_in, variables_in}
+use Rattle.ep_check_unit.proofs.valid.Leading.{Enters, Extends, Grows, Leads, enters_refl, enters_then, entered_leads, extends_before, grows_refl, grows_trans, head_in, leads_refl, leads_then, leads_trans, length_push, named_holds, prefix_last, prefix_length, prefix_more, prefix_refl, result_in, variables_in}
 use Rattle.ep_check_unit.proofs.valid.Types.{IsNext, Names, Writes, core_written-writes, type_named-names}
 
 -- the entry of a type that is added
@@ -98,7 +98,7 @@ module _ (u : TypedUnit) (o : List UnitVariable) where
   with_entry_of name line w = record { denoter = denoter.Named (length w.block.types) []; of = w.of; host = w.host; block = with_type name line w.denoter w.block }
 
   type_grows : (name : Option (List ℕ)) (line : ℕ) (d : Denoter) (b : Block) → Grows b (with_type name line d b)
-  type_grows name line d b = record { types = prefix_more b.types _; constants = prefix_refl b.constants; variables = prefix_refl b.variables; own = prefix_refl b.own.variables; parameters = refl; result = refl; outer = refl; alone = λ e. refl; headings = prefix_refl (map heading_in b.routines); waits = λ w. w }
+  type_grows name line d b = record { types = prefix_more b.types _; constants = prefix_refl b.constants; variables = prefix_refl b.variables; own = prefix_refl b.own.variables; parameters = refl; result = refl; outer = refl; alone = λ e. refl; headings = prefix_refl (map head_in b.routines); waits = λ w. w }
 
   pub written_settles : (name : Option (List ℕ)) (line : ℕ) (b : Block) (w : Written) → Writes u o b w → Settles b (with_entry_of name line w)
   written_settles name line b w wr = record {
@@ -144,7 +144,7 @@ module _ (u : TypedUnit) (o : List UnitVariable) where
       let t = own_thing w.block (length w.block.types) (declaration.«Type» w.of w.host) in
       fits_then Any (Leads u o b) (λ _. Accepts (with_name d.name t c)) (unused d.name c) (fits_any (unused d.name c))
       (λ a k. record {
-        grows = grows_trans b c (with_name d.name t c) s.grows (record { types = prefix_refl c.types; constants = prefix_refl c.constants; variables = prefix_refl c.variables; own = prefix_refl c.own.variables; parameters = refl; result = refl; outer = refl; alone = λ e. refl; headings = prefix_refl (map heading_in c.routines); waits = λ free. free });
+        grows = grows_trans b c (with_name d.name t c) s.grows (record { types = prefix_refl c.types; constants = prefix_refl c.constants; variables = prefix_refl c.variables; own = prefix_refl c.own.variables; parameters = refl; result = refl; outer = refl; alone = λ e. refl; headings = prefix_refl (map head_in c.routines); waits = λ free. free });
         holds = λ ext free x.
             let y = s.holds (record { types = ext.types; constants = ext.constants; variables = ext.variables; line = ext.line; name = ext.name; own = ext.own; headings = ext.headings }) free x in
             named_holds u o (length c.types) d.name t c (
@@ -225,7 +225,7 @@ module _ (u : TypedUnit) (o : List UnitVariable) where
         let t = own_thing b (length b.variables) (declaration.Variable of (kind.Ordinal h)) in
         let v = new_variable line d name b in
         record {
-          grows = record { types = prefix_refl b.types; constants = prefix_refl b.constants; variables = prefix_more b.variables (v ∷ []); own = prefix_refl b.own.variables; parameters = refl; result = refl; outer = refl; alone = λ e. refl; headings = prefix_refl (map heading_in b.routines); waits = λ free. free };
+          grows = record { types = prefix_refl b.types; constants = prefix_refl b.constants; variables = prefix_more b.variables (v ∷ []); own = prefix_refl b.own.variables; parameters = refl; result = refl; outer = refl; alone = λ e. refl; headings = prefix_refl (map head_in b.routines); waits = λ free. free };
           same = refl;
           holds = λ p ext x. record {
             unit = x.unit;
@@ -248,7 +248,7 @@ module _ (u : TypedUnit) (o : List UnitVariable) where
         let t = own_thing b (own_count b.own) (declaration.Own of (kind.Ordinal h) protection.Unprotected) in
         let v = new_variable line d name b in
         record {
-          grows = record { types = prefix_refl b.types; constants = prefix_refl b.constants; variables = prefix_refl b.variables; own = prefix_more b.own.variables (v ∷ []); parameters = refl; result = refl; outer = refl; alone = λ e. absurd (inner_has_outer b.scopes.outer inside e); headings = prefix_refl (map heading_in b.routines); waits = λ free. free };
+          grows = record { types = prefix_refl b.types; constants = prefix_refl b.constants; variables = prefix_refl b.variables; own = prefix_more b.own.variables (v ∷ []); parameters = refl; result = refl; outer = refl; alone = λ e. absurd (inner_has_outer b.scopes.outer inside e); headings = prefix_refl (map head_in b.routines); waits = λ free. free };
           same = refl;
           holds = λ p ext x. record {
             unit = x.unit;

@@ -3,8 +3,7 @@ use Rattle.std.proofs.Common.{◌≡◌, ℕ, suc, ◌≤◌, Bool, true, false,
 use Rattle.std.proofs.lemmas.List.{length-append}
 use Rattle.std.specs.Option.{option_or}
 use Rattle.ep_outside.specs.Known.{IsPrefix}
-use Rattle.ep_typed.specs.Valid.{formal_variable, heading_of}
-use Rattle.ep_typed.specs.declared.interface.RoutineEntry.{RoutineEntry}
+use Rattle.ep_typed.specs.Valid.{formal_variable}
 use Rattle.ep_typed.specs.declared.unit.Unit.{Unit as TypedUnit}
 use Rattle.ep_typed.specs.declared.unit.UnitVariable.{UnitVariable}
 use Rattle.ep_scope.specs.declared.thing.Thing.{Thing}
@@ -15,7 +14,7 @@ use Rattle.ep_check_unit.specs.Routines.{formal_of}
 use Rattle.ep_check_unit.specs.Blocks.{Block, RoutineForm}
 use Rattle.ep_check_unit.specs.declared.block.OwnResult.{OwnResult}
 use Rattle.ep_check_unit.specs.declared.block.OwnVariables.{OwnVariables}
-use Rattle.ep_check_unit.proofs.valid.Holds.{Holds, HoldsThing, things_push}
+use Rattle.ep_check_unit.proofs.valid.Holds.{Head, Holds, HoldsThing, head_of, things_push}
 
 -- ---- lists that grow
 
@@ -49,9 +48,9 @@ length_push xs y = omega (arith, length-append xs (y ∷ []))
 prefix_front : {A : Type 0} (front xs ys : List A) → IsPrefix xs ys → IsPrefix (front ++ xs) (front ++ ys)
 prefix_front front xs ys p = record { rest = p.rest; is = ap (λ l. front ++ l) p.is ∙ sym (append_assoc front xs p.rest) }
 
--- the heading of a routine
-abbrev pub heading_in : RoutineForm → RoutineEntry
-heading_in r = record { name = r.name; formals = r.formals; result = r.result }
+-- the heading of a routine, and the routines around it
+abbrev pub head_in : RoutineForm → Head
+head_in r = (record { name = r.name; formals = r.formals; result = r.result }, r.around)
 
 -- the variable of this name that has the result of a function, which is declared on this line
 abbrev pub result_in : ℕ → List ℕ → Option OwnResult → List UnitVariable
@@ -81,12 +80,12 @@ pub record Grows (b c : Block) : Type 0 where
   pub outer : c.scopes.outer ≡ b.scopes.outer
   -- outside of routines no variable of a routine is added
   pub alone : b.scopes.outer ≡ [] → c.own ≡ b.own
-  -- a heading stays as it is
-  pub headings : IsPrefix (map heading_in b.routines) (map heading_in c.routines)
+  -- a heading stays as it is, and so does what is around its routine
+  pub headings : IsPrefix (map head_in b.routines) (map head_in c.routines)
   pub waits : c.waits ≡ None → b.waits ≡ None
 
 pub grows_refl : (b : Block) → Grows b b
-grows_refl b = record { types = prefix_refl b.types; constants = prefix_refl b.constants; variables = prefix_refl b.variables; own = prefix_refl b.own.variables; parameters = refl; result = refl; outer = refl; alone = λ e. refl; headings = prefix_refl (map heading_in b.routines); waits = λ w. w }
+grows_refl b = record { types = prefix_refl b.types; constants = prefix_refl b.constants; variables = prefix_refl b.variables; own = prefix_refl b.own.variables; parameters = refl; result = refl; outer = refl; alone = λ e. refl; headings = prefix_refl (map head_in b.routines); waits = λ w. w }
 
 pub grows_trans : (b c d : Block) → Grows b c → Grows c d → Grows b d
 grows_trans b c d p q = record {
@@ -98,7 +97,7 @@ grows_trans b c d p q = record {
   result = q.result ∙ p.result;
   outer = q.outer ∙ p.outer;
   alone = λ e. q.alone (p.outer ∙ e) ∙ p.alone e;
-  headings = prefix_trans (map heading_in b.routines) (map heading_in c.routines) (map heading_in d.routines) p.headings q.headings;
+  headings = prefix_trans (map head_in b.routines) (map head_in c.routines) (map head_in d.routines) p.headings q.headings;
   waits = λ w. p.waits (q.waits w);
 }
 
@@ -118,7 +117,7 @@ module _ (u : TypedUnit) (o : List UnitVariable) where
     -- the name of the variable that has its result
     pub name : List ℕ
     pub own : IsPrefix (variables_in line name c.own) o
-    pub headings : IsPrefix (map heading_in c.routines) (map heading_of u.routines)
+    pub headings : IsPrefix (map head_in c.routines) (map head_of u.routines)
 
   -- so it has what was in them before
   pub extends_before : (b c : Block) → Grows b c → Extends c → Extends b
@@ -129,7 +128,7 @@ module _ (u : TypedUnit) (o : List UnitVariable) where
     line = e.line;
     name = e.name;
     own = prefix_trans (variables_in e.line e.name b.own) (variables_in e.line e.name c.own) o (own_prefix e.line e.name b.own c.own g.parameters g.result g.own) e.own;
-    headings = prefix_trans (map heading_in b.routines) (map heading_in c.routines) (map heading_of u.routines) g.headings e.headings;
+    headings = prefix_trans (map head_in b.routines) (map head_in c.routines) (map head_of u.routines) g.headings e.headings;
   }
 
   -- ---- whole declarations
@@ -164,7 +163,7 @@ module _ (u : TypedUnit) (o : List UnitVariable) where
   }
 
   named_grows : (name : List ℕ) (t : Thing) (b : Block) → Grows b (with_name name t b)
-  named_grows name t b = record { types = prefix_refl b.types; constants = prefix_refl b.constants; variables = prefix_refl b.variables; own = prefix_refl b.own.variables; parameters = refl; result = refl; outer = refl; alone = λ e. refl; headings = prefix_refl (map heading_in b.routines); waits = λ w. w }
+  named_grows name t b = record { types = prefix_refl b.types; constants = prefix_refl b.constants; variables = prefix_refl b.variables; own = prefix_refl b.own.variables; parameters = refl; result = refl; outer = refl; alone = λ e. refl; headings = prefix_refl (map head_in b.routines); waits = λ w. w }
 
   -- a name for something that the unit holds
   pub named_holds : (i : ℕ) (name : List ℕ) (t : Thing) (b : Block) → HoldsThing u o i t → Holds u o i b → Holds u o i (with_name name t b)

@@ -1,6 +1,6 @@
 -- Routines lead from one block to the next, and so do all parts of a block.
 use Rattle.std.proofs.Common.{◌≡◌, ℕ, zero, suc, ◌≤◌, Bool, true, false, not, ◌||◌, List, [], ◌∷◌, ◌++◌, map, length, Option, Some, None, slice_get, bytes_eq, refl, sym, ap, ◌∙◌, subst, append_assoc}
-use Rattle.std.proofs.lemmas.List.Elements.{All-cons, All-head, All-nil, All-push, All-tail}
+use Rattle.std.proofs.lemmas.List.Elements.{All-head, All-nil, All-push, All-tail}
 use Rattle.std.specs.Prelude.{All, ⊤, is_none, if◌then◌else◌}
 use Rattle.ep_tree.specs.declared.declaration.FormalSection.{FormalSection}
 use Rattle.ep_tree.specs.declared.declaration.FormalType.{FormalType}
@@ -18,7 +18,7 @@ use Rattle.ep_outside.specs.Known.{IsPrefix}
 use Rattle.ep_typed.specs.Operations.{maxint}
 use Rattle.ep_typed.specs.Trees as tree
 use Rattle.ep_typed.specs.Trees.{Stmt, Stmts}
-use Rattle.ep_typed.specs.Valid.{IsDenoter, IsResult, IsStmt, IsVariable, formal_variable, heading_of, in_routine, own}
+use Rattle.ep_typed.specs.Valid.{IsDenoter, IsResult, IsStmt, IsVariable, formal_variable, in_routine, own}
 use Rattle.ep_typed.specs.Auxiliaries.{auxiliary_variables, first_for, first_for_of}
 use Rattle.ep_typed.specs.Routines.{result_name, result_variable}
 use Rattle.ep_typed.specs.declared.interface.FormalMode.{FormalMode}
@@ -49,12 +49,12 @@ use Rattle.ep_check_unit.specs.Functions.{assigned_function, if_given, in_block,
 use Rattle.ep_check_unit.specs.Routines.{Headed, block_declared, body_closed, body_declared, body_ended, body_of_declared, context_of, declared_routine, formal_of, formals_entered, forwarded, has_body, headed_again, headed_first, headed_form, headed_over, headed_then, heading_entered, hidden_type, identified_again, identified_over, inside_declared, is_parameter, is_repeated, local_part_declared, local_parts_declared, locals_of, parameter_added, parameter_type, parameters_added, part_declared, parts_declared, result_headed, result_judged, routine_there, scope_closed, scope_opened, section_judged, section_mode, section_type, sections_judged, set_to, start_headed, start_name, with_block, with_body, with_its_block, with_routine}
 use Rattle.ep_check_unit.specs.declared.block.OwnResult.{OwnResult}
 use Rattle.ep_check_unit.specs.declared.functions.HeadingResult.{HeadingResult}
-use Rattle.ep_check_unit.proofs.Forms.{all_set}
+use Rattle.ep_check_unit.proofs.Forms.{each_push, each_set}
 use Rattle.ep_check_unit.proofs.valid.Denoting.{Denotes, denotes_valid}
-use Rattle.ep_check_unit.proofs.valid.Holds.{HasHostHere, Holds, HoldsDeclaration, HoldsFunction, HoldsOwn, HoldsOwnResult, HoldsParameter, HoldsProcedure, HoldsResult, HoldsRoutine, HoldsScopes, HoldsThing, HoldsThings, Lists, formals_valid, holds_agrees, holds_more, lists_small, name_denotes, named_tree, own_place}
+use Rattle.ep_check_unit.proofs.valid.Holds.{HasHostHere, Holds, HoldsDeclaration, HoldsFunction, HoldsOwn, HoldsOwnResult, HoldsParameter, HoldsProcedure, HoldsResult, HoldsRoutine, HoldsRoutines, HoldsScopes, HoldsThing, HoldsThings, Lists, formals_valid, head_of, holds_agrees, holds_more, lists_small, name_denotes, named_tree, one_level, own_place}
 use Rattle.ep_check_unit.proofs.valid.Auxiliaries.{own_auxiliaries}
 use Rattle.ep_check_unit.proofs.valid.Items.{LeadsOn, constants_lead, further, line_leads, then_leads, type_definitions-leads, variables_lead}
-use Rattle.ep_check_unit.proofs.valid.Leading.{Extends, Grows, Leads, entered_leads, heading_in, leads_on, leads_refl, length_push, prefix_last, prefix_length, prefix_more, prefix_refl, result_in, variables_in, waits_some}
+use Rattle.ep_check_unit.proofs.valid.Leading.{Extends, Grows, Leads, entered_leads, head_in, leads_on, leads_refl, length_push, prefix_last, prefix_length, prefix_more, prefix_refl, result_in, variables_in, waits_some}
 use Rattle.ep_check_unit.proofs.valid.Meant.{HoldsIf, look_up_holds}
 use Rattle.ep_check_unit.proofs.valid.Types.{Names, type_named-names}
 
@@ -72,44 +72,34 @@ prefix_get xs ys n x p e = ap (λ l. slice_get l n) p.is ∙ front_get xs p.rest
 same_there : {A : Type 0} (o : Option A) (x y : A) → o ≡ Some x → o ≡ Some y → x ≡ y
 same_there o x y e f = cc
 
-all_get : {A : Type 0} (P : A → Type 0) (xs : List A) (n : ℕ) (x : A) → All P xs → slice_get xs n ≡ Some x → P x
-all_get P [] n x h e = cc
-all_get P (y ∷ ys) zero x h e = let same : y ≡ x = cc in subst P same (All-head P y ys h)
-all_get P (y ∷ ys) (suc n) x h e = all_get P ys n x (All-tail P y ys h) e
-
--- the first items of more
-all_front : {A : Type 0} (P : A → Type 0) (xs : List A) (y : A) → All P (xs ++ y ∷ []) → All P xs
-all_front P [] y h = All-nil P
-all_front P (x ∷ xs) y h = All-cons P x xs (All-head P x (xs ++ y ∷ []) h) (all_front P xs y (All-tail P x (xs ++ y ∷ []) h))
-
 -- an item between others
 all_between : {A : Type 0} (P : A → Type 0) (xs : List A) (y : A) (ys : List A) → All P (xs ++ y ∷ ys) → P y
 all_between P [] y ys h = All-head P y ys h
 all_between P (x ∷ xs) y ys h = all_between P xs y ys (All-tail P x (xs ++ y ∷ ys) h)
 
 -- a form at a place, and its heading there
-heading_at : (rs : List RoutineForm) (n : ℕ) (r : RoutineForm) → slice_get rs n ≡ Some r → slice_get (map heading_in rs) n ≡ Some (heading_in r)
+heading_at : (rs : List RoutineForm) (n : ℕ) (r : RoutineForm) → slice_get rs n ≡ Some r → slice_get (map head_in rs) n ≡ Some (head_in r)
 heading_at [] n r e = cc
 heading_at (x ∷ xs) zero r e = cc
 heading_at (x ∷ xs) (suc n) r e = heading_at xs n r e
 
-headings_push : (rs : List RoutineForm) (r : RoutineForm) → map heading_in (rs ++ r ∷ []) ≡ map heading_in rs ++ heading_in r ∷ []
+headings_push : (rs : List RoutineForm) (r : RoutineForm) → map head_in (rs ++ r ∷ []) ≡ map head_in rs ++ head_in r ∷ []
 headings_push [] r = refl
-headings_push (x ∷ xs) r = ap (λ hs. heading_in x ∷ hs) (headings_push xs r)
+headings_push (x ∷ xs) r = ap (λ hs. head_in x ∷ hs) (headings_push xs r)
 
-headings_length : (rs : List RoutineForm) → length (map heading_in rs) ≡ length rs
+headings_length : (rs : List RoutineForm) → length (map head_in rs) ≡ length rs
 headings_length [] = refl
 headings_length (r ∷ rs) = ap suc (headings_length rs)
 
 -- headings stay where a routine gets its block
-set_headings : (line : ℕ) (vs : List UnitVariable) (s : Stmt) (rs : List RoutineForm) (n : ℕ) → map heading_in (set_to rs n (with_its_block line vs s) (slice_get rs n)) ≡ map heading_in rs
+set_headings : (line : ℕ) (vs : List UnitVariable) (s : Stmt) (rs : List RoutineForm) (n : ℕ) → map head_in (set_to rs n (with_its_block line vs s) (slice_get rs n)) ≡ map head_in rs
 set_headings line vs s [] n = refl
 set_headings line vs s (r ∷ rs) zero = refl
 set_headings line vs s (r ∷ rs) (suc n) = at (slice_get rs n) (set_headings line vs s rs n)
   where
-    at : (o : Option RoutineForm) → map heading_in (set_to rs n (with_its_block line vs s) o) ≡ map heading_in rs → map heading_in (set_to (r ∷ rs) (suc n) (with_its_block line vs s) o) ≡ heading_in r ∷ map heading_in rs
+    at : (o : Option RoutineForm) → map head_in (set_to rs n (with_its_block line vs s) o) ≡ map head_in rs → map head_in (set_to (r ∷ rs) (suc n) (with_its_block line vs s) o) ≡ head_in r ∷ map head_in rs
     at None e = refl
-    at (Some x) e = ap (λ hs. heading_in r ∷ hs) e
+    at (Some x) e = ap (λ hs. head_in r ∷ hs) e
 
 -- a parameter at a place, as a variable of its routine
 formal_at : (line : ℕ) (before : List FormalParameter) (p : FormalParameter) (ps : List FormalParameter) (vs : List UnitVariable)
@@ -212,7 +202,7 @@ module _ (u : TypedUnit) (few : length u.constants ≤ maxint) (statements : Sta
   -- what it holds of a procedure and of a function alike
   record HoldsEither (i number : ℕ) (ps : List FormalParameter) (r : Option HeadingResult) : Type 0 where
     heading : RoutineEntry
-    at : slice_get (map heading_of u.routines) number ≡ Some heading
+    at : slice_get (map head_of u.routines) number ≡ Some (heading, [])
     formals : heading.formals ≡ map formal_of ps
     parameters : All (HoldsParameter u i) ps
     result : IsResultOf r heading.result
@@ -243,11 +233,11 @@ module _ (u : TypedUnit) (few : length u.constants ≤ maxint) (statements : Sta
     held : (i : ℕ) → Holds u [] i h.block → HoldsHeaded i h.number h.parameters h.result
 
   -- the headings of the unit begin with these
-  routine_at : (name : List ℕ) (line : ℕ) (ps : List FormalParameter) (r : Option HeadingResult) (b : Block) → IsPrefix (map heading_in (b.routines ++ headed_form name line ps r ∷ [])) (map heading_of u.routines)
-      → slice_get (map heading_of u.routines) (length b.routines) ≡ Some (heading_in (headed_form name line ps r))
+  routine_at : (name : List ℕ) (line : ℕ) (ps : List FormalParameter) (r : Option HeadingResult) (b : Block) → IsPrefix (map head_in (b.routines ++ headed_form name line ps r ∷ [])) (map head_of u.routines)
+      → slice_get (map head_of u.routines) (length b.routines) ≡ Some (head_in (headed_form name line ps r))
   routine_at name line ps r b p =
-      subst (λ n. slice_get (map heading_of u.routines) n ≡ Some (heading_in (headed_form name line ps r))) (headings_length b.routines)
-      (prefix_last (map heading_in b.routines) (heading_in (headed_form name line ps r)) (map heading_of u.routines) (subst (λ hs. IsPrefix hs (map heading_of u.routines)) (headings_push b.routines (headed_form name line ps r)) p))
+      subst (λ n. slice_get (map head_of u.routines) n ≡ Some (head_in (headed_form name line ps r))) (headings_length b.routines)
+      (prefix_last (map head_in b.routines) (head_in (headed_form name line ps r)) (map head_of u.routines) (subst (λ hs. IsPrefix hs (map head_of u.routines)) (headings_push b.routines (headed_form name line ps r)) p))
 
   -- a result that has a type is valid
   typed_valid : (i : ℕ) (r : Option HeadingResult) → i ≤ length u.types → HoldsTyped i r → IsResult u.types (typed_result r)
@@ -265,7 +255,7 @@ module _ (u : TypedUnit) (few : length u.constants ≤ maxint) (statements : Sta
       result = refl;
       outer = refl;
       alone = λ e. refl;
-      headings = subst (IsPrefix (map heading_in b.routines)) (sym (headings_push b.routines (headed_form name line ps r))) (prefix_more (map heading_in b.routines) (heading_in (headed_form name line ps r) ∷ []));
+      headings = subst (IsPrefix (map head_in b.routines)) (sym (headings_push b.routines (headed_form name line ps r))) (prefix_more (map head_in b.routines) (head_in (headed_form name line ps r) ∷ []));
       waits = λ w. w;
     };
     holds = λ e w x. record {
@@ -279,7 +269,7 @@ module _ (u : TypedUnit) (few : length u.constants ≤ maxint) (statements : Sta
       parameters = x.parameters;
       result = x.result;
       owned = x.owned;
-      routines = All-push (HoldsRoutine u) b.routines (headed_form name line ps r) x.routines (record {
+      routines = each_push (HoldsRoutine u) b.routines (headed_form name line ps r) x.routines (record {
         result = typed_valid (length b.types) r (prefix_length b.types u.types e.types) (typed (length b.types) x);
         alone = refl;
         formals = formals_valid u (length b.types) ps (prefix_length b.types u.types e.types) (held (length b.types) x);
@@ -302,7 +292,7 @@ module _ (u : TypedUnit) (few : length u.constants ≤ maxint) (statements : Sta
     parameters = x.parameters;
     result = x.result;
     owned = x.owned;
-    routines = all_front (HoldsRoutine u) b.routines (headed_form name line ps r) x.routines;
+    routines = λ n f at. x.routines n f (front_get b.routines (headed_form name line ps r ∷ []) n f at);
   }
 
   -- the name that was entered last
@@ -311,11 +301,11 @@ module _ (u : TypedUnit) (few : length u.constants ≤ maxint) (statements : Sta
   last_held i (e ∷ es) name t x = last_held i es name t x.1
 
   -- a routine by its form, which the unit has
-  form_held : (i number : ℕ) (name : List ℕ) (line : ℕ) (ps : List FormalParameter) (r : Option HeadingResult) → slice_get (map heading_of u.routines) number ≡ Some (heading_in (headed_form name line ps r))
+  form_held : (i number : ℕ) (name : List ℕ) (line : ℕ) (ps : List FormalParameter) (r : Option HeadingResult) → slice_get (map head_of u.routines) number ≡ Some (head_in (headed_form name line ps r))
       → All (HoldsParameter u i) ps → HoldsTyped i r → HoldsHeaded i number ps r
-  form_held i number name line ps None at held typed = record { heading = heading_in (headed_form name line ps None); at = at; is_procedure = refl; formals = refl; parameters = held }
+  form_held i number name line ps None at held typed = record { heading = (head_in (headed_form name line ps None)).0; at = at; is_procedure = refl; formals = refl; parameters = held }
   form_held i number name line ps (Some r) at held typed = record {
-    heading = heading_in (headed_form name line ps (Some r));
+    heading = (head_in (headed_form name line ps (Some r))).0;
     at = at;
     name = r.name;
     result = refl;
@@ -407,7 +397,7 @@ module _ (u : TypedUnit) (few : length u.constants ≤ maxint) (statements : Sta
       result = refl;
       outer = refl;
       alone = λ e. refl;
-      headings = prefix_refl (map heading_in h.block.routines);
+      headings = prefix_refl (map head_in h.block.routines);
       waits = λ w. w;
     };
     holds = λ e w x. record { unit = x.unit; things = x.things; plain = x.plain; outer = x.outer; types = x.types; constants = x.constants; variables = x.variables; parameters = x.parameters; result = x.result; owned = x.owned; routines = x.routines };
@@ -482,14 +472,14 @@ module _ (u : TypedUnit) (few : length u.constants ≤ maxint) (statements : Sta
           (λ e x. (x.unit, own_held o (length b.types) (in_block number (length ps) r) b is e x.result))
 
   -- the function to whose name the block assigns has its variable
-  assigned_there : (o : List UnitVariable) (i : ℕ) (unit : List ℕ) (b : Block) (r : Option OwnResult) → i ≤ length u.types → b.own.result ≡ r → Extends u o b → HoldsResult u i b.own.parameters b.own.result
-      → ResultIsThere (in_routine o u.types (own u)) (assigned_function unit r)
-  assigned_there o i unit b None le is e held = tt
-  assigned_there o i unit b (Some r) le is e held = unless r.named
+  assigned_there : (n : ℕ) (o : List UnitVariable) (i : ℕ) (unit : List ℕ) (b : Block) (r : Option OwnResult) → i ≤ length u.types → b.own.result ≡ r → Extends u o b → HoldsResult u i b.own.parameters b.own.result
+      → ResultIsThere (in_routine (one_level n o) (own u)) (assigned_function unit r)
+  assigned_there n o i unit b None le is e held = tt
+  assigned_there n o i unit b (Some r) le is e held = unless r.named
     where
-      unless : (named : Bool) → ResultIsThere (in_routine o u.types (own u)) (if named then None else Some (record { unit = unit; function = r.function; variable = r.variable; host = r.host }))
+      unless : (named : Bool) → ResultIsThere (in_routine (one_level n o) (own u)) (if named then None else Some (record { unit = unit; function = r.function; variable = r.variable; host = r.host }))
       unless true = tt
-      unless false = let x = own_held o i r b is e held in (lists_small u i r.host x.lists, own_place u o i r.variable r.of r.host le x)
+      unless false = let x = own_held o i r b is e held in (lists_small u i r.host x.lists, own_place u (one_level n o) i r.variable r.of r.host le x)
 
   -- the scopes behind it are those before it
   closed_again : (r : Row) (before : Row) → r.outer ≡ before.inner ∷ before.outer → closed r ≡ before
@@ -509,26 +499,26 @@ module _ (u : TypedUnit) (few : length u.constants ≤ maxint) (statements : Sta
     result = refl;
     outer = ap (λ r. r.outer) (closed_again c.scopes b.scopes g.outer);
     alone = λ e. refl;
-    headings = subst (IsPrefix (map heading_in b.routines)) (sym (set_headings line c.own.variables (tree.Compound ss) c.routines number)) g.headings;
+    headings = subst (IsPrefix (map head_in b.routines)) (sym (set_headings line c.own.variables (tree.Compound ss) c.routines number)) g.headings;
     waits = g.waits;
   }
 
   -- a routine that gets its block is valid, where it is one with the formal parameters and the result of the block
   routine_held : (line number : ℕ) (called : List ℕ) (c : Block) (s : Stmt) (o : Option RoutineForm) → slice_get c.routines number ≡ o → ((r : RoutineForm) → slice_get c.routines number ≡ Some r → r.formals ≡ map formal_of c.own.parameters)
       → ((r : RoutineForm) → slice_get c.routines number ≡ Some r → result_variable r.name line r.result ≡ result_in line called c.own.result)
-      → All (HoldsRoutine u) c.routines → All (IsVariable u.types) c.own.variables → IsStmt (in_routine (variables_in line called c.own ++ auxiliary_variables (first_for s)) u.types (own u)) s
-      → All (HoldsRoutine u) (set_to c.routines number (with_its_block line c.own.variables s) o)
+      → HoldsRoutines u c.routines → All (IsVariable u.types) c.own.variables → IsStmt (in_routine (one_level number (variables_in line called c.own ++ auxiliary_variables (first_for s))) (own u)) s
+      → HoldsRoutines u (set_to c.routines number (with_its_block line c.own.variables s) o)
   routine_held line number called c s None at same result held owned valid = held
   routine_held line number called c s (Some r) at same result held owned valid =
-      let old : HoldsRoutine u r = all_get (HoldsRoutine u) c.routines number r held at in
-      all_set (HoldsRoutine u) c.routines number (with_its_block line c.own.variables s r) held (record {
+      let old : HoldsRoutine u number r = held number r at in
+      each_set (HoldsRoutine u) c.routines number (with_its_block line c.own.variables s r) held (record {
         result = old.result;
         alone = old.alone;
         formals = old.formals;
         variables = owned;
-        block = subst (λ fs. IsStmt (in_routine (map (formal_variable line) fs ++ (result_variable r.name line r.result ++ (c.own.variables ++ auxiliary_variables (first_for s)))) u.types (own u)) s) (sym (same r at))
-            (subst (λ rs. IsStmt (in_routine (map (formal_variable line) (map formal_of c.own.parameters) ++ (rs ++ (c.own.variables ++ auxiliary_variables (first_for s)))) u.types (own u)) s) (sym (result r at))
-            (subst (λ vs. IsStmt (in_routine vs u.types (own u)) s) (seam_behind (map (formal_variable line) (map formal_of c.own.parameters)) (result_in line called c.own.result) c.own.variables (auxiliary_variables (first_for s))) valid));
+        block = subst (λ fs. IsStmt (in_routine (one_level number (map (formal_variable line) fs ++ (result_variable r.name line r.result ++ (c.own.variables ++ auxiliary_variables (first_for s))))) (own u)) s) (sym (same r at))
+            (subst (λ rs. IsStmt (in_routine (one_level number (map (formal_variable line) (map formal_of c.own.parameters) ++ (rs ++ (c.own.variables ++ auxiliary_variables (first_for s))))) (own u)) s) (sym (result r at))
+            (subst (λ vs. IsStmt (in_routine (one_level number vs) (own u)) s) (seam_behind (map (formal_variable line) (map formal_of c.own.parameters)) (result_in line called c.own.result) c.own.variables (auxiliary_variables (first_for s))) valid));
       })
 
   -- the name of the variable that has the result of the routine of this number
@@ -551,19 +541,19 @@ module _ (u : TypedUnit) (few : length u.constants ≤ maxint) (statements : Sta
         line = line;
         name = called;
         own = record { rest = auxiliary_variables (first_for_of ss); is = refl };
-        headings = subst (λ hs. IsPrefix hs (map heading_of u.routines)) (set_headings line c.own.variables (tree.Compound ss) c.routines h.number) e.headings;
+        headings = subst (λ hs. IsPrefix hs (map head_of u.routines)) (set_headings line c.own.variables (tree.Compound ss) c.routines h.number) e.headings;
       } in
       let headed : HoldsEither (length b.types) h.number h.parameters h.result = headed_either (length b.types) h.number h.parameters h.result (routine (length b.types) x) in
       let y : Holds u o (length c.types) c = leads.holds there w (opened_held o (length b.types) h b headed x) in
       let same : closed c.scopes ≡ b.scopes = closed_again c.scopes b.scopes leads.grows.outer in
       let z : Holds u [] (length c.types) b = holds_more u [] (length b.types) (length c.types) b (prefix_length b.types c.types leads.grows.types) x in
-      let one : (r : RoutineForm) → slice_get c.routines h.number ≡ Some r → heading_in r ≡ headed.heading =
-      λ r at. same_there (slice_get (map heading_of u.routines) h.number) (heading_in r) headed.heading (prefix_get (map heading_in c.routines) (map heading_of u.routines) h.number (heading_in r) there.headings (heading_at c.routines h.number r at)) headed.at in
+      let one : (r : RoutineForm) → slice_get c.routines h.number ≡ Some r → head_in r ≡ (headed.heading, []) =
+      λ r at. same_there (slice_get (map head_of u.routines) h.number) (head_in r) (headed.heading, []) (prefix_get (map head_in c.routines) (map head_of u.routines) h.number (head_in r) there.headings (heading_at c.routines h.number r at)) headed.at in
       let formals : (r : RoutineForm) → slice_get c.routines h.number ≡ Some r → r.formals ≡ map formal_of c.own.parameters =
-      λ r at. ap (λ k. k.formals) (one r at) ∙ (headed.formals ∙ ap (map formal_of) (sym leads.grows.parameters)) in
+      λ r at. ap (λ k. k.0.formals) (one r at) ∙ (headed.formals ∙ ap (map formal_of) (sym leads.grows.parameters)) in
       let result : (r : RoutineForm) → slice_get c.routines h.number ≡ Some r → result_variable r.name line r.result ≡ result_in line called c.own.result =
       λ r at.
-      let of : IsResultOf h.result r.result = subst (IsResultOf h.result) (sym (ap (λ k. k.result) (one r at))) headed.result in
+      let of : IsResultOf h.result r.result = subst (IsResultOf h.result) (sym (ap (λ k. k.0.result) (one r at))) headed.result in
       result_same line r.name r.result h.number (length h.parameters) h.result of
       ∙ (ap (λ n. result_in line n (own_result h.number (length h.parameters) h.result)) (sym (ap variable_name at)) ∙ ap (result_in line called) (sym leads.grows.result)) in
       record {
@@ -578,11 +568,11 @@ module _ (u : TypedUnit) (few : length u.constants ≤ maxint) (statements : Sta
         result = z.result;
         owned = z.owned;
         routines = routine_held line h.number called c (tree.Compound ss) (slice_get c.routines h.number) refl formals result y.routines y.owned
-            (statements (context_of c) compound ss is (in_routine o u.types (own u)) (holds_agrees u o (length c.types) c le y) (assigned_there o (length c.types) c.unit c c.own.result le refl there y.result) auxiliaries);
+            (statements (context_of c) compound ss is (in_routine (one_level h.number o) (own u)) (holds_agrees u o h.number (length c.types) c le y) (assigned_there h.number o (length c.types) c.unit c c.own.result le refl there y.result) auxiliaries);
       }
     where
-      auxiliaries : (at : ℕ) → first_for_of ss ≡ Some at → AuxiliariesAreThere (in_routine (variables_in line (CalledIn c h.number) c.own ++ auxiliary_variables (first_for_of ss)) u.types (own u)) (locals_of c)
-      auxiliaries at has = subst (λ o. AuxiliariesAreThere (in_routine (variables_in line (CalledIn c h.number) c.own ++ auxiliary_variables o) u.types (own u)) (locals_of c)) (sym has) (own_auxiliaries u c line at (CalledIn c h.number) h.block.scopes.inner h.block.scopes.outer leads.grows.outer)
+      auxiliaries : (at : ℕ) → first_for_of ss ≡ Some at → AuxiliariesAreThere (in_routine (one_level h.number (variables_in line (CalledIn c h.number) c.own ++ auxiliary_variables (first_for_of ss))) (own u)) (locals_of c)
+      auxiliaries at has = subst (λ o. AuxiliariesAreThere (in_routine (one_level h.number (variables_in line (CalledIn c h.number) c.own ++ auxiliary_variables o)) (own u)) (locals_of c)) (sym has) (own_auxiliaries u h.number c line at (CalledIn c h.number) h.block.scopes.inner h.block.scopes.outer leads.grows.outer)
 
   given_leads : (b : Block) (line : ℕ) (given : Bool) (s : Standing) → LeadsOn u [] b s → LeadsOn u [] b (if_given line given s)
   given_leads b line true s h = h

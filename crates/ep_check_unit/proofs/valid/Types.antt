@@ -10,8 +10,8 @@ use Rattle.ep_typed.specs.Hosts as typed
 use Rattle.ep_typed.specs.Hosts.{is_of_host}
 use Rattle.ep_typed.specs.Operations.{maxint}
 use Rattle.ep_typed.specs.Trees as tree
-use Rattle.ep_typed.specs.Valid.{in_routine, own}
 use Rattle.ep_typed.specs.Viewed.{denoter_of}
+use Rattle.ep_typed.specs.Valid.{in_routine, own}
 use Rattle.ep_typed.specs.declared.denoter.Bound.TheVariants.{Constant as Fixed}
 use Rattle.ep_typed.specs.declared.denoter.Denoter.TheVariants as denoter
 use Rattle.ep_typed.specs.declared.denoter.RequiredType.{RequiredType}
@@ -49,8 +49,8 @@ use Rattle.ep_check_unit.specs.Declarations.{Written, common_host, core_written,
 use Rattle.ep_check_unit.specs.Blocks.{Block}
 use Rattle.ep_check_unit.proofs.valid.Constants.{ListsWithin, enumerated_counts, enumerated_enters}
 use Rattle.ep_check_unit.proofs.valid.Denoting.{Denotes, IsSmall, denotes_enumeration, denotes_more, denotes_named, denotes_required, denotes_subrange, full_type}
-use Rattle.ep_check_unit.proofs.valid.Holds.{HasHostHere, HasTypeHere, Holds, HoldsDeclaration, Lists, ListsEnumeration, ListsKind, enumeration_is, holds_agrees, holds_more, host_denotes, known_listed, lists_more, lists_small, named_is, named_tree, required_lists, subrange_is}
-use Rattle.ep_check_unit.proofs.valid.Leading.{Extends, Enters, Grows, grows_refl, heading_in, prefix_length, prefix_refl, waits_some}
+use Rattle.ep_check_unit.proofs.valid.Holds.{HasHostHere, HasTypeHere, Holds, HoldsDeclaration, Lists, ListsEnumeration, ListsKind, enumeration_is, holds_agrees, holds_more, host_denotes, known_listed, lists_more, lists_small, named_is, named_tree, one_level, required_lists, subrange_is}
+use Rattle.ep_check_unit.proofs.valid.Leading.{Extends, Enters, Grows, grows_refl, head_in, prefix_length, prefix_refl, waits_some}
 use Rattle.ep_check_unit.proofs.valid.Meant.{HoldsMeant, meant_holds, meant_in_holds}
 
 module _ (u : TypedUnit) (o : List UnitVariable) where
@@ -207,7 +207,7 @@ module _ (u : TypedUnit) (o : List UnitVariable) where
         };
   }
   subrange_writes false line h low high b e k = record {
-    grows = record { types = prefix_refl b.types; constants = prefix_refl b.constants; variables = prefix_refl b.variables; own = prefix_refl b.own.variables; parameters = refl; result = refl; outer = refl; alone = λ e. refl; headings = prefix_refl (map heading_in b.routines); waits = λ w. absurd (waits_some b.waits line w) };
+    grows = record { types = prefix_refl b.types; constants = prefix_refl b.constants; variables = prefix_refl b.variables; own = prefix_refl b.own.variables; parameters = refl; result = refl; outer = refl; alone = λ e. refl; headings = prefix_refl (map head_in b.routines); waits = λ w. absurd (waits_some b.waits line w) };
     same = refl;
     holds = λ ext free next x. absurd (waits_some b.waits line free);
   }
@@ -223,10 +223,10 @@ module _ (u : TypedUnit) (o : List UnitVariable) where
         hosts = hosts;
         order = λ built is yes. in_order built low high yes (subst (λ x. (if x then int_le (number_in low.value) (number_in high.value) else true) ≡ true) is (ordered_if _ a ordering));
         lists = λ i x. subst (ListsKind u i) hosts.left (known_listed u o i b low.kind x (known (scopes_of b) first low e));
-        low_is = λ i le x. bound_of_host h low.value (ordinal_constant low.kind h low.value hosts.left (sound (scopes_of b) first low e (in_routine o u.types (own u)) (holds_agrees u o i b le x)));
+        low_is = λ i le x. bound_of_host h low.value (ordinal_constant low.kind h low.value hosts.left (sound (scopes_of b) first low e (in_routine (one_level 0 o) (own u)) (holds_agrees u o 0 i b le x)));
         high_is = λ i le x.
             subst (λ g. IsTrue (is_of_host g (number_in high.value))) (host_same h hosts.other hosts.alike)
-            (bound_of_host hosts.other high.value (ordinal_constant high.kind hosts.other high.value hosts.right (sound (scopes_of b) second high f (in_routine o u.types (own u)) (holds_agrees u o i b le x))));
+            (bound_of_host hosts.other high.value (ordinal_constant high.kind hosts.other high.value hosts.right (sound (scopes_of b) second high f (in_routine (one_level 0 o) (own u)) (holds_agrees u o 0 i b le x))));
       }
 
   range_writes : BoundsAreSound → BoundsAreKnown → (line : ℕ) (b : Block) (first second : Expression) (low high : ConstantForm) → bound_judged (scopes_of b) first ≡ Accepts low → bound_judged (scopes_of b) second ≡ Accepts high → Fits (Writes b) (range line b low high)

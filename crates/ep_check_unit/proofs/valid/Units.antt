@@ -1,13 +1,13 @@
 -- A typed unit that the rules give is valid.
-use Rattle.std.proofs.Common.{◌≡◌, ◌∙◌, ℕ, ◌≤◌, List, [], ◌∷◌, map, length, Option, Some, None, refl, sym, ap, subst, arith}
-use Rattle.std.proofs.lemmas.List.Elements.{All-cons, All-head, All-nil, All-same, All-tail}
-use Rattle.std.specs.Prelude.{All}
+use Rattle.std.proofs.Common.{◌≡◌, ◌∙◌, ℕ, zero, suc, ◌≤◌, List, [], ◌∷◌, map, length, Option, Some, None, slice_get, refl, sym, ap, subst, arith}
+use Rattle.std.proofs.lemmas.List.Elements.{All-nil, All-same}
 use Rattle.ep_outside.specs.Known.{IsPrefix}
 use Rattle.ep_tree.specs.declared.component.Component.TheVariants as component_is
 use Rattle.ep_tree.specs.declared.component.Program.{Program}
 use Rattle.ep_typed.specs.Operations.{maxint}
 use Rattle.ep_typed.specs.Trees.{Stmts}
-use Rattle.ep_typed.specs.Valid.{IsConstant, IsRoutine, IsStmt, IsType, IsValid, IsVariable, heading_of, own}
+use Rattle.ep_typed.specs.Valid.{IsAround, IsConstant, IsRoutine, IsStmt, IsType, IsValid, IsVariable, in_routine, levels_of, own, variables_of}
+use Rattle.ep_typed.specs.Viewed.{stmt_of}
 use Rattle.ep_typed.specs.declared.unit.Unit.{Unit as TypedUnit}
 use Rattle.ep_typed.specs.declared.unit.UnitRoutine.{UnitRoutine}
 use Rattle.ep_check_expr.specs.Judgements.{Judged, Accepts, Breaks}
@@ -23,9 +23,9 @@ use Rattle.ep_check_unit.specs.Routines.{context_of, parts_declared}
 use Rattle.ep_check_unit.specs.Laws.{UnitsAreValid}
 use Rattle.ep_check_unit.specs.Units.{IsTypedProgram, IsUnitOf, ProgramForm, body_judged, declarations_wait, first_missing, parameters_entered, program_block, program_form, program_judged, unless_missing}
 use Rattle.ep_check_unit.specs.Blocks.{Block, routine_form}
-use Rattle.ep_check_unit.proofs.valid.Holds.{Holds, HoldsParameter, HoldsRoutine, holds_agrees_outside}
+use Rattle.ep_check_unit.proofs.valid.Holds.{Holds, HoldsParameter, HoldsRoutine, HoldsRoutines, head_of, holds_agrees_outside}
 use Rattle.ep_check_unit.proofs.valid.Items.{LeadsOn, parameters_lead}
-use Rattle.ep_check_unit.proofs.valid.Leading.{Leads, heading_in, leads_trans, prefix_refl, variables_in}
+use Rattle.ep_check_unit.proofs.valid.Leading.{Leads, head_in, leads_trans, prefix_refl, variables_in}
 use Rattle.ep_check_unit.proofs.valid.Routines.{parts_lead}
 
 -- a program that passes, by its parts
@@ -74,16 +74,27 @@ program_made p form e =
 -- ---- the routines of the unit, by those of the block
 
 -- their headings are those of the unit
-forms_headings : (rs : List UnitRoutine) → map heading_in (map routine_form rs) ≡ map heading_of rs
+forms_headings : (rs : List UnitRoutine) → map head_in (map routine_form rs) ≡ map head_of rs
 forms_headings [] = refl
-forms_headings (r ∷ rs) = ap (λ hs. heading_of r ∷ hs) (forms_headings rs)
+forms_headings (r ∷ rs) = ap (λ hs. head_of r ∷ hs) (forms_headings rs)
 
-routines_valid : (u : TypedUnit) (rs : List UnitRoutine) → All (HoldsRoutine u) (map routine_form rs) → All (IsRoutine (own u) u.types) rs
-routines_valid u [] g = All-nil (IsRoutine (own u) u.types)
-routines_valid u (r ∷ rs) g =
-    let held = All-head (HoldsRoutine u) (routine_form r) (map routine_form rs) g in
-    All-cons (IsRoutine (own u) u.types) r rs (record { result = held.result; formals = held.formals; variables = held.variables; routines = held.alone; block = held.block })
-    (routines_valid u rs (All-tail (HoldsRoutine u) (routine_form r) (map routine_form rs) g))
+-- a routine at its place, by its form
+form_there : (rs : List UnitRoutine) (n : ℕ) (r : UnitRoutine) → slice_get rs n ≡ Some r → slice_get (map routine_form rs) n ≡ Some (routine_form r)
+form_there [] n r at = cc
+form_there (x ∷ rs) zero r at = cc
+form_there (x ∷ rs) (suc n) r at = form_there rs n r at
+
+routine_valid : (u : TypedUnit) (number : ℕ) (r : UnitRoutine) → HoldsRoutine u number (routine_form r) → IsRoutine u number r
+routine_valid u number r held = record {
+  formals = held.formals;
+  result = held.result;
+  variables = held.variables;
+  around = subst (IsAround u.routines number) (sym held.alone) tt;
+  block = subst (λ ns. IsStmt (in_routine (record { number = number; variables = variables_of r } ∷ levels_of u.routines ns) (own u)) (stmt_of r.block)) (sym held.alone) held.block;
+}
+
+routines_valid : (u : TypedUnit) (rs : List UnitRoutine) → HoldsRoutines u (map routine_form rs) → (number : ℕ) (r : UnitRoutine) → slice_get rs number ≡ Some r → IsRoutine u number r
+routines_valid u rs held number r at = routine_valid u number r (held number (routine_form r) (form_there rs number r at))
 
 module _ (statements : StatementsAreSound) (constants : ConstantsAreSound) (bounds : BoundsAreSound) (constant_hosts : ConstantsAreKnown) (bound_hosts : BoundsAreKnown) where
   -- all declarations lead to its block
@@ -109,10 +120,10 @@ module _ (statements : StatementsAreSound) (constants : ConstantsAreSound) (boun
         line = 0;
         name = [];
         own = subst (λ vs. IsPrefix (variables_in 0 [] vs) []) (sym (all.grows.alone refl)) (prefix_refl []);
-        headings = subst (IsPrefix (map heading_in form.block.routines)) (ap (map heading_in) (sym is.routines) ∙ forms_headings u.routines) (prefix_refl (map heading_in form.block.routines));
+        headings = subst (IsPrefix (map head_in form.block.routines)) (ap (map head_in) (sym is.routines) ∙ forms_headings u.routines) (prefix_refl (map head_in form.block.routines));
       })
       made.waits
-      (record { unit = sym is.name; things = tt; plain = refl; outer = tt; types = All-nil (IsType u.types); constants = All-nil (IsConstant u.types); variables = All-nil (IsVariable u.types); parameters = All-nil (HoldsParameter u 0); result = tt; owned = All-nil (IsVariable u.types); routines = All-nil (HoldsRoutine u) })
+      (record { unit = sym is.name; things = tt; plain = refl; outer = tt; types = All-nil (IsType u.types); constants = All-nil (IsConstant u.types); variables = All-nil (IsVariable u.types); parameters = All-nil (HoldsParameter u 0); result = tt; owned = All-nil (IsVariable u.types); routines = λ n r at. cc })
 
   program_valid : (p : Program) (u : TypedUnit) → IsTypedProgram p u → length u.constants ≤ maxint → IsValid u
   program_valid p u t few =
@@ -124,7 +135,7 @@ module _ (statements : StatementsAreSound) (constants : ConstantsAreSound) (boun
         types = All-same (IsType u.types) u.types t.form.block.types t.unit.types held.types;
         constants = All-same (IsConstant u.types) u.constants t.form.block.constants t.unit.constants held.constants;
         variables = All-same (IsVariable u.types) u.variables t.form.block.variables t.unit.variables held.variables;
-        routines = routines_valid u u.routines (All-same (HoldsRoutine u) (map routine_form u.routines) t.form.block.routines t.unit.routines held.routines);
+        routines = routines_valid u u.routines (subst (HoldsRoutines u) (sym t.unit.routines) held.routines);
         start = subst (IsStmt (own u)) (sym t.unit.start)
             (statements (context_of t.form.block) p.body t.form.statements made.statements (own u) (holds_agrees_outside u (length t.form.block.types) t.form.block le held) (no_result p u t.form made few)
             (λ at has. unit_auxiliaries u t.form.block at held.unit t.unit.variables (ap first_for t.unit.start ∙ has) (block_leads p u t.form made few).grows.outer));

@@ -9,13 +9,12 @@ use Rattle.ep_object.proofs.following.Bind.{follows_post}
 use Rattle.ep_typed.specs.Calls.{Handler}
 use Rattle.ep_typed.specs.Steps.{Computation}
 use Rattle.ep_typed.specs.Steps as meaning
-use Rattle.ep_typed.specs.Valid.{Declarations, Kind, in_routine}
+use Rattle.ep_typed.specs.Valid.{Declarations, Kind, Level, in_routine}
 use Rattle.ep_typed.specs.declared.unit.UnitType.{UnitType}
-use Rattle.ep_typed.specs.declared.unit.UnitVariable.{UnitVariable}
 
-module _ (variables : List UnitVariable) (types : List UnitType) (declared : Declarations) where
+module _ (levels : List Level) (declared : Declarations) where
   abbrev inner : Declarations
-  inner = in_routine variables types declared
+  inner = in_routine levels declared
 
   -- the same machine matches
   pub matches_inside : {G : Image} {injection : Injection} {s : meaning.State} {memory : Memory} → Matches declared G injection s memory → Matches inner G injection s memory
@@ -59,8 +58,9 @@ module _ (variables : List UnitVariable) (types : List UnitType) (declared : Dec
         }
 
   -- and the same promises are kept
-  promise_inside : {G : Image} {routine n : ℕ} {formals : List Passing} {results : List Kind} {called : Called} → Promises declared G routine n formals results called → Promises inner G routine n formals results called
-  promise_inside h = record { by = λ place line calls injection begun memory below operands arguments are. fragment_inside (h.by place line calls injection begun memory below operands arguments are) }
+  promise_inside : {G : Image} {routine n : ℕ} {types : List UnitType} {around : List Level} {formals : List Passing} {results : List Kind} {called : Called}
+      → Promises declared G routine n types around formals results called → Promises inner G routine n types around formals results called
+  promise_inside h = record { by = λ place up line calls injection begun memory callable below operands arguments are. fragment_inside (h.by place up line calls injection begun memory callable below operands arguments are) }
 
   pub calls_kept-inside : {G : Image} {ps : List Placement} {call : Handler} {n : ℕ} → CallsAreKept declared G ps call n → CallsAreKept inner G ps call n
   calls_kept-inside kept unit number r is =

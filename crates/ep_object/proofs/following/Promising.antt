@@ -1,5 +1,6 @@
 -- Calls of a routine that keeps its promise: what the caller follows, and what runs from a call do.
 use Rattle.std.proofs.Common.{◌≡◌, ℕ, suc, ◌+◌, ◌≤◌, ◌<◌, ◌⊎◌, inl, inr, List, refl, sym, ap, ◌∙◌, subst, arith}
+use Rattle.ep_object.specs.Activations.{IsCallable}
 use Rattle.ep_object.specs.Follows.{end_of, Facts, Since, Lasts, Fragment, After, Lands, Reaches, EndsToo, RunsOn, GivesUp, IsNotLeft, SameRoutine, Inside, Operands, point, state_at}
 use Rattle.ep_object.specs.Laws.{IsRunning}
 use Rattle.ep_object.specs.Matching.{Memory, Injection, Slots, AreAmong, Grown, kept_slots}
@@ -20,19 +21,20 @@ use Rattle.ep_typed.specs.Calls.{Argument}
 use Rattle.ep_typed.specs.Printing.{Result}
 use Rattle.ep_typed.specs.Steps.{Call, Outcome, Gives, Ends, Cut, Computation, state_of}
 use Rattle.ep_typed.specs.Steps as meaning
-use Rattle.ep_typed.specs.Valid.{Declarations, Kind}
+use Rattle.ep_typed.specs.Valid.{Declarations, Kind, Level}
+use Rattle.ep_typed.specs.declared.unit.UnitType.{UnitType}
 
 -- ---- what the caller follows
 
 -- What is followed with the fact that memory has grown since is followed with any facts that last.
 pub fragment_since : {A : Type 0} {declared : Declarations} {G : Image} {untouched : Slots} {Here : Facts} {n : ℕ} {injection : Injection} {memory : Memory} {place to d : ℕ} {operands : List Operand} {c : Computation A} {P : A → After} {e : A → ℕ}
     → Lasts untouched Here
-    → ((s : meaning.State) → Fragment declared G (Since untouched injection s memory) n (point injection memory place operands) c to P d e)
+    → ((s : meaning.State) → Here injection s memory → Fragment declared G (Since untouched injection s memory) n (point injection memory place operands) c to P d e)
     → Fragment declared G Here n (point injection memory place operands) c to P d e
 fragment_since {declared = declared} {G = G} {Here = Here} {injection = injection} {memory = memory} {to = to} {P = P} lasts since =
     record {
       by = λ s matches held.
-          let fragment = since s in
+          let fragment = since s held in
           follows_post (λ a t k lands. record { injection = lands.injection; memory = lands.memory; operands = lands.operands; is = lands.is; matches = lands.matches; here = since_holds lasts held lands.here; post = lands.post }) (fragment.by s matches (since_here injection s memory));
     }
 
@@ -54,17 +56,19 @@ pub lasts_more : {untouched fewer : Slots} {Here : Facts}
 lasts_more among lasts = record { by = λ injection longer s t memory after g held. lasts.by injection longer s t memory after (record { grown = grown_fewer among g.grown; routine = same_routine-fewer among g.routine; calls = g.calls }) held }
 
 -- A caller that knows what lasts and names hidden slots alone follows the call, and knows it again behind it.
-pub call_follows : {declared : Declarations} {G : Image} {untouched : Slots} {Here : Facts} {routine n : ℕ} {formals : List Passing} {results : List Kind} {called : Called}
-    → Promises declared G routine n formals results called
+pub call_follows : {declared : Declarations} {G : Image} {untouched : Slots} {Here : Facts} {routine n : ℕ} {types : List UnitType} {around : List Level} {formals : List Passing} {results : List Kind} {called : Called}
+    → Promises declared G routine n types around formals results called
     → Lasts untouched Here
     → AreAmong untouched (kept_slots declared G)
-    → (place line : ℕ) → CallsAt G place routine line
-    → (injection : Injection) (memory : Memory) (below operands : List Operand) (arguments : List Argument)
+    → (place levels line : ℕ) → CallsAt G place routine levels line
+    → (injection : Injection) (memory : Memory)
+    → ((s : meaning.State) → Here injection s memory → IsCallable types levels around injection s.calls memory)
+    → (below operands : List Operand) (arguments : List Argument)
     → AreArguments injection memory formals arguments below operands
-    → Fragment declared G Here n (point injection memory place operands) (called (unit_in G memory.frames) line arguments) (place + 1) (λ rs. Inside untouched injection memory (ResultsOnTop results below rs)) 0 (λ rs. 0)
-call_follows promise lasts among place line calls injection memory below operands arguments are =
+    → Fragment declared G Here n (point injection memory place operands) (called (unit_in G memory.frames) line levels arguments) (place + 1) (λ rs. Inside untouched injection memory (ResultsOnTop results below rs)) 0 (λ rs. 0)
+call_follows promise lasts among place levels line calls injection memory callable below operands arguments are =
     fragment_post (λ rs longer after pushed i. record { grown = grown_fewer among i.grown; routine = same_routine-fewer among i.routine; operands_are = i.operands_are })
-    (fragment_since (lasts_more among lasts) (λ s. promise.by place line calls injection s memory below operands arguments are))
+    (fragment_since (lasts_more among lasts) (λ s held. promise.by place levels line calls injection s memory (callable s held) below operands arguments are))
 
 -- ---- what runs from a call do
 
@@ -134,7 +138,7 @@ module _ (declared : Declarations) (G : Image) (injection : Injection) (s : mean
 
 -- Runs from a call answer what the call does.
 pub calls_answer : CallsAnswer
-calls_answer declared G routine n formals results called promise place line calls injection memory below operands arguments are s matches steps le =
-    let fragment = promise.by place line calls injection s memory below operands arguments are in
+calls_answer declared G routine n types around formals results called promise place levels line calls injection memory below operands arguments are s matches callable steps le =
+    let fragment = promise.by place levels line calls injection s memory callable below operands arguments are in
     let follows = fragment.by s matches (since_here injection s memory) in
-    comes_to declared G injection s memory place (place + 1) operands (ResultsOnTop results below) steps (called (unit_in G memory.frames) line arguments steps s) (follows.by steps le)
+    comes_to declared G injection s memory place (place + 1) operands (ResultsOnTop results below) steps (called (unit_in G memory.frames) line levels arguments steps s) (follows.by steps le)

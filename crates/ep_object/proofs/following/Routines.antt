@@ -3,9 +3,10 @@ use Rattle.std.proofs.Common.{◌≡◌, ℕ, zero, suc, pos, ◌+◌, ◌≤◌
 use Rattle.std.proofs.lemmas.Bool.Decides.{nat_tests}
 use Rattle.std.proofs.lemmas.Option.{slice_get_within}
 use Rattle.std.proofs.Math.Seq.{take-append_seam, drop-append_seam}
-use Rattle.ep_object.specs.Activations.{InActivation}
+use Rattle.ep_object.specs.Activations.{LevelMatches, MatchesAround, IsCallable, InActivation}
 use Rattle.ep_object.specs.Operands.{weights}
-use Rattle.ep_object.specs.Calls.{top_of, call_limit, new_frame, called}
+use Rattle.ep_object.specs.Calls.{parent_by, top_of, call_limit, new_frame, called}
+use Rattle.ep_object.specs.Frames.{level_slots}
 use Rattle.ep_object.specs.Effects.{Jumps, Fails}
 use Rattle.ep_object.specs.Follows.{Since, HasGrown, Follows, operand_of, Fragment, GivesUp, Lands, Inside, IsStillCall, StillRuns, SameRoutine, IsNotLeft, point}
 use Rattle.ep_object.specs.Matching.{Memory, Injection, Matches, Slots, every_slot, Grown, at}
@@ -19,23 +20,28 @@ use Rattle.ep_object.specs.Table.{obey, obey_op, op_of}
 use Rattle.ep_object.specs.declared.code.Image.{Image}
 use Rattle.ep_object.specs.declared.code.ImageRoutine.{ImageRoutine}
 use Rattle.ep_object.specs.declared.code.Instr.{Instr}
+use Rattle.ep_object.specs.declared.state.FrameNumber.{FrameNumber}
 use Rattle.ep_object.specs.declared.state.FrameNumber.TheVariants as number
 use Rattle.ep_object.specs.declared.state.Place.{Place}
 use Rattle.ep_object.proofs.following.Bind.{follows_wider, gives_up}
 use Rattle.ep_object.proofs.following.Calling.{follows_called}
 use Rattle.ep_object.proofs.matching.Changes.{matches_entered, matches_left}
+use Rattle.ep_object.proofs.matching.Elements.{slice_get-drop}
 use Rattle.ep_object.proofs.matching.Endings.{without, ends_both}
 use Rattle.ep_object.proofs.matching.Growing.{grown_refl, grown_trans, not_left-here, not_left-still, same_call-refl, same_routine-refl, same_routine-trans, still_routine}
+use Rattle.ep_object.proofs.matching.Levels.{parent_there, level_called}
+use Rattle.ep_object.proofs.matching.Standing.{slice_get-some}
 use Rattle.ep_object.proofs.Grows.{is_prefix}
 use Rattle.ep_typed.specs.Calls.{activation_words, made_in, back_in, entered, left_from, in_call, nested}
 use Rattle.ep_typed.specs.Meaning.{activation}
 use Rattle.ep_typed.specs.Events.{Trace}
 use Rattle.ep_typed.specs.Printing.{Result}
 use Rattle.ep_typed.specs.Steady.{Steady}
-use Rattle.ep_typed.specs.Steps.{Call, Resources, watched, Computation, spend, with_all_ended}
+use Rattle.ep_typed.specs.Steps.{Call, named_in, around_by, Resources, watched, Computation, spend, with_all_ended}
 use Rattle.ep_typed.specs.Steps as meaning
-use Rattle.ep_typed.specs.Valid.{Declarations, Kind}
+use Rattle.ep_typed.specs.Valid.{Declarations, Level, variables_up, Kind}
 use Rattle.ep_typed.specs.declared.run_error.TheConstants as run_error
+use Rattle.ep_typed.specs.declared.unit.UnitType.{UnitType}
 
 -- ---- frames
 
@@ -100,13 +106,13 @@ lost_calls depth r deep = let full : nat_le depth 9000 ≡ false = grind (arith,
     go false e = rw e refl
 
 module _ (declared : Declarations) (G : Image) (routine : ℕ) (r : ImageRoutine) (there : routine_of G routine ≡ Some r) (numbered : routine < length G.routines) (top : List Operand) (taken : length top ≡ r.arguments) (light : weights top ≡ 0) where
-  -- the frame of a call that was made at a place, with these arguments
-  abbrev pub its_frame : ℕ → Frame
-  its_frame place = new_frame routine r (number.Unit r.unit) (place + 1) top
+  -- the frame of a call that was made at a place, with this parent and these arguments
+  abbrev pub its_frame : FrameNumber → ℕ → Frame
+  its_frame parent place = new_frame routine r parent (place + 1) top
 
   -- memory when the routine begins
-  abbrev pub begun_memory : ℕ → Memory → Memory
-  begun_memory place memory = record memory { frames = record memory.frames { calls = its_frame place ∷ memory.frames.calls } }
+  abbrev pub begun_memory : FrameNumber → ℕ → Memory → Memory
+  begun_memory parent place memory = record memory { frames = record memory.frames { calls = its_frame parent place ∷ memory.frames.calls } }
 
   -- the operands of the arguments are taken from those below
   top_taken : (below : List Operand) → top_of r.arguments (top ++ below) ≡ Some (top, below)
@@ -114,61 +120,91 @@ module _ (declared : Declarations) (G : Image) (routine : ℕ) (r : ImageRoutine
       let enough : leb (length top) (length (top ++ below)) ≡ true = grind (arith, nat_tests, length-append top below) in
       ap (λ n. top_of n (top ++ below)) (sym taken) ∙ (rw enough refl ∙ (ap (λ l. Some (l, drop (length top) (top ++ below))) (take-append_seam top below) ∙ ap (λ l. Some (top, l)) (drop-append_seam top below)))
 
-  called_at : (place line : ℕ) (below : List Operand) (memory : Memory) (trace : Trace) → (calls : CallsAt G place routine line)
+  called_at : (place levels line : ℕ) (parent : FrameNumber) (below : List Operand) (memory : Memory) (trace : Trace) → (calls : CallsAt G place routine levels line)
+      → parent_by memory.frames r levels ≡ Some parent
       → outcome G (at place (top ++ below) memory trace)
-      ≡ record { weight = 0; to = after G calls.instruction (at place (top ++ below) memory trace) (cond (ltb (length memory.frames.calls) call_limit) (Jumps r.entry (called routine r (number.Unit r.unit) top below (at place (top ++ below) memory trace))) (Fails run_error.CALL_DEPTH)) }
-  called_at place line below memory trace calls =
+      ≡ record { weight = 0; to = after G calls.instruction (at place (top ++ below) memory trace) (cond (ltb (length memory.frames.calls) call_limit) (Jumps r.entry (called routine r parent top below (at place (top ++ below) memory trace))) (Fails run_error.CALL_DEPTH)) }
+  called_at place levels line parent below memory trace calls is =
       let fits : ltb routine (length G.routines) ≡ true = grind (arith, nat_tests, numbered) in
       ap (λ o. outcome_of G o (at place (top ++ below) memory trace)) calls.stands
-      ∙ rw (calls.is_call, calls.names, calls.parent, fits, there, top_taken below, light) refl
+      ∙ rw (calls.is_call, calls.names, calls.parent, fits, there, is, top_taken below, light) refl
 
   -- memory has not grown by it
-  pub grown_begun : {untouched : Slots} (place : ℕ) (injection : Injection) (memory : Memory)
-      → Grown untouched injection memory injection (begun_memory place memory)
-  grown_begun {untouched = untouched} place injection memory =
+  pub grown_begun : {untouched : Slots} (parent : FrameNumber) (place : ℕ) (injection : Injection) (memory : Memory)
+      → Grown untouched injection memory injection (begun_memory parent place memory)
+  grown_begun {untouched = untouched} parent place injection memory =
       let g = grown_refl {untouched = untouched} injection memory in
       record { larger = g.larger; types = g.types; segments = g.segments; hidden = g.hidden; others = g.others; allocated = g.allocated; slots = g.slots; typed = g.typed; ended = g.ended }
 
   -- the call is under way on both sides
-  matches_begun : {injection : Injection} {s : meaning.State} {memory : Memory} (place : ℕ) (x : Call)
-      → Matches declared G injection s memory → Matches declared G injection (entered x s) (begun_memory place memory)
-  matches_begun place x h =
-      let m = matches_entered x h in
+  matches_begun : {injection : Injection} {s : meaning.State} {memory : Memory} (parent : FrameNumber) (place levels : ℕ) (x : Call)
+      → Matches declared G injection s memory → Matches declared G injection (entered levels x s) (begun_memory parent place memory)
+  matches_begun parent place levels x h =
+      let m = matches_entered levels x h in
       record { injected = m.injected; store = m.store; types = m.types; units = m.units; outside = m.outside; counts = m.counts; depth = omega (arith, h.depth) }
 
   -- the machine enters the routine, or ends where as many calls are under way as may be
-  enters : (place line : ℕ) (below : List Operand) (memory : Memory) (injection : Injection) (s : meaning.State) (x : Call)
-      → CallsAt G place routine line → Matches declared G injection s memory
-      → (outcome G (at place (top ++ below) memory s.trace) ≡ record { weight = 0; to = Running 0 (at r.entry below (begun_memory place memory) s.trace) })
-      ⊎ GivesUp G (at place (top ++ below) memory s.trace) 0 1 (entered x s)
-  enters place line below memory injection s x calls h = by_test (ltb (length memory.frames.calls) call_limit) refl
+  enters : (place levels line : ℕ) (parent : FrameNumber) (below : List Operand) (memory : Memory) (injection : Injection) (s : meaning.State) (x : Call)
+      → CallsAt G place routine levels line → parent_by memory.frames r levels ≡ Some parent → Matches declared G injection s memory
+      → (outcome G (at place (top ++ below) memory s.trace) ≡ record { weight = 0; to = Running 0 (at r.entry below (begun_memory parent place memory) s.trace) })
+      ⊎ GivesUp G (at place (top ++ below) memory s.trace) 0 1 (entered levels x s)
+  enters place levels line parent below memory injection s x calls is h = by_test (ltb (length memory.frames.calls) call_limit) refl
     where
       by_test : (b : Bool) → ltb (length memory.frames.calls) call_limit ≡ b
-          → (outcome G (at place (top ++ below) memory s.trace) ≡ record { weight = 0; to = Running 0 (at r.entry below (begun_memory place memory) s.trace) })
-          ⊎ GivesUp G (at place (top ++ below) memory s.trace) 0 1 (entered x s)
-      by_test true e = inl (called_at place line below memory s.trace calls ∙ rw e refl)
+          → (outcome G (at place (top ++ below) memory s.trace) ≡ record { weight = 0; to = Running 0 (at r.entry below (begun_memory parent place memory) s.trace) })
+          ⊎ GivesUp G (at place (top ++ below) memory s.trace) 0 1 (entered levels x s)
+      by_test true e = inl (called_at place levels line parent below memory s.trace calls is ∙ rw e refl)
       by_test false e =
           let full : 10000 ≤ length memory.frames.calls = grind (arith, nat_tests, e) in
           let stops : outcome G (at place (top ++ below) memory s.trace) ≡ record { weight = 0; to = Stopped (Error run_error.CALL_DEPTH (unit_in G memory.frames) calls.instruction.line) s.trace }
-          = called_at place line below memory s.trace calls ∙ rw e refl in
+          = called_at place levels line parent below memory s.trace calls is ∙ rw e refl in
           inr (gives_up stops (inr refl) (is_prefix s.trace) (lost_calls (suc (length s.calls)) (set_aside s.resources) (omega (arith, full, h.depth))))
 
-  -- What the routine knows when it begins: nothing is made yet.
-  begins : {untouched : Slots} (within : Declarations) → length within.routine_variables ≤ r.slots → (place : ℕ) (injection : Injection) (s : meaning.State) (memory : Memory) (name from : List ℕ) (line : ℕ)
-      → InActivation within untouched injection (begun_memory place memory) injection (entered (activation name from line) s) (begun_memory place memory)
-  begins within enough place injection s memory name from line =
+  -- the parent that a call finds in the activation that makes it
+  pub parent_of_call : (types : List UnitType) (levels : ℕ) (around : List Level) (injection : Injection) (calls : List Call) (memory : Memory)
+      → IsCallable types levels around injection calls memory → (p : FrameNumber) × (parent_by memory.frames r levels ≡ Some p)
+  parent_of_call types zero around injection calls memory h = (number.Unit r.unit, refl)
+  parent_of_call types (suc up) around injection calls memory (some, h) =
+      let first = slice_get-some around 0 some in
+      let l = h 0 first.0 first.1 in
+      parent_there memory.frames r up l.slots (subst (λ n. level_slots memory.frames.calls n ≡ Some l.slots) {x = up + 0} {y = up} (omega arith) l.are)
+
+  -- what it then has around it
+  around_begun : (types : List UnitType) (levels : ℕ) (around : List Level) (injection : Injection) (s : meaning.State) (memory : Memory) (x : Call) (place : ℕ) (parent : FrameNumber)
+      → parent_by memory.frames r levels ≡ Some parent → IsCallable types levels around injection s.calls memory
+      → (n : ℕ) (level : Level) → slice_get around n ≡ Some level → LevelMatches types level injection (entered levels x s).calls (begun_memory parent place memory) (suc n)
+  around_begun types zero around injection s memory x place parent is h n level at = absurd (let none : slice_get {X = Level} [] n ≡ Some level = ap (λ l. slice_get l n) (sym h) ∙ at in cc)
+  around_begun types (suc up) around injection s memory x place parent is (some, h) n level at =
+      let first = slice_get-some around 0 some in
+      let base = h 0 first.0 first.1 in
+      let base_are : level_slots memory.frames.calls up ≡ Some base.slots = subst (λ k. level_slots memory.frames.calls k ≡ Some base.slots) {x = up + 0} {y = up} (omega arith) base.are in
+      let l = h n level at in
       record {
-        grown = grown_refl injection (begun_memory place memory);
-        runs = still_routine (same_routine-refl {untouched = every_slot} (begun_memory place memory).frames);
-        frame = its_frame place;
+        slots = l.slots;
+        are = level_called memory.frames r up n parent base.slots l.slots (its_frame parent place) is refl base_are l.are;
+        variables = l.variables;
+        named = slice_get-drop (named_in s.calls) up n ∙ l.named;
+        holds = λ k v e. let y = l.holds k v e in record { slot = y.slot; is = y.is; matches = y.matches; described = y.described };
+      }
+
+  -- What the routine knows when it begins: nothing is made yet.
+  begins : {untouched : Slots} (within : Declarations) → length (variables_up within 0) ≤ r.slots → (place levels : ℕ) (parent : FrameNumber) (injection : Injection) (s : meaning.State) (memory : Memory) (name from : List ℕ) (line : ℕ)
+      → MatchesAround within injection (entered levels (activation name from line) s) (begun_memory parent place memory)
+      → InActivation within untouched injection (begun_memory parent place memory) injection (entered levels (activation name from line) s) (begun_memory parent place memory)
+  begins within enough place levels parent injection s memory name from line around =
+      record {
+        grown = grown_refl injection (begun_memory parent place memory);
+        runs = still_routine (same_routine-refl {untouched = every_slot} (begun_memory parent place memory).frames);
+        frame = its_frame parent place;
         below = memory.frames.calls;
         frames = refl;
-        call = activation name from line;
+        call = record (activation name from line) { around = around_by levels s.calls };
         others = s.calls;
         calls = refl;
         own = λ k v is.
-            let inside : k < r.slots = (let w : k < length within.routine_variables = slice_get_within within.routine_variables k v is in omega (arith, w, enough)) in
+            let inside : k < r.slots = (let w : k < length (variables_up within 0) = slice_get_within (variables_up within 0) k v is in omega (arith, w, enough)) in
             record { slot = None; is = none_yet r.slots k inside; matches = tt; described = λ p t e. cc };
+        around = around;
         made = tt;
       }
 
@@ -183,14 +219,14 @@ module _ (declared : Declarations) (G : Image) (routine : ℕ) (r : ImageRoutine
       matches : Matches declared G longer (left_from s t) later
 
     -- what was made in the call ends on both sides, and the caller goes on
-    goes_back : {untouched : Slots} {injection longer : Injection} {s t : meaning.State} {memory after : Memory} (within : Declarations) (place : ℕ) (operands : List Operand)
+    goes_back : {untouched : Slots} {injection longer : Injection} {s t : meaning.State} {memory after : Memory} (within : Declarations) (parent : FrameNumber) (place : ℕ) (operands : List Operand)
         → Matches declared G injection s memory → Matches declared G longer t after
-        → InActivation within untouched injection (begun_memory place memory) longer t after
+        → InActivation within untouched injection (begun_memory parent place memory) longer t after
         → GoesBack untouched injection s t memory place operands longer after
-    goes_back {untouched = untouched} {injection = injection} {longer = longer} {s = s} {t = t} {memory = memory} {after = after} within place operands old h known =
+    goes_back {untouched = untouched} {injection = injection} {longer = longer} {s = s} {t = t} {memory = memory} {after = after} within parent place operands old h known =
         let frame = known.frame in
         let runs = known.runs in
-        let still : IsStillCall (its_frame place ∷ memory.frames.calls) (frame ∷ known.below) = subst (λ cs. IsStillCall (its_frame place ∷ memory.frames.calls) cs) known.frames runs.calls in
+        let still : IsStillCall (its_frame parent place ∷ memory.frames.calls) (frame ∷ known.below) = subst (λ cs. IsStillCall (its_frame parent place ∷ memory.frames.calls) cs) known.frames runs.calls in
         let later : Memory = left_memory frame.made memory.frames.calls after in
         let ends = ends_both (known.call).made frame.made t after known.made h in
         let m = ends.matches in
@@ -210,17 +246,21 @@ module _ (declared : Declarations) (G : Image) (routine : ℕ) (r : ImageRoutine
 
     -- Where the machine follows the routine up to its `Return`, with the results on the operands there, in any activation of
     -- it and with the credit of its call, it follows a call as a whole.
-    pub routine_keeps : (within : Declarations) → length within.routine_variables ≤ r.slots
-        → (n : ℕ) (place line : ℕ) → CallsAt G place routine line
-        → (injection : Injection) (began : meaning.State) (memory : Memory) (below : List Operand)
+    pub routine_keeps : (within : Declarations) → length (variables_up within 0) ≤ r.slots
+        → (around : List Level) → ((n : ℕ) → slice_get within.levels (suc n) ≡ slice_get around n)
+        → (n : ℕ) (place levels line : ℕ) → CallsAt G place routine levels line
+        → (parent : FrameNumber) (injection : Injection) (began : meaning.State) (memory : Memory) (below : List Operand)
+        → parent_by memory.frames r levels ≡ Some parent → IsCallable within.routine_types levels around injection began.calls memory
         → (name from : List ℕ) (results : List Kind) (body : Computation (List Result)) → Steady body → (untouched : Slots)
-        → Fragment declared G (InActivation within untouched injection (begun_memory place memory)) n (point injection (begun_memory place memory) r.entry below) body ret (λ rs. ResultsOnTop results below rs) 63 (λ rs. 1)
-        → Fragment declared G (Since untouched injection began memory) (suc n) (point injection memory place (top ++ below)) (in_call (activation name from line) (spend 1 body)) (place + 1) (λ rs. Inside untouched injection memory (ResultsOnTop results below rs)) 0 (λ rs. 0)
-    routine_keeps within enough n place line calls injection began memory below name from results body steady untouched inner =
+        → Fragment declared G (InActivation within untouched injection (begun_memory parent place memory)) n (point injection (begun_memory parent place memory) r.entry below) body ret (λ rs. ResultsOnTop results below rs) 63 (λ rs. 1)
+        → Fragment declared G (Since untouched injection began memory) (suc n) (point injection memory place (top ++ below)) (in_call levels (activation name from line) (spend 1 body)) (place + 1) (λ rs. Inside untouched injection memory (ResultsOnTop results below rs)) 0 (λ rs. 0)
+    routine_keeps within enough around levels_are n place levels line calls parent injection began memory below parent_is callable name from results body steady untouched inner =
         record {
           by = λ s matches since.
-              let ran = inner.by (entered x s) (matches_begun place x matches) (begins within enough place injection s memory name from line) in
-              follows_called {P = P} {Q = Q} (not_left-here memory.frames) refl steady (go s matches (enters place line below memory injection s x calls matches) (follows_wider (λ k. not_left-called memory.frames k.frames (its_frame place)) ran))
+              let here : IsCallable within.routine_types levels around injection s.calls memory = subst (λ cs. IsCallable within.routine_types levels around injection cs memory) (sym since.calls) callable in
+              let known : MatchesAround within injection (entered levels x s) (begun_memory parent place memory) = (λ n level at. around_begun within.routine_types levels around injection s memory x place parent parent_is here n level (sym (levels_are n) ∙ at)) in
+              let ran = inner.by (entered levels x s) (matches_begun parent place levels x matches) (begins within enough place levels parent injection s memory name from line known) in
+              follows_called levels x {P = P} {Q = Q} (not_left-here memory.frames) refl steady (go s matches (enters place levels line parent below memory injection s x calls parent_is matches) (follows_wider (λ k. not_left-called memory.frames k.frames (its_frame parent place)) ran))
               (λ rs s1 k1 post. back s matches since rs s1 k1 post);
         }
       where
@@ -228,7 +268,7 @@ module _ (declared : Declarations) (G : Image) (routine : ℕ) (r : ImageRoutine
         x = activation name from line
 
         P : List Result → meaning.State → State → Type 0
-        P rs = Lands declared G (InActivation within untouched injection (begun_memory place memory)) ret (ResultsOnTop results below rs)
+        P rs = Lands declared G (InActivation within untouched injection (begun_memory parent place memory)) ret (ResultsOnTop results below rs)
 
         Q : List Result → meaning.State → State → Type 0
         Q rs = Lands declared G (Since untouched injection began memory) (place + 1) (Inside untouched injection memory (ResultsOnTop results below rs))
@@ -237,12 +277,12 @@ module _ (declared : Declarations) (G : Image) (routine : ℕ) (r : ImageRoutine
         In k = IsNotLeft memory.frames k.frames
 
         entry : meaning.State → State
-        entry s = at r.entry below (begun_memory place memory) s.trace
+        entry s = at r.entry below (begun_memory parent place memory) s.trace
 
         go : (s : meaning.State) → Matches declared G injection s memory
-            → (outcome G (at place (top ++ below) memory s.trace) ≡ record { weight = 0; to = Running 0 (entry s) }) ⊎ GivesUp G (at place (top ++ below) memory s.trace) 0 1 (entered x s)
-            → Follows In G n (entry s) (entered x s) body P 63 (λ rs. 1)
-            → ((e : State) × (outcome G (at place (top ++ below) memory s.trace) ≡ record { weight = 0; to = Running 0 e }) × Follows In G n e (entered x s) body P 63 (λ rs. 1)) ⊎ GivesUp G (at place (top ++ below) memory s.trace) 0 1 (entered x s)
+            → (outcome G (at place (top ++ below) memory s.trace) ≡ record { weight = 0; to = Running 0 (entry s) }) ⊎ GivesUp G (at place (top ++ below) memory s.trace) 0 1 (entered levels x s)
+            → Follows In G n (entry s) (entered levels x s) body P 63 (λ rs. 1)
+            → ((e : State) × (outcome G (at place (top ++ below) memory s.trace) ≡ record { weight = 0; to = Running 0 e }) × Follows In G n e (entered levels x s) body P 63 (λ rs. 1)) ⊎ GivesUp G (at place (top ++ below) memory s.trace) 0 1 (entered levels x s)
         go s matches (inl o) f = inl (entry s, o, f)
         go s matches (inr y) f = inr y
 
@@ -251,8 +291,8 @@ module _ (declared : Declarations) (G : Image) (routine : ℕ) (r : ImageRoutine
             → In k1 × ((next : State) × (outcome G k1 ≡ record { weight = 0; to = Running 0 next }) × Q rs (left_from s s1) next)
         back s matches since rs s1 k1 lands =
             let known = lands.here in
-            let out = goes_back within place lands.operands matches lands.matches known in (
-              subst (λ (k : State). In k) (sym lands.is) (not_left-called memory.frames lands.memory.frames (its_frame place) (not_left-still known.runs)),
+            let out = goes_back within parent place lands.operands matches lands.matches known in (
+              subst (λ (k : State). In k) (sym lands.is) (not_left-called memory.frames lands.memory.frames (its_frame parent place) (not_left-still known.runs)),
               (
                 at (place + 1) lands.operands out.later s1.trace,
                 ap (λ k. outcome G k) lands.is ∙ out.does,

@@ -1,5 +1,5 @@
 -- Elements of lists that grow at the end, and of lists of which one element is replaced.
-use Rattle.std.proofs.Common.{◌≡◌, ◌≢◌, ℕ, zero, suc, List, [], ◌∷◌, ◌++◌, length, Some, slice_get, slice_set, ◌⊎◌, inl, inr, refl, ap, arith}
+use Rattle.std.proofs.Common.{◌≡◌, ◌≢◌, ℕ, zero, suc, List, [], ◌∷◌, ◌++◌, length, drop, Some, slice_get, slice_set, ◌⊎◌, inl, inr, refl, ap, ◌∙◌, ◌+◌, arith}
 use Rattle.std.proofs.lemmas.Grind.{common_steps}
 
 -- an element of a longer list is one of the list, or the new one
@@ -33,3 +33,9 @@ slice_get-set-other (z ∷ xs) (suc i) (suc j) x n = slice_get-set-other xs i j 
 
 pub length-set : {A : Type 0} (xs : List A) (i : ℕ) (x : A) → length (slice_set xs i x) ≡ length xs
 length-set xs i x = grind (arith, common_steps)
+
+-- what is behind the first elements
+pub slice_get-drop : {A : Type 0} (xs : List A) (n k : ℕ) → slice_get (drop n xs) k ≡ slice_get xs (n + k)
+slice_get-drop xs zero k = ap (λ i. slice_get xs i) {x = k} {y = 0 + k} (omega arith)
+slice_get-drop [] (suc n) k = refl
+slice_get-drop (x ∷ xs) (suc n) k = slice_get-drop xs n k ∙ ap (λ i. slice_get (x ∷ xs) i) {x = suc (n + k)} {y = suc n + k} (omega arith)

@@ -5,8 +5,8 @@ use Rattle.std.proofs.lemmas.Bool.Decides.{nat_tests}
 use Rattle.std.proofs.lemmas.Option.{slice_get_within, same_Some}
 use native.Mathlib.Decide.{ℕ_discrete}
 use Rattle.ep_outside.specs.Known.{IsPrefix}
-use Rattle.ep_object.specs.Activations.{OwnSlot, MatchesOwn, OwnAreKept, KnowsOwn, AreMade, InActivation}
-use Rattle.ep_object.specs.Follows.{IsSameCall, IsStillCall, StillRuns, HasGrown, Lasts, Since}
+use Rattle.ep_object.specs.Activations.{OwnSlot, MatchesOwn, MatchesAround, OwnAreKept, AreMade, InActivation}
+use Rattle.ep_object.specs.Follows.{IsSameCall, IsStillCall, StillRuns, HasGrown, Lasts}
 use Rattle.ep_object.specs.Matching.{Memory, Injection, IsIn, Describes, Slots, own_slot, MatchesSlot, HasType, HasOwnType, Matches, Grown}
 use Rattle.ep_object.specs.Scene.{HaveValidTypes}
 use Rattle.ep_object.specs.State.{Frame, Frames}
@@ -15,12 +15,13 @@ use Rattle.ep_object.specs.declared.state.Place.{Place}
 use Rattle.ep_object.proofs.matching.Changes.{slot-grown, matches_frame-grown}
 use Rattle.ep_object.proofs.matching.Elements.{slice_get-set-same, slice_get-set-other}
 use Rattle.ep_object.proofs.matching.Growing.{is_in-longer, describes-grown, grown_trans, still_routine, still_runs-trans}
+use Rattle.ep_object.proofs.matching.Levels.{level-same, around-lasts}
 use Rattle.ep_object.proofs.matching.NewVariables.{new_place, with_variable, with_segment, grown_making, grown_same_frames, type_more, new_allocation, represented_making, new_place_of, output_lives, injected_making, counts_making}
 use Rattle.ep_object.proofs.matching.Standing.{slice_get-some, both, instance_valid, one_type}
 use Rattle.ep_typed.specs.Operations.{is_integer}
-use Rattle.ep_typed.specs.Steps.{Call, type_at, bound_own, own_in, own_variable, with_own, counted, made_own}
+use Rattle.ep_typed.specs.Steps.{Call, named_in, type_at, bound_own, own_in, own_variable, with_own, counted, made_own}
 use Rattle.ep_typed.specs.Steps as meaning
-use Rattle.ep_typed.specs.Valid.{Declarations}
+use Rattle.ep_typed.specs.Valid.{Declarations, variables_up}
 use Rattle.ep_typed.specs.declared.unit.UnitVariable.{UnitVariable}
 use Rattle.ep_typed.specs.declared.value.TypeValue.TheVariants as type
 
@@ -36,16 +37,9 @@ matches_own-lasts {untouched = untouched} {declared = declared} kept = record { 
         record {
           slot = h.slot;
           is = r.slots k own ∙ h.is;
-          matches = subst (λ o. MatchesSlot longer after.segments o h.slot) (sym (ap (λ cs. own_in cs k) g.calls)) (slot-grown (own_variable k s) h.slot g.grown h.matches);
+          matches = subst (λ o. MatchesSlot longer after.segments o h.slot) (sym (ap (λ cs. own_in cs 0 k) g.calls)) (slot-grown (own_variable 0 k s) h.slot g.grown h.matches);
           described = λ place t is has_type. describes-grown place.type_number t g.grown (h.described place t is has_type);
         }
-
--- where memory has grown since they matched, they match
-pub since_knows-own : {untouched : Slots} {declared : Declarations} {injection : Injection} {s : meaning.State} {memory : Memory}
-    → OwnAreKept declared untouched → MatchesOwn declared injection s memory → KnowsOwn declared (Since untouched injection s memory)
-since_knows-own {untouched = untouched} {declared = declared} {injection = injection} {s = s} {memory = memory} kept own longer t after since =
-    let lasts = matches_own-lasts {untouched = untouched} {declared = declared} kept in
-    lasts.by injection longer s t memory after since own
 
 -- what was made stays where it is
 are_made-longer : (injection longer : Injection) → IsPrefix injection longer → (ns segments : List ℕ)
@@ -88,6 +82,7 @@ in_activation-lasts {untouched = untouched} {declared = declared} {injection = i
         let r = more.routine in
         let inner = innermost h.frame h.below after.frames.calls final.frames.calls h.frames r.calls in
         let own_lasts = matches_own-lasts {untouched = untouched} {declared = declared} kept in
+        let around_last = around-lasts {untouched = untouched} declared in
         let g = more.grown in
         record {
           grown = grown_trans h.grown g;
@@ -99,6 +94,7 @@ in_activation-lasts {untouched = untouched} {declared = declared} {injection = i
           others = h.others;
           calls = more.calls ∙ h.calls;
           own = own_lasts.by longer last s t after final more h.own;
+          around = around_last.by longer last s t after final more h.around;
           made = subst (λ l. AreMade last (h.call).made l) (sym inner.made) (are_made-longer longer last g.larger (h.call).made (h.frame).made h.made);
         }
 
@@ -178,7 +174,7 @@ module _ {declared : Declarations} {G : Image} {injection : Injection} {s : mean
 
   -- the slot has its place, and the others have theirs
   pub own_making : MatchesOwn declared injection s memory → k < length frame.slots
-      → ((v : UnitVariable) → slice_get declared.routine_variables k ≡ Some v → HasOwnType declared v (type.Ordinal low high))
+      → ((v : UnitVariable) → slice_get (variables_up declared 0) k ≡ Some v → HasOwnType declared v (type.Ordinal low high))
       → MatchesOwn declared longer own_state own_later
   own_making own within declared_so j v is = elim (ℕ_discrete k j) [ yes e ↦ same e | no e ↦ other e (own j v is) ]
     where
@@ -188,8 +184,8 @@ module _ {declared : Declarations} {G : Image} {injection : Injection} {s : mean
       n : ℕ
       n = suc (length s.allocations)
 
-      bound_to : (i : ℕ) (o : Option ℕ) → bound_own k n call.variables i ≡ o → own_variable i own_state ≡ o
-      bound_to i o e = ap (λ cs. own_in (with_own k n cs) i) calls ∙ e
+      bound_to : (i : ℕ) (o : Option ℕ) → bound_own k n call.variables i ≡ o → own_variable 0 i own_state ≡ o
+      bound_to i o e = ap (λ cs. own_in (with_own k n cs) 0 i) calls ∙ e
 
       same : k ≡ j → OwnSlot declared longer own_state own_later j v
       same e =
@@ -200,7 +196,7 @@ module _ {declared : Declarations} {G : Image} {injection : Injection} {s : mean
             is = slice_get-set-same frame.slots k (Some place) old.0 old.1;
             matches = subst (λ o. MatchesSlot longer own_later.segments o (Some place)) (sym (bound_to k (Some n) (bound_own-same k n call.variables))) (new_place_of h low high number described low_fits high_fits);
             described = λ p t p_is has_type.
-                let its : type.Ordinal low high ≡ t = one_type (declared_so v (subst (λ i. slice_get declared.routine_variables i ≡ Some v) (sym e) is)) has_type in
+                let its : type.Ordinal low high ≡ t = one_type (declared_so v (subst (λ i. slice_get (variables_up declared 0) i ≡ Some v) (sym e) is)) has_type in
                 let number_is : number ≡ p.type_number = ap (λ (q : Place). q.type_number) (same_Some place p p_is) in
                 subst (λ i. Describes memory.types i t) number_is (subst (λ u. Describes memory.types number u) its described);
           })
@@ -208,19 +204,19 @@ module _ {declared : Declarations} {G : Image} {injection : Injection} {s : mean
       other : (k ≡ j → ⊥) → OwnSlot declared injection s memory j v → OwnSlot declared longer own_state own_later j v
       other e before =
           let in_frame : slice_get frame.slots j ≡ Some before.slot = sym (ap (λ cs. own_slot (record memory.frames { calls = cs }) j) frames) ∙ before.is in
-          let variable : own_variable j s ≡ own_variable j own_state = ap (λ cs. own_in cs j) calls ∙ sym (bound_to j (call.variables j) (bound_own-other k n call.variables j e)) in
+          let variable : own_variable 0 j s ≡ own_variable 0 j own_state = ap (λ cs. own_in cs 0 j) calls ∙ sym (bound_to j (call.variables j) (bound_own-other k n call.variables j e)) in
           record {
             slot = before.slot;
             is = slice_get-set-other frame.slots k j (Some place) e ∙ in_frame;
-            matches = subst (λ o. MatchesSlot longer own_later.segments o before.slot) variable (slot-grown (own_variable j s) before.slot (grown_same_frames injection memory number) before.matches);
+            matches = subst (λ o. MatchesSlot longer own_later.segments o before.slot) variable (slot-grown (own_variable 0 j s) before.slot (grown_same_frames injection memory number) before.matches);
             described = before.described;
           }
 
   -- what the routine knows holds again
-  pub in_activation_making : {untouched : Slots} {first : Injection} {start : Memory} → MatchesOwn declared longer own_state own_later
+  pub in_activation_making : {untouched : Slots} {first : Injection} {start : Memory} → MatchesOwn declared longer own_state own_later → MatchesAround declared injection s memory
       → Grown untouched first start injection memory → StillRuns start.frames memory.frames → AreMade injection call.made frame.made
       → InActivation declared untouched first start longer own_state own_later
-  in_activation_making own grown runs made =
+  in_activation_making {untouched = untouched} own around grown runs made =
       let injected = h.injected in
       let place_of = new_place_of h low high number described low_fits high_fits in
       record {
@@ -233,6 +229,8 @@ module _ {declared : Declarations} {G : Image} {injection : Injection} {s : mean
         others = others;
         calls = ap (λ cs. with_own k (suc (length s.allocations)) cs) calls;
         own = own;
+        around = λ up level is. level-same {untouched = untouched} frame (record frame { slots = slice_set frame.slots k (Some (new_place memory number)); made = frame.made ++ length memory.segments ∷ [] }) below up frames refl refl
+            (ap (λ cs. slice_get (named_in (with_own k (suc (length s.allocations)) cs)) (suc up)) calls ∙ sym (ap (λ cs. slice_get (named_in cs) (suc up)) calls)) grown_making_own (around up level is);
         made = are_made-more longer (suc (length s.allocations)) (length memory.segments) place_of.is_in new_number call.made frame.made (are_made-longer injection longer (record { rest = length memory.segments ∷ []; is = refl }) call.made frame.made made);
       }
     where

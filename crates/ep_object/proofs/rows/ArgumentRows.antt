@@ -21,6 +21,7 @@ use Rattle.ep_object.proofs.following.Fragments.{fragment_goes, fragment_waits, 
 use Rattle.ep_object.proofs.matching.Awaiting.{arguments_in, without_argument}
 use Rattle.ep_object.proofs.matching.Elements.{slice_get-set-same, slice_get-set-other}
 use Rattle.ep_object.proofs.matching.Growing.{grown_refl, grown_trans, not_left-here, still_runs-trans, still_routine, unit_in-still}
+use Rattle.ep_object.proofs.matching.Levels.{level-same}
 use Rattle.ep_object.proofs.matching.NewVariables.{new_segment}
 use Rattle.ep_object.proofs.matching.OwnVariables.{bound_own-same, bound_own-other}
 use Rattle.ep_object.proofs.matching.Standing.{slice_get-some, one_type, allocated}
@@ -29,9 +30,9 @@ use Rattle.ep_object.proofs.rows.FrameRows.{own_slots, slot_pushes}
 use Rattle.ep_object.proofs.rows.Rows.{instr, in_one, outcome_at}
 use Rattle.ep_typed.specs.Events.{Trace}
 use Rattle.ep_typed.specs.Meaning.{initialized}
-use Rattle.ep_typed.specs.Steps.{Call, Allocation, Computation, spend, change, stop, own_in, own_variable, bound_own, own_bound_in, with_own_bound, newest_assigned, is_within, type_at, has_ended, ended_in, allocation_at}
+use Rattle.ep_typed.specs.Steps.{Call, named_in, Allocation, Computation, spend, change, stop, own_in, own_variable, bound_own, own_bound_in, with_own_bound, newest_assigned, is_within, type_at, has_ended, ended_in, allocation_at}
 use Rattle.ep_typed.specs.Steps as meaning
-use Rattle.ep_typed.specs.Valid.{Declarations}
+use Rattle.ep_typed.specs.Valid.{Declarations, variables_up}
 use Rattle.ep_typed.specs.declared.unit.UnitVariable.{UnitVariable}
 use Rattle.ep_typed.specs.declared.value.TypeValue.{TypeValue}
 use Rattle.ep_typed.specs.declared.value.TypeValue.TheVariants as type
@@ -109,6 +110,7 @@ module _ (declared : Declarations) (G : Image) (untouched : Slots) (first : Inje
         own = λ j v is.
             let old = h.own j v is in
             record { slot = old.slot; is = sym (ap (λ cs. slot_of_frame (slots_over cs None) j) frames) ∙ old.is; matches = old.matches; described = old.described };
+        around = λ up level is. level-same {untouched = untouched} frame (taken_from k frame) others up frames refl refl refl (grown_innermost injection memory (taken_from k frame) others) (h.around up level is);
         made = subst (λ (f : Frame). AreMade injection (h.call).made f.made) (first_of same) h.made;
       }
     where
@@ -126,7 +128,7 @@ module _ (declared : Declarations) (G : Image) (untouched : Slots) (first : Inje
   -- the variable of the routine is the allocation at the place
   knows_bound : (s : meaning.State) (n : ℕ) (p : Place) (t : TypeValue) → InActivation declared untouched first start injection s memory → k < length frame.slots
       → IsPlaceOf injection memory.segments n p → Describes memory.types p.type_number t
-      → ((v : UnitVariable) → slice_get declared.routine_variables k ≡ Some v → HasOwnType declared v t)
+      → ((v : UnitVariable) → slice_get (variables_up declared 0) k ≡ Some v → HasOwnType declared v t)
       → InActivation declared untouched first start injection (with_own_bound k n s) (with_innermost (with_slot k p frame) others memory)
   knows_bound s n p t h within place_of described declared_so =
       let same : h.frame ∷ h.below ≡ frame ∷ others = sym h.frames ∙ frames in
@@ -140,6 +142,8 @@ module _ (declared : Declarations) (G : Image) (untouched : Slots) (first : Inje
         others = h.others;
         calls = ap (λ cs. own_bound_in k n cs) h.calls;
         own = λ j v is. elim (ℕ_discrete k j) [ yes e ↦ same_slot j v is e | no e ↦ other_slot j v is e (h.own j v is) ];
+        around = λ up level is. level-same {untouched = untouched} frame (with_slot k p frame) others up frames refl refl
+            (ap (λ cs. slice_get (named_in (own_bound_in k n cs)) (suc up)) h.calls ∙ sym (ap (λ cs. slice_get (named_in cs) (suc up)) h.calls)) (grown_innermost injection memory (with_slot k p frame) others) (h.around up level is);
         made = subst (λ (f : Frame). AreMade injection (h.call).made f.made) (first_of same) h.made;
       }
     where
@@ -149,10 +153,10 @@ module _ (declared : Declarations) (G : Image) (untouched : Slots) (first : Inje
       first_of : {x y : Frame} {xs ys : List Frame} → x ∷ xs ≡ y ∷ ys → x ≡ y
       first_of e = cc
 
-      bound_to : (i : ℕ) (o : Option ℕ) → bound_own k n (h.call).variables i ≡ o → own_variable i (with_own_bound k n s) ≡ o
-      bound_to i o e = ap (λ cs. own_in (own_bound_in k n cs) i) h.calls ∙ e
+      bound_to : (i : ℕ) (o : Option ℕ) → bound_own k n (h.call).variables i ≡ o → own_variable 0 i (with_own_bound k n s) ≡ o
+      bound_to i o e = ap (λ cs. own_in (own_bound_in k n cs) 0 i) h.calls ∙ e
 
-      same_slot : (j : ℕ) (v : UnitVariable) → slice_get declared.routine_variables j ≡ Some v → k ≡ j → OwnSlot declared injection (with_own_bound k n s) later j v
+      same_slot : (j : ℕ) (v : UnitVariable) → slice_get (variables_up declared 0) j ≡ Some v → k ≡ j → OwnSlot declared injection (with_own_bound k n s) later j v
       same_slot j v is e =
           let old = slice_get-some frame.slots k within in
           subst (λ i. OwnSlot declared injection (with_own_bound k n s) later i v) e
@@ -161,14 +165,14 @@ module _ (declared : Declarations) (G : Image) (untouched : Slots) (first : Inje
             is = slice_get-set-same frame.slots k (Some p) old.0 old.1;
             matches = subst (λ o. MatchesSlot injection memory.segments o (Some p)) (sym (bound_to k (Some n) (bound_own-same k n (h.call).variables))) place_of;
             described = λ q u q_is has_type.
-                let its : t ≡ u = one_type (declared_so v (subst (λ i. slice_get declared.routine_variables i ≡ Some v) (sym e) is)) has_type in
+                let its : t ≡ u = one_type (declared_so v (subst (λ i. slice_get (variables_up declared 0) i ≡ Some v) (sym e) is)) has_type in
                 subst (λ (x : Place). Describes memory.types x.type_number u) (same_Some p q q_is) (subst (λ u. Describes memory.types p.type_number u) its described);
           })
 
-      other_slot : (j : ℕ) (v : UnitVariable) → slice_get declared.routine_variables j ≡ Some v → (k ≡ j → ⊥) → OwnSlot declared injection s memory j v → OwnSlot declared injection (with_own_bound k n s) later j v
+      other_slot : (j : ℕ) (v : UnitVariable) → slice_get (variables_up declared 0) j ≡ Some v → (k ≡ j → ⊥) → OwnSlot declared injection s memory j v → OwnSlot declared injection (with_own_bound k n s) later j v
       other_slot j v is e old =
           let in_frame : slice_get frame.slots j ≡ Some old.slot = sym (ap (λ cs. slot_of_frame (slots_over cs None) j) frames) ∙ old.is in
-          let variable : own_variable j s ≡ own_variable j (with_own_bound k n s) = ap (λ cs. own_in cs j) h.calls ∙ sym (bound_to j ((h.call).variables j) (bound_own-other k n (h.call).variables j e)) in
+          let variable : own_variable 0 j s ≡ own_variable 0 j (with_own_bound k n s) = ap (λ cs. own_in cs 0 j) h.calls ∙ sym (bound_to j ((h.call).variables j) (bound_own-other k n (h.call).variables j e)) in
           record {
             slot = old.slot;
             is = slice_get-set-other frame.slots k j (Some p) e ∙ in_frame;
@@ -231,7 +235,7 @@ module _ (declared : Declarations) (G : Image) (untouched : Slots) (first : Inje
   pub variable_taken : (n m d : ℕ) (p : Place) (t : TypeValue) (v : UnitVariable)
       → slice_get G.instructions place ≡ Some (instr op.ARG (pos k) 0 line) → slice_get G.instructions (place + 1) ≡ Some (instr op.BIND (pos k) 0 line)
       → argument_at frame.arguments k ≡ Some (operand.Place p) → IsPlaceOf injection memory.segments m p → Describes memory.types p.type_number t
-      → slice_get declared.routine_variables k ≡ Some v → ((w : UnitVariable) → slice_get declared.routine_variables k ≡ Some w → HasOwnType declared w t) → 2 ≤ d
+      → slice_get (variables_up declared 0) k ≡ Some v → ((w : UnitVariable) → slice_get (variables_up declared 0) k ≡ Some w → HasOwnType declared w t) → 2 ≤ d
       → Fragment declared G Here (suc n) (point injection memory place below) (spend 1 (change (with_own_bound k m))) (place + 1 + 1) (λ a. Taken untouched injection memory left below) d (λ a. d)
   variable_taken n m d p t v has_arg has_bind there place_of described is_declared declared_so enough =
       arg_moves {d1 = d - 1} below (operand.Place p) has_arg there refl (omega (arith, enough)) (record { by = λ s matches here. bound s matches here })

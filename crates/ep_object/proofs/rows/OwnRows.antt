@@ -3,12 +3,12 @@ use Rattle.std.proofs.Common.{leb, cond, ◌≡◌, ℕ, ℤ, pos, suc, ◌+◌,
 use Rattle.std.proofs.lemmas.Bool.Decides.{nat_tests}
 use Rattle.std.proofs.lemmas.Bool.{lt-ltb}
 use Rattle.std.proofs.lemmas.Option.{slice_get_within}
-use Rattle.ep_object.specs.Activations.{OwnSlot, InActivation}
+use Rattle.ep_object.specs.Activations.{OwnSlot, LevelMatches, InActivation}
 use Rattle.ep_object.specs.Follows.{GivesUp, Facts, IsStillCall, StillRuns, Inside, PlaceOnTop}
 use Rattle.ep_object.specs.Matching.{Memory, at, Injection, IsPlaceOf, Grown, Describes, Slots, own_slot, slot_of_frame, MatchesSlot, HasOwnType, Matches}
 use Rattle.ep_object.specs.Operands.{Operand, Word}
 use Rattle.ep_object.specs.Operands as operand
-use Rattle.ep_object.specs.Frames.{slots_over}
+use Rattle.ep_object.specs.Frames.{slots_over, slots_up}
 use Rattle.ep_object.specs.Runs.{outcome, unit_in}
 use Rattle.ep_object.specs.Scene.{HaveValidTypes}
 use Rattle.ep_object.specs.State.{Frame, Running, Stopped, Error, live_limit}
@@ -23,6 +23,7 @@ use Rattle.ep_object.proofs.matching.Counts.{lost_words, past_limit, live_bounde
 use Rattle.ep_object.proofs.matching.Awaiting.{arguments_in}
 use Rattle.ep_object.proofs.matching.Elements.{slice_get-set-same, slice_get-pushed}
 use Rattle.ep_object.proofs.matching.Growing.{inside_here}
+use Rattle.ep_object.proofs.matching.Levels.{level_up}
 use Rattle.ep_object.proofs.matching.Standing.{slice_get-some}
 use Rattle.ep_object.proofs.matching.NewVariables.{new_place, new_segment, new_place_of, with_variable, with_segment}
 use Rattle.ep_object.proofs.matching.OwnVariables.{with_own_place, grown_making_own, matches_making_own, own_making, in_activation_making}
@@ -30,9 +31,9 @@ use Rattle.ep_object.proofs.rows.FrameRows.{own_slots, slot_pushes, slot_misses}
 use Rattle.ep_object.proofs.rows.Rows.{instr, in_one, outcome_at}
 use Rattle.ep_typed.specs.Events.{Trace}
 use Rattle.ep_typed.specs.Operations.{is_integer}
-use Rattle.ep_typed.specs.Steps.{Resources, own_variable, counted, made_own}
+use Rattle.ep_typed.specs.Steps.{Resources, variable_in, own_variable, counted, made_own}
 use Rattle.ep_typed.specs.Steps as meaning
-use Rattle.ep_typed.specs.Valid.{Declarations}
+use Rattle.ep_typed.specs.Valid.{Declarations, Level, variables_up}
 use Rattle.ep_typed.specs.declared.unit.UnitVariable.{UnitVariable}
 use Rattle.ep_typed.specs.declared.value.TypeValue.{TypeValue}
 use Rattle.ep_typed.specs.declared.value.TypeValue.TheVariants as type
@@ -60,15 +61,15 @@ pub own_reads : {untouched : Slots} {Here : Facts} (declared : Declarations) (G 
     → slice_get G.instructions place ≡ Some (instr op.SLOT (pos k) 0 line) → HasOwnType declared v t
     → (injection : Injection) (memory : Memory) (s : meaning.State) → Matches declared G injection s memory
     → OwnSlot declared injection s memory k v → Here injection s memory
-    → Reads declared G Here (at place below memory s.trace) 1 (unit_in G memory.frames) line (place + 1) (λ n. Inside untouched injection memory (PlaceOnTop t below n)) s (own_variable k s)
+    → Reads declared G Here (at place below memory s.trace) 1 (unit_in G memory.frames) line (place + 1) (λ n. Inside untouched injection memory (PlaceOnTop t below n)) s (own_variable 0 k s)
 own_reads {untouched = untouched} {Here = Here} declared G place line below k v t has has_type injection memory s matches own known =
     let f = in_frame memory k own.slot own.is in
-    go f.frame f.below f.frames own.slot f.holds (λ p e. own.described p t e has_type) (own_variable k s) refl own.matches
+    go f.frame f.below f.frames own.slot f.holds (λ p e. own.described p t e has_type) (own_variable 0 k s) refl own.matches
   where
     go : (frame : Frame) (others : List Frame) → memory.frames.calls ≡ frame ∷ others → (slot : Option Place) → slice_get frame.slots k ≡ Some slot
         → ((p : Place) → slot ≡ Some p → Describes memory.types p.type_number t)
-        → (o : Option ℕ) → own_variable k s ≡ o → MatchesSlot injection memory.segments o slot
-        → Reads declared G Here (at place below memory s.trace) 1 (unit_in G memory.frames) line (place + 1) (λ n. Inside untouched injection memory (PlaceOnTop t below n)) s (own_variable k s)
+        → (o : Option ℕ) → own_variable 0 k s ≡ o → MatchesSlot injection memory.segments o slot
+        → Reads declared G Here (at place below memory s.trace) 1 (unit_in G memory.frames) line (place + 1) (λ n. Inside untouched injection memory (PlaceOnTop t below n)) s (own_variable 0 k s)
     go frame others frames None holds described None is h =
         Misses is (record { fails = slot_misses G place line k 0 below frame.slots memory s.trace has (own_slots memory frame others frames) holds })
     go frame others frames (Some p) holds described None is h = absurd h
@@ -79,6 +80,36 @@ own_reads {untouched = untouched} {Here = Here} declared G place line below k v 
           memory = memory;
           operands = operand.Place p ∷ below;
           does = slot_pushes G place line k 0 below frame.slots memory s.trace has (own_slots memory frame others frames) p holds;
+          matches = matches;
+          here = known;
+          post = inside_here (record { place = p; is = refl; place_of = h; described = described p refl });
+        })
+
+-- `Slot` of a variable of a routine around
+pub level_reads : {untouched : Slots} {Here : Facts} (declared : Declarations) (G : Image) (place line : ℕ) (below : List Operand) (up k : ℕ) (level : Level) (v : UnitVariable) (t : TypeValue)
+    → slice_get G.instructions place ≡ Some (instr op.SLOT (pos k) up line) → HasOwnType declared v t → slice_get level.variables k ≡ Some v
+    → (injection : Injection) (memory : Memory) (s : meaning.State) → Matches declared G injection s memory
+    → LevelMatches declared.routine_types level injection s.calls memory up → Here injection s memory
+    → Reads declared G Here (at place below memory s.trace) 1 (unit_in G memory.frames) line (place + 1) (λ n. Inside untouched injection memory (PlaceOnTop t below n)) s (own_variable up k s)
+level_reads {untouched = untouched} {Here = Here} declared G place line below up k level v t has has_type its injection memory s matches l known =
+    let y = l.holds k v its in
+    go y.slot y.is (λ p e. y.described p t e has_type) (l.variables k) (ap (λ o. variable_in o k) l.named) y.matches
+  where
+    frame : slots_up memory.frames up ≡ Some l.slots
+    frame = level_up memory.frames up l.slots l.are
+
+    go : (slot : Option Place) → slice_get l.slots k ≡ Some slot → ((p : Place) → slot ≡ Some p → Describes memory.types p.type_number t)
+        → (o : Option ℕ) → own_variable up k s ≡ o → MatchesSlot injection memory.segments o slot
+        → Reads declared G Here (at place below memory s.trace) 1 (unit_in G memory.frames) line (place + 1) (λ n. Inside untouched injection memory (PlaceOnTop t below n)) s (own_variable up k s)
+    go None holds described None is h = Misses is (record { fails = slot_misses G place line k up below l.slots memory s.trace has frame holds })
+    go (Some p) holds described None is h = absurd h
+    go None holds described (Some n) is h = absurd h
+    go (Some p) holds described (Some n) is h =
+        Finds n is (record {
+          injection = injection;
+          memory = memory;
+          operands = operand.Place p ∷ below;
+          does = slot_pushes G place line k up below l.slots memory s.trace has frame p holds;
           matches = matches;
           here = known;
           post = inside_here (record { place = p; is = refl; place_of = h; described = described p refl });
@@ -121,8 +152,8 @@ make_own_outcome G place line below low high number k frame others memory trace 
 pub make_own_does : {untouched : Slots} {first : Injection} {start : Memory} (declared : Declarations) (G : Image) (place line : ℕ) (below : List Operand) (low high : ℤ) (number k : ℕ) (v : UnitVariable)
     → slice_get G.instructions place ≡ Some (instr op.MAKE (pos k) 0 line)
     → IsTrue (is_integer low) → IsTrue (is_integer high) → HaveValidTypes declared
-    → slice_get declared.routine_variables k ≡ Some v
-    → ((w : UnitVariable) → slice_get declared.routine_variables k ≡ Some w → HasOwnType declared w (type.Ordinal low high))
+    → slice_get (variables_up declared 0) k ≡ Some v
+    → ((w : UnitVariable) → slice_get (variables_up declared 0) k ≡ Some w → HasOwnType declared w (type.Ordinal low high))
     → (injection : Injection) (memory : Memory) (s : meaning.State)
     → Describes memory.types number (type.Ordinal low high)
     → Matches declared G injection s memory → InActivation declared untouched first start injection s memory
@@ -153,7 +184,7 @@ make_own_does {untouched = untouched} {first = first} {start = start} declared G
     again : InActivation declared untouched first start (with_segment injection memory) (made_own k (type.Ordinal low high) (counted (type.Ordinal low high) s)) later
     again =
         in_activation_making matches low high number described low_fits high_fits k frame others known.frames known.call known.others known.calls
-        (own_making matches low high number described low_fits high_fits k frame others known.frames known.call known.others known.calls known.own within declared_so) known.grown known.runs known.made
+        (own_making matches low high number described low_fits high_fits k frame others known.frames known.call known.others known.calls known.own within declared_so) known.around known.grown known.runs known.made
 
     still : StillRuns memory.frames later.frames
     still = record { turn = refl; routine = refl; unit = refl; calls = subst (λ cs. IsStillCall cs later.frames.calls) (sym known.frames) (refl, refl, refl, refl) }

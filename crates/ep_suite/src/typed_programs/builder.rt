@@ -1,7 +1,7 @@
 //! Typed trees, built by steps.
 
 use ep_base::{Boxed, Bytes, Line, List, Name, NameRefusal};
-use ep_typed::{Actual, Binary, Print, TypedExpr, TypedPlace, TypedStmt, Unary, WriteItem};
+use ep_typed::{Actual, Binary, Callee, Print, TypedExpr, TypedPlace, TypedStmt, Unary, WriteItem};
 use std::alloc::{AllocError, Global};
 
 /// A step that builds a tree of what the steps before it left, the last first.
@@ -15,6 +15,8 @@ pub(crate) enum Step {
     Variable(u32),
     /// The value of a variable of the routine.
     Own(u32),
+    /// The value of a variable of the routine so many levels up.
+    Above(u32, u32),
     /// A value that is given to a value parameter of the next call.
     Given,
     /// A variable of `main` that is given to a variable parameter of the next call.
@@ -37,12 +39,16 @@ pub(crate) enum Step {
     Assign(Line, u32),
     /// An assignment of a value to a variable of the routine.
     AssignOwn(Line, u32),
+    /// An assignment of a value to a variable of the routine so many levels up.
+    AssignAbove(Line, u32, u32),
     /// `if` with a condition and two statements.
     If(Line),
     /// `while` with a condition and a statement.
     While(Line),
     /// A call of the procedure of this number of `main`, with all that is given.
     Procedure(Line, u32),
+    /// A call of the procedure of this number, which is declared in the routine so many levels less one up.
+    Inner(Line, u32, u32),
     /// The value of the function of this number of `main`, with all that is given.
     Function(u32),
     /// `halt`
@@ -111,10 +117,13 @@ impl Builder {
             Step::Constant(value) => self.push(TypedExpr::Constant(value)),
             Step::Text(bytes) => self.text(bytes),
             Step::Variable(number) => self.variable(number),
-            Step::Own(number) => self.push(TypedExpr::Read(TypedPlace::Own(number))),
+            Step::Own(number) => self.push(TypedExpr::Read(TypedPlace::Own(0, number))),
+            Step::Above(levels, number) => {
+                self.push(TypedExpr::Read(TypedPlace::Own(levels, number)))
+            }
             Step::Given => self.given(),
             Step::Passed(number) => self.passed(number),
-            Step::PassedOwn(number) => self.pass(Actual::Variable(TypedPlace::Own(number))),
+            Step::PassedOwn(number) => self.pass(Actual::Variable(TypedPlace::Own(0, number))),
             Step::One(operation) => self.one(operation),
             Step::Two(operation) => self.two(operation),
             Step::CharStep(down) => self.char_step(down),
@@ -122,10 +131,14 @@ impl Builder {
             Step::Wide(print) => self.wide(print),
             Step::Empty => self.put(TypedStmt::Empty),
             Step::Assign(line, number) => self.assign(line, number),
-            Step::AssignOwn(line, number) => self.assign_to(line, TypedPlace::Own(number)),
+            Step::AssignOwn(line, number) => self.assign_to(line, TypedPlace::Own(0, number)),
+            Step::AssignAbove(line, levels, number) => {
+                self.assign_to(line, TypedPlace::Own(levels, number))
+            }
             Step::If(line) => self.choice(line),
             Step::While(line) => self.repetition(line),
-            Step::Procedure(line, number) => self.call(line, number),
+            Step::Procedure(line, number) => self.call(line, number, 0),
+            Step::Inner(line, number, levels) => self.call(line, number, levels),
             Step::Function(number) => self.function(number),
             Step::Halt(line) => self.put(TypedStmt::Halt(line)),
             Step::Write(line, ends_line) => self.write(line, ends_line),
@@ -134,17 +147,26 @@ impl Builder {
     }
 
     /// A call of a procedure of `main`.
-    fn call(&mut self, line: Line, number: u32) -> Result<(), Unbuilt> {
-        let unit = Name::from_bytes(self.alloc, b"main")?;
+    fn call(&mut self, line: Line, number: u32, levels: u32) -> Result<(), Unbuilt> {
+        let callee = self.callee(number, levels)?;
         let actuals = std::mem::replace(&mut self.actuals, List::new(self.alloc));
-        self.put(TypedStmt::Procedure(line, unit, number, actuals))
+        self.put(TypedStmt::Procedure(line, callee, actuals))
     }
 
     /// The value of a function of `main`.
     fn function(&mut self, number: u32) -> Result<(), Unbuilt> {
-        let unit = Name::from_bytes(self.alloc, b"main")?;
+        let callee = self.callee(number, 0)?;
         let actuals = std::mem::replace(&mut self.actuals, List::new(self.alloc));
-        self.push(TypedExpr::Function(unit, number, actuals))
+        self.push(TypedExpr::Function(callee, actuals))
+    }
+
+    /// A routine of `main`.
+    fn callee(&self, number: u32, levels: u32) -> Result<Callee, Unbuilt> {
+        Ok(Callee {
+            unit: Name::from_bytes(self.alloc, b"main")?,
+            number,
+            levels,
+        })
     }
 
     /// Gives a value or a variable to the next call.

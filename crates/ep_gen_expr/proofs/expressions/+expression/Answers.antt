@@ -1,7 +1,7 @@
 use Rattle.std.proofs.Common.{◌+◌, map, w64, arith}
 use Rattle.std.proofs.lemmas.Int.{to_z_pos, to_z-of_z}
 use Rattle.ep_typed.specs.Trees.{actuals}
-use Rattle.ep_typed.specs.Viewed.{actual_of, expr_of}
+use Rattle.ep_typed.specs.Viewed.{actual_of, callee_of, expr_of}
 use Rattle.ep_gen_expr.proofs.ActualForms.{appends_call, actuals_more}
 use Rattle.ep_gen_expr.proofs.Forms.{on_ok, appends_short, appends_step}
 use Rattle.ep_gen_expr.proofs.expressions.+expression.Goals as goal
@@ -20,7 +20,7 @@ pub call_code-returns : goal.call_code-returns
 call_code-returns t c =
     let routine = to_z_pos w64 c.in_ok-routine.routine (omega arith) in
     let next = to_z_pos w64 (c.in_ok-next.field-0 + 1) (omega (arith, c.in_ok-next.ensures.small)) in
-    on_ok c.emit-2.result (appends_call c.args.unit.now c.args.number (actuals (map actual_of c.args.given.now)) c.in_ok-routine.routine c.in_ok-next.field-0 c.in_ok-actuals_code.ensures c.in_ok-routine.ensures (rw routine at c.in_ok-emit.ensures) c.in_ok-next.ensures) (rw next at c.emit-2.ensures)
+    on_ok c.emit-2.result (appends_call (callee_of c.args.callee.now) (actuals (map actual_of c.args.given.now)) c.in_ok-routine.routine c.in_ok-next.field-0 c.in_ok-actuals_code.ensures c.in_ok-routine.ensures (rw routine at c.in_ok-emit.ensures) c.in_ok-next.ensures) (rw next at c.emit-2.ensures)
 
 pub actuals_code-loop-actual-preserved : goal.actuals_code-loop-actual-preserved
 actuals_code-loop-actual-preserved t c = actuals_more actual_of c.args.given.now c.loop-actual.actual-index c.actual-item.result c.loop-actual-test.true c.actual-item.is c.loop-actual.invariant c.in_ok-actual_code.ensures

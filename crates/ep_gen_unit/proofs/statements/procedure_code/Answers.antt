@@ -1,9 +1,9 @@
 use Rattle.std.proofs.Common.{map}
 use Rattle.ep_typed.specs.Trees.{actuals}
-use Rattle.ep_typed.specs.Viewed.{actual_of}
+use Rattle.ep_typed.specs.Viewed.{actual_of, callee_of}
 use Rattle.ep_gen_expr.proofs.Forms.{on_ok}
 use Rattle.ep_gen_unit.proofs.StmtForms.{appends_procedure}
 use Rattle.ep_gen_unit.proofs.statements.procedure_code.Goals as goal
 
 pub returns : goal.returns
-returns c = on_ok c.call_code.result (appends_procedure c.args.code.now c.args.line c.args.unit.now c.args.number (actuals (map actual_of c.args.given.now))) c.call_code.ensures
+returns c = on_ok c.call_code.result (appends_procedure c.args.code.now c.args.line (callee_of c.args.callee.now) (actuals (map actual_of c.args.given.now))) c.call_code.ensures
