@@ -5,7 +5,7 @@
 -- - the component, for a module
 -- - the program, for a parameter that is neither `input` nor `output`
 -- - the import
--- - the part, for a function whose result has a type with a name that is not built, and in the block of a routine for a routine
+-- - the routine, for a function whose result has a type with a name that is not built
 -- - the formal section, for `type of`, and for the name of a type that is not built
 -- - the type definition, for discriminants
 -- - the type denoter, for an initial state
@@ -60,10 +60,10 @@ use Rattle.ep_tree.specs.declared.statement.Statement.TheOpen.{Statement-F, Arm-
 use Rattle.ep_tree.specs.declared.statement.Statement.{Statement, fold-Statement}
 use Rattle.ep_tree.specs.declared.statement.Arm.{Arm, fold-Arm}
 use Rattle.ep_tree.specs.declared.statement.Compound.{Compound, fold-Compound}
-use Rattle.ep_tree.specs.declared.routine.Part.TheOpen.{Part-F, RoutineBody-F}
-use Rattle.ep_tree.specs.declared.routine.Part.{Part, out-Part}
-use Rattle.ep_tree.specs.declared.routine.Routine.{Routine, out-Routine}
-use Rattle.ep_tree.specs.declared.routine.RoutineBody.{RoutineBody, out-RoutineBody}
+use Rattle.ep_tree.specs.declared.routine.Part.TheOpen.{Part-F, RoutineBody-F, Routine-F}
+use Rattle.ep_tree.specs.declared.routine.Part.{Part, fold-Part}
+use Rattle.ep_tree.specs.declared.routine.Routine.{Routine, fold-Routine}
+use Rattle.ep_tree.specs.declared.routine.RoutineBody.{RoutineBody, fold-RoutineBody}
 use Rattle.ep_tree.specs.declared.routine.RoutineStart.{RoutineStart}
 use Rattle.ep_tree.specs.declared.routine.RoutineStart.TheVariants as start_is
 use Rattle.ep_tree.specs.declared.component.Component.{Component}
@@ -134,15 +134,9 @@ abbrev pub built_start : RoutineStart → Bool
 built_start (start_is.Heading heading) = built_heading heading
 built_start (start_is.Function line name) = true
 
--- a routine is a procedure or a function that starts so
-abbrev pub built_part : {A B : Type 0} → Part-F A B Routine → Bool
-built_part (Part-F.Routine r) = built_start (out-Routine r).start
-built_part _ = true
-
--- a part of the block of a routine is no routine
-abbrev pub built_local_part : {A B C : Type 0} → Part-F A B C → Bool
-built_local_part (Part-F.Routine r) = false
-built_local_part _ = true
+-- a routine is a procedure or a function that starts so, in the block of a program or of a routine
+abbrev pub built_routine : {A B C : Type 0} → Routine-F A B C → Bool
+built_routine r = built_start r.start
 
 -- a type definition has no discriminants
 abbrev pub built_type_definition : TypeDefinition → Bool
@@ -589,32 +583,6 @@ type_unbuilt d = at_node (built_type_definition d) d.line (type_denoter_unbuilt 
 abbrev pub variable_unbuilt : VariableDeclaration → Found
 variable_unbuilt d = type_denoter_unbuilt d.of
 
--- the line of a part
-abbrev pub part_line : {A B : Type 0} → Part-F A B Routine → ℕ
-part_line (Part-F.Constants c) = c.line
-part_line (Part-F.Types t) = t.line
-part_line (Part-F.Variables v) = v.line
-part_line (Part-F.Routine r) = (out-Routine r).line
-
--- the first line inside a part of the block of a routine
-abbrev pub in_local_part : {A B C : Type 0} → Part-F A B C → Found
-in_local_part (Part-F.Constants c) = first_in (map constant_unbuilt c.definitions)
-in_local_part (Part-F.Types t) = first_in (map type_unbuilt t.definitions)
-in_local_part (Part-F.Variables v) = first_in (map variable_unbuilt v.declarations)
-in_local_part (Part-F.Routine r) = None
-
--- the first line in a part of the block of a routine
-abbrev pub local_part_unbuilt : Part → Found
-local_part_unbuilt p = at_node (built_local_part (out-Part p)) (part_line (out-Part p)) (in_local_part (out-Part p))
-
--- the first line in the body of a routine: its parts, then its statements
-abbrev pub in_body : {A C : Type 0} → RoutineBody-F Part A C → Found
-in_body (RoutineBody-F.Forward line) = None
-in_body (RoutineBody-F.Block line parts statements) = option_or (first_in (map local_part_unbuilt parts)) (compound_unbuilt statements)
-
-abbrev pub body_unbuilt : RoutineBody → Found
-body_unbuilt b = in_body (out-RoutineBody b)
-
 -- the first line in a formal section
 abbrev pub section_unbuilt : FormalSection → Found
 section_unbuilt s = at_node (built_section s) s.line None
@@ -629,16 +597,33 @@ abbrev pub start_unbuilt : RoutineStart → Found
 start_unbuilt (start_is.Heading heading) = heading_unbuilt heading
 start_unbuilt (start_is.Function line name) = None
 
--- the first line inside a part, by its definitions or declarations; of a routine by its start, then its body
-abbrev pub in_part : {A B : Type 0} → Part-F A B Routine → Found
-in_part (Part-F.Constants c) = first_in (map constant_unbuilt c.definitions)
-in_part (Part-F.Types t) = first_in (map type_unbuilt t.definitions)
-in_part (Part-F.Variables v) = first_in (map variable_unbuilt v.declarations)
-in_part (Part-F.Routine r) = option_or (start_unbuilt (out-Routine r).start) (body_unbuilt (out-Routine r).body)
+-- a part, by its definitions or declarations, or as a routine
+abbrev pub at_part : Part-F Found Found Found → Found
+at_part (Part-F.Constants c) = first_in (map constant_unbuilt c.definitions)
+at_part (Part-F.Types t) = first_in (map type_unbuilt t.definitions)
+at_part (Part-F.Variables v) = first_in (map variable_unbuilt v.declarations)
+at_part (Part-F.Routine r) = r
+
+-- the parts of a block, routines among them, before its statements
+abbrev pub at_body : RoutineBody-F Found Found Found → Found
+at_body (RoutineBody-F.Forward line) = None
+at_body (RoutineBody-F.Block line parts statements) = option_or (first_in parts) (compound_unbuilt statements)
+
+-- a routine before what stands in it, and its start before its body
+abbrev pub at_routine : Routine-F Found Found Found → Found
+at_routine r = at_node (built_routine r) r.line (option_or (start_unbuilt r.start) r.body)
 
 -- the first line in a part
 abbrev pub part_unbuilt : Part → Found
-part_unbuilt p = at_node (built_part (out-Part p)) (part_line (out-Part p)) (in_part (out-Part p))
+part_unbuilt = fold-Part Found Found Found at_part at_body at_routine
+
+-- the first line in the body of a routine
+abbrev pub body_unbuilt : RoutineBody → Found
+body_unbuilt = fold-RoutineBody Found Found Found at_part at_body at_routine
+
+-- the first line in a routine
+abbrev pub routine_unbuilt : Routine → Found
+routine_unbuilt = fold-Routine Found Found Found at_part at_body at_routine
 
 -- the first line in an import
 abbrev pub import_unbuilt : Import → Found

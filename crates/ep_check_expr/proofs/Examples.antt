@@ -11,7 +11,7 @@ use Rattle.ep_tree.specs.declared.expression.Term.{Term}
 use Rattle.ep_tree.specs.declared.operator.AddingOperator.TheVariants as adding
 use Rattle.ep_tree.specs.declared.operator.MultiplyingOperator.TheVariants as multiplying
 use Rattle.ep_tree.specs.declared.operator.RelationalOperator.TheVariants as relation
-use Rattle.ep_typed.specs.Trees.{Accessed, Constant, Evaluated, Function, Read, Two, Step, Variable, next_actual, no_actual}
+use Rattle.ep_typed.specs.Trees.{Accessed, Callee, Constant, Evaluated, Function, Own, Read, Two, Step, Variable, next_actual, no_actual}
 use Rattle.ep_typed.specs.declared.operations.Binary.TheVariants as binary
 use Rattle.ep_typed.specs.declared.value.Value.TheVariants as value
 use Rattle.ep_scope.specs.Scopes.{Region}
@@ -23,13 +23,13 @@ use Rattle.ep_typed.specs.declared.denoter.RequiredType.TheVariants as simple
 use Rattle.ep_typed.specs.declared.interface.FormalMode.{FormalMode}
 use Rattle.ep_typed.specs.declared.interface.FormalMode.TheVariants as mode
 use Rattle.ep_scope.specs.declared.parameter.FormalParameter.{FormalParameter}
+use Rattle.ep_scope.specs.declared.parameter.Protection.TheVariants as protection
 use Rattle.ep_scope.specs.declared.parameter.TypeName.TheVariants as type_name
 use Rattle.ep_scope.specs.declared.thing.Declaration.{Declaration}
 use Rattle.ep_scope.specs.declared.thing.Declaration.TheVariants as declaration
 use Rattle.ep_scope.specs.declared.thing.Thing.{Thing}
 use Rattle.ep_scope.specs.declared.thing.Thing.TheVariants as thing
 use Rattle.ep_check_expr.proofs.Nodes.{expression-judged, comparison-judged, simple-judged, addend-judged, term-judged, multiplier-judged, name-judged, arguments-judged, argument-judged, wide-judged, number-judged, parenthesized-judged, string-judged}
-use Rattle.ep_check_expr.specs.Arguments.{callee_at}
 use Rattle.ep_check_expr.specs.declared.access.Access.TheVariants as access
 use Rattle.ep_check_expr.specs.Constants.{constant_expression, bound_judged}
 use Rattle.ep_check_expr.specs.Expressions.{judged}
@@ -81,8 +81,11 @@ wide x w = argument_node 1 (bare x) (Some (bare w))
 abbrev color : Host
 color = host.Enumeration (record { number = 0; last = 1 })
 
+abbrev declares_at : ℕ → ℕ → Declaration → Thing
+declares_at level number what = thing.Declared (record { unit = codes "p"; number = number; level = level; what = what })
+
 abbrev declares : ℕ → Declaration → Thing
-declares number what = thing.Declared (record { unit = codes "p"; number = number; what = what })
+declares number what = declares_at 0 number what
 
 -- a formal parameter of type integer
 abbrev integer_parameter : FormalMode → FormalParameter
@@ -99,6 +102,28 @@ scope = record {
       ∷ (codes "f", declares 0 (function_of mode.Value)) ∷ (codes "g", declares 1 (function_of mode.Variable)) ∷ (codes "h", declares 2 (declaration.Function [] (type_name.Required simple.Integer) host.Integer)) ∷ [];
   qualified = [];
 } ∷ []
+
+-- a function of the program
+abbrev of_program : ℕ → Callee
+of_program number = record { unit = codes "p"; number = number; levels = 0 }
+
+-- an integer of a routine
+abbrev integer_variable : Declaration
+integer_variable = declaration.Own (type_name.Required simple.Integer) integer protection.Unprotected
+
+-- In the block of a routine in a routine, of which the outer one has the integer y and the function i, and the inner one the integer z.
+abbrev inside : List Region
+inside = record { entries = (codes "z", declares_at 2 4 integer_variable) ∷ []; qualified = [] }
+    ∷ record { entries = (codes "y", declares_at 1 3 integer_variable) ∷ (codes "i", declares_at 1 5 (declaration.Function [] (type_name.Required simple.Integer) host.Integer)) ∷ []; qualified = [] } ∷ scope
+
+-- y + z, by the levels between
+levels_between : judged inside (sum (name (codes "y")) (name (codes "z"))) ≡ Accepts (record { form = Some (Two binary.Add (Read (Own 1 3)) (Read (Own 0 4))); kind = integer; depth = 3; access = access.Value })
+levels_between = simp (expression-judged, simple-judged, addend-judged, term-judged, name-judged) refl
+
+-- i + h: i is called by the routine in the one that has it
+called_inside : judged inside (sum (name (codes "i")) (name (codes "h")))
+    ≡ Accepts (record { form = Some (Two binary.Add (Function (record { unit = codes "p"; number = 5; levels = 2 }) no_actual) (Function (of_program 2) no_actual)); kind = integer; depth = 2; access = access.Value })
+called_inside = simp (expression-judged, simple-judged, addend-judged, term-judged, name-judged) refl
 
 -- 3
 three : judged scope (bare (number 3)) ≡ Accepts (record { form = Some (Constant (pos 3)); kind = integer; depth = 1; access = access.Value })
@@ -150,16 +175,16 @@ constant_quotient_by_zero = simp (expression-judged, simple-judged, term-judged,
 
 -- f(3)
 called_by_value : judged scope (bare (call (codes "f") (plain (number 3) ∷ [])))
-    ≡ Accepts (record { form = Some (Function (callee_at (codes "p") 0) (next_actual (Evaluated (Constant (pos 3))) no_actual)); kind = kind.Ordinal color; depth = 2; access = access.Value })
+    ≡ Accepts (record { form = Some (Function (of_program 0) (next_actual (Evaluated (Constant (pos 3))) no_actual)); kind = kind.Ordinal color; depth = 2; access = access.Value })
 called_by_value = simp (expression-judged, simple-judged, term-judged, name-judged, arguments-judged, argument-judged, number-judged) refl
 
 -- g(x)
 called_by_variable : judged scope (bare (call (codes "g") (plain (name (codes "x")) ∷ [])))
-    ≡ Accepts (record { form = Some (Function (callee_at (codes "p") 1) (next_actual (Accessed (Variable (codes "p") 0)) no_actual)); kind = kind.Ordinal color; depth = 3; access = access.Value })
+    ≡ Accepts (record { form = Some (Function (of_program 1) (next_actual (Accessed (Variable (codes "p") 0)) no_actual)); kind = kind.Ordinal color; depth = 3; access = access.Value })
 called_by_variable = simp (expression-judged, simple-judged, term-judged, name-judged, arguments-judged, argument-judged) refl
 
 -- h
-called_alone : judged scope (bare (name (codes "h"))) ≡ Accepts (record { form = Some (Function (callee_at (codes "p") 2) no_actual); kind = integer; depth = 1; access = access.Value })
+called_alone : judged scope (bare (name (codes "h"))) ≡ Accepts (record { form = Some (Function (of_program 2) no_actual); kind = integer; depth = 1; access = access.Value })
 called_alone = simp (expression-judged, simple-judged, term-judged, name-judged) refl
 
 -- f

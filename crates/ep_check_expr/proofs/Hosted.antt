@@ -10,12 +10,12 @@ use Rattle.ep_tree.specs.declared.operator.RelationalOperator.{RelationalOperato
 use Rattle.ep_tree.specs.declared.operator.RelationalOperator.TheVariants as relation
 use Rattle.ep_tree.specs.declared.operator.Sign.{Sign}
 use Rattle.ep_typed.specs.Hosts.{is_of_host}
-use Rattle.ep_typed.specs.Trees.{Expr, Constant}
+use Rattle.ep_typed.specs.Trees.{Callee, Expr, Constant}
 use Rattle.ep_typed.specs.declared.operations.Unary.{Unary}
 use Rattle.ep_typed.specs.declared.operations.Binary.{Binary}
 use Rattle.ep_typed.specs.declared.operations.ShortOperation.{ShortOperation}
 use Rattle.ep_scope.specs.Required.{look_up, required_of}
-use Rattle.ep_scope.specs.Scopes.{Entries, Region, Meant, Declares, Requires, Nothing, as_required, as_thing, look_up_if, look_up_in, meant, meant_in, or_outside, unless_hidden}
+use Rattle.ep_scope.specs.Scopes.{Entries, Region, Meant, Declares, Requires, Nothing, as_required, as_thing, depth_in, look_up_if, look_up_in, meant, meant_in, or_outside, unless_hidden}
 use Rattle.ep_scope.specs.Scopes as meaning
 use Rattle.ep_scope.specs.declared.kind.Host.{Host}
 use Rattle.ep_scope.specs.declared.kind.Host.TheVariants as host
@@ -28,11 +28,12 @@ use Rattle.ep_scope.specs.declared.required.Required.TheVariants as required
 use Rattle.ep_scope.specs.declared.required.RequiredConstant.TheVariants as constant
 use Rattle.ep_scope.specs.declared.thing.Declaration.{Declaration}
 use Rattle.ep_scope.specs.declared.thing.Declaration.TheVariants as declaration
+use Rattle.ep_scope.specs.declared.thing.Declared.{Declared}
 use Rattle.ep_scope.specs.declared.thing.Thing.{Thing}
 use Rattle.ep_scope.specs.declared.thing.Thing.TheVariants as thing
 use Rattle.ep_scope.specs.declared.rule.TheConstants as rule
 use Rattle.ep_check_expr.specs.declared.access.Access.TheVariants as access
-use Rattle.ep_check_expr.specs.Arguments.{Taken, arguments_judged, function_typed}
+use Rattle.ep_check_expr.specs.Arguments.{Taken, arguments_judged, callee_at, function_typed}
 use Rattle.ep_check_expr.specs.Expressions.{spelled}
 use Rattle.ep_check_expr.specs.Functions.{Given, applied_one, applied_two, ordinal_by, other_argument, step_typed, stepped_by, one}
 use Rattle.ep_check_expr.specs.Hosts.{typed_host}
@@ -131,28 +132,28 @@ module _ (scopes : List Region) where
   depth_comes : (form : Option Expr) (k : Kind) (depth : ℕ) → IsKnownKind scopes k → Comes (within_depth form k depth)
   depth_comes form k depth p = if-satisfies IsKnown (nat_le depth 1000) (Accepts (record { form = form; kind = k; depth = depth; access = access.Value })) (Breaks (rule.TOO_DEEP ∷ [])) (λ e. p) tt
 
-  function_comes : (unit : List ℕ) (number : ℕ) (h : Host) (J : Judged Taken) → IsKnownHost scopes h → Comes (when_accepted (function_typed unit number h) J)
-  function_comes unit number h (Accepts t) p = depth_comes _ (kind.Ordinal h) _ p
-  function_comes unit number h (Breaks rules) p = tt
+  function_comes : (callee : Callee) (h : Host) (J : Judged Taken) → IsKnownHost scopes h → Comes (when_accepted (function_typed callee h) J)
+  function_comes callee h (Accepts t) p = depth_comes _ (kind.Ordinal h) _ p
+  function_comes callee h (Breaks rules) p = tt
 
-  declared_comes : (unit : List ℕ) (number : ℕ) (d : Declaration) → ((h : Host) → DeclaresHost d h → ScopesHaveHost scopes h) → Comes (value_declared unit number d)
-  declared_comes unit number (declaration.Constant k v) f = kind_comes k f
-  declared_comes unit number (declaration.«Type» of h) f = tt
-  declared_comes unit number (declaration.Variable of k) f = kind_comes k f
-  declared_comes unit number (declaration.Own of k guarded) f = kind_comes k f
-  declared_comes unit number (declaration.Procedure parameters) f = tt
-  declared_comes unit number (declaration.Function parameters of h) f = function_comes unit number h (arguments_judged parameters []) (inr (f h refl))
+  declared_comes : (depth : ℕ) (d : Declared) (what : Declaration) → ((h : Host) → DeclaresHost what h → ScopesHaveHost scopes h) → Comes (value_declared depth d what)
+  declared_comes depth d (declaration.Constant k v) f = kind_comes k f
+  declared_comes depth d (declaration.«Type» of h) f = tt
+  declared_comes depth d (declaration.Variable of k) f = kind_comes k f
+  declared_comes depth d (declaration.Own of k guarded) f = kind_comes k f
+  declared_comes depth d (declaration.Procedure parameters) f = tt
+  declared_comes depth d (declaration.Function parameters of h) f = function_comes (callee_at depth d) h (arguments_judged parameters []) (inr (f h refl))
 
-  call_comes : (unit : List ℕ) (number : ℕ) (d : Declaration) (gs : List Given) → ((h : Host) → DeclaresHost d h → ScopesHaveHost scopes h) → Comes (call_declared unit number d gs)
-  call_comes unit number (declaration.Constant k v) gs f = tt
-  call_comes unit number (declaration.«Type» of h) gs f = tt
-  call_comes unit number (declaration.Variable of k) gs f = tt
-  call_comes unit number (declaration.Own of k guarded) gs f = tt
-  call_comes unit number (declaration.Procedure parameters) gs f = tt
-  call_comes unit number (declaration.Function parameters of h) gs f = function_comes unit number h (arguments_judged parameters gs) (inr (f h refl))
+  call_comes : (depth : ℕ) (d : Declared) (what : Declaration) (gs : List Given) → ((h : Host) → DeclaresHost what h → ScopesHaveHost scopes h) → Comes (call_declared depth d what gs)
+  call_comes depth d (declaration.Constant k v) gs f = tt
+  call_comes depth d (declaration.«Type» of h) gs f = tt
+  call_comes depth d (declaration.Variable of k) gs f = tt
+  call_comes depth d (declaration.Own of k guarded) gs f = tt
+  call_comes depth d (declaration.Procedure parameters) gs f = tt
+  call_comes depth d (declaration.Function parameters of h) gs f = function_comes (callee_at depth d) h (arguments_judged parameters gs) (inr (f h refl))
 
-  called_comes : (m : Meant) → MeantComes (ScopesHaveHost scopes) m → IsCalled IsKnown m
-  called_comes (Declares d) c = λ gs p. call_comes d.unit d.number d.what gs c
+  called_comes : (m : Meant) → MeantComes (ScopesHaveHost scopes) m → IsCalled (depth_in scopes) IsKnown m
+  called_comes (Declares d) c = λ gs p. call_comes (depth_in scopes) d d.what gs c
   called_comes (meaning.Standard file) c = tt
   called_comes (Requires r) c = tt
   called_comes Nothing c = tt
@@ -166,8 +167,8 @@ module _ (scopes : List Region) where
   value_comes (required.Function f) = tt
   value_comes (required.Procedure p) = tt
 
-  named_comes : (name : List ℕ) (m : Meant) → MeantComes (ScopesHaveHost scopes) m → Comes (value_named name m)
-  named_comes name (Declares d) c = declared_comes d.unit d.number d.what c
+  named_comes : (name : List ℕ) (m : Meant) → MeantComes (ScopesHaveHost scopes) m → Comes (value_named (depth_in scopes) name m)
+  named_comes name (Declares d) c = declared_comes (depth_in scopes) d d.what c
   named_comes name (meaning.Standard file) c = tt
   named_comes name (Requires r) c = value_comes r
   named_comes name Nothing c = tt

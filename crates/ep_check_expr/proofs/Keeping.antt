@@ -6,7 +6,7 @@ use Rattle.ep_tree.specs.declared.operator.MultiplyingOperator.{MultiplyingOpera
 use Rattle.ep_tree.specs.declared.operator.RelationalOperator.{RelationalOperator}
 use Rattle.ep_tree.specs.declared.operator.Sign.{Sign}
 use Rattle.ep_typed.specs.Trees as tree
-use Rattle.ep_scope.specs.Scopes.{Region, Meant, Declares, Requires, Nothing, meant, meant_in}
+use Rattle.ep_scope.specs.Scopes.{Region, Meant, Declares, Requires, Nothing, depth_in, meant, meant_in}
 use Rattle.ep_scope.specs.Scopes as meaning
 use Rattle.ep_scope.specs.declared.kind.Host.TheVariants as host
 use Rattle.ep_scope.specs.declared.kind.Kind.TheVariants as kind
@@ -56,21 +56,21 @@ abbrev pub AreGiven : (Typed → Type 0) → List Given → Type 0
 AreGiven Q [] = ⊤
 AreGiven Q (g ∷ gs) = Satisfies Q g.value × AreGiven Q gs
 
--- what is declared has it with arguments that have it
-abbrev pub IsCalled : (Typed → Type 0) → Meant → Type 0
-IsCalled Q (Declares d) = (gs : List Given) → AreGiven Q gs → Satisfies Q (call_declared d.unit d.number d.what gs)
-IsCalled Q (meaning.Standard file) = ⊤
-IsCalled Q (Requires r) = ⊤
-IsCalled Q Nothing = ⊤
+-- what is declared has it with arguments that have it, in code of a depth
+abbrev pub IsCalled : ℕ → (Typed → Type 0) → Meant → Type 0
+IsCalled depth Q (Declares d) = (gs : List Given) → AreGiven Q gs → Satisfies Q (call_declared depth d d.what gs)
+IsCalled depth Q (meaning.Standard file) = ⊤
+IsCalled depth Q (Requires r) = ⊤
+IsCalled depth Q Nothing = ⊤
 
 -- each rule keeps the property, and what names mean in these scopes has it
 pub record IsKept (Q : Typed → Type 0) (scopes : List Region) : Type 0 where
   pub number : (z : ℤ) → Satisfies Q (spelled host.Integer z)
   pub character : (z : ℤ) → Satisfies Q (spelled host.Char z)
   pub text : (bytes : List ℕ) → Satisfies Q (leaf (tree.Text bytes) kind.Text access.Value)
-  pub named : (name : List ℕ) → Satisfies Q (value_named name (meant scopes name))
-  pub within : (interface name : List ℕ) → Satisfies Q (value_named name (meant_in scopes interface name))
-  pub called : (name : List ℕ) → IsCalled Q (meant scopes name)
+  pub named : (name : List ℕ) → Satisfies Q (value_named (depth_in scopes) name (meant scopes name))
+  pub within : (interface name : List ℕ) → Satisfies Q (value_named (depth_in scopes) name (meant_in scopes interface name))
+  pub called : (name : List ℕ) → IsCalled (depth_in scopes) Q (meant scopes name)
   pub parenthesizes : (x : Typed) → Q x → Q (parenthesized x)
   pub signs : (o : Option Sign) (x : Typed) → Q x → Satisfies Q (signed o x)
   pub negates : (x : Typed) → Q x → Satisfies Q (negated x)

@@ -8,7 +8,7 @@ use Rattle.ep_typed.specs.declared.value.Value.TheVariants as value
 use Rattle.ep_tree.specs.declared.expression.Argument.{Argument, out-Argument}
 use Rattle.ep_tree.specs.declared.expression.ComponentValue.{ComponentValue}
 use Rattle.ep_tree.specs.declared.expression.Expression.{Expression}
-use Rattle.ep_scope.specs.Scopes.{Region, meant, meant_in}
+use Rattle.ep_scope.specs.Scopes.{Region, depth_in, meant, meant_in}
 use Rattle.ep_scope.specs.declared.kind.Host.{Host}
 use Rattle.ep_scope.specs.declared.kind.Host.TheVariants as host
 use Rattle.ep_scope.specs.declared.kind.Kind.{Kind}
@@ -61,16 +61,16 @@ module _ (declared : Declarations) (types : TypeValues) where
   holds : (J : Judged Typed) → Fits declared J → Satisfies IsRead J → Holds J
   holds J p q = pair-satisfies (λ t. IsFormOf declared t.kind t.form) IsRead J p q
 
-  module _ (scopes : List Region) (agrees : AgreesBy declared types scopes) where
+  module _ (scopes : List Region) (agrees : AgreesBy declared types (depth_in scopes) scopes) where
     -- each rule gives valid forms of valid ones
     validity_is_kept : IsKept (IsForm declared types) scopes
     validity_is_kept = record {
       number = λ z. holds (spelled host.Integer z) (spelled-fits declared host.Integer refl z) (spelled-plain IsRead plain host.Integer z);
       character = λ z. holds (spelled host.Char z) (spelled-fits declared host.Char refl z) (spelled-plain IsRead plain host.Char z);
       text = λ bytes. (text-fits declared bytes, tt);
-      named = λ name. value_named-fits declared types name (meant scopes name) (meant-declared declared types scopes name agrees);
-      within = λ interface name. value_named-fits declared types name (meant_in scopes interface name) (meant_in-declared declared types scopes interface name agrees);
-      called = λ name. called-fits declared types (meant scopes name) (meant-declared declared types scopes name agrees);
+      named = λ name. value_named-fits declared types (depth_in scopes) name (meant scopes name) (meant-declared declared types (depth_in scopes) scopes name agrees);
+      within = λ interface name. value_named-fits declared types (depth_in scopes) name (meant_in scopes interface name) (meant_in-declared declared types (depth_in scopes) scopes interface name agrees);
+      called = λ name. called-fits declared types (depth_in scopes) (meant scopes name) (meant-declared declared types (depth_in scopes) scopes name agrees);
       parenthesizes = λ x p. (p.0, tt);
       signs = λ o x p. holds (signed o x) (signed-fits declared o x p.0) (signed-plain IsRead plain o x p.1);
       negates = λ x p. holds (negated x) (negated-fits declared x p.0) (negated-plain IsRead plain x);

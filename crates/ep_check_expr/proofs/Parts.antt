@@ -2,7 +2,7 @@
 use Rattle.std.proofs.Common.{ℕ, pos, List, [], ◌∷◌, ◌++◌, length}
 use Rattle.std.specs.Prelude.{⊤}
 use Rattle.ep_tree.specs.declared.operator.RelationalOperator.{RelationalOperator}
-use Rattle.ep_scope.specs.Scopes.{Region, Meant, Declares, Requires, Nothing, meant, meant_in}
+use Rattle.ep_scope.specs.Scopes.{Region, Meant, Declares, Requires, Nothing, depth_in, meant, meant_in}
 use Rattle.ep_scope.specs.Scopes as meaning
 use Rattle.ep_scope.specs.declared.required.Function.{Function}
 use Rattle.ep_scope.specs.declared.required.Required.{Required}
@@ -101,11 +101,11 @@ module _ (Q : Typed → Type 0) where
     call_required-fits (required.Procedure q) gs p = tt
 
     -- a name with arguments
-    call_named-fits : (name : List ℕ) (m : Meant) (gs : List Given) → IsCalled Q m → AreGiven Q gs → Satisfies Q (call_named name m gs)
-    call_named-fits name (Declares d) gs c p = c gs p
-    call_named-fits name (meaning.Standard file) gs c p = tt
-    call_named-fits name (Requires r) gs c p = call_required-fits r gs p
-    call_named-fits name Nothing gs c p = tt
+    call_named-fits : (depth : ℕ) (name : List ℕ) (m : Meant) (gs : List Given) → IsCalled depth Q m → AreGiven Q gs → Satisfies Q (call_named depth name m gs)
+    call_named-fits depth name (Declares d) gs c p = c gs p
+    call_named-fits depth name (meaning.Standard file) gs c p = tt
+    call_named-fits depth name (Requires r) gs c p = call_required-fits r gs p
+    call_named-fits depth name Nothing gs c p = tt
 
     -- what has no field is not accepted
     no_field-fits : (name : List ℕ) (m : Meant) → Satisfies Q (no_field name m)
@@ -115,14 +115,14 @@ module _ (Q : Typed → Type 0) where
     no_field-fits name Nothing = tt
 
     -- a name that an interface has
-    constituent_value-fits : (interface name : List ℕ) (alone within : Meant) → Satisfies Q (value_named name within) → Satisfies Q (constituent_value interface name alone within)
-    constituent_value-fits interface name alone within p = if-satisfies Q (is_nothing within) (no_field interface alone) (value_named name within) (λ e. no_field-fits interface alone) p
+    constituent_value-fits : (depth : ℕ) (interface name : List ℕ) (alone within : Meant) → Satisfies Q (value_named depth name within) → Satisfies Q (constituent_value depth interface name alone within)
+    constituent_value-fits depth interface name alone within p = if-satisfies Q (is_nothing within) (no_field interface alone) (value_named depth name within) (λ e. no_field-fits interface alone) p
 
     -- a name with what follows it
     pub access_judged-fits : (name : List ℕ) (ss : List Selected) → AreSelected ss → Satisfies Q (access_judged scopes name ss)
     access_judged-fits name [] p = kept.named name
-    access_judged-fits name (Arguments gs ∷ []) p = call_named-fits name (meant scopes name) gs (kept.called name) p.0
-    access_judged-fits name (Field field ∷ []) p = constituent_value-fits name field (meant scopes name) (meant_in scopes name field) (kept.within name field)
+    access_judged-fits name (Arguments gs ∷ []) p = call_named-fits (depth_in scopes) name (meant scopes name) gs (kept.called name) p.0
+    access_judged-fits name (Field field ∷ []) p = constituent_value-fits (depth_in scopes) name field (meant scopes name) (meant_in scopes name field) (kept.within name field)
     access_judged-fits name (Other ∷ []) p = tt
     access_judged-fits name (Arguments gs ∷ s ∷ ss) p = tt
     access_judged-fits name (Field field ∷ s ∷ ss) p = tt

@@ -3,7 +3,7 @@ use Rattle.std.proofs.Common.{◌≡◌, ℕ, suc, Bool, true, false, nat_le, Li
 use Rattle.std.specs.Prelude.{⊤, if◌then◌else◌}
 use Rattle.std.specs.Option.{option_map}
 use Rattle.ep_typed.specs.Trees as tree
-use Rattle.ep_typed.specs.Trees.{Actual, Expr, Place, actuals}
+use Rattle.ep_typed.specs.Trees.{Actual, Callee, Expr, Place, actuals}
 use Rattle.ep_typed.specs.Valid as valid
 use Rattle.ep_typed.specs.Valid.{Declarations, IsExpr, IsGiven}
 use Rattle.ep_typed.specs.declared.interface.Formal.{Formal}
@@ -22,7 +22,7 @@ use Rattle.ep_scope.specs.declared.rule.TheConstants as rule
 use Rattle.ep_check_expr.specs.declared.access.Access.{Access}
 use Rattle.ep_check_expr.specs.declared.access.Access.TheVariants as access
 use Rattle.ep_check_expr.specs.Agreement.{AreActuals, AreParameters, IsAccessOf, IsFormOf, IsFunctionOf, IsOfType, IsParameter, TypeValues}
-use Rattle.ep_check_expr.specs.Arguments.{Taken, accessed, actual_taken, argument_judged, argument_taken, arguments_judged, callee_at, function_called, function_typed, given_to, joined, one_taken, threatened, value_taken, variable_taken}
+use Rattle.ep_check_expr.specs.Arguments.{Taken, accessed, actual_taken, argument_judged, argument_taken, arguments_judged, function_called, function_typed, given_to, joined, one_taken, threatened, value_taken, variable_taken}
 use Rattle.ep_check_expr.specs.Functions.{Given, given_faults, unless_faults}
 use Rattle.ep_check_expr.specs.Hosts.{typed_host}
 use Rattle.ep_check_expr.specs.Judgements.{Judged, Accepts, Breaks, Typed}
@@ -159,13 +159,13 @@ module _ (declared : Declarations) (types : TypeValues) where
 
   -- ---- function designators
 
-  function-form : (unit : List ℕ) (number : ℕ) (ps : List FormalParameter) (h : Host) (s : IsFunctionOf declared types unit number ps h) (xs : Option (List Actual))
-      → AreActuals declared (declared.types unit) s.0.formals xs → IsFormOf declared (kind.Ordinal h) (option_map (λ zs. tree.Function (callee_at unit number) (actuals zs)) xs)
-  function-form unit number ps h s None x = s.3
-  function-form unit number ps h s (Some xs) x = (s.3, (typed_host h, refl, s.0, s.1, s.2, x))
+  function-form : (callee : Callee) (ps : List FormalParameter) (h : Host) (s : IsFunctionOf declared types callee ps h) (xs : Option (List Actual))
+      → AreActuals declared (declared.types callee.unit) s.0.formals xs → IsFormOf declared (kind.Ordinal h) (option_map (λ zs. tree.Function callee (actuals zs)) xs)
+  function-form callee ps h s None x = s.3
+  function-form callee ps h s (Some xs) x = (s.3, (typed_host h, refl, s.0, s.1, s.2, x))
 
   -- a call of a function that is accepted is valid
-  pub function_called-fits : (unit : List ℕ) (number : ℕ) (ps : List FormalParameter) (h : Host) (gs : List Given) → IsFunctionOf declared types unit number ps h → AreGiven IsForm gs → Satisfies IsForm (function_called unit number ps h gs)
-  function_called-fits unit number ps h gs s k =
-      then-satisfies (IsTaken (declared.types unit) s.0.formals) IsForm (function_typed unit number h) (arguments_judged ps gs) (arguments-fit (declared.types unit) ps s.0.formals gs s.4 k)
-      (λ t x. if-satisfies IsForm (nat_le (suc t.depth) limit.DEPTH) (Accepts _) (Breaks (rule.TOO_DEEP ∷ [])) (λ e. (function-form unit number ps h s t.actuals x, tt)) tt)
+  pub function_called-fits : (callee : Callee) (ps : List FormalParameter) (h : Host) (gs : List Given) → IsFunctionOf declared types callee ps h → AreGiven IsForm gs → Satisfies IsForm (function_called callee ps h gs)
+  function_called-fits callee ps h gs s k =
+      then-satisfies (IsTaken (declared.types callee.unit) s.0.formals) IsForm (function_typed callee h) (arguments_judged ps gs) (arguments-fit (declared.types callee.unit) ps s.0.formals gs s.4 k)
+      (λ t x. if-satisfies IsForm (nat_le (suc t.depth) limit.DEPTH) (Accepts _) (Breaks (rule.TOO_DEEP ∷ [])) (λ e. (function-form callee ps h s t.actuals x, tt)) tt)

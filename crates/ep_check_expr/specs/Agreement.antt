@@ -3,7 +3,7 @@ use Rattle.std.specs.Prelude.{◌≡◌, ℕ, pos, List, [], ◌∷◌, Option, 
 use Rattle.ep_typed.specs.Denoters.{host_of, type_of}
 use Rattle.ep_typed.specs.Hosts.{greatest, is_of_host}
 use Rattle.ep_typed.specs.Operations.{maxint}
-use Rattle.ep_typed.specs.Trees.{Place, Variable, Own, Expr, Constant, Text, Read, One, Two, Short, Step, Function, Actual, actuals}
+use Rattle.ep_typed.specs.Trees.{Callee, Place, Variable, Expr, Constant, Text, Read, One, Two, Short, Step, Function, Actual, actuals}
 use Rattle.ep_typed.specs.Valid.{Declarations, AreGiven, IsCallee, IsFunction, IsPlace, IsExpr, IsProcedure, IsVariableOf}
 use Rattle.ep_typed.specs.Valid as valid
 use Rattle.ep_typed.specs.Viewed.{denoter_of}
@@ -13,7 +13,7 @@ use Rattle.ep_typed.specs.declared.unit.UnitType.{UnitType}
 use Rattle.ep_typed.specs.declared.value.TypeValue.{TypeValue}
 use Rattle.ep_typed.specs.declared.value.Value.{Value}
 use Rattle.ep_typed.specs.declared.value.Value.TheVariants as value
-use Rattle.ep_scope.specs.Scopes.{Entries, Region}
+use Rattle.ep_scope.specs.Scopes.{Entries, Region, depth_in}
 use Rattle.ep_scope.specs.declared.kind.Host.{Host}
 use Rattle.ep_scope.specs.declared.kind.Kind.{Kind}
 use Rattle.ep_scope.specs.declared.kind.Kind.TheVariants as kind
@@ -21,11 +21,12 @@ use Rattle.ep_scope.specs.declared.parameter.FormalParameter.{FormalParameter}
 use Rattle.ep_scope.specs.declared.parameter.TypeName.{TypeName}
 use Rattle.ep_scope.specs.declared.thing.Declaration.{Declaration}
 use Rattle.ep_scope.specs.declared.thing.Declaration.TheVariants as declaration
+use Rattle.ep_scope.specs.declared.thing.Declared.{Declared}
 use Rattle.ep_scope.specs.declared.thing.Thing.{Thing}
 use Rattle.ep_scope.specs.declared.thing.Thing.TheVariants as thing
 use Rattle.ep_check_expr.specs.declared.access.Access.{Access}
 use Rattle.ep_check_expr.specs.declared.access.Access.TheVariants as access
-use Rattle.ep_check_expr.specs.Arguments.{Taken, callee_at}
+use Rattle.ep_check_expr.specs.Arguments.{Taken, callee_at, own_place}
 use Rattle.ep_check_expr.specs.Hosts.{typed_host}
 use Rattle.ep_check_expr.specs.Judgements.{Typed}
 
@@ -101,25 +102,27 @@ module _ (declared : Declarations) (types : TypeValues) where
   IsAccessOf access.Constant form = ⊤
   IsAccessOf access.Value form = ⊤
 
-  -- the routine is declared in no other one, and a procedure with these formal parameters
-  abbrev pub IsProcedureOf : List ℕ → ℕ → List FormalParameter → Type 0
-  IsProcedureOf unit number ps = (r : RoutineEntry) × IsCallee declared (callee_at unit number) r × IsProcedure r × AreParameters types (declared.types unit) ps r.formals
+  -- a procedure with these formal parameters is called so
+  abbrev pub IsProcedureOf : Callee → List FormalParameter → Type 0
+  IsProcedureOf callee ps = (r : RoutineEntry) × IsCallee declared callee r × IsProcedure r × AreParameters types (declared.types callee.unit) ps r.formals
 
-  -- the routine is declared in no other one, and a function with these formal parameters and a result of this host
-  abbrev pub IsFunctionOf : List ℕ → ℕ → List FormalParameter → Host → Type 0
-  IsFunctionOf unit number ps h =
-      (r : RoutineEntry) × IsCallee declared (callee_at unit number) r × IsFunction (declared.types unit) (typed_host h) r × IsHost h × AreParameters types (declared.types unit) ps r.formals
+  -- a function with these formal parameters and a result of this host is called so
+  abbrev pub IsFunctionOf : Callee → List FormalParameter → Host → Type 0
+  IsFunctionOf callee ps h =
+      (r : RoutineEntry) × IsCallee declared callee r × IsFunction (declared.types callee.unit) (typed_host h) r × IsHost h × AreParameters types (declared.types callee.unit) ps r.formals
 
-  abbrev pub IsDeclaration : List ℕ → ℕ → Declaration → Type 0
-  IsDeclaration unit number (declaration.Constant kind value) = IsConstantOf kind value
-  IsDeclaration unit number (declaration.«Type» of host) = IsHost host
-  IsDeclaration unit number (declaration.Variable of kind) = IsStoredIn declared (Variable unit number) kind × IsOfType (Variable unit number) of
-  IsDeclaration unit number (declaration.Own of kind guarded) = IsStoredIn declared (Own 0 number) kind × IsOfType (Own 0 number) of
-  IsDeclaration unit number (declaration.Procedure parameters) = IsProcedureOf unit number parameters
-  IsDeclaration unit number (declaration.Function parameters of host) = IsFunctionOf unit number parameters host
+-- for code that so many routines are around
+module _ (declared : Declarations) (types : TypeValues) (depth : ℕ) where
+  abbrev pub IsDeclaration : Declared → Declaration → Type 0
+  IsDeclaration d (declaration.Constant kind value) = IsConstantOf kind value
+  IsDeclaration d (declaration.«Type» of host) = IsHost host
+  IsDeclaration d (declaration.Variable of kind) = IsStoredIn declared (Variable d.unit d.number) kind × IsOfType declared types (Variable d.unit d.number) of
+  IsDeclaration d (declaration.Own of kind guarded) = IsStoredIn declared (own_place depth d) kind × IsOfType declared types (own_place depth d) of
+  IsDeclaration d (declaration.Procedure parameters) = IsProcedureOf declared types (callee_at depth d) parameters
+  IsDeclaration d (declaration.Function parameters of host) = IsFunctionOf declared types (callee_at depth d) parameters host
 
   abbrev pub IsThing : Thing → Type 0
-  IsThing (thing.Declared d) = IsDeclaration d.unit d.number d.what
+  IsThing (thing.Declared d) = IsDeclaration d d.what
   IsThing (thing.Standard file) = ⊤
 
   abbrev pub AreThings : Entries → Type 0
@@ -137,7 +140,7 @@ module _ (declared : Declarations) (types : TypeValues) where
 
 -- alike, where each type has one type value wherever it is named
 abbrev pub Agrees : Declarations → List Region → Type 0
-Agrees declared scopes = (types : TypeValues) × AgreesBy declared types scopes
+Agrees declared scopes = (types : TypeValues) × AgreesBy declared types (depth_in scopes) scopes
 
 -- under all declarations that hold what the scopes declare, the typed form is valid
 abbrev pub IsSound : List Region → Typed → Type 0
@@ -145,9 +148,9 @@ IsSound scopes t = (declared : Declarations) → Agrees declared scopes → IsFo
 
 -- alike, what is the bare name of a variable is read of the place of a variable of its type
 abbrev pub IsSoundAccess : List Region → Typed → Type 0
-IsSoundAccess scopes t = (declared : Declarations) (types : TypeValues) → AgreesBy declared types scopes → IsAccessOf declared types t.access t.form
+IsSoundAccess scopes t = (declared : Declarations) (types : TypeValues) → AgreesBy declared types (depth_in scopes) scopes → IsAccessOf declared types t.access t.form
 
 -- alike, what is given is valid for the formal parameters of each routine that has these
 abbrev pub IsSoundTaken : List Region → List FormalParameter → Taken → Type 0
 IsSoundTaken scopes ps t =
-    (declared : Declarations) (types : TypeValues) → AgreesBy declared types scopes → (list : List UnitType) (fs : List Formal) → AreParameters types list ps fs → AreActuals declared list fs t.actuals
+    (declared : Declarations) (types : TypeValues) → AgreesBy declared types (depth_in scopes) scopes → (list : List UnitType) (fs : List Formal) → AreParameters types list ps fs → AreActuals declared list fs t.actuals

@@ -1,5 +1,5 @@
 -- What the static rules say of values that are given to variables, and of the arguments of a call of a procedure or function of a unit (ISO 10206, 6.4.6, 6.7.3 and 6.8.5).
-use Rattle.std.specs.Prelude.{◌≡◌, ⊤, ℕ, suc, max, List, [], ◌∷◌, ◌++◌, Option, Some, None, if◌then◌else◌}
+use Rattle.std.specs.Prelude.{◌≡◌, ⊤, ℕ, zero, suc, ◌-◌, max, List, [], ◌∷◌, ◌++◌, Option, Some, None, if◌then◌else◌}
 use Rattle.std.specs.Option.{option_map}
 use Rattle.ep_typed.specs.Trees as tree
 use Rattle.ep_typed.specs.Trees.{Actual, Callee, Expr, Place, actuals}
@@ -16,11 +16,27 @@ use Rattle.ep_scope.specs.declared.parameter.Protection.{Protection}
 use Rattle.ep_scope.specs.declared.parameter.Protection.TheVariants as protection
 use Rattle.ep_scope.specs.declared.parameter.TypeName.{TypeName}
 use Rattle.ep_scope.specs.declared.rule.TheConstants as rule
+use Rattle.ep_scope.specs.declared.thing.Declared.{Declared}
 use Rattle.ep_check_expr.specs.declared.access.Access.{Access}
 use Rattle.ep_check_expr.specs.declared.access.Access.TheVariants as access
 use Rattle.ep_check_expr.specs.Functions.{Given, given_faults, unless_faults}
 use Rattle.ep_check_expr.specs.Judgements.{Judged, Accepts, Breaks, Typed, both, when_accepted}
 use Rattle.ep_check_expr.specs.Operators.{map_both, within_depth}
+
+-- ---- what is declared as code names it that so many routines are around, which is its depth
+
+-- the place of a variable of a routine, which is so many levels further up
+abbrev pub own_place : ℕ → Declared → Place
+own_place depth d = tree.Own (depth - d.level) d.number
+
+-- how a call says where a routine is declared: 0 for one of the unit, and else one more than how many levels further up
+abbrev pub callee_levels : ℕ → ℕ → ℕ
+callee_levels depth zero = 0
+callee_levels depth (suc level) = suc (depth - suc level)
+
+-- a routine that is called
+abbrev pub callee_at : ℕ → Declared → Callee
+callee_at depth d = record { unit = d.unit; number = d.number; levels = callee_levels depth d.level }
 
 -- ---- values that are given (ISO 10206, 6.4.6)
 
@@ -109,14 +125,10 @@ arguments_judged ps gs = Breaks (rule.ARGUMENTS ∷ [])
 
 -- ---- function designators (ISO 10206, 6.8.5)
 
--- the routine of this number of a unit, which is declared in no other one
-abbrev pub callee_at : List ℕ → ℕ → Callee
-callee_at unit number = record { unit = unit; number = number; levels = 0 }
-
--- the function of this number of a unit, with a result of this host, is called
-abbrev pub function_typed : List ℕ → ℕ → Host → Taken → Judged Typed
-function_typed unit number h given = within_depth (option_map (λ xs. tree.Function (callee_at unit number) (actuals xs)) given.actuals) (kind.Ordinal h) (suc given.depth)
+-- a function, with a result of this host, is called
+abbrev pub function_typed : Callee → Host → Taken → Judged Typed
+function_typed callee h given = within_depth (option_map (λ xs. tree.Function callee (actuals xs)) given.actuals) (kind.Ordinal h) (suc given.depth)
 
 -- and has these formal parameters
-abbrev pub function_called : List ℕ → ℕ → List FormalParameter → Host → List Given → Judged Typed
-function_called unit number ps h gs = when_accepted (function_typed unit number h) (arguments_judged ps gs)
+abbrev pub function_called : Callee → List FormalParameter → Host → List Given → Judged Typed
+function_called callee ps h gs = when_accepted (function_typed callee h) (arguments_judged ps gs)

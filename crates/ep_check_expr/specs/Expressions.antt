@@ -17,7 +17,7 @@ use Rattle.ep_tree.specs.declared.expression.Simple.{Simple, fold-Simple}
 use Rattle.ep_tree.specs.declared.expression.Term.{Term, fold-Term}
 use Rattle.ep_typed.specs.Hosts.{is_of_host}
 use Rattle.ep_typed.specs.Trees as tree
-use Rattle.ep_scope.specs.Scopes.{Region, meant}
+use Rattle.ep_scope.specs.Scopes.{Region, depth_in, meant}
 use Rattle.ep_scope.specs.declared.kind.Host.{Host}
 use Rattle.ep_scope.specs.declared.kind.Host.TheVariants as host
 use Rattle.ep_scope.specs.declared.kind.Kind.TheVariants as kind
@@ -78,8 +78,8 @@ compared_if left (Some right) = both (compared right.operator) left right.operan
 module _ (scopes : List Region) where
   -- a name, a name with arguments, or a name that an interface has
   abbrev pub access_judged : List ℕ → List Selected → Judged Typed
-  access_judged name [] = value_named name (meant scopes name)
-  access_judged name (Arguments given ∷ []) = call_named name (meant scopes name) given
+  access_judged name [] = value_named (depth_in scopes) name (meant scopes name)
+  access_judged name (Arguments given ∷ []) = call_named (depth_in scopes) name (meant scopes name) given
   access_judged name (Field field ∷ []) = qualified_value scopes name field
   access_judged name _ = unbuilt
 

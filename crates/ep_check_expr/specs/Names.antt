@@ -3,10 +3,10 @@ use Rattle.std.specs.Prelude.{ℕ, pos, nat_eq, Bool, true, false, ◌||◌, Lis
 use Rattle.std.specs.List.{list_any}
 use Rattle.std.specs.Str.{bytes_eq}
 use Rattle.ep_typed.specs.Operations.{maxint, last_char}
-use Rattle.ep_typed.specs.Trees.{Expr, Constant, Text, Read, Variable, Own, Standard}
+use Rattle.ep_typed.specs.Trees.{Expr, Constant, Text, Read, Variable, Standard}
 use Rattle.ep_typed.specs.declared.value.Value.{Value}
 use Rattle.ep_typed.specs.declared.value.Value.TheVariants as value
-use Rattle.ep_scope.specs.Scopes.{Region, Meant, Declares, Requires, Nothing, meant, meant_in}
+use Rattle.ep_scope.specs.Scopes.{Region, Meant, Declares, Requires, Nothing, depth_in, meant, meant_in}
 use Rattle.ep_scope.specs.Scopes as meaning
 use Rattle.ep_scope.specs.declared.kind.Kind.{Kind}
 use Rattle.ep_scope.specs.declared.kind.Kind.TheVariants as kind
@@ -18,9 +18,10 @@ use Rattle.ep_scope.specs.declared.required.RequiredConstant.TheVariants as cons
 use Rattle.ep_scope.specs.declared.rule.TheConstants as rule
 use Rattle.ep_scope.specs.declared.thing.Declaration.{Declaration}
 use Rattle.ep_scope.specs.declared.thing.Declaration.TheVariants as declaration
+use Rattle.ep_scope.specs.declared.thing.Declared.{Declared}
 use Rattle.ep_check_expr.specs.declared.access.Access.{Access}
 use Rattle.ep_check_expr.specs.declared.access.Access.TheVariants as access
-use Rattle.ep_check_expr.specs.Arguments.{function_called}
+use Rattle.ep_check_expr.specs.Arguments.{callee_at, function_called, own_place}
 use Rattle.ep_check_expr.specs.Functions.{Given, all_faults, applied}
 use Rattle.ep_check_expr.specs.Judgements.{Judged, Accepts, Breaks, Typed}
 use Rattle.ep_check_expr.specs.Operators.{integer, character, boolean}
@@ -42,13 +43,14 @@ value_form (value.Text bytes) = Text bytes
 abbrev pub reading : Expr → Kind → Access → Judged Typed
 reading form kind access = Accepts (record { form = Some form; kind = kind; depth = 2; access = access })
 
-abbrev pub value_declared : List ℕ → ℕ → Declaration → Judged Typed
-value_declared unit number (declaration.Constant kind value) = leaf (value_form value) kind access.Constant
-value_declared unit number (declaration.«Type» of host) = Breaks (rule.OTHER_THING ∷ [])
-value_declared unit number (declaration.Variable of kind) = reading (Read (Variable unit number)) kind (access.Variable of protection.Unprotected)
-value_declared unit number (declaration.Own of kind guarded) = reading (Read (Own 0 number)) kind (access.Variable of guarded)
-value_declared unit number (declaration.Procedure parameters) = Breaks (rule.PROCEDURE ∷ rule.OTHER_THING ∷ [])
-value_declared unit number (declaration.Function parameters of host) = function_called unit number parameters host []
+-- what is declared as a value, in code of a depth
+abbrev pub value_declared : ℕ → Declared → Declaration → Judged Typed
+value_declared depth d (declaration.Constant kind value) = leaf (value_form value) kind access.Constant
+value_declared depth d (declaration.«Type» of host) = Breaks (rule.OTHER_THING ∷ [])
+value_declared depth d (declaration.Variable of kind) = reading (Read (Variable d.unit d.number)) kind (access.Variable of protection.Unprotected)
+value_declared depth d (declaration.Own of kind guarded) = reading (Read (own_place depth d)) kind (access.Variable of guarded)
+value_declared depth d (declaration.Procedure parameters) = Breaks (rule.PROCEDURE ∷ rule.OTHER_THING ∷ [])
+value_declared depth d (declaration.Function parameters of host) = function_called (callee_at depth d) parameters host []
 
 -- the required constants (ISO 10206, 6.4.2.2)
 abbrev pub constant_required : RequiredConstant → Judged Typed
@@ -76,11 +78,11 @@ abbrev pub is_one_of : ℕ → List ℕ → Bool
 is_one_of rule rules = list_any (nat_eq rule) rules
 
 -- a name as a value
-abbrev pub value_named : List ℕ → Meant → Judged Typed
-value_named name (Declares d) = value_declared d.unit d.number d.what
-value_named name (meaning.Standard file) = reading (Read (Standard file)) kind.File access.File
-value_named name (Requires r) = value_required r
-value_named name Nothing = Breaks (undeclared name)
+abbrev pub value_named : ℕ → List ℕ → Meant → Judged Typed
+value_named depth name (Declares d) = value_declared depth d d.what
+value_named depth name (meaning.Standard file) = reading (Read (Standard file)) kind.File access.File
+value_named depth name (Requires r) = value_required r
+value_named depth name Nothing = Breaks (undeclared name)
 
 -- what is no function has no arguments
 abbrev pub call_required : Required → List Given → Judged Typed
@@ -90,20 +92,20 @@ call_required (required.Function f) gs = applied f gs
 call_required (required.Procedure p) gs = Breaks (rule.PROCEDURE ∷ rule.OTHER_THING ∷ all_faults gs)
 
 -- what is declared with arguments is a function (ISO 10206, 6.8.5)
-abbrev pub call_declared : List ℕ → ℕ → Declaration → List Given → Judged Typed
-call_declared unit number (declaration.Function parameters of host) gs = function_called unit number parameters host gs
-call_declared unit number (declaration.Procedure parameters) gs = Breaks (rule.PROCEDURE ∷ rule.OTHER_THING ∷ all_faults gs)
-call_declared unit number (declaration.Constant kind value) gs = Breaks (rule.OTHER_THING ∷ all_faults gs)
-call_declared unit number (declaration.«Type» of host) gs = Breaks (rule.OTHER_THING ∷ all_faults gs)
-call_declared unit number (declaration.Variable of kind) gs = Breaks (rule.OTHER_THING ∷ all_faults gs)
-call_declared unit number (declaration.Own of kind guarded) gs = Breaks (rule.OTHER_THING ∷ all_faults gs)
+abbrev pub call_declared : ℕ → Declared → Declaration → List Given → Judged Typed
+call_declared depth d (declaration.Function parameters of host) gs = function_called (callee_at depth d) parameters host gs
+call_declared depth d (declaration.Procedure parameters) gs = Breaks (rule.PROCEDURE ∷ rule.OTHER_THING ∷ all_faults gs)
+call_declared depth d (declaration.Constant kind value) gs = Breaks (rule.OTHER_THING ∷ all_faults gs)
+call_declared depth d (declaration.«Type» of host) gs = Breaks (rule.OTHER_THING ∷ all_faults gs)
+call_declared depth d (declaration.Variable of kind) gs = Breaks (rule.OTHER_THING ∷ all_faults gs)
+call_declared depth d (declaration.Own of kind guarded) gs = Breaks (rule.OTHER_THING ∷ all_faults gs)
 
 -- a name with arguments
-abbrev pub call_named : List ℕ → Meant → List Given → Judged Typed
-call_named name (Declares d) gs = call_declared d.unit d.number d.what gs
-call_named name (meaning.Standard file) gs = Breaks (rule.OTHER_THING ∷ all_faults gs)
-call_named name (Requires r) gs = call_required r gs
-call_named name Nothing gs = Breaks (undeclared name ++ all_faults gs)
+abbrev pub call_named : ℕ → List ℕ → Meant → List Given → Judged Typed
+call_named depth name (Declares d) gs = call_declared depth d d.what gs
+call_named depth name (meaning.Standard file) gs = Breaks (rule.OTHER_THING ∷ all_faults gs)
+call_named depth name (Requires r) gs = call_required r gs
+call_named depth name Nothing gs = Breaks (undeclared name ++ all_faults gs)
 
 -- what has no field: a name that stands for something, or for nothing
 abbrev pub no_field : List ℕ → Meant → Judged Typed
@@ -114,9 +116,9 @@ abbrev pub is_nothing : Meant → Bool
 is_nothing Nothing = true
 is_nothing _ = false
 
-abbrev pub constituent_value : List ℕ → List ℕ → Meant → Meant → Judged Typed
-constituent_value interface name alone within = if is_nothing within then no_field interface alone else value_named name within
+abbrev pub constituent_value : ℕ → List ℕ → List ℕ → Meant → Meant → Judged Typed
+constituent_value depth interface name alone within = if is_nothing within then no_field interface alone else value_named depth name within
 
 -- `i.a`, a name that an interface has (ISO 10206, 6.11.3)
 abbrev pub qualified_value : List Region → List ℕ → List ℕ → Judged Typed
-qualified_value scopes interface name = constituent_value interface name (meant scopes interface) (meant_in scopes interface name)
+qualified_value scopes interface name = constituent_value (depth_in scopes) interface name (meant scopes interface) (meant_in scopes interface name)

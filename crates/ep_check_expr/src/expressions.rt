@@ -2,7 +2,7 @@
 
 ghost use Rattle.std.specs.Prelude.{◌≡◌, ◌∷◌, [], true, None, map};
 ghost use Rattle.ep_built.specs.Built.{component_value_unbuilt, expression_unbuilt, simple_unbuilt, term_unbuilt, factor_unbuilt, access_unbuilt, argument_unbuilt, addend_belonging, multiplier_belonging, selector_belonging, written_unbuilt, written_value_unbuilt, all_are_built, lines_in, first_in};
-ghost use Rattle.ep_scope.specs.Scopes.{meant};
+ghost use Rattle.ep_scope.specs.Scopes.{depth_in, meant};
 ghost use Rattle.ep_check_expr.specs.Answers.{taken_of, typed_of, AnswersJudged, AnswersTyped, AnswersGiven};
 ghost use Rattle.ep_check_expr.specs.Arguments.{arguments_judged};
 ghost use Rattle.ep_check_expr.specs.Expressions.{chained, judged, judged_value, addend_judged, multiplier_judged, simple_judged, term_judged, factor_judged, name_judged, access_judged, selected, given, string_judged};
@@ -19,8 +19,8 @@ use crate::operators::{added, compared, multiplied, negated, signed};
 use crate::shapes::bare;
 use ep_base::Name;
 use ep_scope::{
-    Declaration, Declared, FormalParameter, Function, Host, Meaning, Required, Scope, meaning_of,
-    rule,
+    Declaration, Declared, FormalParameter, Function, Host, Meaning, Required, Scope, depth_in,
+    meaning_of, rule,
 };
 use ep_tree::{
     Access, Addend, Argument, ComponentValue, Expression, Factor, Multiplier, Selector, Simple,
@@ -212,7 +212,7 @@ fn call(
     scopes: &[Scope],
 ) -> Result<Typed, Refusal>
     requires built { first_in (map argument_unbuilt arguments.now) ≡ None }
-    ensures { AnswersTyped result (call_named name.now (meant scopes.now name.now) (map (given scopes.now) arguments.now)) }
+    ensures { AnswersTyped result (call_named (depth_in scopes.now) name.now (meant scopes.now name.now) (map (given scopes.now) arguments.now)) }
 {
     match meaning_of(scopes, name) {
         Meaning::Required(Required::Function(function)) => {
@@ -264,13 +264,13 @@ fn designator(
 ) -> Result<Typed, Refusal>
     requires built { first_in (map written_unbuilt arguments.now) ≡ None }
     ensures { AnswersTyped result
-        (call_declared declared.now.unit declared.now.number declared.now.what
+        (call_declared (depth_in scopes.now) declared.now declared.now.what
         (map (given scopes.now) arguments.now)) }
 {
     match &declared.what {
         Declaration::Function(parameters, _, host) => {
             let given = typed_arguments(alloc, parameters.items(), arguments, scopes)?;
-            Typed::function(alloc, &declared.unit, declared.number, *host, given)
+            Typed::function(alloc, depth_in(scopes)?, declared, *host, given)
         }
         Declaration::Procedure(_) => Err(Refusal::Rule(rule::PROCEDURE)),
         _ => Err(Refusal::Rule(rule::OTHER_THING)),

@@ -4,7 +4,7 @@ ghost use Rattle.std.specs.Prelude.{◌≡◌, IsTrue, Some};
 ghost use Rattle.ep_typed.specs.Trees.{Constant};
 ghost use Rattle.ep_scope.specs.declared.kind.Kind.TheVariants as kind;
 ghost use Rattle.ep_check_expr.specs.Answers.{taken_of, typed_of, AnswersTyped, AnswersDepth};
-ghost use Rattle.ep_check_expr.specs.Arguments.{function_typed};
+ghost use Rattle.ep_check_expr.specs.Arguments.{callee_at, function_typed};
 ghost use Rattle.ep_check_expr.specs.Expressions.{spelled};
 ghost use Rattle.ep_check_expr.specs.Operators.{unary_typed, binary_typed, short_typed, unbuilt_typed};
 ghost use Rattle.ep_check_expr.specs.Functions.{step_typed};
@@ -18,9 +18,10 @@ ghost use Rattle.ep_typed.specs.Trees.{Read, Text};
 
 use crate::access::Access;
 use crate::arguments::Taken;
-use ep_base::{Boxed, Bytes, Name, NoMemory};
-use ep_scope::{Host, Kind, rule};
-use ep_typed::{Binary, Callee, ShortOperation, TypedExpr, TypedPlace, Unary, Value};
+use crate::levels::callee_at;
+use ep_base::{Boxed, Bytes, NoMemory};
+use ep_scope::{Declared, Host, Kind, rule};
+use ep_typed::{Binary, ShortOperation, TypedExpr, TypedPlace, Unary, Value};
 use std::alloc::{AllocError, Global};
 
 /// The greatest number of typed nodes of an expression that stand one below the other.
@@ -263,33 +264,28 @@ impl Typed {
         })
     }
 
-    /// A call of the function of this number of a unit, whose result has this host.
+    /// A call of a function, whose result has this host, in code of a depth.
     pub(crate) fn function(
         alloc: Global,
-        unit: &Name,
-        number: u32,
+        depth: u32,
+        d: &Declared,
         host: Host,
         given: Taken,
     ) -> Result<Typed, Refusal>
-        ensures { AnswersTyped result (function_typed unit.now number host (taken_of given)) }
+        ensures { AnswersTyped result (function_typed (callee_at depth d.now) host (taken_of given)) }
     {
-        let depth = above(given.depth)?;
+        let nesting = above(given.depth)?;
         let form = match given.into_actuals() {
             None => None,
             Some(actuals) => {
-                let unit = unit.copy(alloc)?;
-                let callee = Callee {
-                    unit,
-                    number,
-                    levels: 0,
-                };
+                let callee = callee_at(alloc, depth, d)?;
                 Some(Boxed::new(alloc, TypedExpr::Function(callee, actuals))?)
             }
         };
         Ok(Typed {
             form,
             kind: Kind::Ordinal(host),
-            depth,
+            depth: nesting,
             access: Access::Value,
         })
     }

@@ -17,6 +17,7 @@ mod folding;
 mod forms;
 mod functions;
 mod laws;
+mod levels;
 mod names;
 mod operators;
 mod shapes;
@@ -29,4 +30,5 @@ pub use expressions::{typed_arguments, typed_expression, typed_value, written_ex
 pub use folding::{Folded, folded_form};
 pub use forms::{DEPTH, Refusal, Typed, greatest, least};
 pub use laws::laws_of_expressions;
+pub use levels::{callee_at, own_place};
 pub use names::undeclared;

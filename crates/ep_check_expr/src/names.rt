@@ -2,9 +2,9 @@
 
 ghost use Rattle.std.specs.Prelude.{◌≡◌, [], IsTrue};
 ghost use Rattle.ep_scope.specs.Meanings.{meant_by};
-ghost use Rattle.ep_scope.specs.Scopes.{meant};
+ghost use Rattle.ep_scope.specs.Scopes.{depth_in, meant};
 ghost use Rattle.ep_check_expr.specs.Answers.{AnswersTyped};
-ghost use Rattle.ep_check_expr.specs.Arguments.{function_called};
+ghost use Rattle.ep_check_expr.specs.Arguments.{callee_at, function_called};
 ghost use Rattle.ep_check_expr.specs.Judgements.{breaks};
 ghost use Rattle.ep_check_expr.specs.Names as spec;
 ghost use Rattle.ep_check_expr.specs.Names.{value_declared, value_required, constant_required, value_named, qualified_value, is_nothing, undeclared, is_one_of};
@@ -12,10 +12,11 @@ ghost use Rattle.ep_check_expr.specs.Names.{value_declared, value_required, cons
 use crate::access::Access;
 use crate::arguments::Taken;
 use crate::forms::{Refusal, Typed};
+use crate::levels::own_place;
 use ep_base::Name;
 use ep_scope::{
     Declaration, Declared, FormalParameter, Host, Kind, Meaning, Protection, Required,
-    RequiredConstant, Scope, meaning_in, meaning_of, rule,
+    RequiredConstant, Scope, depth_in, meaning_in, meaning_of, rule,
 };
 use ep_typed::TypedPlace;
 use std::alloc::Global;
@@ -38,24 +39,25 @@ pub fn undeclared(name: &Name) -> u32
     }
 }
 
-/// A function of a unit with these formal parameters, without arguments (ISO 10206, 6.8.5).
+/// A function with these formal parameters, without arguments (ISO 10206, 6.8.5).
 fn function_alone(
     alloc: Global,
+    depth: u32,
     d: &Declared,
     parameters: &[FormalParameter],
     host: Host,
 ) -> Result<Typed, Refusal>
-    ensures { AnswersTyped result (function_called d.now.unit d.now.number parameters.now host []) }
+    ensures { AnswersTyped result (function_called (callee_at depth d.now) parameters.now host []) }
 {
     match parameters {
-        [] => Typed::function(alloc, &d.unit, d.number, host, Taken::nothing(alloc)),
+        [] => Typed::function(alloc, depth, d, host, Taken::nothing(alloc)),
         _ => Err(Refusal::Rule(rule::ARGUMENTS)),
     }
 }
 
-/// A declared name as a value.
-fn declared_value(alloc: Global, d: &Declared) -> Result<Typed, Refusal>
-    ensures { AnswersTyped result (value_declared d.now.unit d.now.number d.now.what) }
+/// A declared name as a value, in code of a depth.
+fn declared_value(alloc: Global, depth: u32, d: &Declared) -> Result<Typed, Refusal>
+    ensures { AnswersTyped result (value_declared depth d.now d.now.what) }
 {
     match &d.what {
         Declaration::Constant(kind, value) => Typed::value(alloc, value, *kind),
@@ -67,11 +69,11 @@ fn declared_value(alloc: Global, d: &Declared) -> Result<Typed, Refusal>
         }
         Declaration::Own(of, kind, guarded) => {
             let access = Access::Variable(*of, *guarded);
-            Typed::read(alloc, TypedPlace::Own(0, d.number), *kind, access)
+            Typed::read(alloc, own_place(depth, d), *kind, access)
         }
         Declaration::Procedure(_) => Err(Refusal::Rule(rule::PROCEDURE)),
         Declaration::Function(parameters, _, host) => {
-            function_alone(alloc, d, parameters.items(), *host)
+            function_alone(alloc, depth, d, parameters.items(), *host)
         }
     }
 }
@@ -101,12 +103,12 @@ fn required_value(alloc: Global, required: Required) -> Result<Typed, Refusal>
     }
 }
 
-/// A name of this meaning as a value.
-fn value_of(alloc: Global, name: &Name, meaning: Meaning<'_>) -> Result<Typed, Refusal>
-    ensures { AnswersTyped result (value_named name.now (meant_by meaning.entry)) }
+/// A name of this meaning as a value, in code of a depth.
+fn value_of(alloc: Global, depth: u32, name: &Name, meaning: Meaning<'_>) -> Result<Typed, Refusal>
+    ensures { AnswersTyped result (value_named depth name.now (meant_by meaning.entry)) }
 {
     match meaning {
-        Meaning::Declared(d) => declared_value(alloc, d),
+        Meaning::Declared(d) => declared_value(alloc, depth, d),
         Meaning::Standard(file) => {
             let place = TypedPlace::Standard(file);
             Typed::read(alloc, place, Kind::File, Access::File)
@@ -118,9 +120,9 @@ fn value_of(alloc: Global, name: &Name, meaning: Meaning<'_>) -> Result<Typed, R
 
 /// A name as a value.
 pub(crate) fn named(alloc: Global, name: &Name, scopes: &[Scope]) -> Result<Typed, Refusal>
-    ensures { AnswersTyped result (value_named name.now (meant scopes.now name.now)) }
+    ensures { AnswersTyped result (value_named (depth_in scopes.now) name.now (meant scopes.now name.now)) }
 {
-    value_of(alloc, name, meaning_of(scopes, name))
+    value_of(alloc, depth_in(scopes)?, name, meaning_of(scopes, name))
 }
 
 /// `i.a` as a value.
@@ -136,7 +138,7 @@ pub(crate) fn qualified(
     if is_nothing(within) {
         Err(Refusal::Rule(no_field(interface, scopes)))
     } else {
-        value_of(alloc, name, within)
+        value_of(alloc, depth_in(scopes)?, name, within)
     }
 }
 

@@ -5,12 +5,13 @@ use Rattle.ep_built.specs.Built.{Found, Placed, expression_unbuilt, first_if, st
 use Rattle.ep_built.specs.Built as built
 use Rattle.ep_tree.specs.declared.expression.Access.{Access, out-Access}
 use Rattle.ep_tree.specs.declared.expression.Expression.{Expression}
+use Rattle.ep_tree.specs.declared.operator.Direction.{Direction}
 use Rattle.ep_tree.specs.declared.statement.Statement.{Statement, fold-roll-Statement}
 use Rattle.ep_tree.specs.declared.statement.Statement.TheOpen.{Statement-F}
 use Rattle.ep_tree.specs.declared.statement.Statement.TheVariants as statement
 use Rattle.ep_typed.specs.Trees as tree
 use Rattle.ep_typed.specs.Trees.{Place, Stmt, Stmts}
-use Rattle.ep_check_stmt.specs.Statements.{ArmJudged, Context, Under, after, at_arm, at_compound, at_otherwise, at_statement, call_arguments, condition_judged, in_order, name_called, repeat_judged, statement_judged, stmt_item}
+use Rattle.ep_check_stmt.specs.Statements.{ArmJudged, Context, Under, after, at_arm, at_compound, at_otherwise, at_statement, call_arguments, condition_judged, control_judged, falls_by, for_judged, in_order, name_called, repeat_judged, statement_judged, stmt_item}
 use Rattle.ep_check_stmt.proofs.judged.Rounds.{first_built, rest_of}
 
 -- a call is judged by its name and its arguments
@@ -33,6 +34,13 @@ pub repeat_is : (context : Context) (line : ℕ) (all : List Statement) (e : Exp
 repeat_is context line all e controls =
     ap (λ s. statement_judged context s controls) (sym (statement.rolls-Repeat line all e))
     ∙ ap (λ (judge : Under Stmt). judge controls) (fold-roll-Statement (Under Stmt) ArmJudged (Under Stmts) (Under Stmts) (at_statement context) (at_arm context) (at_compound context) (at_otherwise context) (Statement-F.Repeat line all e))
+
+-- and a `for` statement, by its control variable
+pub for_is : (context : Context) (line : ℕ) (variable : List ℕ) (start : Expression) (toward : Direction) (end : Expression) (body : Statement) (controls : List Place)
+    → statement_judged context (statement.For line variable start toward end body) controls ≡ for_judged context controls line (control_judged context variable) (falls_by toward) start end (statement_judged context body)
+for_is context line variable start toward end body controls =
+    ap (λ s. statement_judged context s controls) (sym (statement.rolls-For line variable start toward end body))
+    ∙ ap (λ (judge : Under Stmt). judge controls) (fold-roll-Statement (Under Stmt) ArmJudged (Under Stmts) (Under Stmts) (at_statement context) (at_arm context) (at_compound context) (at_otherwise context) (Statement-F.For line variable start toward end body))
 
 if_unbuilt : (line : ℕ) (e : Expression) (then : Statement) (other : Option Statement)
     → statement_unbuilt (statement.If line e then other) ≡ option_or (expression_unbuilt e) (option_or (statement_unbuilt then) (first_if (option_map statement_unbuilt other)))

@@ -1,10 +1,10 @@
 -- What the rules say of small calls.
-use Rattle.std.proofs.Common.{◌≡◌, ℕ, pos, false, List, [], ◌∷◌, Option, Some, None, refl, codes}
+use Rattle.std.proofs.Common.{◌≡◌, ℕ, pos, true, false, List, [], ◌∷◌, Option, Some, None, refl, codes}
 use Rattle.ep_tree.specs.Nodes.{expression_node, simple_node, term_node, access_node, argument_node}
 use Rattle.ep_tree.specs.declared.expression.Argument.{Argument}
 use Rattle.ep_tree.specs.declared.expression.Factor.{Factor}
 use Rattle.ep_tree.specs.declared.expression.Factor.TheVariants as factor
-use Rattle.ep_typed.specs.Trees.{Stmt, Accessed, Assign, Constant, Evaluated, Own, Procedure, Variable, actuals}
+use Rattle.ep_typed.specs.Trees.{Stmt, Accessed, Assign, Constant, Empty, Evaluated, Own, Procedure, Variable, actuals}
 use Rattle.ep_typed.specs.declared.denoter.RequiredType.{RequiredType}
 use Rattle.ep_typed.specs.declared.denoter.RequiredType.TheVariants as simple
 use Rattle.ep_typed.specs.declared.interface.FormalMode.{FormalMode}
@@ -20,10 +20,10 @@ use Rattle.ep_scope.specs.declared.thing.Declaration.{Declaration}
 use Rattle.ep_scope.specs.declared.thing.Declaration.TheVariants as declaration
 use Rattle.ep_scope.specs.declared.thing.Declared.{Declared}
 use Rattle.ep_scope.specs.declared.thing.Thing.TheVariants as thing
-use Rattle.ep_check_expr.specs.Arguments.{callee_at}
 use Rattle.ep_check_expr.proofs.Nodes.{argument-judged, expression-judged, simple-judged, term-judged, name-judged, number-judged}
 use Rattle.ep_check_expr.specs.Judgements.{Judged, Accepts, Breaks}
-use Rattle.ep_check_stmt.specs.Statements.{Context, OfRoutine, OfUnit, declared_called, declared_control, stmt_threat, unless_threatening}
+use Rattle.ep_check_stmt.specs.RoutineForms.{RoutineForm}
+use Rattle.ep_check_stmt.specs.Statements.{Context, FunctionResult, OfRoutine, OfUnit, declared_called, declared_control, function_target, is_threatened_in, stmt_threat, unless_threatening}
 
 -- arguments of one factor
 abbrev argument : Factor → Argument
@@ -43,13 +43,17 @@ parameter n mode section type h = record { name = n; mode = mode; section = sect
 abbrev parameters : List FormalParameter
 parameters = parameter (codes "a") mode.Value 0 simple.Integer host.Integer ∷ parameter (codes "b") mode.Variable 1 simple.Integer host.Integer ∷ []
 
+abbrev declares_at : ℕ → ℕ → Declaration → Declared
+declares_at level number what = record { unit = codes "u"; number = number; level = level; what = what }
+
 abbrev declares : ℕ → Declaration → Declared
-declares number what = record { unit = codes "u"; number = number; what = what }
+declares number what = declares_at 0 number what
 
 -- the integer x and the char c
 abbrev context : Context
 context =
     record {
+      unit = codes "u";
       scopes =
           record {
             entries =
@@ -58,7 +62,7 @@ context =
             qualified = [];
           } ∷ [];
       output = false;
-      result = None;
+      results = [];
       locals = OfUnit (codes "u") 2;
       routines = [];
     }
@@ -68,7 +72,7 @@ abbrev called : List Argument → Judged (Option Stmt)
 called arguments = declared_called context 1 (declares 0 (declaration.Procedure parameters)) (declaration.Procedure parameters) arguments
 
 -- p(3, x)
-value_and_variable : called (number 3 ∷ name (codes "x") ∷ []) ≡ Accepts (Some (Procedure 1 (callee_at (codes "u") 0) (actuals (Evaluated (Constant (pos 3)) ∷ Accessed (Variable (codes "u") 0) ∷ []))))
+value_and_variable : called (number 3 ∷ name (codes "x") ∷ []) ≡ Accepts (Some (Procedure 1 (record { unit = codes "u"; number = 0; levels = 0 }) (actuals (Evaluated (Constant (pos 3)) ∷ Accessed (Variable (codes "u") 0) ∷ []))))
 value_and_variable = simp (argument-judged, expression-judged, simple-judged, term-judged, number-judged, name-judged) refl
 
 -- p(3)
@@ -89,18 +93,57 @@ abbrev own : Declaration
 own = declaration.Own (type_name.Required simple.Integer) (kind.Ordinal host.Integer) protection.Unprotected
 
 -- x counts in the block of the unit, and in no routine of it
-counts : declared_control (OfUnit (codes "u") 2) (declares 0 x) x ≡ Accepts (record { place = Variable (codes "u") 0; kind = kind.Ordinal host.Integer })
+counts : declared_control (OfUnit (codes "u") 2) 0 (declares 0 x) x ≡ Accepts (record { place = Variable (codes "u") 0; kind = kind.Ordinal host.Integer })
 counts = refl
 
-counts_in_no_routine : declared_control (OfRoutine 1 3) (declares 0 x) x ≡ Breaks (rule.CONTROL_VARIABLE ∷ [])
+counts_in_no_routine : declared_control (OfRoutine 0 1 3) 1 (declares 0 x) x ≡ Breaks (rule.CONTROL_VARIABLE ∷ [])
 counts_in_no_routine = refl
 
 -- in a routine of one parameter the first variable that it declares counts, and the parameter does not
-own_counts : declared_control (OfRoutine 1 3) (declares 1 own) own ≡ Accepts (record { place = Own 0 1; kind = kind.Ordinal host.Integer })
+own_counts : declared_control (OfRoutine 0 1 3) 1 (declares_at 1 1 own) own ≡ Accepts (record { place = Own 0 1; kind = kind.Ordinal host.Integer })
 own_counts = refl
 
-parameter_does_not : declared_control (OfRoutine 1 3) (declares 0 own) own ≡ Breaks (rule.CONTROL_VARIABLE ∷ [])
+parameter_does_not : declared_control (OfRoutine 0 1 3) 1 (declares_at 1 0 own) own ≡ Breaks (rule.CONTROL_VARIABLE ∷ [])
 parameter_does_not = refl
+
+-- nor does a variable of a routine around, whatever its number
+around_does_not : declared_control (OfRoutine 4 1 3) 2 (declares_at 1 1 own) own ≡ Breaks (rule.CONTROL_VARIABLE ∷ [])
+around_does_not = refl
+
+-- ---- threats from inside
+
+-- a routine of this name, which has these around it, and these statements
+abbrev form : List ℕ → List ℕ → Stmt → RoutineForm
+form name around s = record { name = name; line = 1; formals = []; result = None; variables = []; around = around; block = s }
+
+-- routine 0, in it 1, and in that 2, which assigns to variable 5 so many levels up
+abbrev nested : ℕ → List RoutineForm
+nested up = form (codes "a") [] Empty ∷ form (codes "b") (0 ∷ []) Empty ∷ form (codes "c") (1 ∷ 0 ∷ []) (Assign 1 (Own up 5) (Constant (pos 1))) ∷ []
+
+-- it threatens the one of routine 0 two levels up, and that of routine 1 one level up, and its own in no other one
+two_levels_up : is_threatened_in (OfRoutine 0 0 9) (nested 2) (Own 0 5) ≡ true
+two_levels_up = refl
+
+one_level_up : is_threatened_in (OfRoutine 0 0 9) (nested 1) (Own 0 5) ≡ false
+one_level_up = refl
+
+one_level_up_of_inner : is_threatened_in (OfRoutine 1 0 9) (nested 1) (Own 0 5) ≡ true
+one_level_up_of_inner = refl
+
+by_itself : is_threatened_in (OfRoutine 2 0 9) (nested 0) (Own 0 5) ≡ false
+by_itself = refl
+
+-- ---- the names of functions
+
+-- in code of two routines, of which the outer one is the function 3, whose result is its variable 0
+abbrev result : FunctionResult
+result = record { function = 3; level = 1; variable = 0; host = host.Integer }
+
+assigned_deeper : function_target 2 (codes "u") (declares 3 x) (result ∷ []) ≡ Accepts (record { place = Own 1 0; kind = kind.Ordinal host.Integer })
+assigned_deeper = refl
+
+other_function : function_target 2 (codes "u") (declares 4 x) (result ∷ []) ≡ Breaks (rule.FUNCTION_ASSIGNED ∷ [])
+other_function = refl
 
 -- inside of `for x`, x := 3 and c := 3
 abbrev inside : ℕ → Judged (Option Stmt)

@@ -31,7 +31,7 @@ use Rattle.ep_check_stmt.specs.RoutineForms.{routine_form}
 use Rattle.ep_check_stmt.specs.declared.statements.FunctionResult.{FunctionResult}
 use Rattle.ep_check_stmt.specs.declared.statements.Locals.{Locals}
 use Rattle.ep_check_stmt.specs.declared.statements.Locals.TheVariants as locals
-use Rattle.ep_check_stmt.specs.declared.statements.Target.{Target}
+use Rattle.ep_check_stmt.specs.declared.targets.Target.{Target}
 
 -- whether the rule is one of these
 abbrev pub fails_among : ℕ → List ℕ → Bool
@@ -68,18 +68,18 @@ abbrev pub AnswersRow : {T A : Type 0} → (T → A) → Result (Outcome T) Chec
 AnswersRow view (Ok found) row = row ≡ passed view found
 AnswersRow view (Err r) row = RefusesRow r row
 
--- the function in whose block they are
+-- a function in whose block they are
 abbrev pub result_of : FunctionResult → rows.FunctionResult
-result_of r = record { function = r.function; unit = r.unit.now; variable = r.variable; host = r.host }
+result_of r = record { function = r.function; level = r.level; variable = r.variable; host = r.host }
 
 -- the variables of the block
 abbrev pub locals_of : Locals → rows.Locals
 locals_of (locals.Unit unit auxiliary) = rows.OfUnit unit.now auxiliary
-locals_of (locals.Routine first auxiliary) = rows.OfRoutine first auxiliary
+locals_of (locals.Routine routine first auxiliary) = rows.OfRoutine routine first auxiliary
 
 -- what the statements of a block know
 abbrev pub context_of : Context → rows.Context
-context_of c = record { scopes = c.scopes.now; output = c.output; result = option_map result_of c.result; locals = locals_of c.locals; routines = map routine_form c.routines.now }
+context_of c = record { unit = c.unit.now; scopes = c.scopes.now; output = c.output; results = map result_of c.results.now; locals = locals_of c.locals; routines = map routine_form c.routines.now }
 
 -- what is assigned to
 abbrev pub target_of : Target → rows.Target

@@ -1,7 +1,7 @@
 -- What the static rules say of statements: their typed forms, or the first item that breaks a rule.
 --
 -- Items are taken in the order of the text: a statement without its inner statements is one, on the line of its first token. A form that is no form of a program that is built fails by no rule here.
-use Rattle.std.specs.Prelude.{ℕ, nat_eq, nat_le, ◌+◌, ◌||◌, ◌==◌, ◌&&◌, Bool, true, false, List, [], ◌∷◌, ◌++◌, map, Option, Some, None, if◌then◌else◌}
+use Rattle.std.specs.Prelude.{ℕ, nat_eq, nat_le, ◌+◌, ◌-◌, ◌||◌, ◌==◌, ◌&&◌, Bool, true, false, List, [], ◌∷◌, ◌++◌, map, Option, Some, None, if◌then◌else◌}
 use Rattle.std.specs.List.{list_any}
 use Rattle.std.specs.Option.{option_map}
 use Rattle.std.specs.Str.{bytes_eq}
@@ -26,7 +26,7 @@ use Rattle.ep_typed.specs.declared.operations.Print.{Print}
 use Rattle.ep_typed.specs.declared.operations.Print.TheVariants as print
 use Rattle.ep_typed.specs.declared.tree.StandardFile.{StandardFile}
 use Rattle.ep_typed.specs.declared.tree.StandardFile.TheVariants as file
-use Rattle.ep_scope.specs.Scopes.{Region, Meant, Declares, Standard, Requires, Nothing, meant}
+use Rattle.ep_scope.specs.Scopes.{Region, Meant, Declares, Standard, Requires, Nothing, depth_in, meant}
 use Rattle.ep_scope.specs.declared.kind.Host.{Host}
 use Rattle.ep_scope.specs.declared.kind.Host.TheVariants as host
 use Rattle.ep_scope.specs.declared.kind.Kind.{Kind}
@@ -40,7 +40,7 @@ use Rattle.ep_scope.specs.declared.rule.TheConstants as rule
 use Rattle.ep_scope.specs.declared.thing.Declaration.{Declaration}
 use Rattle.ep_scope.specs.declared.thing.Declaration.TheVariants as declaration
 use Rattle.ep_scope.specs.declared.thing.Declared.{Declared}
-use Rattle.ep_check_expr.specs.Arguments.{arguments_judged, callee_at, given_to, unless_protected}
+use Rattle.ep_check_expr.specs.Arguments.{arguments_judged, callee_at, given_to, own_place, unless_protected}
 use Rattle.ep_check_expr.specs.Hosts.{typed_host}
 use Rattle.ep_check_expr.specs.Judgements.{Judged, Accepts, Breaks, Typed, unbuilt, when_accepted, both}
 use Rattle.ep_check_expr.specs.Functions.{Given}
@@ -49,7 +49,7 @@ use Rattle.ep_check_expr.specs.Operators.{map_both}
 use Rattle.ep_check_expr.specs.Expressions.{given, judged, judged_value}
 use Rattle.ep_check_stmt.specs.Cases.{CaseSelector, own_ranges, selector_judged}
 use Rattle.ep_check_stmt.specs.RoutineForms.{RoutineForm, formals_at}
-use Rattle.ep_check_stmt.specs.Threats.{expr_threatens, is_variable, threatens}
+use Rattle.ep_check_stmt.specs.Threats.{expr_threatens, inner_threatens, is_variable, threatens}
 
 -- ---- rows of items
 
@@ -99,30 +99,22 @@ pub record Target : Type 0 where
   pub place : Place
   pub kind : Kind
 
--- the function in whose block the statements are, where its name is assigned to for the result: its number among the routines of its unit, the variable of the routine that has the result, and the host of that (ISO 10206, 6.7.2)
+-- A function in whose block the statements are, maybe deeper, where its name is assigned to for the result: its number among the routines of the unit, how many routines are around its variables, itself among them, the variable that has the result, and the host of that (ISO 10206, 6.7.2).
 pub record FunctionResult : Type 0 where
   pub function : ℕ
-  pub unit : List ℕ
+  pub level : ℕ
   pub variable : ℕ
   pub host : Host
 
--- whether what is declared is this function
-abbrev pub has_result : Declared → FunctionResult → Bool
-has_result d r = nat_eq d.number r.function && bytes_eq d.unit r.unit
+-- whether what is declared is this function of a unit
+abbrev pub has_result : List ℕ → Declared → FunctionResult → Bool
+has_result unit d r = nat_eq d.number r.function && bytes_eq d.unit unit
 
--- the name of a function is assigned to in its own block alone (ISO 10206, 6.7.2)
-abbrev pub function_target : Declared → Option FunctionResult → Judged Target
-function_target d None = Breaks (rule.FUNCTION_ASSIGNED ∷ [])
-function_target d (Some r) = if has_result d r then Accepts (record { place = tree.Own 0 r.variable; kind = kind.Ordinal r.host }) else Breaks (rule.FUNCTION_ASSIGNED ∷ [])
-
--- a declared name that is assigned to
-abbrev pub declared_target : Option FunctionResult → Declared → Declaration → Judged Target
-declared_target result d (declaration.Variable of k) = Accepts (record { place = tree.Variable d.unit d.number; kind = k })
-declared_target result d (declaration.Own of k guarded) = when_accepted (λ done. Accepts (record { place = tree.Own 0 d.number; kind = k })) (unless_protected guarded)
-declared_target result d (declaration.Constant k value) = Breaks (rule.CONSTANT_THREATENED ∷ rule.VARIABLE_NEEDED ∷ [])
-declared_target result d (declaration.«Type» of h) = Breaks (rule.OTHER_THING ∷ rule.VARIABLE_NEEDED ∷ [])
-declared_target result d (declaration.Procedure parameters) = Breaks (rule.OTHER_THING ∷ rule.VARIABLE_NEEDED ∷ [])
-declared_target result d (declaration.Function parameters of h) = function_target d result
+-- The name of a function is assigned to in its own block alone, to which those of the routines in it belong (ISO 10206, 6.7.2); in code of a depth.
+abbrev pub function_target : ℕ → List ℕ → Declared → List FunctionResult → Judged Target
+function_target depth unit d [] = Breaks (rule.FUNCTION_ASSIGNED ∷ [])
+function_target depth unit d (r ∷ rs) =
+    if has_result unit d r then Accepts (record { place = tree.Own (depth - r.level) r.variable; kind = kind.Ordinal r.host }) else function_target depth unit d rs
 
 -- the rules that fail where a required identifier is assigned to
 abbrev pub target_rules : Required → List ℕ
@@ -131,12 +123,23 @@ target_rules (required.«Type» t) = rule.OTHER_THING ∷ rule.VARIABLE_NEEDED �
 target_rules (required.Function f) = rule.FUNCTION_ASSIGNED ∷ rule.VARIABLE_NEEDED ∷ []
 target_rules (required.Procedure p) = rule.OTHER_THING ∷ rule.VARIABLE_NEEDED ∷ []
 
--- a name that means this
-abbrev pub place_named : Option FunctionResult → List ℕ → Meant → Judged Target
-place_named result name (Declares d) = declared_target result d d.what
-place_named result name (Standard f) = Accepts (record { place = tree.Standard f; kind = kind.File })
-place_named result name (Requires r) = Breaks (target_rules r)
-place_named result name Nothing = Breaks (undeclared name)
+-- in code of a depth, of a unit, in the blocks of these functions
+module _ (depth : ℕ) (unit : List ℕ) (results : List FunctionResult) where
+  -- a declared name that is assigned to
+  abbrev pub declared_target : Declared → Declaration → Judged Target
+  declared_target d (declaration.Variable of k) = Accepts (record { place = tree.Variable d.unit d.number; kind = k })
+  declared_target d (declaration.Own of k guarded) = when_accepted (λ done. Accepts (record { place = own_place depth d; kind = k })) (unless_protected guarded)
+  declared_target d (declaration.Constant k value) = Breaks (rule.CONSTANT_THREATENED ∷ rule.VARIABLE_NEEDED ∷ [])
+  declared_target d (declaration.«Type» of h) = Breaks (rule.OTHER_THING ∷ rule.VARIABLE_NEEDED ∷ [])
+  declared_target d (declaration.Procedure parameters) = Breaks (rule.OTHER_THING ∷ rule.VARIABLE_NEEDED ∷ [])
+  declared_target d (declaration.Function parameters of h) = function_target depth unit d results
+
+  -- a name that means this
+  abbrev pub place_named : List ℕ → Meant → Judged Target
+  place_named name (Declares d) = declared_target d d.what
+  place_named name (Standard f) = Accepts (record { place = tree.Standard f; kind = kind.File })
+  place_named name (Requires r) = Breaks (target_rules r)
+  place_named name Nothing = Breaks (undeclared name)
 
 abbrev pub assigned : ℕ → Target → Typed → Judged (Option Stmt)
 assigned line target value = given_to (tree.Assign line target.place) target.kind value.kind value.form
@@ -278,28 +281,28 @@ case_judged line form (Accepts s) arms other = case_row line (form s.form) (arms
 
 -- ---- `for` (ISO 10206, 6.9.3.9)
 
--- The variables of a block: those of a unit, or those of a routine, of which the first one that its block declares has a number. The auxiliary variables are behind all of them, and the first of these has a number too.
+-- The variables of a block: those of a unit, or those of the routine of a number, of which the first one that its block declares has a number. The auxiliary variables are behind all of them, and the first of these has a number too.
 pub data Locals : Type 0 where
   OfUnit : (unit : List ℕ) (auxiliary : ℕ) → Locals
-  OfRoutine : (first auxiliary : ℕ) → Locals
+  OfRoutine : (routine first auxiliary : ℕ) → Locals
 
 -- the auxiliary variables, which have the initial and the final value
 abbrev pub initial_place : Locals → Place
 initial_place (OfUnit unit auxiliary) = tree.Variable unit auxiliary
-initial_place (OfRoutine first auxiliary) = tree.Own 0 auxiliary
+initial_place (OfRoutine routine first auxiliary) = tree.Own 0 auxiliary
 
 abbrev pub last_place : Locals → Place
 last_place (OfUnit unit auxiliary) = tree.Variable unit (auxiliary + 1)
-last_place (OfRoutine first auxiliary) = tree.Own 0 (auxiliary + 1)
+last_place (OfRoutine routine first auxiliary) = tree.Own 0 (auxiliary + 1)
 
--- whether a variable of a unit, or one of the routine, is declared in the block
+-- whether a variable of a unit, or one of a routine, is declared in the block, whose code has a depth
 abbrev pub declares_variable : Locals → List ℕ → Bool
 declares_variable (OfUnit unit auxiliary) of_unit = bytes_eq of_unit unit
-declares_variable (OfRoutine first auxiliary) of_unit = false
+declares_variable (OfRoutine routine first auxiliary) of_unit = false
 
-abbrev pub declares_own : Locals → ℕ → Bool
-declares_own (OfUnit unit auxiliary) number = false
-declares_own (OfRoutine first auxiliary) number = nat_le first number
+abbrev pub declares_own : Locals → ℕ → Declared → Bool
+declares_own (OfUnit unit auxiliary) depth d = false
+declares_own (OfRoutine routine first auxiliary) depth d = d.level == depth && nat_le first d.number
 
 -- what is no variable that the block declares is no control variable; formal parameters and results are none (own)
 abbrev pub no_control : {A : Type 0} → List ℕ → Judged A
@@ -310,20 +313,20 @@ control_if true t = Accepts t
 control_if false t = no_control []
 
 -- a declared name as a control variable
-abbrev pub declared_control : Locals → Declared → Declaration → Judged Target
-declared_control locals d (declaration.Variable of k) = control_if (declares_variable locals d.unit) (record { place = tree.Variable d.unit d.number; kind = k })
-declared_control locals d (declaration.Own of k guarded) = control_if (declares_own locals d.number) (record { place = tree.Own 0 d.number; kind = k })
-declared_control locals d (declaration.Constant k value) = no_control (rule.CONSTANT_THREATENED ∷ rule.VARIABLE_NEEDED ∷ [])
-declared_control locals d (declaration.«Type» of h) = no_control (rule.OTHER_THING ∷ rule.VARIABLE_NEEDED ∷ [])
-declared_control locals d (declaration.Procedure parameters) = no_control (rule.OTHER_THING ∷ rule.VARIABLE_NEEDED ∷ [])
-declared_control locals d (declaration.Function parameters of h) = no_control (rule.OTHER_THING ∷ rule.VARIABLE_NEEDED ∷ [])
+abbrev pub declared_control : Locals → ℕ → Declared → Declaration → Judged Target
+declared_control locals depth d (declaration.Variable of k) = control_if (declares_variable locals d.unit) (record { place = tree.Variable d.unit d.number; kind = k })
+declared_control locals depth d (declaration.Own of k guarded) = control_if (declares_own locals depth d) (record { place = own_place depth d; kind = k })
+declared_control locals depth d (declaration.Constant k value) = no_control (rule.CONSTANT_THREATENED ∷ rule.VARIABLE_NEEDED ∷ [])
+declared_control locals depth d (declaration.«Type» of h) = no_control (rule.OTHER_THING ∷ rule.VARIABLE_NEEDED ∷ [])
+declared_control locals depth d (declaration.Procedure parameters) = no_control (rule.OTHER_THING ∷ rule.VARIABLE_NEEDED ∷ [])
+declared_control locals depth d (declaration.Function parameters of h) = no_control (rule.OTHER_THING ∷ rule.VARIABLE_NEEDED ∷ [])
 
 -- a name that means this
-abbrev pub control_named : Locals → List ℕ → Meant → Judged Target
-control_named locals name (Declares d) = declared_control locals d d.what
-control_named locals name (Standard f) = no_control (rule.ORDINAL ∷ [])
-control_named locals name (Requires r) = no_control (target_rules r)
-control_named locals name Nothing = Breaks (undeclared name)
+abbrev pub control_named : Locals → ℕ → List ℕ → Meant → Judged Target
+control_named locals depth name (Declares d) = declared_control locals depth d d.what
+control_named locals depth name (Standard f) = no_control (rule.ORDINAL ∷ [])
+control_named locals depth name (Requires r) = no_control (target_rules r)
+control_named locals depth name Nothing = Breaks (undeclared name)
 
 -- the place of a control variable and the host of its type, which is ordinal
 pub record Counted : Type 0 where
@@ -334,10 +337,11 @@ abbrev pub counted_by : Place → Kind → Judged Counted
 counted_by place (kind.Ordinal h) = Accepts (record { place = place; host = h })
 counted_by place _ = Breaks (rule.ORDINAL ∷ [])
 
--- one that a routine of the block threatens is none (ISO 10206, 6.9.3.9.1); the variables of a routine are seen in no other one so far
+-- One that a routine of the block threatens is none, however deep it is (ISO 10206, 6.9.3.9.1). Variables of a unit are the same from everywhere; in the block of a routine no variable of a unit counts.
 abbrev pub is_threatened_in : Locals → List RoutineForm → Place → Bool
 is_threatened_in (OfUnit unit auxiliary) routines place = list_any (λ r. threatens (formals_at routines) place r.block) routines
-is_threatened_in (OfRoutine first auxiliary) routines place = false
+is_threatened_in (OfRoutine routine first auxiliary) routines (tree.Own up number) = inner_threatens routine routines number
+is_threatened_in (OfRoutine routine first auxiliary) routines place = false
 
 abbrev pub unless_threatened_in : Locals → List RoutineForm → Counted → Judged Counted
 unless_threatened_in locals routines c = if is_threatened_in locals routines c.place then Breaks (rule.CONTROL_THREATENED ∷ []) else Accepts c
@@ -396,11 +400,12 @@ abbrev pub halt_judged : ℕ → List Argument → Judged (Option Stmt)
 halt_judged line [] = Accepts (Some (tree.Halt line))
 halt_judged line (first ∷ more) = Breaks (rule.ARGUMENTS ∷ [])
 
--- what a block knows: its scopes, the innermost first, whether `output` is a parameter or imported, the function whose block it is, where that has a result without a name, its own variables, and the routines of the unit
+-- What a block knows: its unit, its scopes, the innermost first, whether `output` is a parameter or imported, the functions in whose blocks it is and whose results have no names, the innermost first, its own variables, and the routines of the unit.
 pub record Context : Type 0 where
+  pub unit : List ℕ
   pub scopes : List Region
   pub output : Bool
-  pub result : Option FunctionResult
+  pub results : List FunctionResult
   pub locals : Locals
   pub routines : List RoutineForm
 
@@ -454,7 +459,7 @@ module _ (context : Context) where
   -- a procedure of a unit is called (ISO 10206, 6.9.2.3)
   abbrev pub own_called : ℕ → Declared → List FormalParameter → List Argument → Judged (Option Stmt)
   own_called line d parameters arguments =
-      when_accepted (λ t. Accepts (option_map (λ xs. tree.Procedure line (callee_at d.unit d.number) (tree.actuals xs)) t.actuals)) (arguments_judged parameters (map (given context.scopes) arguments))
+      when_accepted (λ t. Accepts (option_map (λ xs. tree.Procedure line (callee_at (depth_in context.scopes) d) (tree.actuals xs)) t.actuals)) (arguments_judged parameters (map (given context.scopes) arguments))
 
   -- nothing else that is declared is a statement; a function is none whatever its arguments
   abbrev pub declared_called : ℕ → Declared → Declaration → List Argument → Judged (Option Stmt)
@@ -478,7 +483,7 @@ module _ (context : Context) where
 
   -- a name without selectors is assigned to
   abbrev pub target_judged : List ℕ → List Selector → Judged Target
-  target_judged name [] = place_named context.result name (meant context.scopes name)
+  target_judged name [] = place_named (depth_in context.scopes) context.unit context.results name (meant context.scopes name)
   target_judged name _ = unbuilt
 
   -- an item of a statement inside of `for` statements with these control variables
@@ -496,7 +501,7 @@ module _ (context : Context) where
   -- a name as the control variable of a `for`
   abbrev pub control_judged : List ℕ → Judged Counted
   control_judged name =
-      when_accepted (unless_threatened_in context.locals context.routines) (when_accepted (λ t. counted_by t.place t.kind) (control_named context.locals name (meant context.scopes name)))
+      when_accepted (unless_threatened_in context.locals context.routines) (when_accepted (λ t. counted_by t.place t.kind) (control_named context.locals (depth_in context.scopes) name (meant context.scopes name)))
 
   -- a `for` statement, by its control variable
   abbrev pub for_judged : List Place → ℕ → Judged Counted → Bool → Expression → Expression → Under Stmt → Judgement Stmt

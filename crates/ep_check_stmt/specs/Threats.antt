@@ -1,5 +1,6 @@
 -- Whether statements threaten a variable (ISO 10206, 6.9.4), and whether they assign to the name of a function (6.7.2).
-use Rattle.std.specs.Prelude.{ℕ, Bool, true, false, ◌==◌, ◌||◌, ◌&&◌, List, [], ◌∷◌, Option, Some, None}
+use Rattle.std.specs.Prelude.{ℕ, suc, nat_eq, position, Bool, true, false, ◌==◌, ◌||◌, ◌&&◌, List, [], ◌∷◌, Option, Some, None}
+use Rattle.std.specs.List.{list_any}
 use Rattle.std.specs.Str.{bytes_eq}
 use Rattle.ep_tree.specs.declared.expression.Access.{Access, out-Access}
 use Rattle.ep_tree.specs.declared.expression.Selector.{Selector}
@@ -12,6 +13,7 @@ use Rattle.ep_typed.specs.Trees as tree
 use Rattle.ep_typed.specs.declared.interface.Formal.{Formal}
 use Rattle.ep_typed.specs.declared.interface.FormalMode.{FormalMode}
 use Rattle.ep_typed.specs.declared.interface.FormalMode.TheVariants as mode
+use Rattle.ep_check_stmt.specs.RoutineForms.{RoutineForm, formals_at}
 
 -- ---- threats to a variable, by typed statements (ISO 10206, 6.9.4)
 
@@ -93,6 +95,17 @@ module _ (formals_of : List ℕ → ℕ → List Formal) (variable : Place) wher
     pub other_threatens : Other → Bool
     other_threatens no_other = false
     other_threatens (otherwise_do ss) = stmts_threaten ss
+
+-- ---- threats by the routines in a routine, however deep (ISO 10206, 6.9.4)
+
+-- Whether this routine threatens a variable, by its number, of a routine around it, where so many stand between.
+abbrev pub threatens_from : List RoutineForm → ℕ → Stmt → Option ℕ → Bool
+threatens_from routines number s None = false
+threatens_from routines number s (Some between) = threatens (formals_at routines) (Own (suc between) number) s
+
+-- whether a routine in the one of this number does
+abbrev pub inner_threatens : ℕ → List RoutineForm → ℕ → Bool
+inner_threatens routine routines number = list_any (λ r. threatens_from routines number r.block (position (nat_eq routine) r.around)) routines
 
 -- ---- assignments to a name, by the text (ISO 10206, 6.9.2.2)
 

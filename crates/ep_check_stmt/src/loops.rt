@@ -4,7 +4,7 @@ ghost use Rattle.std.specs.Prelude.{◌≡◌, IfOk, List, ◌∷◌, None, Opti
 ghost use Rattle.std.specs.List.{list_any};
 ghost use Rattle.std.specs.Option.{option_map};
 ghost use Rattle.ep_built.specs.Built.{expression_unbuilt};
-ghost use Rattle.ep_scope.specs.Scopes.{meant};
+ghost use Rattle.ep_scope.specs.Scopes.{depth_in, meant};
 ghost use Rattle.ep_typed.specs.Trees as tree;
 ghost use Rattle.ep_typed.specs.Trees.{Expr, Stmt};
 ghost use Rattle.ep_typed.specs.Viewed.{control_of, expr_of, place_of, stmt_of};
@@ -17,11 +17,14 @@ ghost use Rattle.ep_check_stmt.specs.Statements as spec;
 ghost use Rattle.ep_check_stmt.specs.Statements.{Judgement, bound_judged, bounds_judged, control_judged, control_named, declared_control, declares_own, declares_variable, expr_threat, for_control, for_head, for_row, head_threat, initial_place, last_place, stmt_threat, unless_threatening};
 
 use crate::outcome::Outcome;
-use crate::statements::{Context, Locals, Row, Target};
-use crate::threats::{expr_threatens, is_variable, statement_threatens};
+use crate::statements::{Context, Locals, Row};
+use crate::targets::Target;
+use crate::threats::{expr_threatens, inner_threatens, is_variable, statement_threatens};
 use ep_base::{Boxed, Line, List, Name, NoMemory};
-use ep_check_expr::{Refusal, given_value, greatest, least, typed_expression, undeclared};
-use ep_scope::{Declaration, Declared, Host, Kind, Meaning, meaning_of, rule};
+use ep_check_expr::{
+    Refusal, given_value, greatest, least, own_place, typed_expression, undeclared,
+};
+use ep_scope::{Declaration, Declared, Host, Kind, Meaning, depth_in, meaning_of, rule};
 use ep_tree::{Direction, Expression};
 use ep_typed::{ForControl, TypedExpr, TypedPlace, TypedStmt, UnitRoutine};
 use std::alloc::{AllocError, Global};
@@ -118,17 +121,17 @@ fn declares_variable(locals: Locals<'_>, unit: &Name) -> bool
 {
     match locals {
         Locals::Unit(own, _) => unit.bytes() == own.bytes(),
-        Locals::Routine(_, _) => false,
+        Locals::Routine(_, _, _) => false,
     }
 }
 
-/// Whether the variable of this number of the routine is declared in the block.
-fn declares_own(locals: Locals<'_>, number: u32) -> bool
-    ensures { result ≡ declares_own (locals_of locals.entry) number }
+/// Whether a variable of a routine is declared in the block, whose code has a depth.
+fn declares_own(locals: Locals<'_>, depth: u32, declared: &Declared) -> bool
+    ensures { result ≡ declares_own (locals_of locals.entry) depth declared.now }
 {
     match locals {
         Locals::Unit(_, _) => false,
-        Locals::Routine(first, _) => first <= number,
+        Locals::Routine(_, first, _) => declared.level == depth && first <= declared.number,
     }
 }
 
@@ -136,10 +139,11 @@ fn declares_own(locals: Locals<'_>, number: u32) -> bool
 fn declared_control(
     alloc: Global,
     locals: Locals<'_>,
+    depth: u32,
     declared: &Declared,
 ) -> Result<Target, Refusal>
     ensures { AnswersForm target_of result
-        (declared_control (locals_of locals.entry) declared.now declared.now.what) }
+        (declared_control (locals_of locals.entry) depth declared.now declared.now.what) }
 {
     match &declared.what {
         Declaration::Variable(_, kind) if declares_variable(locals, &declared.unit) => {
@@ -147,8 +151,8 @@ fn declared_control(
             let place = TypedPlace::Variable(unit, declared.number);
             Ok(Target { place, kind: *kind })
         }
-        Declaration::Own(_, kind, _) if declares_own(locals, declared.number) => {
-            let place = TypedPlace::Own(0, declared.number);
+        Declaration::Own(_, kind, _) if declares_own(locals, depth, declared) => {
+            let place = own_place(depth, declared);
             Ok(Target { place, kind: *kind })
         }
         _ => Err(Refusal::Rule(rule::CONTROL_VARIABLE)),
@@ -181,14 +185,21 @@ fn routines_threaten(routines: &[UnitRoutine], place: &TypedPlace) -> bool
     false
 }
 
-/// Whether a routine that the block declares threatens its variable at a place.
-fn is_threatened_in(locals: Locals<'_>, routines: &[UnitRoutine], place: &TypedPlace) -> bool
-    ensures { result ≡ spec.is_threatened_in (locals_of locals.entry) (map routine_form routines.now)
-        (place_of place.now) }
+/// Whether a routine of the block, however deep, threatens its variable at a place.
+fn is_threatened_in(
+    locals: Locals<'_>,
+    routines: &[UnitRoutine],
+    place: &TypedPlace,
+) -> Result<bool, NoMemory>
+    ensures { IfOk result (λ threatened. threatened ≡ spec.is_threatened_in (locals_of locals.entry)
+        (map routine_form routines.now) (place_of place.now)) }
 {
-    match locals {
-        Locals::Unit(_, _) => routines_threaten(routines, place),
-        Locals::Routine(_, _) => false,
+    match (locals, place) {
+        (Locals::Unit(_, _), _) => Ok(routines_threaten(routines, place)),
+        (Locals::Routine(routine, _, _), TypedPlace::Own(_, number)) => {
+            inner_threatens(routine, routines, *number)
+        }
+        _ => Ok(false),
     }
 }
 
@@ -207,7 +218,7 @@ fn auxiliaries(alloc: Global, locals: Locals<'_>) -> Result<(TypedPlace, TypedPl
             let initial = TypedPlace::Variable(unit.copy(alloc)?, number);
             Ok((initial, TypedPlace::Variable(unit.copy(alloc)?, next)))
         }
-        Locals::Routine(_, number) => match number.checked_add(1) {
+        Locals::Routine(_, _, number) => match number.checked_add(1) {
             None => Err(AllocError),
             Some(next) => Ok((TypedPlace::Own(0, number), TypedPlace::Own(0, next))),
         },
@@ -355,7 +366,7 @@ impl Context<'_> {
         ensures { AnswersForm counted_of result (control_judged (context_of self.now) name.now) }
     {
         let counted = counted_by(self.control_named(name)?)?;
-        if is_threatened_in(self.locals, self.routines, &counted.place) {
+        if is_threatened_in(self.locals, self.routines, &counted.place)? {
             return Err(Refusal::Rule(rule::CONTROL_THREATENED));
         }
         Ok(counted)
@@ -364,10 +375,12 @@ impl Context<'_> {
     /// A name as a variable that the block declares.
     fn control_named(&self, name: &Name) -> Result<Target, Refusal>
         ensures { AnswersForm target_of result
-            (control_named (context_of self.now).locals name.now (meant self.now.scopes.now name.now)) }
+            (control_named (context_of self.now).locals (depth_in self.now.scopes.now) name.now (meant self.now.scopes.now name.now)) }
     {
         match &meaning_of(self.scopes, name) {
-            Meaning::Declared(declared) => declared_control(self.alloc, self.locals, declared),
+            Meaning::Declared(declared) => {
+                declared_control(self.alloc, self.locals, depth_in(self.scopes)?, declared)
+            }
             Meaning::Standard(_) => Err(Refusal::Rule(rule::CONTROL_VARIABLE)),
             Meaning::Required(_) => Err(Refusal::Rule(rule::CONTROL_VARIABLE)),
             Meaning::Nothing => Err(Refusal::Rule(undeclared(name))),

@@ -11,38 +11,38 @@ ghost use Rattle.ep_typed.specs.Viewed.{arm_of, expr_of, place_of, stmt_of};
 ghost use Rattle.ep_check_expr.specs.Answers.{typed_of};
 ghost use Rattle.ep_check_expr.specs.Expressions.{judged, judged_value};
 ghost use Rattle.ep_check_expr.specs.Judgements.{both};
-ghost use Rattle.ep_check_stmt.specs.Answers.{AnswersForm, AnswersRow, arms_of, context_of, fails_among, result_of, stmts_of, target_of};
+ghost use Rattle.ep_check_stmt.specs.Answers.{AnswersForm, AnswersRow, arms_of, context_of, stmts_of, target_of};
 ghost use Rattle.ep_check_stmt.specs.Statements as spec;
-ghost use Rattle.ep_check_stmt.specs.Statements.{Judgement, after, arm_judged, arm_row, arms_in_order, assigned, compound_judged, compound_under, condition_judged, control_judged, declared_called, declared_target, for_judged, formed, function_target, has_result, if_judged, in_order, name_called, own_called, repeat_judged, place_named, required_called, statement_judged, target_judged, target_rules, tested};
+ghost use Rattle.ep_check_stmt.specs.Statements.{Judgement, after, arm_judged, arm_row, arms_in_order, assigned, compound_judged, compound_under, condition_judged, control_judged, declared_called, for_judged, formed, if_judged, in_order, name_called, own_called, repeat_judged, required_called, statement_judged, target_judged, tested};
 
 use crate::cases::{arm_form, case_form, no_otherwise, otherwise_form};
 use crate::loops::{falls_by, for_form, one_more};
 use crate::outcome::{CheckRefusal, Outcome, item_at, refused_at};
+use crate::targets::Target;
 use ep_base::{Boxed, Line, List, Name};
 use ep_check_expr::{
-    Refusal, Typed, given_value, typed_arguments, typed_expression, typed_value, undeclared,
-    unless_protected,
+    Refusal, Typed, callee_at, given_value, typed_arguments, typed_expression, typed_value,
+    undeclared,
 };
 use ep_scope::{
     Declaration, Declared, FormalParameter, Host, Kind, Meaning, Procedure, Required, Scope,
-    meaning_of, rule,
+    depth_in, meaning_of, rule,
 };
 use ep_tree::{
     Access, Argument, Arm, ComponentValue, Compound, Direction, Expression, Selector, Statement,
 };
-use ep_typed::{
-    Callee, CaseArm, CaseArms, TypedExpr, TypedPlace, TypedStmt, TypedStmts, UnitRoutine,
-};
+use ep_typed::{CaseArm, CaseArms, TypedExpr, TypedPlace, TypedStmt, TypedStmts, UnitRoutine};
 use std::alloc::{AllocError, Global};
 
-/// The function in whose block the statements are, where its name is assigned to for the result (ISO 10206, 6.7.2).
+/// A function in whose block the statements are, maybe deeper, where its name is assigned to for the result (ISO 10206,
+/// 6.7.2).
 #[derive(Clone, Copy)]
-pub struct FunctionResult<'a> {
-    /// Its number among the routines of its unit.
+pub struct FunctionResult {
+    /// Its number among the routines of the unit.
     pub function: u32,
-    /// Its unit.
-    pub unit: &'a Name,
-    /// The number of the variable of the routine that has the result.
+    /// How many routines are around its variables, itself among them.
+    pub level: u32,
+    /// The number of its variable that has the result.
     pub variable: u32,
     /// The host of the result.
     pub host: Host,
@@ -54,8 +54,8 @@ pub struct FunctionResult<'a> {
 pub enum Locals<'a> {
     /// Those of the unit of this name.
     Unit(&'a Name, u32),
-    /// Those of a routine, of which the first one that its block declares has the first number.
-    Routine(u32, u32),
+    /// Those of the routine of the first number, of which the first one that its block declares has the second.
+    Routine(u32, u32, u32),
 }
 
 /// What the statements of a block know.
@@ -63,103 +63,18 @@ pub enum Locals<'a> {
 pub struct Context<'a> {
     /// Where memory is taken.
     pub alloc: Global,
+    /// The unit.
+    pub unit: &'a Name,
     /// The scopes, the innermost first.
     pub scopes: &'a [Scope],
     /// Whether `output` is a parameter or imported.
     pub output: bool,
-    /// The function whose block it is, where that has a result without a name.
-    pub result: Option<FunctionResult<'a>>,
+    /// The functions in whose blocks it is and whose results have no names, the innermost first.
+    pub results: &'a [FunctionResult],
     /// The variables of the block.
     pub locals: Locals<'a>,
     /// The routines of the unit.
     pub routines: &'a [UnitRoutine],
-}
-
-/// What is assigned to, and its kind.
-pub(crate) struct Target {
-    /// The place.
-    pub(crate) place: TypedPlace,
-    /// The kind.
-    pub(crate) kind: Kind,
-}
-
-impl Drop for Target {
-    fn drop(self) {
-        let Target { place: _, kind: _ } = self;
-    }
-}
-
-impl Target {
-    /// The place alone.
-    pub(crate) fn into_place(self) -> TypedPlace
-        ensures { result ≡ self.place }
-    {
-        let Target { place, kind: _ } = self;
-        place
-    }
-}
-
-/// Whether what is declared is this function.
-fn has_result(declared: &Declared, function: FunctionResult<'_>) -> bool
-    ensures { result ≡ has_result declared.now (result_of function.entry) }
-{
-    declared.number == function.function && declared.unit.bytes() == function.unit.bytes()
-}
-
-/// The name of a function as what is assigned to.
-fn function_target(
-    declared: &Declared,
-    function: Option<FunctionResult<'_>>,
-) -> Result<Target, Refusal>
-    ensures { AnswersForm target_of result
-        (function_target declared.now (option_map result_of function.entry)) }
-{
-    match function {
-        Some(function) if has_result(declared, function) => Ok(Target {
-            place: TypedPlace::Own(0, function.variable),
-            kind: Kind::Ordinal(function.host),
-        }),
-        _ => Err(Refusal::Rule(rule::FUNCTION_ASSIGNED)),
-    }
-}
-
-/// A declared name as what is assigned to, in the block of this function.
-fn declared_target(
-    alloc: Global,
-    declared: &Declared,
-    function: Option<FunctionResult<'_>>,
-) -> Result<Target, Refusal>
-    ensures { AnswersForm target_of result
-        (declared_target (option_map result_of function.entry) declared.now declared.now.what) }
-{
-    match &declared.what {
-        Declaration::Variable(_, kind) => {
-            let unit = declared.unit.copy(alloc)?;
-            let place = TypedPlace::Variable(unit, declared.number);
-            Ok(Target { place, kind: *kind })
-        }
-        Declaration::Own(_, kind, protection) => {
-            unless_protected(*protection)?;
-            let place = TypedPlace::Own(0, declared.number);
-            Ok(Target { place, kind: *kind })
-        }
-        Declaration::Constant(_, _) => Err(Refusal::Rule(rule::CONSTANT_THREATENED)),
-        Declaration::Type(_, _) => Err(Refusal::Rule(rule::OTHER_THING)),
-        Declaration::Procedure(_) => Err(Refusal::Rule(rule::OTHER_THING)),
-        Declaration::Function(_, _, _) => function_target(declared, function),
-    }
-}
-
-/// A rule that fails where a required identifier is assigned to.
-fn required_target(required: Required) -> u32
-    ensures { IsTrue (fails_among result (target_rules required)) }
-{
-    match required {
-        Required::Constant(_) => rule::CONSTANT_THREATENED,
-        Required::Type(_) => rule::OTHER_THING,
-        Required::Function(_) => rule::FUNCTION_ASSIGNED,
-        Required::Procedure(_) => rule::OTHER_THING,
-    }
 }
 
 /// An assignment of a value.
@@ -526,22 +441,6 @@ impl Context<'_> {
         assigned(self.alloc, line, target, value)
     }
 
-    /// A name that is assigned to.
-    fn target(&self, name: &Name) -> Result<Target, Refusal>
-        ensures { AnswersForm target_of result
-            (place_named (context_of self.now).result name.now (meant self.now.scopes.now name.now)) }
-    {
-        match &meaning_of(self.scopes, name) {
-            Meaning::Declared(declared) => declared_target(self.alloc, declared, self.result),
-            Meaning::Standard(file) => Ok(Target {
-                place: TypedPlace::Standard(*file),
-                kind: Kind::File,
-            }),
-            Meaning::Required(required) => Err(Refusal::Rule(required_target(*required))),
-            Meaning::Nothing => Err(Refusal::Rule(undeclared(name))),
-        }
-    }
-
     /// `access` as a statement.
     fn call(&self, line: Line, access: &Access) -> Result<Option<Boxed<TypedStmt>>, Refusal>
         requires call { built_call access.now ≡ true }
@@ -597,12 +496,7 @@ impl Context<'_> {
         let Some(actuals) = taken.into_actuals() else {
             return Ok(None);
         };
-        let unit = declared.unit.copy(self.alloc)?;
-        let callee = Callee {
-            unit,
-            number: declared.number,
-            levels: 0,
-        };
+        let callee = callee_at(self.alloc, depth_in(self.scopes)?, declared)?;
         let call = TypedStmt::Procedure(line, callee, actuals);
         Ok(Some(Boxed::new(self.alloc, call)?))
     }

@@ -1,7 +1,7 @@
 //! Whether statements threaten a variable, and whether they assign to a name, as specs/Threats.antt says. Nothing here
 //! takes memory.
 
-ghost use Rattle.std.specs.Prelude.{◌≡◌, map, slice_get};
+ghost use Rattle.std.specs.Prelude.{◌≡◌, IfOk, nat_eq, map, position, slice_get};
 ghost use Rattle.ep_typed.specs.Trees as tree;
 ghost use Rattle.ep_typed.specs.Trees.{stmts};
 ghost use Rattle.ep_typed.specs.Viewed.{actual_of, arm_of, expr_of, item_of, place_of, stmt_of};
@@ -9,11 +9,12 @@ ghost use Rattle.ep_check_stmt.specs.RoutineForms.{formals_at, formals_if, routi
 ghost use Rattle.ep_check_stmt.specs.Threats as spec;
 ghost use Rattle.ep_check_stmt.specs.Threats.{any_assigns, arm_assigns, statement_assigns, stmts_threaten};
 
-use ep_base::Name;
+use ep_base::{Name, NoMemory};
 use ep_tree::{Access, Arm, Compound, Statement};
 use ep_typed::{
     Actual, CaseArm, Formal, FormalMode, TypedExpr, TypedPlace, TypedStmt, UnitRoutine, WriteItem,
 };
+use std::alloc::AllocError;
 
 /// Whether statements threaten the variable at a place: it is assigned to, given for a variable parameter that is not
 /// protected, or the control variable of a `for` (ISO 10206, 6.9.4). The routines are those of the unit, of which there
@@ -23,6 +24,51 @@ pub fn threatens(routines: &[UnitRoutine], variable: &TypedPlace, statements: &[
         (stmts (map stmt_of statements.now)) }
 {
     stmts_threaten(statements, routines, variable)
+}
+
+/// Whether a routine in the one of the first number, however deep in it, threatens the variable of the second number of that
+/// one, whether it is called or not. An error comes where 32 bits do not hold how many routines are around one.
+pub fn inner_threatens(
+    routine: u32,
+    routines: &[UnitRoutine],
+    number: u32,
+) -> Result<bool, NoMemory>
+    ensures { IfOk result (λ threatened.
+        threatened ≡ spec.inner_threatens routine (map routine_form routines.now) number) }
+{
+    for inner in routines {
+        if threatens_from(inner, routine, routines, number)? {
+            return Ok(true);
+        }
+    }
+    Ok(false)
+}
+
+/// How many routines stand between one and the one of this number, which is around it.
+fn levels_between(routine: u32, around: &[u32]) -> Option<usize>
+    ensures { result ≡ position (nat_eq routine) around.now }
+{
+    around.iter().position(|other| routine == *other)
+}
+
+/// Whether this routine does, where it is one of those.
+fn threatens_from(
+    inner: &UnitRoutine,
+    routine: u32,
+    routines: &[UnitRoutine],
+    number: u32,
+) -> Result<bool, NoMemory>
+    ensures { IfOk result (λ threatened. threatened ≡ spec.threatens_from (map routine_form routines.now) number
+        (stmt_of inner.now.block) (position (nat_eq routine) inner.now.around)) }
+{
+    let Some(between) = levels_between(routine, inner.around.items()) else {
+        return Ok(false);
+    };
+    let Ok(up) = u32::try_from(between + 1) else {
+        return Err(AllocError);
+    };
+    let place = TypedPlace::Own(up, number);
+    Ok(statement_threatens(&inner.block, routines, &place))
 }
 
 // Below, the tree stands before the routines, since a walk is shown to end by its first parameter whose type contains

@@ -1,5 +1,12 @@
 -- What the rules say of small functions.
-use Rattle.std.proofs.Common.{◌≡◌, ℕ, Bool, true, false, List, [], ◌∷◌, Option, Some, None, refl, codes}
+use Rattle.std.proofs.Common.{◌≡◌, ℕ, pos, Bool, true, false, List, [], ◌∷◌, ◌++◌, Option, Some, None, refl, codes, slice_get}
+use Rattle.std.specs.Option.{option_map}
+use Rattle.ep_tree.specs.declared.declaration.RoutineHeading.TheVariants as heading
+use Rattle.ep_tree.specs.declared.routine.Part.TheOpen.{Part-F, RoutineBody-F}
+use Rattle.ep_tree.specs.declared.routine.RoutineStart.TheVariants as start
+use Rattle.ep_tree.specs.declared.statement.Compound.{Compound, roll-Compound}
+use Rattle.ep_tree.specs.declared.statement.Statement.TheFolds.{fold-roll-Compound}
+use Rattle.ep_typed.specs.Trees as tree
 use Rattle.ep_typed.specs.declared.denoter.Denoter.TheVariants as denoter
 use Rattle.ep_typed.specs.declared.denoter.RequiredType.TheVariants as simple
 use Rattle.ep_typed.specs.declared.interface.FormalMode.TheVariants as mode
@@ -12,11 +19,14 @@ use Rattle.ep_scope.specs.declared.parameter.TypeName.{TypeName}
 use Rattle.ep_scope.specs.declared.parameter.TypeName.TheVariants as type_name
 use Rattle.ep_scope.specs.declared.rule.TheConstants as rule
 use Rattle.ep_scope.specs.declared.thing.Declaration.TheVariants as declaration
+use Rattle.ep_scope.specs.declared.thing.Thing.TheVariants as thing
 use Rattle.ep_check_expr.specs.Judgements.{Judged, Accepts, Breaks}
+use Rattle.ep_check_stmt.specs.Statements.{OfRoutine}
+use Rattle.ep_check_stmt.specs.Threats.{assigns, in_arm, in_compound, in_otherwise, in_statement}
 use Rattle.ep_check_unit.specs.Blocks.{Block, own_count}
 use Rattle.ep_check_unit.specs.Declarations.{own_thing, with_own_variable}
-use Rattle.ep_check_unit.specs.Functions.{is_in_view}
-use Rattle.ep_check_unit.specs.Routines.{Headed, context_of, function_identified, headed_first, headed_over, heading_entered, result_judged, scope_opened, with_body}
+use Rattle.ep_check_unit.specs.Functions.{is_assigned, is_in_view, is_threatened}
+use Rattle.ep_check_unit.specs.Routines.{Headed, PartJudged, assigns_among, context_of, function_identified, headed_first, headed_over, heading_entered, locals_of, of_body, of_part, of_routine, result_judged, scope_opened, with_body}
 use Rattle.ep_check_unit.specs.Units.{first_block}
 use Rattle.ep_check_unit.specs.declared.functions.HeadingResult.{HeadingResult}
 
@@ -134,11 +144,11 @@ two_variables : own_count inside_f.own ≡ 2
 two_variables = refl
 
 -- f is assigned to
-assigned : (context_of inside_f).result ≡ Some (record { unit = codes "u"; function = 1; variable = 1; host = host.Integer })
+assigned : (context_of inside_f).results ≡ record { function = 1; level = 1; variable = 1; host = host.Integer } ∷ []
 assigned = refl
 
 -- g is not, whose result has a name
-not_assigned : (context_of inside_g).result ≡ None
+not_assigned : (context_of inside_g).results ≡ []
 not_assigned = refl
 
 -- which is entered in its block
@@ -156,3 +166,85 @@ in_view = refl
 -- var f: integer
 not_in_view : is_in_view inside_f.own.result (codes "f") (with_own_variable 5 (denoter.Required simple.Integer) integer host.Integer (codes "f") inside_f) ≡ false
 not_in_view = refl
+
+-- ---- blocks in blocks
+
+-- function f(a: integer): integer; function h: integer; begin .. end; begin .. end
+abbrev inside_h : Block
+inside_h = inside (headed_first (codes "h") 4 [] (Some (result None)) inside_f)
+
+-- in the block of h: var x: integer
+abbrev with_x : Block
+with_x = with_own_variable 5 (denoter.Required simple.Integer) integer host.Integer (codes "x") inside_h
+
+-- h is in f, and is the routine 3 of the unit
+around_h : option_map (λ r. r.around) (slice_get inside_h.routines 3) ≡ Some (1 ∷ [])
+around_h = refl
+
+-- the level of a name is how many routines are around its declaration
+level_of_unit : look_up before.scopes.inner.entries (codes "f") ≡ Some (thing.Declared (record { unit = codes "u"; number = 1; level = 0; what = declaration.Function parameters integer host.Integer }))
+level_of_unit = refl
+
+level_in_f : look_up (block_in (headed_first (codes "h") 4 [] None inside_f)).scopes.inner.entries (codes "h") ≡ Some (thing.Declared (record { unit = codes "u"; number = 3; level = 1; what = declaration.Procedure [] }))
+level_in_f = refl
+
+level_in_h : look_up with_x.scopes.inner.entries (codes "x") ≡ Some (thing.Declared (record { unit = codes "u"; number = 1; level = 2; what = declaration.Own integer (kind.Ordinal host.Integer) protection.Unprotected }))
+level_in_h = refl
+
+-- the block of h has variables of its own: the first one is its result
+locals_of_h : locals_of with_x ≡ OfRoutine 3 1 2
+locals_of_h = refl
+
+-- both are assigned to there
+both_assigned : (context_of inside_h).results ≡ record { function = 3; level = 2; variable = 0; host = host.Integer } ∷ record { function = 1; level = 1; variable = 1; host = host.Integer } ∷ []
+both_assigned = refl
+
+-- ---- results that are given from inside
+
+abbrev no_statements : Compound
+no_statements = roll-Compound (record { line = 6; statements = [] })
+
+nothing_assigned : (name : List ℕ) → assigns name no_statements ≡ false
+nothing_assigned name = fold-roll-Compound Bool Bool Bool Bool (in_statement name) (in_arm name) (in_compound name) (in_otherwise name) (record { line = 6; statements = [] })
+
+-- procedure q; begin .. end, with these statements
+abbrev inner : Compound → PartJudged
+inner c =
+    of_part (Part-F.Routine (of_routine (record {
+      line = 5;
+      start = start.Heading (heading.Procedure 5 (codes "q") []);
+      body = of_body (RoutineBody-F.Block 5 [] c);
+    })))
+
+-- f, where only the text of q may assign to its name
+abbrev given_in : Compound → Bool
+given_in c = is_assigned inside_f.own.result (codes "f") (assigns_among (codes "f") (inner c ∷ [])) no_statements
+
+given_inside : (c : Compound) → assigns (codes "f") c ≡ true → given_in c ≡ true
+given_inside c h = rw (nothing_assigned (codes "f"), h) refl
+
+given_nowhere : (c : Compound) → assigns (codes "f") c ≡ false → given_in c ≡ false
+given_nowhere c h = rw (nothing_assigned (codes "f"), h) refl
+
+-- f without statements, where q assigns to variable 1 so many levels up
+abbrev threatened : ℕ → Bool
+threatened up =
+    is_threatened inside_f.own.result
+    (inside_f.routines
+    ++ record {
+      name = codes "q";
+      line = 5;
+      formals = [];
+      result = None;
+      variables = [];
+      around = 1 ∷ [];
+      block = tree.Assign 5 (tree.Own up 1) (tree.Constant (pos 3));
+    } ∷ [])
+    tree.none
+
+threatened_inside : threatened 1 ≡ true
+threatened_inside = refl
+
+-- it assigns to a variable of its own
+threatened_nowhere : threatened 0 ≡ false
+threatened_nowhere = refl

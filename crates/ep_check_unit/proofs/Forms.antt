@@ -58,7 +58,7 @@ module _ (f : RoutineForm → RoutineForm) where
 
 -- the first declaration of a routine, by the steps of its function
 pub first_headed : (name : List ℕ) (line : ℕ) (ps : List FormalParameter) (r : Option HeadingResult) (b middle : Block) (form : RoutineForm) (number : ℕ) (t : Thing) (new : Block)
-    → middle ≡ record b { routines = b.routines ++ form ∷ [] } → form ≡ headed_form name line ps r → number ≡ length b.routines → t ≡ own_thing middle number (routine_declaration ps r) → entered name t middle ≡ Accepts new
+    → middle ≡ record b { routines = b.routines ++ form ∷ [] } → form ≡ headed_form name line ps r b.own.enclosing → number ≡ length b.routines → t ≡ own_thing middle number (routine_declaration ps r) → entered name t middle ≡ Accepts new
     → headed_first name line ps r b ≡ Accepts (record { number = number; parameters = ps; result = r; block = new })
 first_headed name line ps r b middle form number t new is formed count thing h =
     let d : Declaration = routine_declaration ps r in

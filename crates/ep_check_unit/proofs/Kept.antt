@@ -1,14 +1,15 @@
 -- A block stays that of its unit.
-use Rattle.std.proofs.Common.{◌≡◌, ℕ, pos, suc, Bool, true, false, not, ◌&&◌, ◌||◌, List, [], ◌∷◌, length, Option, Some, None, subst}
+use Rattle.std.proofs.Common.{◌≡◌, ℕ, pos, suc, Bool, true, false, not, ◌&&◌, ◌||◌, List, [], ◌∷◌, length, map, Option, Some, None, subst, sym}
 use Rattle.std.specs.Prelude.{⊤, is_none, if◌then◌else◌}
 use Rattle.ep_tree.specs.declared.declaration.ConstantDefinition.{ConstantDefinition}
 use Rattle.ep_tree.specs.declared.declaration.TypeDefinition.{TypeDefinition}
 use Rattle.ep_tree.specs.declared.declaration.VariableDeclaration.{VariableDeclaration}
 use Rattle.ep_tree.specs.declared.declaration.RoutineHeading.TheVariants as heading
-use Rattle.ep_tree.specs.declared.routine.Part.TheOpen.{Part-F, RoutineBody-F}
-use Rattle.ep_tree.specs.declared.routine.Part.{Part, out-Part}
-use Rattle.ep_tree.specs.declared.routine.Routine.{Routine, out-Routine}
-use Rattle.ep_tree.specs.declared.routine.RoutineBody.{out-RoutineBody}
+use Rattle.ep_tree.specs.declared.routine.Part.TheFolds.{fold-roll-Part, fold-roll-Routine, fold-roll-RoutineBody, ind-Part}
+use Rattle.ep_tree.specs.declared.routine.Part.TheOpen.{Part-F, Routine-F, RoutineBody-F}
+use Rattle.ep_tree.specs.declared.routine.Part.{Part, map-Part, roll-Part}
+use Rattle.ep_tree.specs.declared.routine.Routine.{Routine, map-Routine, roll-Routine}
+use Rattle.ep_tree.specs.declared.routine.RoutineBody.{RoutineBody, map-RoutineBody, roll-RoutineBody}
 use Rattle.ep_tree.specs.declared.routine.RoutineStart.{RoutineStart}
 use Rattle.ep_tree.specs.declared.routine.RoutineStart.TheVariants as start
 use Rattle.ep_tree.specs.declared.statement.Compound.{Compound}
@@ -43,7 +44,7 @@ use Rattle.ep_check_stmt.proofs.judged.Fits.{Any, Fits, fits_then, fits_both, fi
 use Rattle.ep_check_stmt.specs.Statements.{Judgement, Passes, Waits, Fails, compound_judged}
 use Rattle.ep_check_unit.specs.Declarations.{all_variables_declared, and_then, at_line, common_host, constant_definition, constant_entered, constants_declared, core_of, core_written, declaration_ended, declared_type, entered, enumerated, enumeration, next_enumeration, noted, ordered, range, scopes_of, settled, settled_type, Standing, Stands, Falls, subrange, type_definition, type_definitions, type_entered, type_meant, type_named, type_written, unused, variable_declaration, variable_entered, variables_declared, variables_entered, with_constant, with_name, with_type, is_outermost, with_own_variable, with_unit_variable, with_variable, own_thing, Written}
 use Rattle.ep_check_unit.specs.Functions.{if_given, in_block, is_assigned, is_in_view, own_name_entered, result_entered, routine_declaration, row_gives, same_result}
-use Rattle.ep_check_unit.specs.Routines.{Headed, block_declared, body_closed, body_declared, body_ended, body_of_declared, context_of, declared_routine, formals_entered, forwarded, has_body, heading_entered, inside_declared, is_repeated, headed_again, headed_first, headed_over, headed_then, identified_again, identified_over, local_part_declared, local_parts_declared, result_headed, result_judged, routine_there, sections_judged, scope_opened, start_headed, start_name, part_declared, parts_declared, with_routine}
+use Rattle.ep_check_unit.specs.Routines.{BodyJudged, Headed, PartJudged, all_declared, assigns_among, block_declared, body_closed, body_declared, body_ended, context_of, declared_routine, formals_entered, forwarded, has_body, heading_entered, inside_declared, is_repeated, headed_again, headed_first, headed_over, headed_then, identified_again, identified_over, of_body, of_part, of_routine, part_judged, parts_declared, result_headed, result_judged, routine_body_judged, routine_judged, routine_there, sections_judged, scope_opened, start_headed, start_name, with_routine}
 use Rattle.ep_check_unit.specs.declared.functions.HeadingResult.{HeadingResult}
 use Rattle.ep_check_unit.specs.Units.{parameter_entered, parameters_entered, standard_file}
 use Rattle.ep_check_unit.specs.Blocks.{Block}
@@ -155,7 +156,7 @@ module _ (n : List ℕ) where
   variables_entered-kept line d of h [] b i = i
   variables_entered-kept line d of h (name ∷ names) b i =
       fits_then IsOf IsOf (variables_entered line d of h names) (variable_entered line d of h name b)
-      (fits_then Any IsOf (λ _. Accepts (with_variable line d of h name b)) (unused name b) (fits_any (unused name b)) (λ a j. placed-kept line d of h name b (is_outermost b.scopes.outer) i)) (λ c j. variables_entered-kept line d of h names c j)
+      (fits_then Any IsOf (λ _. Accepts (with_variable line d of h name b)) (unused name b) (fits_any (unused name b)) (λ a j. placed-kept line d of h name b (is_outermost b.own.enclosing) i)) (λ c j. variables_entered-kept line d of h names c j)
 
   variable_declaration-kept : (d : VariableDeclaration) (b : Block) → IsOf b → Fits IsOf (variable_declaration d b)
   variable_declaration-kept d b i =
@@ -259,49 +260,95 @@ module _ (n : List ℕ) where
   result-kept number variable None b i = i
   result-kept number variable (Some r) b i = own_name-kept (in_block number variable r) r.name b i
 
-  local_part-kept : {A B C : Type 0} (p : Part-F A B C) (b : Block) → IsOf b → Remains (local_part_declared p b)
-  local_part-kept (Part-F.Constants c) b i = constants-kept c.definitions b i
-  local_part-kept (Part-F.Types t) b i = line-kept t.line (type_definitions t.line t.definitions b) (type_definitions-kept t.line t.definitions b i)
-  local_part-kept (Part-F.Variables v) b i = variables-kept v.declarations b i
-  local_part-kept (Part-F.Routine r) b i = tt
-
-  local_parts-kept : (ps : List Part) (b : Block) → IsOf b → Remains (local_parts_declared ps b)
-  local_parts-kept [] b i = i
-  local_parts-kept (p ∷ ps) b i = then-kept (local_parts_declared ps) (local_part_declared (out-Part p) b) (local_part-kept (out-Part p) b i) (λ c j. local_parts-kept ps c j)
-
   body-kept : (line : ℕ) (name : List ℕ) (number : ℕ) (before : OwnVariables) (c : Compound) (b : Block) → IsOf b → Remains (body_declared line name number before c b)
   body-kept line name number before c b i =
       let row = compound_judged (context_of b) c in
       if_given-kept line (is_in_view b.own.result name b) (body_ended line number before b row) (if_given-kept line (row_gives b row) (body_closed line number before b row) (body_closed-kept line number before b row i))
 
-  inside-kept : (line : ℕ) (name : List ℕ) (number : ℕ) (before : OwnVariables) (ps : List Part) (c : Compound) (b : Block) → IsOf b → Remains (inside_declared line name number before ps c b)
-  inside-kept line name number before ps c b i =
-      if_given-kept line (is_assigned b.own.result name c) (and_then (body_declared line name number before c) (local_parts_declared ps b))
-      (then-kept (body_declared line name number before c) (local_parts_declared ps b) (local_parts-kept ps b i) (λ d k. body-kept line name number before c d k))
+  -- what is declared keeps a block one of the unit
+  abbrev Keeps : (Block → Standing) → Type 0
+  Keeps declares = (b : Block) → IsOf b → Remains (declares b)
 
-  block-kept : (line : ℕ) (name : List ℕ) (ps : List Part) (c : Compound) (h : Headed) → IsHeaded h → Remains (block_declared line name ps c h)
-  block-kept line name ps c h i =
+  inside-kept : (line : ℕ) (name : List ℕ) (number : ℕ) (before : OwnVariables) (ps : List PartJudged) (c : Compound) → Keeps (all_declared ps) → Keeps (inside_declared line name number before ps c)
+  inside-kept line name number before ps c h b i =
+      if_given-kept line (is_assigned b.own.result name (assigns_among name ps) c) (and_then (body_declared line name number before c) (all_declared ps b))
+      (then-kept (body_declared line name number before c) (all_declared ps b) (h b i) (λ d k. body-kept line name number before c d k))
+
+  block-kept : (line : ℕ) (name : List ℕ) (ps : List PartJudged) (c : Compound) → Keeps (all_declared ps) → (h : Headed) → IsHeaded h → Remains (block_declared line name ps c h)
+  block-kept line name ps c inner h i =
       let b : Block = scope_opened h h.block in
       then-kept (inside_declared line name h.number h.block.own ps c) (at_line line (heading_entered h b))
       (line-kept line (heading_entered h b) (fits_then IsOf IsOf (result_entered h.number (length h.parameters) h.result) (formals_entered 0 h.parameters b) (formals-kept 0 h.parameters b i) (λ d k. result-kept h.number (length h.parameters) h.result d k)))
-      (λ d k. inside-kept line name h.number h.block.own ps c d k)
+      (λ d k. inside-kept line name h.number h.block.own ps c inner d k)
 
-  routine-kept : {A C : Type 0} (line : ℕ) (s : RoutineStart) (body : RoutineBody-F Part A C) (b : Block) → IsOf b → Remains (body_of_declared line s body b)
-  routine-kept line s (RoutineBody-F.Forward at) b i = headed_then-kept line (λ h. Stands (forwarded line h)) (start_headed true line s b) (start-kept true line s b i) (λ h j. j)
-  routine-kept line s (RoutineBody-F.Block at ps c) b i =
-      headed_then-kept line (block_declared line (start_name s) ps c) (start_headed false line s b) (start-kept false line s b i) (λ h j. block-kept line (start_name s) ps c h j)
+  -- ---- all parts, with those inside of them
 
-  -- ---- all parts
+  abbrev IsPartKept : Part → Type 0
+  IsPartKept p = Keeps (part_judged p).declares
 
-  part-kept : {A B : Type 0} (p : Part-F A B Routine) (b : Block) → IsOf b → Remains (part_declared p b)
-  part-kept (Part-F.Constants c) b i = constants-kept c.definitions b i
-  part-kept (Part-F.Types t) b i = line-kept t.line (type_definitions t.line t.definitions b) (type_definitions-kept t.line t.definitions b i)
-  part-kept (Part-F.Variables v) b i = variables-kept v.declarations b i
-  part-kept (Part-F.Routine r) b i = routine-kept (out-Routine r).line (out-Routine r).start (out-RoutineBody (out-Routine r).body) b i
+  abbrev IsBodyKept : RoutineBody → Type 0
+  IsBodyKept body = (line : ℕ) (s : RoutineStart) → Keeps ((routine_body_judged body).declares line s)
 
-  parts-kept : (ps : List Part) (b : Block) → IsOf b → Remains (parts_declared ps b)
+  abbrev IsRoutineKept : Routine → Type 0
+  IsRoutineKept r = Keeps (routine_judged r).declares
+
+  abbrev KeptPart : Type 0
+  KeptPart = (p : Part) × IsPartKept p
+
+  abbrev KeptBody : Type 0
+  KeptBody = (body : RoutineBody) × IsBodyKept body
+
+  abbrev KeptRoutine : Type 0
+  KeptRoutine = (r : Routine) × IsRoutineKept r
+
+  -- layers of such parts, without what holds of them
+  abbrev part_layer : Part-F KeptPart KeptBody KeptRoutine → Part-F Part RoutineBody Routine
+  part_layer = map-Part KeptPart KeptBody KeptRoutine Part RoutineBody Routine (λ p. p.0) (λ body. body.0) (λ r. r.0)
+
+  abbrev body_layer : RoutineBody-F KeptPart KeptBody KeptRoutine → RoutineBody-F Part RoutineBody Routine
+  body_layer = map-RoutineBody KeptPart KeptBody KeptRoutine Part RoutineBody Routine (λ p. p.0) (λ body. body.0) (λ r. r.0)
+
+  abbrev routine_layer : Routine-F KeptPart KeptBody KeptRoutine → Routine-F Part RoutineBody Routine
+  routine_layer = map-Routine KeptPart KeptBody KeptRoutine Part RoutineBody Routine (λ p. p.0) (λ body. body.0) (λ r. r.0)
+
+  rolled-part : (x : Part-F Part RoutineBody Routine) → Keeps (of_part (map-Part Part RoutineBody Routine PartJudged BodyJudged PartJudged part_judged routine_body_judged routine_judged x)).declares → IsPartKept (roll-Part x)
+  rolled-part x h b i = subst (λ (p : PartJudged). Remains (p.declares b)) (sym (fold-roll-Part PartJudged BodyJudged PartJudged of_part of_body of_routine x)) (h b i)
+
+  rolled-body : (x : RoutineBody-F Part RoutineBody Routine)
+      → ((line : ℕ) (s : RoutineStart) → Keeps ((of_body (map-RoutineBody Part RoutineBody Routine PartJudged BodyJudged PartJudged part_judged routine_body_judged routine_judged x)).declares line s)) → IsBodyKept (roll-RoutineBody x)
+  rolled-body x h line s b i = subst (λ (body : BodyJudged). Remains (body.declares line s b)) (sym (fold-roll-RoutineBody PartJudged BodyJudged PartJudged of_part of_body of_routine x)) (h line s b i)
+
+  rolled-routine : (x : Routine-F Part RoutineBody Routine) → IsBodyKept x.body → IsRoutineKept (roll-Routine x)
+  rolled-routine x h b i = subst (λ (r : PartJudged). Remains (r.declares b)) (sym (fold-roll-Routine PartJudged BodyJudged PartJudged of_part of_body of_routine x)) (h x.line x.start b i)
+
+  inner_parts-kept : (ps : List KeptPart) → Keeps (all_declared (map part_judged (map (λ p. p.0) ps)))
+  inner_parts-kept [] b i = i
+  inner_parts-kept (p ∷ ps) b i = then-kept (all_declared (map part_judged (map (λ q. q.0) ps))) ((part_judged p.0).declares b) (p.1 b i) (λ c j. inner_parts-kept ps c j)
+
+  part-step : (y : Part-F KeptPart KeptBody KeptRoutine) → IsPartKept (roll-Part (part_layer y))
+  part-step (Part-F.Constants c) = rolled-part (Part-F.Constants c) (λ b i. constants-kept c.definitions b i)
+  part-step (Part-F.Types t) = rolled-part (Part-F.Types t) (λ b i. line-kept t.line (type_definitions t.line t.definitions b) (type_definitions-kept t.line t.definitions b i))
+  part-step (Part-F.Variables v) = rolled-part (Part-F.Variables v) (λ b i. variables-kept v.declarations b i)
+  part-step (Part-F.Routine r) = rolled-part (Part-F.Routine r.0) r.1
+
+  body-step : (y : RoutineBody-F KeptPart KeptBody KeptRoutine) → IsBodyKept (roll-RoutineBody (body_layer y))
+  body-step (RoutineBody-F.Forward at) =
+      rolled-body (RoutineBody-F.Forward at) (λ line s b i. headed_then-kept line (λ h. Stands (forwarded line h)) (start_headed true line s b) (start-kept true line s b i) (λ h j. j))
+  body-step (RoutineBody-F.Block at ps c) =
+      let inner : List PartJudged = map part_judged (map (λ p. p.0) ps) in
+      rolled-body (RoutineBody-F.Block at (map (λ p. p.0) ps) c)
+      (λ line s b i. headed_then-kept line (block_declared line (start_name s) inner c) (start_headed false line s b) (start-kept false line s b i) (λ h j. block-kept line (start_name s) inner c (inner_parts-kept ps) h j))
+
+  part-kept : (p : Part) → IsPartKept p
+  part-kept =
+      ind-Part IsPartKept IsBodyKept IsRoutineKept
+      (λ x y e. subst (λ z. IsPartKept (roll-Part z)) e (part-step y))
+      (λ x y e. subst (λ z. IsBodyKept (roll-RoutineBody z)) e (body-step y))
+      (λ x y e. subst (λ z. IsRoutineKept (roll-Routine z)) e (rolled-routine (routine_layer y) y.body.1))
+
+  parts-kept : (ps : List Part) → Keeps (parts_declared ps)
   parts-kept [] b i = i
-  parts-kept (p ∷ ps) b i = then-kept (parts_declared ps) (part_declared (out-Part p) b) (part-kept (out-Part p) b i) (λ c j. parts-kept ps c j)
+  parts-kept (p ∷ ps) b i = then-kept (parts_declared ps) ((part_judged p).declares b) (part-kept p b i) (λ c j. parts-kept ps c j)
 
   -- so the block after parts that stand is one of the same unit
   pub parts-remain : (ps : List Part) (b c : Block) → parts_declared ps b ≡ Stands c → IsOf b → IsOf c

@@ -1,4 +1,5 @@
 pub mod Denoting
+pub mod Open
 pub mod Holds
 pub mod Leading
 pub mod Meant
@@ -6,5 +7,6 @@ pub mod Constants
 pub mod Types
 pub mod Items
 pub mod Auxiliaries
+pub mod Headings
 pub mod Routines
 pub mod Units

@@ -6,6 +6,7 @@ use Rattle.ep_typed.specs.declared.unit.UnitVariable.{UnitVariable}
 use Rattle.ep_scope.specs.Scopes.{Row}
 pub use Rattle.ep_check_stmt.specs.RoutineForms.{RoutineForm, routine_form}
 use Rattle.ep_check_unit.specs.declared.block.Block as declared
+use Rattle.ep_check_unit.specs.declared.block.Enclosing.{Enclosing}
 use Rattle.ep_check_unit.specs.declared.block.Forward.{Forward}
 use Rattle.ep_check_unit.specs.declared.block.OwnResult.{OwnResult}
 use Rattle.ep_check_unit.specs.declared.block.OwnVariables.{OwnVariables}
@@ -23,6 +24,10 @@ first_own own = length own.parameters + result_count own.result
 abbrev pub own_count : OwnVariables → ℕ
 own_count own = first_own own + length own.variables
 
+-- the numbers of the routines whose blocks are under way, the innermost first
+abbrev pub around_of : List Enclosing → List ℕ
+around_of enclosing = map (λ e. e.number) enclosing
+
 -- what has been declared so far in the block of a unit
 pub record Block : Type 0 where
   pub unit : List ℕ
@@ -35,7 +40,7 @@ pub record Block : Type 0 where
   pub variables : List UnitVariable
   -- how many variable declarations there were, those of routines among them
   pub declarations : ℕ
-  -- the variables of the routine whose block is under way; of none outside of routines
+  -- the variables of the routine whose block is under way, with those around it; none outside of routines
   pub own : OwnVariables
   -- the routines in the order of their first declarations, by number; one whose body is still to come does nothing
   pub routines : List RoutineForm

@@ -41,6 +41,7 @@ use Rattle.ep_check_expr.specs.Constants.{constant_judged, bound_judged}
 use Rattle.ep_check_expr.specs.declared.constants.ConstantForm.{ConstantForm}
 use Rattle.ep_check_expr.specs.Names.{undeclared}
 use Rattle.ep_check_unit.specs.Blocks.{Block, own_count}
+use Rattle.ep_check_unit.specs.declared.block.Enclosing.{Enclosing}
 
 -- ---- names
 
@@ -56,9 +57,9 @@ unless_there (Some other) = Breaks (rule.TWICE ∷ [])
 abbrev pub unused : List ℕ → Block → Judged (Unit {0})
 unused name b = unless_there (look_up b.scopes.inner.entries name)
 
--- what a declaration of this unit is, by its number
+-- what a declaration of this unit is, by its number; around it are the routines whose blocks are under way
 abbrev pub own_thing : Block → ℕ → Declaration → Thing
-own_thing b number what = thing.Declared (record { unit = b.unit; number = number; what = what })
+own_thing b number what = thing.Declared (record { unit = b.unit; number = number; level = length b.own.enclosing; what = what })
 
 -- one name more
 abbrev pub with_name : List ℕ → Thing → Block → Block
@@ -264,16 +265,16 @@ with_unit_variable line d of h name b =
 abbrev pub with_own_variable : ℕ → Denoter → TypeName → Host → List ℕ → Block → Block
 with_own_variable line d of h name b =
     with_name name (own_thing b (own_count b.own) (declaration.Own of (kind.Ordinal h) protection.Unprotected))
-    (record b { own = record { parameters = b.own.parameters; result = b.own.result; variables = b.own.variables ++ new_variable line d name b ∷ [] } })
+    (record b { own = record { parameters = b.own.parameters; result = b.own.result; variables = b.own.variables ++ new_variable line d name b ∷ []; enclosing = b.own.enclosing } })
 
--- whether the scopes are those of the unit alone, and of no routine
-abbrev pub is_outermost : List Region → Bool
+-- whether the block is that of the unit itself, and of no routine
+abbrev pub is_outermost : List Enclosing → Bool
 is_outermost [] = true
-is_outermost (r ∷ rs) = false
+is_outermost (e ∷ es) = false
 
 -- In the block of a routine a variable is one of the routine, and else one of the unit.
 abbrev pub with_variable : ℕ → Denoter → TypeName → Host → List ℕ → Block → Block
-with_variable line d of h name b = if is_outermost b.scopes.outer then with_unit_variable line d of h name b else with_own_variable line d of h name b
+with_variable line d of h name b = if is_outermost b.own.enclosing then with_unit_variable line d of h name b else with_own_variable line d of h name b
 
 -- the block with it, where its name is not there
 abbrev pub variable_placed : Block → List ℕ → Block → Judged Block

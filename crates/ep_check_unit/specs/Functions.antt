@@ -1,5 +1,5 @@
 -- Functions: their results, and what gives these a value.
-use Rattle.std.specs.Prelude.{ℕ, ◌==◌, Bool, true, false, not, ◌&&◌, ◌||◌, List, [], ◌∷◌, Option, Some, None, is_some, if◌then◌else◌}
+use Rattle.std.specs.Prelude.{ℕ, suc, ◌==◌, Bool, true, false, ◌&&◌, ◌||◌, List, [], ◌∷◌, length, Option, Some, None, is_some, if◌then◌else◌}
 use Rattle.std.specs.Str.{bytes_eq}
 use Rattle.ep_tree.specs.declared.statement.Compound.{Compound}
 use Rattle.ep_typed.specs.Trees as tree
@@ -16,9 +16,10 @@ use Rattle.ep_scope.specs.declared.thing.Declaration.TheVariants as declaration
 use Rattle.ep_check_expr.specs.Judgements.{Judged, Accepts}
 use Rattle.ep_check_stmt.specs.RoutineForms.{formals_at}
 use Rattle.ep_check_stmt.specs.Statements.{FunctionResult, Judgement, Passes, Waits, Fails}
-use Rattle.ep_check_stmt.specs.Threats.{assigns, stmts_threaten}
+use Rattle.ep_check_stmt.specs.Threats.{assigns, inner_threatens, stmts_threaten}
 use Rattle.ep_check_unit.specs.Blocks.{Block, RoutineForm}
 use Rattle.ep_check_unit.specs.Declarations.{Standing, Falls, entered, own_thing, scopes_of, type_denoter}
+use Rattle.ep_check_unit.specs.declared.block.Enclosing.{Enclosing}
 use Rattle.ep_check_unit.specs.declared.block.OwnResult.{OwnResult}
 use Rattle.ep_check_unit.specs.declared.functions.HeadingResult.{HeadingResult}
 
@@ -75,17 +76,27 @@ abbrev pub result_entered : ℕ → ℕ → Option HeadingResult → Block → J
 result_entered number variable None b = Accepts b
 result_entered number variable (Some r) b = own_name_entered (in_block number variable r) r.name b
 
--- the function to whose name its block assigns, where the result has no name of its own (ISO 10206, 6.9.2.2)
-abbrev pub assigned_function : List ℕ → Option OwnResult → Option FunctionResult
-assigned_function unit None = None
-assigned_function unit (Some r) = if r.named then None else Some (record { unit = unit; function = r.function; variable = r.variable; host = r.host })
+-- the function to whose name its block assigns, where the result has no name of its own (ISO 10206, 6.9.2.2), with so many routines around its variables
+abbrev pub assigned_function : ℕ → Option OwnResult → Option FunctionResult
+assigned_function level None = None
+assigned_function level (Some r) = if r.named then None else Some (record { function = r.function; level = level; variable = r.variable; host = r.host })
+
+-- one before the others, where it is one
+abbrev pub function_before : Option FunctionResult → List FunctionResult → List FunctionResult
+function_before None others = others
+function_before (Some r) others = r ∷ others
+
+-- those in whose blocks code is, the innermost first
+abbrev pub assigned_functions : List Enclosing → List FunctionResult
+assigned_functions [] = []
+assigned_functions (e ∷ es) = function_before (assigned_function (suc (length es)) e.result) (assigned_functions es)
 
 -- ---- what gives a result (ISO 10206, 6.7.2)
 
--- The text of the statements assigns to the name of the function, where its result has no other one. Of a procedure nothing is asked, here and below.
-abbrev pub is_assigned : Option OwnResult → List ℕ → Compound → Bool
-is_assigned None name c = true
-is_assigned (Some r) name c = r.named || assigns name c
+-- The text of the block assigns to the name of the function, in its own statements or in those of its parts, where its result has no other name. Of a procedure nothing is asked, here and below.
+abbrev pub is_assigned : Option OwnResult → List ℕ → Bool → Compound → Bool
+is_assigned None name in_parts c = true
+is_assigned (Some r) name in_parts c = r.named || (assigns name c || in_parts)
 
 abbrev pub is_function : Declaration → Bool
 is_function (declaration.Function ps of h) = true
@@ -101,14 +112,14 @@ abbrev pub is_in_view : Option OwnResult → List ℕ → Block → Bool
 is_in_view None name b = true
 is_in_view (Some r) name b = r.named || is_that_function b.unit r.function (meant (scopes_of b) name)
 
--- the statements threaten the variable that has the result, where this has a name of its own (ISO 10206, 6.9.4)
+-- The statements of the function, or those of a routine in it, threaten the variable that has the result (ISO 10206, 6.9.4).
 abbrev pub is_threatened : Option OwnResult → List RoutineForm → Stmts → Bool
 is_threatened None routines ss = true
-is_threatened (Some r) routines ss = not r.named || stmts_threaten (formals_at routines) (tree.Own 0 r.variable) ss
+is_threatened (Some r) routines ss = stmts_threaten (formals_at routines) (tree.Own 0 r.variable) ss || inner_threatens r.function routines r.variable
 
--- statements that break a rule, or wait for what is not built, count as those that do
+-- Statements that break a rule, or wait for what is not built, count as those that do; and so do all behind an item that waits, since the statements of a routine may not be known there.
 abbrev pub row_gives : Block → Judgement Stmts → Bool
-row_gives b (Passes ss) = is_threatened b.own.result b.routines ss
+row_gives b (Passes ss) = is_some b.waits || is_threatened b.own.result b.routines ss
 row_gives b (Waits line) = true
 row_gives b (Fails line rules) = true
 

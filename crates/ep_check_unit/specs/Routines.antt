@@ -7,10 +7,10 @@ use Rattle.ep_tree.specs.declared.declaration.FormalType.{FormalType}
 use Rattle.ep_tree.specs.declared.declaration.FormalType.TheVariants as formal_type
 use Rattle.ep_tree.specs.declared.declaration.RoutineHeading.{RoutineHeading}
 use Rattle.ep_tree.specs.declared.declaration.RoutineHeading.TheVariants as heading
-use Rattle.ep_tree.specs.declared.routine.Part.TheOpen.{Part-F, RoutineBody-F}
-use Rattle.ep_tree.specs.declared.routine.Part.{Part, out-Part}
-use Rattle.ep_tree.specs.declared.routine.Routine.{Routine, out-Routine}
-use Rattle.ep_tree.specs.declared.routine.RoutineBody.{out-RoutineBody}
+use Rattle.ep_tree.specs.declared.routine.Part.TheOpen.{Part-F, Routine-F, RoutineBody-F}
+use Rattle.ep_tree.specs.declared.routine.Part.{Part, fold-Part}
+use Rattle.ep_tree.specs.declared.routine.Routine.{Routine, fold-Routine}
+use Rattle.ep_tree.specs.declared.routine.RoutineBody.{RoutineBody, fold-RoutineBody}
 use Rattle.ep_tree.specs.declared.routine.RoutineStart.{RoutineStart}
 use Rattle.ep_tree.specs.declared.routine.RoutineStart.TheVariants as start
 use Rattle.ep_tree.specs.declared.statement.Compound.{Compound}
@@ -34,11 +34,13 @@ use Rattle.ep_scope.specs.declared.thing.Thing.{Thing}
 use Rattle.ep_scope.specs.declared.thing.Thing.TheVariants as thing
 use Rattle.ep_check_expr.specs.Judgements.{Judged, Accepts, Breaks, unbuilt, when_accepted}
 use Rattle.ep_check_stmt.specs.Statements.{Context, Locals, OfUnit, OfRoutine, Judgement, Passes, Waits, Fails, compound_judged}
-use Rattle.ep_check_unit.specs.Blocks.{Block, RoutineForm, first_own, own_count}
+use Rattle.ep_check_stmt.specs.Threats.{assigns}
+use Rattle.ep_check_unit.specs.Blocks.{Block, RoutineForm, around_of, first_own, own_count}
+use Rattle.ep_check_unit.specs.declared.block.Enclosing.{Enclosing}
 use Rattle.ep_check_unit.specs.declared.block.OwnVariables.{OwnVariables}
 use Rattle.ep_tree.specs.declared.operator.QualifiedName.{QualifiedName}
-use Rattle.ep_check_unit.specs.Declarations.{Written, Standing, Stands, Falls, all_variables_declared, and_then, at_line, constants_declared, entered, is_outermost, misnamed, noted, own_thing, scopes_of, type_definitions, type_denoter, type_named}
-use Rattle.ep_check_unit.specs.Functions.{assigned_function, if_given, is_assigned, is_in_view, own_name_at, own_result, result_entered, routine_declaration, row_gives, same_result, typed_result}
+use Rattle.ep_check_unit.specs.Declarations.{Written, Standing, Stands, Falls, all_variables_declared, and_then, at_line, constants_declared, entered, misnamed, noted, own_thing, scopes_of, type_definitions, type_denoter, type_named}
+use Rattle.ep_check_unit.specs.Functions.{assigned_functions, if_given, is_assigned, is_in_view, own_name_at, own_result, result_entered, routine_declaration, row_gives, same_result, typed_result}
 use Rattle.ep_check_unit.specs.declared.functions.HeadingResult.{HeadingResult}
 
 -- ---- formal parameters (ISO 10206, 6.7.3)
@@ -92,13 +94,13 @@ sections_judged routine section (s ∷ ss) b before = when_accepted (sections_ju
 abbrev pub formal_of : FormalParameter → Formal
 formal_of p = record { name = p.name; mode = p.mode; section = p.section; denoter = type_denoter p.of }
 
--- a routine with these formal parameters and this result, which has no block so far and does nothing
-abbrev pub headed_form : List ℕ → ℕ → List FormalParameter → Option HeadingResult → RoutineForm
-headed_form name line ps r = record { name = name; line = line; formals = map formal_of ps; result = typed_result r; variables = []; around = []; block = tree.Empty }
+-- a routine with these formal parameters and this result, in the blocks of these, which has no block so far and does nothing
+abbrev pub headed_form : List ℕ → ℕ → List FormalParameter → Option HeadingResult → List Enclosing → RoutineForm
+headed_form name line ps r enclosing = record { name = name; line = line; formals = map formal_of ps; result = typed_result r; variables = []; around = around_of enclosing; block = tree.Empty }
 
 -- one more
 abbrev pub with_routine : List ℕ → ℕ → List FormalParameter → Option HeadingResult → Block → Block
-with_routine name line ps r b = record b { routines = b.routines ++ headed_form name line ps r ∷ [] }
+with_routine name line ps r b = record b { routines = b.routines ++ headed_form name line ps r b.own.enclosing ∷ [] }
 
 -- a routine that is declared: its number, its formal parameters and its result, and what has been declared with it
 pub record Headed : Type 0 where
@@ -206,13 +208,14 @@ forwarded line h = let b = h.block in record b { forwards = b.forwards ++ record
 
 -- ---- blocks of routines (ISO 10206, 6.2.1)
 
--- The variables with which the block of the routine of this number begins: its formal parameters are the first ones, and its result comes next.
-abbrev pub own_variables : ℕ → List FormalParameter → Option HeadingResult → OwnVariables
-own_variables number ps r = record { parameters = ps; result = own_result number (length ps) r; variables = [] }
+-- The variables with which the block of the routine of this number begins, in the blocks of these: its formal parameters are the first ones, and its result comes next.
+abbrev pub own_variables : ℕ → List FormalParameter → Option HeadingResult → List Enclosing → OwnVariables
+own_variables number ps r around =
+    record { parameters = ps; result = own_result number (length ps) r; variables = []; enclosing = record { number = number; result = own_result number (length ps) r } ∷ around }
 
--- The block of a routine is a scope of its own inside of that of the program (ISO 10206, 6.2.2), with variables of its own.
+-- The block of a routine is a scope of its own inside of that of the block around it (ISO 10206, 6.2.2), with variables of its own.
 abbrev pub scope_opened : Headed → Block → Block
-scope_opened h b = record b { scopes = opened b.scopes; own = own_variables h.number h.parameters h.result }
+scope_opened h b = record b { scopes = opened b.scopes; own = own_variables h.number h.parameters h.result b.own.enclosing }
 
 -- the formal parameters as variables, from this number on
 abbrev pub formals_entered : ℕ → List FormalParameter → Block → Judged Block
@@ -228,12 +231,16 @@ abbrev pub scope_closed : OwnVariables → Block → Block
 scope_closed before b = record b { scopes = closed b.scopes; own = before }
 
 -- the variables of the block that is under way: of the program, or of a routine, in which the formal parameters and the result come first
+abbrev pub locals_in : Block → List Enclosing → Locals
+locals_in b [] = OfUnit b.unit (length b.variables)
+locals_in b (e ∷ es) = OfRoutine e.number (first_own b.own) (own_count b.own)
+
 abbrev pub locals_of : Block → Locals
-locals_of b = if is_outermost b.scopes.outer then OfUnit b.unit (length b.variables) else OfRoutine (first_own b.own) (own_count b.own)
+locals_of b = locals_in b b.own.enclosing
 
 -- what the statements of a block know
 abbrev pub context_of : Block → Context
-context_of b = record { scopes = scopes_of b; output = b.output; result = assigned_function b.unit b.own.result; locals = locals_of b; routines = b.routines }
+context_of b = record { unit = b.unit; scopes = scopes_of b; output = b.output; results = assigned_functions b.own.enclosing; locals = locals_of b; routines = b.routines }
 
 -- a routine with the block that a declaration on this line has, and the variables that are declared there
 abbrev pub with_its_block : ℕ → List UnitVariable → Stmt → RoutineForm → RoutineForm
@@ -262,46 +269,69 @@ body_closed line number before b (Fails at rules) = Falls at rules
 abbrev pub body_ended : ℕ → ℕ → OwnVariables → Block → Judgement Stmts → Standing
 body_ended line number before b row = if_given line (row_gives b row) (body_closed line number before b row)
 
--- a part of the block of a routine; no other one is built
-abbrev pub local_part_declared : {A B C : Type 0} → Part-F A B C → Block → Standing
-local_part_declared (Part-F.Constants c) b = constants_declared c.definitions b
-local_part_declared (Part-F.Types t) b = at_line t.line (type_definitions t.line t.definitions b)
-local_part_declared (Part-F.Variables v) b = all_variables_declared v.declarations b
-local_part_declared (Part-F.Routine r) b = Falls 0 []
-
-abbrev pub local_parts_declared : List Part → Block → Standing
-local_parts_declared [] b = Stands b
-local_parts_declared (p ∷ ps) b = and_then (local_parts_declared ps) (local_part_declared (out-Part p) b)
-
 -- the statements of the routine of this name and number, in whose block the name means the routine
 abbrev pub body_declared : ℕ → List ℕ → ℕ → OwnVariables → Compound → Block → Standing
 body_declared line name number before c b = if_given line (is_in_view b.own.result name b) (body_ended line number before b (compound_judged (context_of b) c))
 
--- its parts, and then its statements, whose text assigns the result
-abbrev pub inside_declared : ℕ → List ℕ → ℕ → OwnVariables → List Part → Compound → Block → Standing
-inside_declared line name number before ps c b = if_given line (is_assigned b.own.result name c) (and_then (body_declared line name number before c) (local_parts_declared ps b))
+-- ---- parts of a block (ISO 10206, 6.2.1)
 
--- its block: its formal parameters and its result, and then what is inside
-abbrev pub block_declared : ℕ → List ℕ → List Part → Compound → Headed → Standing
+-- a part: what it declares, and whether the text of statements in it assigns to a name
+pub record PartJudged : Type 0 where
+  pub declares : Block → Standing
+  pub assigns_to : List ℕ → Bool
+
+-- alike the body of a routine with this line and start
+pub record BodyJudged : Type 0 where
+  pub declares : ℕ → RoutineStart → Block → Standing
+  pub assigns_to : List ℕ → Bool
+
+-- parts in order
+abbrev pub all_declared : List PartJudged → Block → Standing
+all_declared [] b = Stands b
+all_declared (p ∷ ps) b = and_then (all_declared ps) (p.declares b)
+
+abbrev pub assigns_among : List ℕ → List PartJudged → Bool
+assigns_among name ps = list_any (λ p. p.assigns_to name) ps
+
+-- the parts of a block, and then its statements; the text of both assigns the result
+abbrev pub inside_declared : ℕ → List ℕ → ℕ → OwnVariables → List PartJudged → Compound → Block → Standing
+inside_declared line name number before ps c b =
+    if_given line (is_assigned b.own.result name (assigns_among name ps) c) (and_then (body_declared line name number before c) (all_declared ps b))
+
+-- the block of a routine: its formal parameters and its result, and then what is inside
+abbrev pub block_declared : ℕ → List ℕ → List PartJudged → Compound → Headed → Standing
 block_declared line name ps c h =
     and_then (inside_declared line name h.number h.block.own ps c) (at_line line (heading_entered h (scope_opened h h.block)))
 
--- a routine with its body
-abbrev pub body_of_declared : {A C : Type 0} → ℕ → RoutineStart → RoutineBody-F Part A C → Block → Standing
-body_of_declared line s (RoutineBody-F.Forward at) b = headed_then line (λ h. Stands (forwarded line h)) (start_headed true line s b)
-body_of_declared line s (RoutineBody-F.Block at ps c) b = headed_then line (block_declared line (start_name s) ps c) (start_headed false line s b)
+-- a part in which there is no statement
+abbrev pub plain_part : (Block → Standing) → PartJudged
+plain_part declares = record { declares = declares; assigns_to = λ name. false }
 
-abbrev pub routine_declared : Routine → Block → Standing
-routine_declared r b = body_of_declared (out-Routine r).line (out-Routine r).start (out-RoutineBody (out-Routine r).body) b
+abbrev pub of_part : Part-F PartJudged BodyJudged PartJudged → PartJudged
+of_part (Part-F.Constants c) = plain_part (constants_declared c.definitions)
+of_part (Part-F.Types t) = plain_part (λ b. at_line t.line (type_definitions t.line t.definitions b))
+of_part (Part-F.Variables v) = plain_part (all_variables_declared v.declarations)
+of_part (Part-F.Routine r) = r
 
--- ---- all parts
+abbrev pub of_body : RoutineBody-F PartJudged BodyJudged PartJudged → BodyJudged
+of_body (RoutineBody-F.Forward at) = record { declares = λ line s b. headed_then line (λ h. Stands (forwarded line h)) (start_headed true line s b); assigns_to = λ name. false }
+of_body (RoutineBody-F.Block at ps c) = record {
+  declares = λ line s b. headed_then line (block_declared line (start_name s) ps c) (start_headed false line s b);
+  assigns_to = λ name. assigns name c || assigns_among name ps;
+}
 
-abbrev pub part_declared : {A B : Type 0} → Part-F A B Routine → Block → Standing
-part_declared (Part-F.Constants c) b = constants_declared c.definitions b
-part_declared (Part-F.Types t) b = at_line t.line (type_definitions t.line t.definitions b)
-part_declared (Part-F.Variables v) b = all_variables_declared v.declarations b
-part_declared (Part-F.Routine r) b = routine_declared r b
+abbrev pub of_routine : Routine-F PartJudged BodyJudged PartJudged → PartJudged
+of_routine r = record { declares = r.body.declares r.line r.start; assigns_to = r.body.assigns_to }
 
+abbrev pub part_judged : Part → PartJudged
+part_judged = fold-Part PartJudged BodyJudged PartJudged of_part of_body of_routine
+
+abbrev pub routine_body_judged : RoutineBody → BodyJudged
+routine_body_judged = fold-RoutineBody PartJudged BodyJudged PartJudged of_part of_body of_routine
+
+abbrev pub routine_judged : Routine → PartJudged
+routine_judged = fold-Routine PartJudged BodyJudged PartJudged of_part of_body of_routine
+
+-- all parts of a block, of a program or of a routine
 abbrev pub parts_declared : List Part → Block → Standing
-parts_declared [] b = Stands b
-parts_declared (p ∷ ps) b = and_then (parts_declared ps) (part_declared (out-Part p) b)
+parts_declared ps b = all_declared (map part_judged ps) b

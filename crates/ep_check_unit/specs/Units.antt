@@ -39,7 +39,7 @@ parameters_entered (name ∷ names) b = when_accepted (parameters_entered names)
 -- nothing is declared yet in the block of a unit, which has `output` as a parameter or has not
 abbrev pub first_block : List ℕ → Bool → Block
 first_block name output =
-    record { unit = name; output = output; scopes = row_of []; types = []; constants = []; variables = []; declarations = 0; own = record { parameters = []; result = None; variables = [] }; routines = []; forwards = []; bodies = []; waits = None }
+    record { unit = name; output = output; scopes = row_of []; types = []; constants = []; variables = []; declarations = 0; own = record { parameters = []; result = None; variables = []; enclosing = [] }; routines = []; forwards = []; bodies = []; waits = None }
 
 -- ---- programs
 

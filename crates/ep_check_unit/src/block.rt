@@ -1,6 +1,6 @@
 //! What has been declared in a block.
 
-ghost use Rattle.std.specs.Prelude.{◌≡◌, [], IfOk, OnOk};
+ghost use Rattle.std.specs.Prelude.{◌≡◌, [], length, IfOk, OnOk};
 ghost use Rattle.std.specs.Option.{option_map};
 ghost use Rattle.ep_check_unit.specs.Answers.{AnswersBlock, AnswersNumber, AnswersType, with_constant_entry};
 ghost use Rattle.ep_check_unit.specs.Blocks.{block_of, first_own, own_count, result_count};
@@ -20,7 +20,7 @@ use ep_typed::{
     ConstantEntries, ConstantEntry, Denoter, ImportSpecs, TypeEntry, TypedStmt, TypedStmts, Unit,
     UnitRoutine, UnitType, UnitTypes, UnitVariables, Value,
 };
-use std::alloc::Global;
+use std::alloc::{AllocError, Global};
 
 /// What has been declared so far in the block of a unit.
 pub(crate) struct Block {
@@ -84,7 +84,16 @@ pub(crate) struct OwnResult {
     pub(crate) named: bool,
 }
 
-/// The variables of the routine whose block is under way.
+/// A routine whose block is under way.
+#[derive(Clone, Copy, Drop)]
+pub(crate) struct Enclosing {
+    /// Its number.
+    pub(crate) number: u32,
+    /// Its result, where it is a function.
+    pub(crate) result: Option<OwnResult>,
+}
+
+/// The variables of the routine whose block is under way, and the routines around what is declared there.
 pub(crate) struct OwnVariables {
     /// Its formal parameters, which come first.
     pub(crate) parameters: FormalParameters,
@@ -92,6 +101,8 @@ pub(crate) struct OwnVariables {
     pub(crate) result: Option<OwnResult>,
     /// Those that it has declared so far.
     pub(crate) variables: UnitVariables,
+    /// The routines whose blocks are under way, this one first; none outside of routines.
+    pub(crate) enclosing: List<Enclosing>,
 }
 
 impl Drop for OwnVariables {
@@ -100,23 +111,32 @@ impl Drop for OwnVariables {
             parameters: _,
             result: _,
             variables: _,
+            enclosing: _,
         } = self;
     }
 }
 
 impl OwnVariables {
-    /// Those of a routine with these formal parameters and this result, which has declared none yet. It takes no memory.
+    /// Those of a routine with these formal parameters and this result, which has declared none yet, in these blocks. It
+    /// takes no memory.
     pub(crate) fn new(
         alloc: Global,
         parameters: FormalParameters,
         given: Option<OwnResult>,
+        enclosing: List<Enclosing>,
     ) -> OwnVariables
-        ensures { result ≡ record { parameters = parameters; result = given; variables = [] } }
+        ensures { result ≡ record {
+          parameters = parameters;
+          result = given;
+          variables = [];
+          enclosing = enclosing;
+        } }
     {
         OwnVariables {
             parameters,
             result: given,
             variables: List::new(alloc),
+            enclosing,
         }
     }
 
@@ -150,6 +170,7 @@ impl OwnVariables {
             parameters: _,
             result: _,
             variables,
+            enclosing: _,
         } = self;
         variables
     }
@@ -205,7 +226,7 @@ impl Block {
             constants: List::new(alloc),
             variables: List::new(alloc),
             declarations: 0,
-            own: OwnVariables::new(alloc, List::new(alloc), None),
+            own: OwnVariables::new(alloc, List::new(alloc), None, List::new(alloc)),
             routines: Vec::new(alloc),
             forwards: List::new(alloc),
             bodies: List::new(alloc),
@@ -254,6 +275,16 @@ impl Block {
         }
     }
 
+    /// How many routines are around what is declared there.
+    fn level(&self) -> Result<u32, NoMemory>
+        ensures { IfOk result (λ level. level ≡ length (block_of self.now).own.enclosing) }
+    {
+        match u32::try_from(self.own.enclosing.items().len()) {
+            Ok(level) => Ok(level),
+            Err(_) => Err(AllocError),
+        }
+    }
+
     /// A declaration of this unit.
     pub(crate) fn own_thing(
         &self,
@@ -263,8 +294,14 @@ impl Block {
     ) -> Result<Thing, NoMemory>
         ensures { IfOk result (λ thing. thing ≡ own_thing (block_of self.now) number what) }
     {
+        let level = self.level()?;
         let unit = self.unit.copy(alloc)?;
-        Ok(Thing::Declared(Declared { unit, number, what }))
+        Ok(Thing::Declared(Declared {
+            unit,
+            number,
+            level,
+            what,
+        }))
     }
 
     /// A name is entered, where it is not there.

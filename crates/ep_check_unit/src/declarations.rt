@@ -1,15 +1,13 @@
 //! Declarations, item by item.
 
 ghost use Rattle.std.specs.Prelude.{◌≡◌, None, IfOk, map};
-ghost use Rattle.ep_built.specs.Built.{component_value_unbuilt, constant_unbuilt, core_unbuilt, first_in, part_unbuilt, type_denoter_unbuilt, type_unbuilt, variable_unbuilt};
-ghost use Rattle.ep_tree.specs.declared.routine.Part.{out-Part};
+ghost use Rattle.ep_built.specs.Built.{component_value_unbuilt, constant_unbuilt, core_unbuilt, first_in, type_denoter_unbuilt, type_unbuilt, variable_unbuilt};
 ghost use Rattle.ep_tree.specs.declared.types.Core.{out-Core};
 ghost use Rattle.ep_check_expr.specs.Judgements.{when_accepted};
 ghost use Rattle.ep_check_stmt.specs.Answers.{AnswersForm};
 ghost use Rattle.ep_check_unit.specs.Answers.{AnswersBlock, AnswersStanding, named_in};
 ghost use Rattle.ep_check_unit.specs.Blocks.{block_of};
 ghost use Rattle.ep_check_unit.specs.Declarations.{all_variables_declared, at_line, constant_definition, constants_declared, new_variable, settled_type, type_definition, type_definitions, type_denoter, variable_declaration, variable_entered, variable_placed, variables_entered, with_own_variable, with_unit_variable};
-ghost use Rattle.ep_check_unit.specs.Routines.{part_declared, parts_declared};
 
 use crate::block::{Block, number};
 use crate::types::{NamedType, type_denoter};
@@ -17,36 +15,11 @@ use ep_base::{Line, List, Name, NoMemory};
 use ep_check_expr::{Refusal, constant_value};
 use ep_check_stmt::{CheckRefusal, refused_at};
 use ep_scope::{Declaration, Kind, Protection, TypeName};
-use ep_tree::{ConstantDefinition, Core, Part, TypeDefinition, Types, VariableDeclaration};
+use ep_tree::{ConstantDefinition, Core, TypeDefinition, Types, VariableDeclaration};
 use ep_typed::UnitVariable;
 use std::alloc::Global;
 
 impl Block {
-    /// The parts of a block, in order.
-    pub(crate) fn declare(&mut self, alloc: Global, parts: &[Part]) -> Result<(), CheckRefusal>
-        requires { first_in (map part_unbuilt parts.now) ≡ None }
-        ensures { AnswersStanding result (block_of self.new)
-            (parts_declared parts.now (block_of self.old)) }
-    {
-        for part in parts {
-            self.declare_part(alloc, part)?;
-        }
-        Ok(())
-    }
-
-    fn declare_part(&mut self, alloc: Global, part: &Part) -> Result<(), CheckRefusal>
-        requires { part_unbuilt part.now ≡ None }
-        ensures { AnswersStanding result (block_of self.new)
-            (part_declared (out-Part part.now) (block_of self.old)) }
-    {
-        match part {
-            Part::Constants(c) => self.define_constants(alloc, c.definitions.items()),
-            Part::Types(t) => self.define_type_part(alloc, t),
-            Part::Variables(v) => self.declare_all(alloc, v.declarations.items()),
-            Part::Routine(r) => self.declare_routine(alloc, r),
-        }
-    }
-
     /// `types`, which is one item.
     pub(crate) fn define_type_part(&mut self, alloc: Global, t: &Types) -> Result<(), CheckRefusal>
         requires { first_in (map type_unbuilt t.now.definitions) ≡ None }
@@ -200,7 +173,7 @@ impl Block {
         ensures { AnswersBlock result (block_of self.new)
             (variable_entered line (type_denoter named.name) named.of named.host name.now (block_of self.old)) }
     {
-        if self.scopes.in_view().len() == 1 {
+        if self.own.enclosing.items().is_empty() {
             self.declare_unit_variable(alloc, line, named, name)
         } else {
             self.declare_own_variable(alloc, line, named, name)

@@ -1,27 +1,29 @@
 //! Results of functions, and what gives them a value.
 
 ghost use Rattle.std.specs.Option.{option_map};
-ghost use Rattle.std.specs.Prelude.{◌≡◌, IfOk};
+ghost use Rattle.std.specs.Prelude.{◌≡◌, Some, IfOk, map};
 ghost use Rattle.ep_check_stmt.specs.Answers.{AnswersForm, passed, result_of, stmts_of};
 ghost use Rattle.ep_check_unit.specs.Answers.{AnswersBlock, AnswersGiven};
 ghost use Rattle.ep_check_unit.specs.Blocks.{block_of};
 ghost use Rattle.ep_check_unit.specs.Functions as spec;
-ghost use Rattle.ep_check_unit.specs.Functions.{in_block, is_function, is_that_function, own_name_entered, own_result, routine_declaration, row_gives, same_own_name, same_result, typed_result};
-ghost use Rattle.ep_check_unit.specs.Routines.{result_judged};
+ghost use Rattle.ep_check_unit.specs.Functions.{assigned_function, in_block, is_function, is_that_function, own_name_entered, own_result, routine_declaration, row_gives, same_own_name, same_result, typed_result};
+ghost use Rattle.ep_check_unit.specs.Routines.{assigns_among, part_judged, result_judged, routine_judged};
 ghost use Rattle.ep_scope.specs.Meanings.{meant_by};
 
 use crate::block::{Block, OwnResult};
 use crate::types::type_denoter;
-use ep_base::{Line, Name, NoMemory};
+use ep_base::{Line, List, Name, NoMemory};
 use ep_check_expr::Refusal;
-use ep_check_stmt::{CheckRefusal, FunctionResult, Outcome, assigns, refused_at, threatens};
+use ep_check_stmt::{
+    CheckRefusal, FunctionResult, Outcome, assigns, inner_threatens, refused_at, threatens,
+};
 use ep_scope::{
     Declaration, FormalParameters, Host, Kind, Meaning, Protection, TypeName, meaning_of, rule,
     same_type,
 };
-use ep_tree::{Compound, QualifiedName};
-use ep_typed::{RoutineResult, TypedPlace, TypedStmts};
-use std::alloc::Global;
+use ep_tree::{Compound, Part, QualifiedName, Routine, RoutineBody};
+use ep_typed::{RoutineResult, TypedPlace, TypedStmt, TypedStmts};
+use std::alloc::{AllocError, Global};
 
 /// The result of a function, as its heading gives it.
 pub(crate) struct HeadingResult {
@@ -205,13 +207,15 @@ impl Block {
         self.enter(alloc, name, thing)
     }
 
-    /// Whether the text of the statements assigns to the name of a function, where its result has no other one.
-    pub(crate) fn is_assigned(&self, name: &Name, body: &Compound) -> bool
-        ensures { result ≡ spec.is_assigned (block_of self.now).own.result name.now body.now }
+    /// Whether the text of a block with these parts and statements assigns to the name of a function, where its result has
+    /// no other one.
+    pub(crate) fn is_assigned(&self, name: &Name, parts: &[Part], body: &Compound) -> bool
+        ensures { result ≡ spec.is_assigned (block_of self.now).own.result name.now
+            (assigns_among name.now (map part_judged parts.now)) body.now }
     {
         match self.own.result {
             None => true,
-            Some(own) => own.named || assigns(name, body),
+            Some(own) => own.named || assigns(name, body) || parts_assign(name, parts),
         }
     }
 
@@ -232,41 +236,102 @@ impl Block {
         }
     }
 
-    /// Whether its statements threaten the variable that has the result, where this has a name of its own.
-    pub(crate) fn gives_result(&self, found: &Outcome<TypedStmts>) -> bool
-        ensures { result ≡ row_gives (block_of self.now) (passed stmts_of found.now) }
+    /// Whether its statements, or those of a routine in it, threaten the variable that has the result. Behind an item that
+    /// waits this is not known, and they count as those that do.
+    pub(crate) fn gives_result(&self, found: &Outcome<TypedStmts>) -> Result<bool, NoMemory>
+        ensures { IfOk result (λ gives. gives ≡ row_gives (block_of self.now) (passed stmts_of found.now)) }
     {
         match (self.own.result, found) {
-            (Some(own), Outcome::Passes(statements)) => {
-                !own.named
-                    || {
-                        let variable = TypedPlace::Own(0, own.variable);
-                        threatens(&self.routines, &variable, statements.items())
-                    }
+            (Some(own), Outcome::Passes(statements)) if self.waits.is_none() => {
+                self.is_threatened(own, statements.items())
             }
-            _ => true,
+            _ => Ok(true),
         }
     }
 
-    /// The function to whose name the block assigns.
-    pub(crate) fn assigned_function(&self) -> Option<FunctionResult<'_>>
-        ensures { option_map result_of result
-            ≡ spec.assigned_function (block_of self.now).unit (block_of self.now).own.result }
+    /// Whether these statements, or those of a routine in the function, threaten the variable that has its result.
+    fn is_threatened(&self, own: OwnResult, statements: &[TypedStmt]) -> Result<bool, NoMemory>
+        ensures { IfOk result (λ threatened. threatened ≡ spec.is_threatened (Some own)
+            (block_of self.now).routines (stmts_of statements.now)) }
     {
-        match self.own.result {
-            None => None,
-            Some(own) => {
-                if own.named {
-                    None
-                } else {
-                    Some(FunctionResult {
-                        unit: &self.unit,
-                        function: own.function,
-                        variable: own.variable,
-                        host: own.host,
-                    })
-                }
+        let variable = TypedPlace::Own(0, own.variable);
+        if threatens(&self.routines, &variable, statements) {
+            return Ok(true);
+        }
+        inner_threatens(own.function, &self.routines, own.variable)
+    }
+
+    /// The functions to whose names the block assigns, the innermost first.
+    pub(crate) fn assigned_functions(&self, alloc: Global) -> Result<List<FunctionResult>, NoMemory>
+        ensures { IfOk result (λ all. map result_of all
+            ≡ spec.assigned_functions (block_of self.now).own.enclosing) }
+    {
+        let enclosing = self.own.enclosing.items();
+        let mut all = List::new(alloc);
+        for (place, one) in enclosing.iter().enumerate() {
+            let Ok(level) = u32::try_from(enclosing.len() - place) else {
+                return Err(AllocError);
+            };
+            if let Some(function) = assigned_function(level, one.result) {
+                all.push(function)?;
             }
+        }
+        Ok(all)
+    }
+}
+
+/// The function to whose name its block assigns, where its result has no name of its own, with so many routines around its
+/// variables.
+fn assigned_function(level: u32, given: Option<OwnResult>) -> Option<FunctionResult>
+    ensures { option_map result_of result ≡ assigned_function level given }
+{
+    let Some(own) = given else {
+        return None;
+    };
+    if own.named {
+        return None;
+    }
+    Some(FunctionResult {
+        function: own.function,
+        level,
+        variable: own.variable,
+        host: own.host,
+    })
+}
+
+/// Whether the text of statements in one of these parts assigns to the name.
+#[cycle(assigned)]
+fn parts_assign(name: &Name, parts: &[Part]) -> bool
+    ensures { result ≡ assigns_among name.now (map part_judged parts.now) }
+{
+    for part in parts {
+        if part_assigns(name, part) {
+            return true;
+        }
+    }
+    false
+}
+
+/// Whether that of a part does.
+#[cycle(assigned)]
+fn part_assigns(name: &Name, part: &Part) -> bool
+    ensures { result ≡ (part_judged part.now).assigns_to name.now }
+{
+    match part {
+        Part::Routine(r) => routine_assigns(name, r),
+        _ => false,
+    }
+}
+
+/// Whether that of a routine does, in its block.
+#[cycle(assigned)]
+fn routine_assigns(name: &Name, r: &Routine) -> bool
+    ensures { result ≡ (routine_judged r.now).assigns_to name.now }
+{
+    match &r.body {
+        RoutineBody::Forward(_) => false,
+        RoutineBody::Block(_, parts, body) => {
+            assigns(name, body) || parts_assign(name, parts.items())
         }
     }
 }

@@ -5,13 +5,13 @@ ghost use Rattle.ep_built.specs.Built.{first_in, section_unbuilt, start_unbuilt}
 ghost use Rattle.ep_typed.specs.Viewed.{stmt_of};
 ghost use Rattle.ep_check_stmt.specs.Answers.{AnswersForm};
 ghost use Rattle.ep_check_unit.specs.Answers.{AnswersBlock, headed_in};
-ghost use Rattle.ep_check_unit.specs.Blocks.{block_of, routine_form};
+ghost use Rattle.ep_check_unit.specs.Blocks.{around_of, block_of, routine_form};
 ghost use Rattle.ep_check_unit.specs.Functions.{own_name_at};
 ghost use Rattle.ep_check_unit.specs.Routines.{function_headed, function_identified, has_body, headed_first, headed_over, heading_entered, own_variables, procedure_headed, routine_there, start_headed, start_name};
 ghost use Rattle.ep_scope.specs.Required.{look_up};
 ghost use Rattle.ep_check_expr.specs.Judgements.{Accepts};
 
-use crate::block::{Block, OwnVariables, has_number, number};
+use crate::block::{Block, Enclosing, OwnVariables, has_number, number};
 use crate::formals::{formals, is_repeated};
 use crate::functions::{
     HeadingResult, copied_name, in_block, own_result, routine_declaration, same_result,
@@ -21,7 +21,7 @@ use ep_base::{Line, List, Name, NoMemory};
 use ep_check_expr::Refusal;
 use ep_scope::{Declaration, FormalParameters, Thing, copied_parameters, rule};
 use ep_tree::{FormalSection, QualifiedName, RoutineHeading, RoutineStart};
-use ep_typed::{Formals, RoutineResult, TypedStmt, UnitRoutine};
+use ep_typed::{Formals, RoutineNumbers, RoutineResult, TypedStmt, UnitRoutine};
 use std::alloc::{AllocError, Global};
 
 /// A routine that is declared.
@@ -45,25 +45,62 @@ impl Drop for Heading {
 }
 
 impl Heading {
-    /// The variables with which the block of the routine begins.
-    pub(crate) fn own_variables(&self, alloc: Global) -> Result<OwnVariables, Refusal>
+    /// The variables with which the block of the routine begins, in these blocks.
+    pub(crate) fn own_variables(
+        &self,
+        alloc: Global,
+        around: &[Enclosing],
+    ) -> Result<OwnVariables, Refusal>
         ensures { AnswersForm (λ own. own) result (Accepts
-            (own_variables self.now.number self.now.parameters self.now.result)) }
+            (own_variables self.now.number self.now.parameters self.now.result around.now)) }
     {
         let variable = number(self.parameters.items().len())?;
         let parameters = copied_parameters(alloc, self.parameters.items())?;
         let given = own_result(self.number, variable, &self.result);
-        Ok(OwnVariables::new(alloc, parameters, given))
+        let inner = Enclosing {
+            number: self.number,
+            result: given,
+        };
+        let enclosing = one_more(alloc, inner, around)?;
+        Ok(OwnVariables::new(alloc, parameters, given, enclosing))
     }
 }
 
-/// A routine that does nothing, without variables, and declared in no other one.
+/// A routine before those whose blocks are around its own.
+fn one_more(
+    alloc: Global,
+    inner: Enclosing,
+    around: &[Enclosing],
+) -> Result<List<Enclosing>, NoMemory>
+    ensures { IfOk result (λ all. all ≡ inner ∷ around.now) }
+{
+    let mut all = List::new(alloc);
+    all.push(inner)?;
+    for other in around {
+        all.push(*other)?;
+    }
+    Ok(all)
+}
+
+/// The numbers of routines whose blocks are under way.
+fn numbers(alloc: Global, enclosing: &[Enclosing]) -> Result<RoutineNumbers, NoMemory>
+    ensures { IfOk result (λ all. all ≡ around_of enclosing.now) }
+{
+    let mut all = List::new(alloc);
+    for one in enclosing {
+        all.push(one.number)?;
+    }
+    Ok(all)
+}
+
+/// A routine that does nothing, without variables, in the blocks of those around.
 fn routine(
     alloc: Global,
     name: Name,
     line: Line,
     formals: Formals,
     given: Option<RoutineResult>,
+    around: RoutineNumbers,
     block: TypedStmt,
 ) -> UnitRoutine
     ensures { routine_form result ≡ record {
@@ -72,7 +109,7 @@ fn routine(
       formals = formals;
       result = given;
       variables = [];
-      around = [];
+      around = around;
       block = stmt_of block;
     } }
 {
@@ -82,7 +119,7 @@ fn routine(
         formals,
         result: given,
         variables: List::new(alloc),
-        around: List::new(alloc),
+        around,
         block,
     }
 }
@@ -125,12 +162,14 @@ impl Block {
         let number = number(self.routines.len())?;
         let formals = formals(alloc, parameters.items())?;
         let typed = typed_result(alloc, &given)?;
+        let around = numbers(alloc, self.own.enclosing.items())?;
         let routine = routine(
             alloc,
             name.copy(alloc)?,
             line,
             formals,
             typed,
+            around,
             TypedStmt::Empty,
         );
         self.add_routine(routine)?;

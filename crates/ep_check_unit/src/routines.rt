@@ -1,16 +1,14 @@
-//! Declarations of procedures and functions.
+//! The parts of a block, and declarations of procedures and functions.
 
 ghost use Rattle.std.specs.Prelude.{◌≡◌, None, true, false, map};
-ghost use Rattle.ep_built.specs.Built.{body_unbuilt, compound_unbuilt, first_in, local_part_unbuilt, start_unbuilt};
-ghost use Rattle.ep_tree.specs.declared.routine.Part.{out-Part};
-ghost use Rattle.ep_tree.specs.declared.routine.Routine.{out-Routine};
+ghost use Rattle.ep_built.specs.Built.{compound_unbuilt, first_in, part_unbuilt, routine_unbuilt, start_unbuilt};
 ghost use Rattle.ep_typed.specs.Viewed.{stmt_of};
 ghost use Rattle.ep_check_stmt.specs.Answers.{AnswersRow, passed, stmts_of};
 ghost use Rattle.ep_check_stmt.specs.Statements.{compound_judged};
 ghost use Rattle.ep_check_unit.specs.Answers.{AnswersLocals, AnswersStanding, headed_in};
 ghost use Rattle.ep_check_unit.specs.Blocks.{block_of, routine_form};
 ghost use Rattle.ep_check_unit.specs.Declarations.{Stands};
-ghost use Rattle.ep_check_unit.specs.Routines.{block_declared, body_closed, body_declared, context_of, forwarded, headed_then, inside_declared, local_part_declared, local_parts_declared, locals_of, routine_declared, start_headed, start_name, with_block, with_its_block};
+ghost use Rattle.ep_check_unit.specs.Routines.{all_declared, block_declared, body_closed, body_declared, context_of, forwarded, headed_then, inside_declared, locals_of, part_judged, routine_judged, start_headed, start_name, with_block, with_its_block};
 
 use crate::block::{Block, Forward, OwnVariables, number};
 use crate::functions::if_given;
@@ -35,12 +33,39 @@ fn take_block(routine: &mut UnitRoutine, line: Line, variables: UnitVariables, b
 }
 
 impl Block {
-    /// `rdecl`
-    pub(crate) fn declare_routine(&mut self, alloc: Global, r: &Routine) -> Result<(), CheckRefusal>
-        requires start { start_unbuilt (out-Routine r.now).start ≡ None }
-        requires body { body_unbuilt (out-Routine r.now).body ≡ None }
+    /// The parts of a block, in order.
+    #[cycle(parts)]
+    pub(crate) fn declare(&mut self, alloc: Global, parts: &[Part]) -> Result<(), CheckRefusal>
+        requires { first_in (map part_unbuilt parts.now) ≡ None }
         ensures { AnswersStanding result (block_of self.new)
-            (routine_declared r.now (block_of self.old)) }
+            (all_declared (map part_judged parts.now) (block_of self.old)) }
+    {
+        for part in parts {
+            self.declare_part(alloc, part)?;
+        }
+        Ok(())
+    }
+
+    #[cycle(parts)]
+    fn declare_part(&mut self, alloc: Global, part: &Part) -> Result<(), CheckRefusal>
+        requires { part_unbuilt part.now ≡ None }
+        ensures { AnswersStanding result (block_of self.new)
+            ((part_judged part.now).declares (block_of self.old)) }
+    {
+        match part {
+            Part::Constants(c) => self.define_constants(alloc, c.definitions.items()),
+            Part::Types(t) => self.define_type_part(alloc, t),
+            Part::Variables(v) => self.declare_all(alloc, v.declarations.items()),
+            Part::Routine(r) => self.declare_routine(alloc, r),
+        }
+    }
+
+    /// `rdecl`
+    #[cycle(parts)]
+    fn declare_routine(&mut self, alloc: Global, r: &Routine) -> Result<(), CheckRefusal>
+        requires { routine_unbuilt r.now ≡ None }
+        ensures { AnswersStanding result (block_of self.new)
+            ((routine_judged r.now).declares (block_of self.old)) }
     {
         match &r.body {
             RoutineBody::Forward(_) => self.declare_forward(alloc, r.line, &r.start),
@@ -73,6 +98,7 @@ impl Block {
     }
 
     /// A routine with its block.
+    #[cycle(parts)]
     fn declare_with_block(
         &mut self,
         alloc: Global,
@@ -82,10 +108,10 @@ impl Block {
         body: &Compound,
     ) -> Result<(), CheckRefusal>
         requires start { start_unbuilt start.now ≡ None }
-        requires parts { first_in (map local_part_unbuilt parts.now) ≡ None }
+        requires parts { first_in (map part_unbuilt parts.now) ≡ None }
         requires body { compound_unbuilt body.now ≡ None }
         ensures { AnswersStanding result (block_of self.new) (headed_then line
-            (block_declared line (start_name start.now) parts.now body.now)
+            (block_declared line (start_name start.now) (map part_judged parts.now) body.now)
             (start_headed false line start.now (block_of self.old))) }
     {
         match self.head(alloc, line, start, false) {
@@ -97,6 +123,7 @@ impl Block {
     }
 
     /// The block of a routine of this name, in a scope of its own.
+    #[cycle(parts)]
     fn declare_block(
         &mut self,
         alloc: Global,
@@ -106,13 +133,13 @@ impl Block {
         parts: &[Part],
         body: &Compound,
     ) -> Result<(), CheckRefusal>
-        requires parts { first_in (map local_part_unbuilt parts.now) ≡ None }
+        requires parts { first_in (map part_unbuilt parts.now) ≡ None }
         requires body { compound_unbuilt body.now ≡ None }
         ensures { AnswersStanding result (block_of self.new)
-            (block_declared line name.now parts.now body.now
+            (block_declared line name.now (map part_judged parts.now) body.now
             (headed_in (block_of self.old) heading)) }
     {
-        let own = match heading.own_variables(alloc) {
+        let own = match heading.own_variables(alloc, self.own.enclosing.items()) {
             Ok(own) => own,
             Err(refusal) => return Err(refused_at(line, refusal)),
         };
@@ -124,7 +151,8 @@ impl Block {
         self.declare_inside(alloc, line, name, heading.number, before, parts, body)
     }
 
-    /// The parts of the routine of this name and number, and then its statements, whose text assigns the result.
+    /// The parts of the routine of this name and number, and then its statements. The text of both assigns the result.
+    #[cycle(parts)]
     fn declare_inside(
         &mut self,
         alloc: Global,
@@ -135,13 +163,14 @@ impl Block {
         parts: &[Part],
         body: &Compound,
     ) -> Result<(), CheckRefusal>
-        requires parts { first_in (map local_part_unbuilt parts.now) ≡ None }
+        requires parts { first_in (map part_unbuilt parts.now) ≡ None }
         requires body { compound_unbuilt body.now ≡ None }
         ensures { AnswersStanding result (block_of self.new)
-            (inside_declared line name.now number before parts.now body.now (block_of self.old)) }
+            (inside_declared line name.now number before (map part_judged parts.now) body.now
+            (block_of self.old)) }
     {
-        if_given(line, self.is_assigned(name, body))?;
-        self.declare_local_parts(alloc, parts)?;
+        if_given(line, self.is_assigned(name, parts, body))?;
+        self.declare(alloc, parts)?;
         self.declare_body(alloc, line, name, number, before, body)
     }
 
@@ -161,7 +190,7 @@ impl Block {
     {
         if_given(line, self.is_in_view(name))?;
         let found = self.statements(alloc, body)?;
-        if_given(line, self.gives_result(&found))?;
+        if_given(line, self.gives_result(&found)?)?;
         self.end_body(line, number, before, found)
     }
 
@@ -179,11 +208,13 @@ impl Block {
             Ok(locals) => locals,
             Err(refusal) => return Err(refused_at(body.line, refusal)),
         };
+        let results = self.assigned_functions(alloc)?;
         let context = Context {
             alloc,
+            unit: &self.unit,
             scopes: self.scopes.in_view(),
             output: self.output,
-            result: self.assigned_function(),
+            results: results.items(),
             locals,
             routines: self.routines.as_slice(),
         };
@@ -194,37 +225,16 @@ impl Block {
     fn locals(&self) -> Result<Locals<'_>, Refusal>
         ensures { AnswersLocals (locals_of (block_of self.now)) result }
     {
-        if self.scopes.in_view().len() == 1 {
-            let auxiliary = number(self.variables.items().len())?;
-            return Ok(Locals::Unit(&self.unit, auxiliary));
-        }
-        let first = self.own.first()?;
-        let auxiliary = self.own.count()?;
-        Ok(Locals::Routine(first, auxiliary))
-    }
-
-    /// The parts of the block of a routine, in order.
-    fn declare_local_parts(&mut self, alloc: Global, parts: &[Part]) -> Result<(), CheckRefusal>
-        requires { first_in (map local_part_unbuilt parts.now) ≡ None }
-        ensures { AnswersStanding result (block_of self.new)
-            (local_parts_declared parts.now (block_of self.old)) }
-    {
-        for part in parts {
-            self.declare_local_part(alloc, part)?;
-        }
-        Ok(())
-    }
-
-    fn declare_local_part(&mut self, alloc: Global, part: &Part) -> Result<(), CheckRefusal>
-        requires { local_part_unbuilt part.now ≡ None }
-        ensures { AnswersStanding result (block_of self.new)
-            (local_part_declared (out-Part part.now) (block_of self.old)) }
-    {
-        match part {
-            Part::Constants(c) => self.define_constants(alloc, c.definitions.items()),
-            Part::Types(t) => self.define_type_part(alloc, t),
-            Part::Variables(v) => self.declare_all(alloc, v.declarations.items()),
-            Part::Routine(_) => unreachable!(),
+        match self.own.enclosing.items() {
+            [] => {
+                let auxiliary = number(self.variables.items().len())?;
+                Ok(Locals::Unit(&self.unit, auxiliary))
+            }
+            [inner, ..] => {
+                let first = self.own.first()?;
+                let auxiliary = self.own.count()?;
+                Ok(Locals::Routine(inner.number, first, auxiliary))
+            }
         }
     }
 

@@ -1,5 +1,5 @@
 -- What names stand for: lists of declarations, and what a name means in them.
-use Rattle.std.specs.Prelude.{ℕ, List, [], ◌∷◌, ◌++◌, Option, Some, None, if◌then◌else◌}
+use Rattle.std.specs.Prelude.{ℕ, List, [], ◌∷◌, ◌++◌, length, Option, Some, None, if◌then◌else◌}
 use Rattle.std.specs.Str.{bytes_eq}
 use Rattle.ep_typed.specs.declared.tree.StandardFile.{StandardFile}
 use Rattle.ep_scope.specs.Required.{look_up, required_of}
@@ -66,6 +66,11 @@ or_outside (Some thing) outside = as_thing thing
 abbrev pub meant : List Region → List ℕ → Meant
 meant [] name = as_required (required_of name)
 meant (r ∷ rs) name = or_outside (look_up r.entries name) (meant rs name)
+
+-- how many routines are around code that sees these scopes, of which the outermost is that of a unit's block
+abbrev pub depth_in : List Region → ℕ
+depth_in [] = 0
+depth_in (r ∷ rs) = length rs
 
 -- nothing where the name of the interface is that of something else
 abbrev pub unless_hidden : Option Thing → Meant → Meant

@@ -24,5 +24,5 @@ pub use parameter::{
 };
 pub use required::{Function, Procedure, Required, RequiredConstant, required_identifier};
 pub use scope::{Scope, ScopeRefusal};
-pub use scopes::Scopes;
+pub use scopes::{Scopes, depth_in};
 pub use thing::{Declaration, Declared, Thing};

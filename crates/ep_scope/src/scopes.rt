@@ -3,13 +3,13 @@
 ghost use Rattle.std.specs.Prelude.{◌≡◌, [], IfOk, OnOk, OnErr};
 ghost use Rattle.std.specs.Option.{option_copied};
 ghost use Rattle.ep_scope.specs.Required.{look_up};
-ghost use Rattle.ep_scope.specs.Scopes.{closed, empty_region, in_view, opened, row_of};
+ghost use Rattle.ep_scope.specs.Scopes.{closed, depth_in, empty_region, in_view, opened, row_of};
 ghost use Rattle.ep_scope.specs.Entering.{AnswersInner};
 
 use crate::scope::{Scope, ScopeRefusal};
 use crate::thing::Thing;
 use ep_base::{Name, NoMemory};
-use std::alloc::Global;
+use std::alloc::{AllocError, Global};
 use std::marker::Model;
 
 /// The scopes in view, of which there is always one: the innermost one, and those around it.
@@ -32,6 +32,17 @@ impl Model for Scopes {
 impl Drop for Scopes {
     fn drop(self) {
         let Scopes { alloc: _, all: _ } = self;
+    }
+}
+
+/// How many routines are around code that sees these scopes, of which the outermost is that of a unit's block. It takes no
+/// memory; an error comes where 32 bits do not hold the number.
+pub fn depth_in(scopes: &[Scope]) -> Result<u32, NoMemory>
+    ensures { IfOk result (λ depth. depth ≡ depth_in scopes.now) }
+{
+    match u32::try_from(scopes.len().saturating_sub(1)) {
+        Ok(depth) => Ok(depth),
+        Err(_) => Err(AllocError),
     }
 }
 

@@ -29,6 +29,8 @@ pub struct Declared {
     /// Its number among the unit's constants, types, variables or routines, or among the variables
     /// of the routine.
     pub number: u32,
+    /// How many routines are around it: of a variable of a routine, one more than around that routine.
+    pub level: u32,
     /// What is declared.
     pub what: Declaration,
 }
@@ -38,6 +40,7 @@ impl Drop for Declared {
         let Declared {
             unit: _,
             number: _,
+            level: _,
             what: _,
         } = self;
     }
@@ -51,7 +54,7 @@ pub enum Declaration {
     Type(TypeName, Host),
     /// A variable of this type (ISO 10206, 6.5.1).
     Variable(TypeName, Kind),
-    /// A variable of the routine whose block the scope is in, or one of its formal parameters (ISO 10206, 6.5.1 and 6.7.3).
+    /// A variable of a routine, one of its formal parameters, or its result (ISO 10206, 6.5.1, 6.7.2 and 6.7.3).
     Own(TypeName, Kind, Protection),
     /// A procedure with these formal parameters (ISO 10206, 6.7.1).
     Procedure(FormalParameters),

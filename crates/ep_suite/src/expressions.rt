@@ -33,6 +33,7 @@ fn declared(alloc: Global, what: Declaration) -> Option<Thing> {
     Some(Thing::Declared(Declared {
         unit,
         number: 0,
+        level: 0,
         what,
     }))
 }

@@ -3,21 +3,21 @@
 
 ghost use Rattle.std.specs.Prelude.{◌≡◌, map};
 ghost use Rattle.ep_tree.specs.Shapes.{bare};
-ghost use Rattle.ep_built.specs.Built.{built_component, built_program, built_import, built_type_name, built_heading, built_start, built_part, built_local_part, built_type_definition, built_type_denoter, built_plain, built_formal_type, built_section, built_core, built_selector, built_target, built_control, built_call_selectors, built_call_of, built_call, built_statement, built_relation, built_adding, built_multiplying, is_character, built_factor, built_access, is_built, selector_belonging, brackets_are_built, is_bare_text};
+ghost use Rattle.ep_built.specs.Built.{built_component, built_program, built_import, built_type_name, built_heading, built_start, built_routine, built_type_definition, built_type_denoter, built_plain, built_formal_type, built_section, built_core, built_selector, built_target, built_control, built_call_selectors, built_call_of, built_call, built_statement, built_relation, built_adding, built_multiplying, is_character, built_factor, built_access, is_built, selector_belonging, brackets_are_built, is_bare_text};
 ghost use Rattle.ep_tree.specs.declared.expression.Factor.{out-Factor};
 ghost use Rattle.ep_tree.specs.declared.expression.Selector.{out-Selector};
 ghost use Rattle.ep_tree.specs.declared.types.Core.{out-Core};
 ghost use Rattle.ep_tree.specs.declared.types.Plain.{out-Plain};
 ghost use Rattle.ep_tree.specs.declared.types.TypeDenoter.{out-TypeDenoter};
 ghost use Rattle.ep_tree.specs.declared.statement.Statement.{out-Statement};
-ghost use Rattle.ep_tree.specs.declared.routine.Part.{out-Part};
+ghost use Rattle.ep_tree.specs.declared.routine.Routine.{out-Routine};
 
 use crate::built::names;
 use ep_base::Name;
 use ep_tree::{
     Access, AddingOperator, Component, Core, Expression, Factor, FormalSection, FormalType, Import,
-    MultiplyingOperator, Part, Plain, Program, QualifiedName, RelationalOperator, RoutineHeading,
-    RoutineStart, Selector, Statement, TypeDefinition, TypeDenoter,
+    MultiplyingOperator, Plain, Program, QualifiedName, RelationalOperator, Routine,
+    RoutineHeading, RoutineStart, Selector, Statement, TypeDefinition, TypeDenoter,
 };
 
 /// A component is a program.
@@ -75,24 +75,11 @@ fn start_is_built(s: &RoutineStart) -> bool
     }
 }
 
-/// A routine is a procedure or a function that starts so.
-pub(super) fn part_is_built(p: &Part) -> bool
-    ensures { result ≡ built_part (out-Part p.now) }
+/// A routine is a procedure or a function that starts so, in whatever block it stands.
+pub(super) fn routine_is_built(r: &Routine) -> bool
+    ensures { result ≡ built_routine (out-Routine r.now) }
 {
-    match p {
-        Part::Routine(r) => start_is_built(&r.start),
-        _ => true,
-    }
-}
-
-/// A part of the block of a routine is no routine.
-pub(super) fn local_part_is_built(p: &Part) -> bool
-    ensures { result ≡ built_local_part (out-Part p.now) }
-{
-    match p {
-        Part::Routine(_) => false,
-        _ => true,
-    }
+    start_is_built(&r.start)
 }
 
 /// A type definition has no discriminants.

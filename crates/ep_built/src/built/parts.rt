@@ -1,7 +1,7 @@
 //! The first node of the parts of a block before its statements that is not built.
 
 ghost use Rattle.std.specs.Prelude.{◌≡◌, map};
-ghost use Rattle.ep_built.specs.Built.{first_in, constant_unbuilt, type_unbuilt, variable_unbuilt, part_unbuilt, local_part_unbuilt, body_unbuilt, section_unbuilt, heading_unbuilt, start_unbuilt};
+ghost use Rattle.ep_built.specs.Built.{first_in, constant_unbuilt, type_unbuilt, variable_unbuilt, part_unbuilt, body_unbuilt, routine_unbuilt, section_unbuilt, heading_unbuilt, start_unbuilt};
 
 use crate::built::expressions::component_value;
 use crate::built::statements::compound;
@@ -9,10 +9,11 @@ use crate::built::types::type_denoter;
 use crate::built::{at_node, forms};
 use ep_base::Line;
 use ep_tree::{
-    ConstantDefinition, FormalSection, Part, RoutineBody, RoutineHeading, RoutineStart,
+    ConstantDefinition, FormalSection, Part, Routine, RoutineBody, RoutineHeading, RoutineStart,
     TypeDefinition, VariableDeclaration,
 };
 
+#[cycle(lines)]
 pub(super) fn parts(all: &[Part]) -> Option<Line>
     ensures { result ≡ first_in (map part_unbuilt all.now) }
 {
@@ -25,15 +26,34 @@ pub(super) fn parts(all: &[Part]) -> Option<Line>
     None
 }
 
+#[cycle(lines)]
 fn part(p: &Part) -> Option<Line>
     ensures { result ≡ part_unbuilt p.now }
 {
-    let built = forms::part_is_built(p);
     match p {
-        Part::Constants(c) => at_node(built, c.line, constants(c.definitions.items())),
-        Part::Types(t) => at_node(built, t.line, types(t.definitions.items())),
-        Part::Variables(v) => at_node(built, v.line, variables(v.declarations.items())),
-        Part::Routine(r) => at_node(built, r.line, start(&r.start).or(body(&r.body))),
+        Part::Constants(c) => constants(c.definitions.items()),
+        Part::Types(t) => types(t.definitions.items()),
+        Part::Variables(v) => variables(v.declarations.items()),
+        Part::Routine(r) => routine(r),
+    }
+}
+
+#[cycle(lines)]
+fn routine(r: &Routine) -> Option<Line>
+    ensures { result ≡ routine_unbuilt r.now }
+{
+    let inner = start(&r.start).or(body(&r.body));
+    at_node(forms::routine_is_built(r), r.line, inner)
+}
+
+/// The first line in the body of a routine.
+#[cycle(lines)]
+fn body(b: &RoutineBody) -> Option<Line>
+    ensures { result ≡ body_unbuilt b.now }
+{
+    match b {
+        RoutineBody::Forward(_) => None,
+        RoutineBody::Block(_, all, statements) => parts(all.items()).or(compound(statements)),
     }
 }
 
@@ -67,43 +87,6 @@ fn sections(all: &[FormalSection]) -> Option<Line>
         }
     }
     None
-}
-
-/// The first line in the body of a routine.
-fn body(b: &RoutineBody) -> Option<Line>
-    ensures { result ≡ body_unbuilt b.now }
-{
-    match b {
-        RoutineBody::Forward(_) => None,
-        RoutineBody::Block(_, all, statements) => {
-            local_parts(all.items()).or(compound(statements))
-        }
-    }
-}
-
-fn local_parts(all: &[Part]) -> Option<Line>
-    ensures { result ≡ first_in (map local_part_unbuilt all.now) }
-{
-    for p in all {
-        let line = local_part(p);
-        if line.is_some() {
-            return line;
-        }
-    }
-    None
-}
-
-/// The first line in a part of the block of a routine.
-fn local_part(p: &Part) -> Option<Line>
-    ensures { result ≡ local_part_unbuilt p.now }
-{
-    let built = forms::local_part_is_built(p);
-    match p {
-        Part::Constants(c) => at_node(built, c.line, constants(c.definitions.items())),
-        Part::Types(t) => at_node(built, t.line, types(t.definitions.items())),
-        Part::Variables(v) => at_node(built, v.line, variables(v.declarations.items())),
-        Part::Routine(r) => at_node(built, r.line, None),
-    }
 }
 
 fn constants(all: &[ConstantDefinition]) -> Option<Line>

@@ -7,7 +7,7 @@ use Rattle.ep_typed.specs.Trees as tree
 use Rattle.ep_typed.specs.Trees.{Expr, Place, Stmt}
 use Rattle.ep_typed.specs.Valid as valid
 use Rattle.ep_typed.specs.Valid.{Declarations, IsControl, IsExpr, IsPlace}
-use Rattle.ep_scope.specs.Scopes.{Region, Meant, Declares, Standard, Requires, Nothing, meant}
+use Rattle.ep_scope.specs.Scopes.{Region, Meant, Declares, Standard, Requires, Nothing, depth_in, meant}
 use Rattle.ep_scope.specs.declared.kind.Host.{Host}
 use Rattle.ep_scope.specs.declared.kind.Kind.{Kind}
 use Rattle.ep_scope.specs.declared.kind.Kind.TheVariants as kind
@@ -16,6 +16,7 @@ use Rattle.ep_scope.specs.declared.thing.Declaration.{Declaration}
 use Rattle.ep_scope.specs.declared.thing.Declaration.TheVariants as declaration
 use Rattle.ep_scope.specs.declared.thing.Declared.{Declared}
 use Rattle.ep_check_expr.specs.Agreement.{Agrees, IsDeclaration, IsFormOf, IsStoredIn}
+use Rattle.ep_check_expr.specs.Arguments.{own_place}
 use Rattle.ep_check_expr.specs.Expressions.{judged}
 use Rattle.ep_check_expr.specs.Hosts.{typed_host}
 use Rattle.ep_check_expr.specs.Judgements.{Judged, Accepts, Breaks, Typed, when_accepted}
@@ -49,15 +50,15 @@ module _ (declared : Declarations) (scopes : List Region) (agrees : Agrees decla
   if_fits true t x = x
   if_fits false t x = tt
 
-  declared_fits : (locals : Locals) (d : Declared) (what : Declaration) → IsDeclaration declared agrees.0 d.unit d.number what → Fits IsVariable (declared_control locals d what)
+  declared_fits : (locals : Locals) (d : Declared) (what : Declaration) → IsDeclaration declared agrees.0 (depth_in scopes) d what → Fits IsVariable (declared_control locals (depth_in scopes) d what)
   declared_fits locals d (declaration.Variable of k) x = if_fits (declares_variable locals d.unit) (record { place = tree.Variable d.unit d.number; kind = k }) (stored_fits (tree.Variable d.unit d.number) k x.0)
-  declared_fits locals d (declaration.Own of k guarded) x = if_fits (declares_own locals d.number) (record { place = tree.Own 0 d.number; kind = k }) (stored_fits (tree.Own 0 d.number) k x.0)
+  declared_fits locals d (declaration.Own of k guarded) x = if_fits (declares_own locals (depth_in scopes) d) (record { place = own_place (depth_in scopes) d; kind = k }) (stored_fits (own_place (depth_in scopes) d) k x.0)
   declared_fits locals d (declaration.Constant k v) x = tt
   declared_fits locals d (declaration.«Type» of h) x = tt
   declared_fits locals d (declaration.Procedure parameters) x = tt
   declared_fits locals d (declaration.Function parameters of h) x = tt
 
-  named_fits : (locals : Locals) (name : List ℕ) (m : Meant) → IsMeant declared agrees.0 m → Fits IsVariable (control_named locals name m)
+  named_fits : (locals : Locals) (name : List ℕ) (m : Meant) → IsMeant declared agrees.0 (depth_in scopes) m → Fits IsVariable (control_named locals (depth_in scopes) name m)
   named_fits locals name (Declares d) x = declared_fits locals d d.what x
   named_fits locals name (Standard f) x = tt
   named_fits locals name (Requires r) x = tt
@@ -77,9 +78,9 @@ module _ (declared : Declarations) (scopes : List Region) (agrees : Agrees decla
 
   pub control_fits : (c : Context) → c.scopes ≡ scopes → (name : List ℕ) → Fits IsCounted (control_judged c name)
   control_fits c is name =
-      fits_then IsCounted IsCounted (unless_threatened_in c.locals c.routines) (when_accepted (λ t. counted_by t.place t.kind) (control_named c.locals name (meant c.scopes name)))
-      (fits_then IsVariable IsCounted (λ t. counted_by t.place t.kind) (control_named c.locals name (meant c.scopes name))
-      (subst (λ s. Fits IsVariable (control_named c.locals name (meant s name))) (sym is) (named_fits c.locals name (meant scopes name) (meant-declared declared agrees.0 scopes name agrees.1)))
+      fits_then IsCounted IsCounted (unless_threatened_in c.locals c.routines) (when_accepted (λ t. counted_by t.place t.kind) (control_named c.locals (depth_in c.scopes) name (meant c.scopes name)))
+      (fits_then IsVariable IsCounted (λ t. counted_by t.place t.kind) (control_named c.locals (depth_in c.scopes) name (meant c.scopes name))
+      (subst (λ s. Fits IsVariable (control_named c.locals (depth_in s) name (meant s name))) (sym is) (named_fits c.locals name (meant scopes name) (meant-declared declared agrees.0 (depth_in scopes) scopes name agrees.1)))
       (λ t x. counted_fits t.place t.kind x))
       (λ k x. unless_fits (is_threatened_in c.locals c.routines k.place) k x)
 

@@ -1,5 +1,5 @@
 -- Statements that the rules accept are valid under declarations that hold what the scopes declare.
-use Rattle.std.proofs.Common.{◌≡◌, ℕ, Bool, true, false, List, [], ◌∷◌, map, Option, Some, None, refl, sym, ap, ◌∙◌, subst}
+use Rattle.std.proofs.Common.{◌≡◌, ℕ, ◌-◌, Bool, true, false, List, [], ◌∷◌, map, Option, Some, None, refl, sym, ap, ◌∙◌, subst}
 use Rattle.std.specs.Prelude.{⊤, if◌then◌else◌}
 use Rattle.std.specs.Option.{option_map}
 use Rattle.ep_tree.specs.Nodes.{argument_node}
@@ -18,13 +18,13 @@ use Rattle.ep_tree.specs.declared.statement.Statement.TheOpen.{Statement-F, Arm-
 use Rattle.ep_typed.specs.Auxiliaries.{first_for, first_for_of}
 use Rattle.ep_typed.specs.Hosts as typed
 use Rattle.ep_typed.specs.Trees as tree
-use Rattle.ep_typed.specs.Trees.{Actual, Place, Expr, Item, Other, Stmt, Stmts}
+use Rattle.ep_typed.specs.Trees.{Actual, Callee, Place, Expr, Item, Other, Stmt, Stmts}
 use Rattle.ep_typed.specs.Valid as valid
 use Rattle.ep_typed.specs.Valid.{AreItems, Declarations, IsExpr, IsItem, IsPlace, IsStmt, WritesSomething, printed_kind}
 use Rattle.ep_typed.specs.declared.operations.Print.{Print}
 use Rattle.ep_typed.specs.declared.tree.StandardFile.{StandardFile}
 use Rattle.ep_typed.specs.declared.tree.StandardFile.TheVariants as file
-use Rattle.ep_scope.specs.Scopes.{Region, Meant, Declares, Standard, Requires, Nothing, meant}
+use Rattle.ep_scope.specs.Scopes.{Region, Meant, Declares, Standard, Requires, Nothing, depth_in, meant}
 use Rattle.ep_scope.specs.declared.kind.Host.{Host}
 use Rattle.ep_scope.specs.declared.kind.Host.TheVariants as host
 use Rattle.ep_scope.specs.declared.kind.Kind.{Kind}
@@ -34,12 +34,11 @@ use Rattle.ep_scope.specs.declared.required.Procedure.{Procedure}
 use Rattle.ep_scope.specs.declared.required.Procedure.TheVariants as procedure
 use Rattle.ep_scope.specs.declared.required.Required.{Required}
 use Rattle.ep_scope.specs.declared.required.Required.TheVariants as required
-use Rattle.ep_scope.specs.declared.rule.TheConstants as rule
 use Rattle.ep_scope.specs.declared.thing.Declaration.{Declaration}
 use Rattle.ep_scope.specs.declared.thing.Declaration.TheVariants as declaration
 use Rattle.ep_scope.specs.declared.thing.Declared.{Declared}
 use Rattle.ep_check_expr.specs.Agreement.{Agrees, AreActuals, IsDeclaration, IsFormOf, IsProcedureOf, IsStoredIn}
-use Rattle.ep_check_expr.specs.Arguments.{Taken, arguments_judged, callee_at, given_to, unless_protected}
+use Rattle.ep_check_expr.specs.Arguments.{Taken, arguments_judged, callee_at, given_to, own_place, unless_protected}
 use Rattle.ep_check_expr.specs.Expressions.{given, judged, judged_value}
 use Rattle.ep_check_expr.specs.Functions.{Given}
 use Rattle.ep_check_expr.specs.Hosts.{typed_host}
@@ -49,7 +48,7 @@ use Rattle.ep_check_expr.proofs.Meant.{IsMeant, meant-declared}
 use Rattle.ep_check_expr.proofs.Nodes.{argument-judged, wide-judged}
 use Rattle.ep_check_expr.proofs.Passing.{IfForm, given-fits}
 use Rattle.ep_check_stmt.specs.Cases.{CaseSelector, labelled, selecting, selector_judged}
-use Rattle.ep_check_stmt.specs.Laws.{ResultIsThere, StatementsAreSound}
+use Rattle.ep_check_stmt.specs.Laws.{ResultsAreThere, StatementsAreSound}
 use Rattle.ep_check_stmt.specs.Statements.{ArmJudged, Context, FunctionResult, Judgement, Passes, Shown, Target, Under, after, arm_judged, arm_row, arms_in_order, assigned, at_arm, at_compound, at_item, at_otherwise, at_statement, available, call_arguments, call_judged, case_judged, compound_under, condition, condition_judged, control_judged, declared_called, declared_target, expr_item, expr_threat, falls_by, file_given, formed, function_target, has_result, if_judged, in_order, item_form, item_judged, items_judged, measured, name_called, one_more, own_called, otherwise_judged, place_named, procedure_called, required_called, shown, something, statement_judged, stmt_item, stmt_threat, target_judged, tested, to_file, unless_threatening, usually_written, width_judged, write_judged, written, written_or}
 use Rattle.ep_check_stmt.proofs.judged.Fits.{Any, Fits, fits_any, fits_both, fits_is, fits_pair, fits_then, fits_weaker}
 use Rattle.ep_check_stmt.proofs.valid.Passing.{FitsRow, after_fits, formed_fits, item_fits, unthreatening_fits}
@@ -128,32 +127,42 @@ module _ (declared : Declarations) (expressions : ExpressionsAreSound) (passed :
   variable_fits place kind.Text x = absurd x
   variable_fits place kind.File x = tt
 
-  -- so is the variable of the result
-  function_fits : (d : Declared) (result : Option FunctionResult) → ResultIsThere declared result → Fits (λ t. IsTarget t.kind t.place) (function_target d result)
-  function_fits d None there = tt
-  function_fits d (Some r) there = go (has_result d r)
+  -- how many routines are around the statements
+  abbrev depth : ℕ
+  depth = depth_in scopes
+
+  -- the variables of results are there
+  abbrev Results : Context → Type 0
+  Results c = ResultsAreThere declared depth c.results
+
+  -- so is the variable of a result
+  function_fits : (unit : List ℕ) (d : Declared) (results : List FunctionResult) → ResultsAreThere declared depth results → Fits (λ t. IsTarget t.kind t.place) (function_target depth unit d results)
+  function_fits unit d [] there = tt
+  function_fits unit d (r ∷ rs) there = go (has_result unit d r) (function_fits unit d rs there.1)
     where
-      go : (own : Bool) → Fits (λ (t : Target). IsTarget t.kind t.place) (if own then Accepts (record { place = tree.Own 0 r.variable; kind = kind.Ordinal r.host }) else Breaks (rule.FUNCTION_ASSIGNED ∷ []))
-      go true = there.1
-      go false = tt
+      go : (own : Bool) → Fits (λ (t : Target). IsTarget t.kind t.place) (function_target depth unit d rs) → Fits (λ (t : Target). IsTarget t.kind t.place) (if own then Accepts (record { place = tree.Own (depth - r.level) r.variable; kind = kind.Ordinal r.host }) else function_target depth unit d rs)
+      go true others = there.0.1
+      go false others = others
 
-  declared_fits : (result : Option FunctionResult) → ResultIsThere declared result → (d : Declared) (what : Declaration) → IsDeclaration declared agrees.0 d.unit d.number what → Fits (λ t. IsTarget t.kind t.place) (declared_target result d what)
-  declared_fits result there d (declaration.Variable of k) x = variable_fits (tree.Variable d.unit d.number) k x.0
-  declared_fits result there d (declaration.Own of k guarded) x =
-      fits_then Any (λ t. IsTarget t.kind t.place) (λ done. Accepts (record { place = tree.Own 0 d.number; kind = k })) (unless_protected guarded) (fits_any (unless_protected guarded)) (λ a i. variable_fits (tree.Own 0 d.number) k x.0)
-  declared_fits result there d (declaration.Constant k v) x = tt
-  declared_fits result there d (declaration.«Type» of h) x = tt
-  declared_fits result there d (declaration.Procedure parameters) x = tt
-  declared_fits result there d (declaration.Function parameters of h) x = function_fits d result there
+  module _ (unit : List ℕ) (results : List FunctionResult) (there : ResultsAreThere declared depth results) where
+    declared_fits : (d : Declared) (what : Declaration) → IsDeclaration declared agrees.0 depth d what → Fits (λ t. IsTarget t.kind t.place) (declared_target depth unit results d what)
+    declared_fits d (declaration.Variable of k) x = variable_fits (tree.Variable d.unit d.number) k x.0
+    declared_fits d (declaration.Own of k guarded) x =
+        fits_then Any (λ t. IsTarget t.kind t.place) (λ done. Accepts (record { place = own_place depth d; kind = k })) (unless_protected guarded) (fits_any (unless_protected guarded)) (λ a i. variable_fits (own_place depth d) k x.0)
+    declared_fits d (declaration.Constant k v) x = tt
+    declared_fits d (declaration.«Type» of h) x = tt
+    declared_fits d (declaration.Procedure parameters) x = tt
+    declared_fits d (declaration.Function parameters of h) x = function_fits unit d results there
 
-  place_fits : (result : Option FunctionResult) → ResultIsThere declared result → (name : List ℕ) (m : Meant) → IsMeant declared agrees.0 m → Fits (λ t. IsTarget t.kind t.place) (place_named result name m)
-  place_fits result there name (Declares d) x = declared_fits result there d d.what x
-  place_fits result there name (Standard f) x = tt
-  place_fits result there name (Requires r) x = tt
-  place_fits result there name Nothing x = tt
+    place_fits : (name : List ℕ) (m : Meant) → IsMeant declared agrees.0 depth m → Fits (λ t. IsTarget t.kind t.place) (place_named depth unit results name m)
+    place_fits name (Declares d) x = declared_fits d d.what x
+    place_fits name (Standard f) x = tt
+    place_fits name (Requires r) x = tt
+    place_fits name Nothing x = tt
 
-  target_fits : (c : Context) → c.scopes ≡ scopes → ResultIsThere declared c.result → (name : List ℕ) (selectors : List Selector) → Fits (λ t. IsTarget t.kind t.place) (target_judged c name selectors)
-  target_fits c is there name [] = subst (λ s. Fits (λ t. IsTarget t.kind t.place) (place_named c.result name (meant s name))) (sym is) (place_fits c.result there name (meant scopes name) (meant-declared declared agrees.0 scopes name agrees.1))
+  target_fits : (c : Context) → c.scopes ≡ scopes → Results c → (name : List ℕ) (selectors : List Selector) → Fits (λ t. IsTarget t.kind t.place) (target_judged c name selectors)
+  target_fits c is there name [] =
+      subst (λ s. Fits (λ t. IsTarget t.kind t.place) (place_named (depth_in s) c.unit c.results name (meant s name))) (sym is) (place_fits c.unit c.results there name (meant scopes name) (meant-declared declared agrees.0 depth scopes name agrees.1))
   target_fits c is there name (s ∷ ss) = tt
 
   assign_fits : (to from : Kind) (line : ℕ) (place : Place) (form : Option Expr) → IsTarget to place → IsFormOf declared from form → Fits (IfForm (IsStmt declared)) (given_to (tree.Assign line place) to from form)
@@ -163,7 +172,7 @@ module _ (declared : Declarations) (expressions : ExpressionsAreSound) (passed :
   assign_fits kind.File kind.Text line place form p f = tt
   assign_fits kind.File kind.File line place form p f = tt
 
-  assignment_fits : (c : Context) → c.scopes ≡ scopes → ResultIsThere declared c.result → (line : ℕ) (name : List ℕ) (selectors : List Selector) (v : ComponentValue)
+  assignment_fits : (c : Context) → c.scopes ≡ scopes → Results c → (line : ℕ) (name : List ℕ) (selectors : List Selector) (v : ComponentValue)
       → Fits (IfForm (IsStmt declared)) (both (assigned line) (target_judged c name selectors) (judged_value c.scopes v))
   assignment_fits c is there line name selectors v =
       fits_both (λ t. IsTarget t.kind t.place) IsSoundForm (IfForm (IsStmt declared)) (assigned line) (target_judged c name selectors) (judged_value c.scopes v) (target_fits c is there name selectors)
@@ -344,19 +353,19 @@ module _ (declared : Declarations) (expressions : ExpressionsAreSound) (passed :
   required_fits c is line (required.Procedure p) arguments = procedure_fits c is line p arguments
 
   -- a call of a procedure with arguments that are valid for its formal parameters
-  call_form : (line : ℕ) (d : Declared) (parameters : List FormalParameter) (x : IsProcedureOf declared agrees.0 d.unit d.number parameters) (given : Option (List Actual))
-      → AreActuals declared (declared.types d.unit) x.0.formals given → IfForm (IsStmt declared) (option_map (λ xs. tree.Procedure line (callee_at d.unit d.number) (tree.actuals xs)) given)
-  call_form line d parameters x None h = tt
-  call_form line d parameters x (Some given) h = (x.0, x.1, x.2, h)
+  call_form : (line : ℕ) (callee : Callee) (parameters : List FormalParameter) (x : IsProcedureOf declared agrees.0 callee parameters) (given : Option (List Actual))
+      → AreActuals declared (declared.types callee.unit) x.0.formals given → IfForm (IsStmt declared) (option_map (λ xs. tree.Procedure line callee (tree.actuals xs)) given)
+  call_form line callee parameters x None h = tt
+  call_form line callee parameters x (Some given) h = (x.0, x.1, x.2, h)
 
-  own_fits : (c : Context) → c.scopes ≡ scopes → (line : ℕ) (d : Declared) (parameters : List FormalParameter) (arguments : List Argument) → IsProcedureOf declared agrees.0 d.unit d.number parameters
+  own_fits : (c : Context) → c.scopes ≡ scopes → (line : ℕ) (d : Declared) (parameters : List FormalParameter) (arguments : List Argument) → IsProcedureOf declared agrees.0 (callee_at depth d) parameters
       → Fits (IfForm (IsStmt declared)) (own_called c line d parameters arguments)
   own_fits c is line d parameters arguments x =
-      subst (λ s. Fits (IfForm (IsStmt declared)) (when_accepted form (arguments_judged parameters (map (given s) arguments)))) (sym is)
-      (fits_then IsTaken (IfForm (IsStmt declared)) form (arguments_judged parameters (map (given scopes) arguments)) taken (λ t h. call_form line d parameters x t.actuals h))
+      subst (λ s. Fits (IfForm (IsStmt declared)) (when_accepted (form (depth_in s)) (arguments_judged parameters (map (given s) arguments)))) (sym is)
+      (fits_then IsTaken (IfForm (IsStmt declared)) (form depth) (arguments_judged parameters (map (given scopes) arguments)) taken (λ t h. call_form line (callee_at depth d) parameters x t.actuals h))
     where
-      form : Taken → Judged (Option Stmt)
-      form t = Accepts (option_map (λ xs. tree.Procedure line (callee_at d.unit d.number) (tree.actuals xs)) t.actuals)
+      form : ℕ → Taken → Judged (Option Stmt)
+      form n t = Accepts (option_map (λ xs. tree.Procedure line (callee_at n d) (tree.actuals xs)) t.actuals)
 
       -- what is given is valid for the formal parameters of the procedure
       IsTaken : Taken → Type 0
@@ -367,7 +376,7 @@ module _ (declared : Declarations) (expressions : ExpressionsAreSound) (passed :
           fits_weaker (λ t. arguments_judged parameters (map (given scopes) arguments) ≡ Accepts t) IsTaken (arguments_judged parameters (map (given scopes) arguments))
           (λ t e. passed scopes parameters arguments t e declared agrees.0 agrees.1 (declared.types d.unit) x.0.formals x.3) (fits_is (arguments_judged parameters (map (given scopes) arguments)))
 
-  declared_call_fits : (c : Context) → c.scopes ≡ scopes → (line : ℕ) (d : Declared) (what : Declaration) (arguments : List Argument) → IsDeclaration declared agrees.0 d.unit d.number what → Fits (IfForm (IsStmt declared)) (declared_called c line d what arguments)
+  declared_call_fits : (c : Context) → c.scopes ≡ scopes → (line : ℕ) (d : Declared) (what : Declaration) (arguments : List Argument) → IsDeclaration declared agrees.0 depth d what → Fits (IfForm (IsStmt declared)) (declared_called c line d what arguments)
   declared_call_fits c is line d (declaration.Procedure parameters) arguments x = own_fits c is line d parameters arguments x
   declared_call_fits c is line d (declaration.Function parameters of h) arguments x = tt
   declared_call_fits c is line d (declaration.Constant k v) arguments x = tt
@@ -375,7 +384,7 @@ module _ (declared : Declarations) (expressions : ExpressionsAreSound) (passed :
   declared_call_fits c is line d (declaration.Variable of k) arguments x = tt
   declared_call_fits c is line d (declaration.Own of k guarded) arguments x = tt
 
-  call_fits : (c : Context) → c.scopes ≡ scopes → (line : ℕ) (name : List ℕ) (m : Meant) (arguments : List Argument) → IsMeant declared agrees.0 m → Fits (IfForm (IsStmt declared)) (call_judged c line name m arguments)
+  call_fits : (c : Context) → c.scopes ≡ scopes → (line : ℕ) (name : List ℕ) (m : Meant) (arguments : List Argument) → IsMeant declared agrees.0 depth m → Fits (IfForm (IsStmt declared)) (call_judged c line name m arguments)
   call_fits c is line name (Declares d) arguments x = declared_call_fits c is line d d.what arguments x
   call_fits c is line name (Standard f) arguments x = tt
   call_fits c is line name (Requires r) arguments x = required_fits c is line r arguments
@@ -383,11 +392,11 @@ module _ (declared : Declarations) (expressions : ExpressionsAreSound) (passed :
 
   called_fits : (c : Context) → c.scopes ≡ scopes → (line : ℕ) (name : List ℕ) (arguments : Option (List Argument)) → Fits (IfForm (IsStmt declared)) (name_called c line name arguments)
   called_fits c is line name None = tt
-  called_fits c is line name (Some arguments) = call_fits c is line name (meant c.scopes name) arguments (subst (λ s. IsMeant declared agrees.0 (meant s name)) (sym is) (meant-declared declared agrees.0 scopes name agrees.1))
+  called_fits c is line name (Some arguments) = call_fits c is line name (meant c.scopes name) arguments (subst (λ s. IsMeant declared agrees.0 depth (meant s name)) (sym is) (meant-declared declared agrees.0 depth scopes name agrees.1))
 
   -- ---- statements
 
-  module _ (c : Context) (is : c.scopes ≡ scopes) (there : ResultIsThere declared c.result) where
+  module _ (c : Context) (is : c.scopes ≡ scopes) (there : Results c) where
     abbrev Sound : Judgement Stmt → Type 0
     Sound = FitsRow (IsSound declared c.locals)
 

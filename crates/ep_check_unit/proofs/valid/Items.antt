@@ -17,7 +17,6 @@ use Rattle.ep_typed.specs.declared.tree.StandardFile.{StandardFile}
 use Rattle.ep_typed.specs.declared.unit.Unit.{Unit as TypedUnit}
 use Rattle.ep_typed.specs.declared.unit.UnitType.{UnitType}
 use Rattle.ep_typed.specs.declared.unit.UnitVariable.{UnitVariable}
-use Rattle.ep_scope.specs.Scopes.{Region}
 use Rattle.ep_scope.specs.declared.kind.Host.{Host}
 use Rattle.ep_scope.specs.declared.kind.Kind.TheVariants as kind
 use Rattle.ep_scope.specs.declared.parameter.FormalParameter.{FormalParameter}
@@ -33,12 +32,14 @@ use Rattle.ep_check_unit.specs.Declarations.{Standing, Stands, Falls, Written, a
 use Rattle.ep_check_unit.specs.Routines.{formal_of}
 use Rattle.ep_check_unit.specs.Units.{parameter_entered, parameters_entered, standard_file}
 use Rattle.ep_check_unit.specs.Blocks.{Block, own_count, result_count}
+use Rattle.ep_check_unit.specs.declared.block.Enclosing.{Enclosing}
 use Rattle.ep_check_unit.specs.declared.block.OwnResult.{OwnResult}
 use Rattle.ep_check_unit.specs.declared.block.OwnVariables.{OwnVariables}
 use Rattle.ep_check_unit.proofs.valid.Constants.{constant_definition-leads}
 use Rattle.ep_check_unit.proofs.valid.Denoting.{Denotes, denotes_named, denotes_valid}
-use Rattle.ep_check_unit.proofs.valid.Holds.{HasTypeHere, Holds, Lists, named_is, things_push}
-use Rattle.ep_check_unit.proofs.valid.Leading.{Enters, Extends, Grows, Leads, enters_refl, enters_then, entered_leads, extends_before, grows_refl, grows_trans, head_in, leads_refl, leads_then, leads_trans, length_push, named_holds, prefix_last, prefix_length, prefix_more, prefix_refl, result_in, variables_in}
+use Rattle.ep_check_unit.proofs.valid.Holds.{HasTypeHere, Holds, Lists, innermost, levels_at, named_is, own_innermost, things_push}
+use Rattle.ep_check_unit.proofs.valid.Open.{IsOpen, open_push}
+use Rattle.ep_check_unit.proofs.valid.Leading.{Enters, Extends, Grows, Leads, bodies_refl, enters_refl, enters_then, entered_leads, extends_before, grows_refl, grows_trans, head_in, leads_refl, leads_then, leads_trans, length_push, named_grows, named_holds, prefix_last, prefix_length, prefix_more, prefix_refl, result_in, variables_in}
 use Rattle.ep_check_unit.proofs.valid.Types.{IsNext, Names, Writes, core_written-writes, type_named-names}
 
 -- the entry of a type that is added
@@ -53,7 +54,7 @@ own_length line name (p ∷ ps) r vs = omega (arith, own_length line name ps r v
 
 -- the variable of a routine that was added last, by its number
 own_last : (own : OwnVariables) (v : UnitVariable) (line : ℕ) (name : List ℕ) (o : List UnitVariable)
-    → IsPrefix (variables_in line name (record { parameters = own.parameters; result = own.result; variables = own.variables ++ v ∷ [] })) o → slice_get o (own_count own) ≡ Some v
+    → IsPrefix (variables_in line name (record { parameters = own.parameters; result = own.result; variables = own.variables ++ v ∷ []; enclosing = own.enclosing })) o → slice_get o (own_count own) ≡ Some v
 own_last own v line name o p =
     let front : List UnitVariable = map (formal_variable line) (map formal_of own.parameters) in
     let result : List UnitVariable = result_in line name own.result in
@@ -62,32 +63,32 @@ own_last own v line name o p =
     subst (λ n. slice_get o n ≡ Some v) (own_length line name own.parameters own.result own.variables)
     (prefix_last (front ++ (result ++ own.variables)) v o (subst (λ l. IsPrefix l o) last p))
 
--- in a routine there are scopes around the innermost one
-inner_has_outer : (rs : List Region) → is_outermost rs ≡ false → rs ≡ [] → ⊥
+-- in a routine one is under way
+inner_has_outer : (es : List Enclosing) → is_outermost es ≡ false → es ≡ [] → ⊥
 inner_has_outer [] e f = cc
-inner_has_outer (r ∷ rs) e f = cc
+inner_has_outer (x ∷ es) e f = cc
 
-module _ (u : TypedUnit) (o : List UnitVariable) where
+module _ (u : TypedUnit) where
   -- ---- types that stand
 
   -- what the unit holds of a type that stands
   pub record Stood (w : Written) : Type 0 where
-    pub block : Holds u o (length w.block.types) w.block
+    pub block : Holds u (length w.block.types) w.block
     pub denotes : HasTypeHere u (length w.block.types) (denoter_of w.denoter) w.of w.host
     pub lists : Lists u (length w.block.types) w.host
 
   -- The type stands, with an entry where it needed one.
   pub record Settles (b : Block) (w : Written) : Type 0 where
     pub grows : Grows b w.block
-    pub holds : Extends u o w.block → w.block.waits ≡ None → Holds u o (length b.types) b → Stood w
+    pub holds : IsOpen b → Extends u w.block → w.block.waits ≡ None → Holds u (length b.types) b → Stood w
 
-  named_settles : (b : Block) (w : Written) → Names u o b w → Settles b w
+  named_settles : (b : Block) (w : Written) → Names u b w → Settles b w
   named_settles b w n = record {
     grows = subst (Grows b) (sym n.same) (grows_refl b);
-    holds = λ e free x.
+    holds = λ under e free x.
         let y = n.holds (length b.types) x in
         record {
-          block = subst (λ c. Holds u o (length c.types) c) (sym n.same) x;
+          block = subst (λ c. Holds u (length c.types) c) (sym n.same) x;
           denotes = subst (λ c. HasTypeHere u (length c.types) (denoter_of w.denoter) w.of w.host) (sym n.same) y.0;
           lists = subst (λ c. Lists u (length c.types) w.host) (sym n.same) y.1;
         };
@@ -98,21 +99,35 @@ module _ (u : TypedUnit) (o : List UnitVariable) where
   with_entry_of name line w = record { denoter = denoter.Named (length w.block.types) []; of = w.of; host = w.host; block = with_type name line w.denoter w.block }
 
   type_grows : (name : Option (List ℕ)) (line : ℕ) (d : Denoter) (b : Block) → Grows b (with_type name line d b)
-  type_grows name line d b = record { types = prefix_more b.types _; constants = prefix_refl b.constants; variables = prefix_refl b.variables; own = prefix_refl b.own.variables; parameters = refl; result = refl; outer = refl; alone = λ e. refl; headings = prefix_refl (map head_in b.routines); waits = λ w. w }
+  type_grows name line d b = record {
+    types = prefix_more b.types _;
+    constants = prefix_refl b.constants;
+    variables = prefix_refl b.variables;
+    own = prefix_refl b.own.variables;
+    parameters = refl;
+    result = refl;
+    enclosing = refl;
+    outer = refl;
+    alone = λ e. refl;
+    headings = prefix_refl (map head_in b.routines);
+    waits = λ w. w;
+    opens = λ x. x;
+    bodies = λ x. bodies_refl b;
+  }
 
-  pub written_settles : (name : Option (List ℕ)) (line : ℕ) (b : Block) (w : Written) → Writes u o b w → Settles b (with_entry_of name line w)
+  pub written_settles : (name : Option (List ℕ)) (line : ℕ) (b : Block) (w : Written) → Writes u b w → Settles b (with_entry_of name line w)
   written_settles name line b w wr = record {
     grows = grows_trans b w.block (with_type name line w.denoter w.block) wr.grows (type_grows name line w.denoter w.block);
-    holds = λ ext free x.
+    holds = λ under ext free x.
         let i : ℕ = length b.types in
         let entry = new_entry name line w.denoter w.block in
         let at = prefix_last w.block.types entry u.types ext.types in
         let count : length w.block.types ≡ i = ap length wr.same in
         let total : length (w.block.types ++ entry ∷ []) ≡ suc i = length_push w.block.types entry ∙ ap suc count in
         let le : suc i ≤ length u.types = subst (λ n. n ≤ length u.types) total (prefix_length (w.block.types ++ entry ∷ []) u.types ext.types) in
-        let next : IsNext u o b (denoter_of w.denoter) = record { entry = entry; at = subst (λ n. slice_get u.types n ≡ Some entry) count at; definition = refl } in
-        let y = wr.holds (extends_before u o w.block (with_type name line w.denoter w.block) (type_grows name line w.denoter w.block) ext) free next x in
-        let held : Holds u o (suc i) (with_type name line w.denoter w.block) = record {
+        let next : IsNext u b (denoter_of w.denoter) = record { entry = entry; at = subst (λ n. slice_get u.types n ≡ Some entry) count at; definition = refl } in
+        let y = wr.holds under (extends_before u w.block (with_type name line w.denoter w.block) (type_grows name line w.denoter w.block) (wr.grows.opens under) ext) free next x in
+        let held : Holds u (suc i) (with_type name line w.denoter w.block) = record {
           unit = y.block.unit;
           things = y.block.things;
           plain = y.block.plain;
@@ -124,12 +139,14 @@ module _ (u : TypedUnit) (o : List UnitVariable) where
           parameters = y.block.parameters;
           result = y.block.result;
           owned = y.block.owned;
+          headed = y.block.headed;
+          results = y.block.results;
         } in
         let named : Denotes u.types (suc i) (denoter_of (denoter.Named (length w.block.types) [])) (typed_host w.host) y.denotes.0 =
         subst (λ d. Denotes u.types (suc i) d (typed_host w.host) y.denotes.0) (sym (named_is (length w.block.types) []))
         (denotes_named u.types (length w.block.types) i entry (typed_host w.host) y.denotes.0 at y.denotes.1) in
         record {
-          block = subst (λ n. Holds u o n (with_type name line w.denoter w.block)) (sym total) held;
+          block = subst (λ n. Holds u n (with_type name line w.denoter w.block)) (sym total) held;
           denotes = subst (λ n. HasTypeHere u n (denoter_of (denoter.Named (length w.block.types) [])) w.of w.host) (sym total) (y.denotes.0, named, y.of);
           lists = subst (λ n. Lists u n w.host) (sym total) y.lists;
         };
@@ -137,17 +154,17 @@ module _ (u : TypedUnit) (o : List UnitVariable) where
 
   -- ---- type definitions
 
-  definition_leads : (d : TypeDefinition) (b : Block) (w : Written) → Writes u o b w → Fits (Leads u o b) (type_entered d w)
+  definition_leads : (d : TypeDefinition) (b : Block) (w : Written) → Writes u b w → Fits (Leads u b) (type_entered d w)
   definition_leads d b w wr =
       let c : Block = with_type (Some d.name) d.line w.denoter w.block in
       let s = written_settles (Some d.name) d.line b w wr in
       let t = own_thing w.block (length w.block.types) (declaration.«Type» w.of w.host) in
-      fits_then Any (Leads u o b) (λ _. Accepts (with_name d.name t c)) (unused d.name c) (fits_any (unused d.name c))
+      fits_then Any (Leads u b) (λ _. Accepts (with_name d.name t c)) (unused d.name c) (fits_any (unused d.name c))
       (λ a k. record {
-        grows = grows_trans b c (with_name d.name t c) s.grows (record { types = prefix_refl c.types; constants = prefix_refl c.constants; variables = prefix_refl c.variables; own = prefix_refl c.own.variables; parameters = refl; result = refl; outer = refl; alone = λ e. refl; headings = prefix_refl (map head_in c.routines); waits = λ free. free });
-        holds = λ ext free x.
-            let y = s.holds (record { types = ext.types; constants = ext.constants; variables = ext.variables; line = ext.line; name = ext.name; own = ext.own; headings = ext.headings }) free x in
-            named_holds u o (length c.types) d.name t c (
+        grows = grows_trans b c (with_name d.name t c) s.grows (named_grows u d.name t c (λ x. tt));
+        holds = λ under ext free x.
+            let y = s.holds under (extends_before u c (with_name d.name t c) (named_grows u d.name t c (λ x. tt)) (s.grows.opens under) ext) free x in
+            named_holds u (length c.types) d.name t c (
               y.block.unit,
               record {
                 lists = y.lists;
@@ -161,15 +178,15 @@ module _ (u : TypedUnit) (o : List UnitVariable) where
 
   -- what stands is led to
   abbrev pub LeadsOn : Block → Standing → Type 0
-  LeadsOn b (Stands c) = Leads u o b c
+  LeadsOn b (Stands c) = Leads u b c
   LeadsOn b (Falls line rules) = ⊤
 
-  pub line_leads : (b : Block) (line : ℕ) (j : Judged Block) → Fits (Leads u o b) j → LeadsOn b (at_line line j)
+  pub line_leads : (b : Block) (line : ℕ) (j : Judged Block) → Fits (Leads u b) j → LeadsOn b (at_line line j)
   line_leads b line (Accepts c) h = h
   line_leads b line (Breaks rules) h = tt
 
-  pub further : (b c : Block) (s : Standing) → Leads u o b c → LeadsOn c s → LeadsOn b s
-  further b c (Stands d) p q = leads_trans u o b c d p q
+  pub further : (b c : Block) (s : Standing) → Leads u b c → LeadsOn c s → LeadsOn b s
+  further b c (Stands d) p q = leads_trans u b c d p q
   further b c (Falls line rules) p q = tt
 
   pub then_leads : (b : Block) (more : Block → Standing) (s : Standing) → LeadsOn b s → ((c : Block) → LeadsOn c (more c)) → LeadsOn b (and_then more s)
@@ -177,27 +194,27 @@ module _ (u : TypedUnit) (o : List UnitVariable) where
   then_leads b more (Falls line rules) h g = tt
 
   module _ (few : length u.constants ≤ maxint) (bounds : BoundsAreSound) (bound_hosts : BoundsAreKnown) where
-    type_definition-leads : (line : ℕ) (d : TypeDefinition) (b : Block) → Fits (Leads u o b) (type_definition line d b)
+    type_definition-leads : (line : ℕ) (d : TypeDefinition) (b : Block) → Fits (Leads u b) (type_definition line d b)
     type_definition-leads line d b =
-        fits_then (Writes u o b) (Leads u o b) (type_entered d) (type_written line d.of b) (core_written-writes u o few bounds bound_hosts line (out-Core (core_of d.of)) b) (λ w wr. definition_leads d b w wr)
+        fits_then (Writes u b) (Leads u b) (type_entered d) (type_written line d.of b) (core_written-writes u few bounds bound_hosts line (out-Core (core_of d.of)) b) (λ w wr. definition_leads d b w wr)
 
-    pub type_definitions-leads : (line : ℕ) (ds : List TypeDefinition) (b : Block) → Fits (Leads u o b) (type_definitions line ds b)
-    type_definitions-leads line [] b = leads_refl u o b
-    type_definitions-leads line (d ∷ ds) b = leads_then u o b (type_definitions line ds) (type_definition line d b) (type_definition-leads line d b) (λ c. type_definitions-leads line ds c)
+    pub type_definitions-leads : (line : ℕ) (ds : List TypeDefinition) (b : Block) → Fits (Leads u b) (type_definitions line ds b)
+    type_definitions-leads line [] b = leads_refl u b
+    type_definitions-leads line (d ∷ ds) b = leads_then u b (type_definitions line ds) (type_definition line d b) (type_definition-leads line d b) (λ c. type_definitions-leads line ds c)
 
     -- ---- variable declarations
 
     -- what is known of a type that was written as this
     abbrev WrittenAs : {A B C D E F G H : Type 0} → Core-F A B C D E F G H → Block → Written → Type 0
-    WrittenAs (Core-F.Named at name tuple) b w = Names u o b w
-    WrittenAs _ b w = Writes u o b w
+    WrittenAs (Core-F.Named at name tuple) b w = Names u b w
+    WrittenAs _ b w = Writes u b w
 
     written_as : {A B C D E F G H : Type 0} (line : ℕ) (core : Core-F A B C D E F G H) (b : Block) → Fits (WrittenAs core b) (core_written line core b)
-    written_as line (Core-F.Named at name tuple) b = type_named-names u o name.first name.second b
+    written_as line (Core-F.Named at name tuple) b = type_named-names u name.first name.second b
     written_as {A = A} {B = B} {C = C} {D = D} {E = E} {F = F} {G = G} {H = H} line (Core-F.Range at low high) b =
-        core_written-writes u o {A = A} {B = B} {C = C} {D = D} {E = E} {F = F} {G = G} {H = H} few bounds bound_hosts line (Core-F.Range at low high) b
+        core_written-writes u {A = A} {B = B} {C = C} {D = D} {E = E} {F = F} {G = G} {H = H} few bounds bound_hosts line (Core-F.Range at low high) b
     written_as {A = A} {B = B} {C = C} {D = D} {E = E} {F = F} {G = G} {H = H} line (Core-F.Enumeration at names) b =
-        core_written-writes u o {A = A} {B = B} {C = C} {D = D} {E = E} {F = F} {G = G} {H = H} few bounds bound_hosts line (Core-F.Enumeration at names) b
+        core_written-writes u {A = A} {B = B} {C = C} {D = D} {E = E} {F = F} {G = G} {H = H} few bounds bound_hosts line (Core-F.Enumeration at names) b
     written_as line (Core-F.Pointer at name) b = tt
     written_as line (Core-F.Structured at packed structure) b = tt
     written_as line (Core-F.Restricted at name) b = tt
@@ -220,16 +237,30 @@ module _ (u : TypedUnit) (o : List UnitVariable) where
     IsStanding i d of h = (i ≤ length u.types) × HasTypeHere u i (denoter_of d) of h × Lists u i h
 
     -- a variable of the unit
-    unit_variable_enters : (i line : ℕ) (d : Denoter) (of : TypeName) (h : Host) (name : List ℕ) (b : Block) → Enters u o (IsStanding i d of h) i b (with_unit_variable line d of h name b)
+    unit_variable_enters : (i line : ℕ) (d : Denoter) (of : TypeName) (h : Host) (name : List ℕ) (b : Block) → Enters u (IsStanding i d of h) i b (with_unit_variable line d of h name b)
     unit_variable_enters i line d of h name b =
         let t = own_thing b (length b.variables) (declaration.Variable of (kind.Ordinal h)) in
         let v = new_variable line d name b in
         record {
-          grows = record { types = prefix_refl b.types; constants = prefix_refl b.constants; variables = prefix_more b.variables (v ∷ []); own = prefix_refl b.own.variables; parameters = refl; result = refl; outer = refl; alone = λ e. refl; headings = prefix_refl (map head_in b.routines); waits = λ free. free };
+          grows = record {
+            types = prefix_refl b.types;
+            constants = prefix_refl b.constants;
+            variables = prefix_more b.variables (v ∷ []);
+            own = prefix_refl b.own.variables;
+            parameters = refl;
+            result = refl;
+            enclosing = refl;
+            outer = refl;
+            alone = λ e. refl;
+            headings = prefix_refl (map head_in b.routines);
+            waits = λ free. free;
+            opens = λ y. open_push b.scopes.inner.entries b.scopes.outer b.own.enclosing (length b.routines) b.bodies name t tt y;
+            bodies = λ y. bodies_refl b;
+          };
           same = refl;
-          holds = λ p ext x. record {
+          holds = λ p under ext x. record {
             unit = x.unit;
-            things = things_push u o i b.scopes.inner.entries name t x.things (x.unit, record { lists = p.2; variable = v; at = prefix_last b.variables v u.variables ext.variables; denotes = p.1 });
+            things = things_push u b.own.enclosing i b.scopes.inner.entries name t x.things (x.unit, record { lists = p.2; variable = v; at = prefix_last b.variables v u.variables ext.variables; denotes = p.1 });
             plain = x.plain;
             outer = x.outer;
             routines = x.routines;
@@ -239,20 +270,36 @@ module _ (u : TypedUnit) (o : List UnitVariable) where
             parameters = x.parameters;
             result = x.result;
             owned = x.owned;
+            headed = x.headed;
+            results = x.results;
           };
         }
 
     -- a variable of the routine
-    own_variable_enters : (i line : ℕ) (d : Denoter) (of : TypeName) (h : Host) (name : List ℕ) (b : Block) → is_outermost b.scopes.outer ≡ false → Enters u o (IsStanding i d of h) i b (with_own_variable line d of h name b)
+    own_variable_enters : (i line : ℕ) (d : Denoter) (of : TypeName) (h : Host) (name : List ℕ) (b : Block) → is_outermost b.own.enclosing ≡ false → Enters u (IsStanding i d of h) i b (with_own_variable line d of h name b)
     own_variable_enters i line d of h name b inside =
         let t = own_thing b (own_count b.own) (declaration.Own of (kind.Ordinal h) protection.Unprotected) in
         let v = new_variable line d name b in
         record {
-          grows = record { types = prefix_refl b.types; constants = prefix_refl b.constants; variables = prefix_refl b.variables; own = prefix_more b.own.variables (v ∷ []); parameters = refl; result = refl; outer = refl; alone = λ e. absurd (inner_has_outer b.scopes.outer inside e); headings = prefix_refl (map head_in b.routines); waits = λ free. free };
+          grows = record {
+            types = prefix_refl b.types;
+            constants = prefix_refl b.constants;
+            variables = prefix_refl b.variables;
+            own = prefix_more b.own.variables (v ∷ []);
+            parameters = refl;
+            result = refl;
+            enclosing = refl;
+            outer = refl;
+            alone = λ e. absurd (inner_has_outer b.own.enclosing inside e);
+            headings = prefix_refl (map head_in b.routines);
+            waits = λ free. free;
+            opens = λ y. open_push b.scopes.inner.entries b.scopes.outer b.own.enclosing (length b.routines) b.bodies name t tt y;
+            bodies = λ y. bodies_refl b;
+          };
           same = refl;
-          holds = λ p ext x. record {
+          holds = λ p under ext x. record {
             unit = x.unit;
-            things = things_push u o i b.scopes.inner.entries name t x.things (x.unit, record { lists = p.2; variable = v; at = own_last b.own v ext.line ext.name o ext.own; denotes = p.1 });
+            things = things_push u b.own.enclosing i b.scopes.inner.entries name t x.things (x.unit, own_innermost u b.own.enclosing i (own_count b.own) of h v p.2 (own_last b.own v ext.line ext.name (innermost (levels_at u.routines b.own.enclosing)) ext.own) p.1);
             plain = x.plain;
             outer = x.outer;
             routines = x.routines;
@@ -262,59 +309,89 @@ module _ (u : TypedUnit) (o : List UnitVariable) where
             parameters = x.parameters;
             result = x.result;
             owned = All-push (IsVariable u.types) b.own.variables v x.owned (record { denoter = denotes_valid u.types i (denoter_of d) (typed_host h) p.1.0 p.0 p.1.1; tuple = refl });
+            headed = x.headed;
+            results = x.results;
           };
         }
 
     -- whichever it is
-    placed_enters : (i line : ℕ) (d : Denoter) (of : TypeName) (h : Host) (name : List ℕ) (b : Block) (outermost : Bool) → is_outermost b.scopes.outer ≡ outermost → Enters u o (IsStanding i d of h) i b (if outermost then with_unit_variable line d of h name b else with_own_variable line d of h name b)
+    placed_enters : (i line : ℕ) (d : Denoter) (of : TypeName) (h : Host) (name : List ℕ) (b : Block) (outermost : Bool) → is_outermost b.own.enclosing ≡ outermost → Enters u (IsStanding i d of h) i b (if outermost then with_unit_variable line d of h name b else with_own_variable line d of h name b)
     placed_enters i line d of h name b true e = unit_variable_enters i line d of h name b
     placed_enters i line d of h name b false e = own_variable_enters i line d of h name b e
 
-    variable_enters : (i line : ℕ) (d : Denoter) (of : TypeName) (h : Host) (name : List ℕ) (b : Block) → Fits (Enters u o (IsStanding i d of h) i b) (variable_entered line d of h name b)
+    variable_enters : (i line : ℕ) (d : Denoter) (of : TypeName) (h : Host) (name : List ℕ) (b : Block) → Fits (Enters u (IsStanding i d of h) i b) (variable_entered line d of h name b)
     variable_enters i line d of h name b =
-        fits_then Any (Enters u o (IsStanding i d of h) i b) (λ _. Accepts (with_variable line d of h name b)) (unused name b) (fits_any (unused name b))
-        (λ a k. placed_enters i line d of h name b (is_outermost b.scopes.outer) refl)
+        fits_then Any (Enters u (IsStanding i d of h) i b) (λ _. Accepts (with_variable line d of h name b)) (unused name b) (fits_any (unused name b))
+        (λ a k. placed_enters i line d of h name b (is_outermost b.own.enclosing) refl)
 
-    variables_enter : (i line : ℕ) (d : Denoter) (of : TypeName) (h : Host) (names : List (List ℕ)) (b : Block) → Fits (Enters u o (IsStanding i d of h) i b) (variables_entered line d of h names b)
-    variables_enter i line d of h [] b = enters_refl u o (IsStanding i d of h) i b
+    variables_enter : (i line : ℕ) (d : Denoter) (of : TypeName) (h : Host) (names : List (List ℕ)) (b : Block) → Fits (Enters u (IsStanding i d of h) i b) (variables_entered line d of h names b)
+    variables_enter i line d of h [] b = enters_refl u (IsStanding i d of h) i b
     variables_enter i line d of h (name ∷ names) b =
-        enters_then u o (IsStanding i d of h) i b (variables_entered line d of h names) (variable_entered line d of h name b) (variable_enters i line d of h name b) (λ c. variables_enter i line d of h names c)
+        enters_then u (IsStanding i d of h) i b (variables_entered line d of h names) (variable_entered line d of h name b) (variable_enters i line d of h name b) (λ c. variables_enter i line d of h names c)
 
-    ended_leads : (b c : Block) (w : Written) → Settles b w → Enters u o (IsStanding (length w.block.types) w.denoter w.of w.host) (length w.block.types) w.block c → Leads u o b (declaration_ended c)
+    ended_leads : (b c : Block) (w : Written) → Settles b w → Enters u (IsStanding (length w.block.types) w.denoter w.of w.host) (length w.block.types) w.block c → Leads u b (declaration_ended c)
     ended_leads b c w s e = record {
-      grows = grows_trans b w.block (declaration_ended c) s.grows (record { types = e.grows.types; constants = e.grows.constants; variables = e.grows.variables; own = e.grows.own; parameters = e.grows.parameters; result = e.grows.result; outer = e.grows.outer; alone = e.grows.alone; headings = e.grows.headings; waits = e.grows.waits });
-      holds = λ ext free x.
-          let there : Extends u o c = record { types = ext.types; constants = ext.constants; variables = ext.variables; line = ext.line; name = ext.name; own = ext.own; headings = ext.headings } in
-          let before : Extends u o w.block = extends_before u o w.block c e.grows there in
-          let y = s.holds before (e.grows.waits free) x in
-          let z : Holds u o (length w.block.types) c = e.holds (prefix_length w.block.types u.types before.types, y.denotes, y.lists) there y.block in
+      grows = grows_trans b w.block (declaration_ended c) s.grows (record {
+        types = e.grows.types;
+        constants = e.grows.constants;
+        variables = e.grows.variables;
+        own = e.grows.own;
+        parameters = e.grows.parameters;
+        result = e.grows.result;
+        enclosing = e.grows.enclosing;
+        outer = e.grows.outer;
+        alone = e.grows.alone;
+        headings = e.grows.headings;
+        waits = e.grows.waits;
+        opens = e.grows.opens;
+        bodies = e.grows.bodies;
+      });
+      holds = λ under ext free x.
+          let there : Extends u c = record { types = ext.types; constants = ext.constants; variables = ext.variables; line = ext.line; name = ext.name; own = ext.own; headings = ext.headings; bodies = ext.bodies } in
+          let before : Extends u w.block = extends_before u w.block c e.grows (s.grows.opens under) there in
+          let y = s.holds under before (e.grows.waits free) x in
+          let z : Holds u (length w.block.types) c = e.holds (prefix_length w.block.types u.types before.types, y.denotes, y.lists) (s.grows.opens under) there y.block in
           let count : length c.types ≡ length w.block.types = ap length e.same in
-          subst (λ n. Holds u o n (declaration_ended c)) (sym count) (record { unit = z.unit; things = z.things; plain = z.plain; outer = z.outer; routines = z.routines; types = z.types; constants = z.constants; variables = z.variables; parameters = z.parameters; result = z.result; owned = z.owned });
+          subst (λ n. Holds u n (declaration_ended c)) (sym count) (record {
+            unit = z.unit;
+            things = z.things;
+            plain = z.plain;
+            outer = z.outer;
+            routines = z.routines;
+            types = z.types;
+            constants = z.constants;
+            variables = z.variables;
+            parameters = z.parameters;
+            result = z.result;
+            owned = z.owned;
+            headed = z.headed;
+            results = z.results;
+          });
     }
 
-    variable_declaration-leads : (d : VariableDeclaration) (b : Block) → Fits (Leads u o b) (variable_declaration d b)
+    variable_declaration-leads : (d : VariableDeclaration) (b : Block) → Fits (Leads u b) (variable_declaration d b)
     variable_declaration-leads d b =
-        fits_then (Settles b) (Leads u o b) (variables_declared d) (settled_type d.line (out-Core (core_of d.of)) b) (settled_type-settles d.line (out-Core (core_of d.of)) b)
-        (λ w s. fits_then (Enters u o (IsStanding (length w.block.types) w.denoter w.of w.host) (length w.block.types) w.block) (Leads u o b) (λ c. Accepts (declaration_ended c)) (variables_entered d.line w.denoter w.of w.host d.names w.block)
+        fits_then (Settles b) (Leads u b) (variables_declared d) (settled_type d.line (out-Core (core_of d.of)) b) (settled_type-settles d.line (out-Core (core_of d.of)) b)
+        (λ w s. fits_then (Enters u (IsStanding (length w.block.types) w.denoter w.of w.host) (length w.block.types) w.block) (Leads u b) (λ c. Accepts (declaration_ended c)) (variables_entered d.line w.denoter w.of w.host d.names w.block)
         (variables_enter (length w.block.types) d.line w.denoter w.of w.host d.names w.block) (λ c e. ended_leads b c w s e))
 
     -- ---- parts of a block
 
     pub variables_lead : (ds : List VariableDeclaration) (b : Block) → LeadsOn b (all_variables_declared ds b)
-    variables_lead [] b = leads_refl u o b
+    variables_lead [] b = leads_refl u b
     variables_lead (d ∷ ds) b = then_leads b (all_variables_declared ds) (at_line d.line (variable_declaration d b)) (line_leads b d.line (variable_declaration d b) (variable_declaration-leads d b)) (λ c. variables_lead ds c)
 
     module _ (constants : ConstantsAreSound) (constant_hosts : ConstantsAreKnown) where
       pub constants_lead : (ds : List ConstantDefinition) (b : Block) → LeadsOn b (constants_declared ds b)
-      constants_lead [] b = leads_refl u o b
-      constants_lead (d ∷ ds) b = then_leads b (constants_declared ds) (at_line d.line (constant_definition d b)) (line_leads b d.line (constant_definition d b) (constant_definition-leads u o constants constant_hosts d b)) (λ c. constants_lead ds c)
+      constants_lead [] b = leads_refl u b
+      constants_lead (d ∷ ds) b = then_leads b (constants_declared ds) (at_line d.line (constant_definition d b)) (line_leads b d.line (constant_definition d b) (constant_definition-leads u constants constant_hosts d b)) (λ c. constants_lead ds c)
 
   -- ---- parameters of a program
 
-  parameter_leads : (name : List ℕ) (f : Option StandardFile) (b : Block) → Fits (Leads u o b) (parameter_entered name f b)
+  parameter_leads : (name : List ℕ) (f : Option StandardFile) (b : Block) → Fits (Leads u b) (parameter_entered name f b)
   parameter_leads name None b = tt
-  parameter_leads name (Some f) b = entered_leads u o name (thing.Standard f) b (λ e x. tt)
+  parameter_leads name (Some f) b = entered_leads u name (thing.Standard f) b (λ under. tt) (λ under e x. tt)
 
-  pub parameters_lead : (names : List (List ℕ)) (b : Block) → Fits (Leads u o b) (parameters_entered names b)
-  parameters_lead [] b = leads_refl u o b
-  parameters_lead (name ∷ names) b = leads_then u o b (parameters_entered names) (parameter_entered name (standard_file name) b) (parameter_leads name (standard_file name) b) (λ c. parameters_lead names c)
+  pub parameters_lead : (names : List (List ℕ)) (b : Block) → Fits (Leads u b) (parameters_entered names b)
+  parameters_lead [] b = leads_refl u b
+  parameters_lead (name ∷ names) b = leads_then u b (parameters_entered names) (parameter_entered name (standard_file name) b) (parameter_leads name (standard_file name) b) (λ c. parameters_lead names c)

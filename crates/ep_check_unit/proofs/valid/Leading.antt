@@ -10,11 +10,12 @@ use Rattle.ep_scope.specs.declared.thing.Thing.{Thing}
 use Rattle.ep_check_expr.specs.Judgements.{Judged, Accepts, Breaks, when_accepted}
 use Rattle.ep_check_stmt.proofs.judged.Fits.{Any, Fits, fits_any, fits_then}
 use Rattle.ep_check_unit.specs.Declarations.{entered, noted, type_denoter, unused, with_name}
-use Rattle.ep_check_unit.specs.Routines.{formal_of}
-use Rattle.ep_check_unit.specs.Blocks.{Block, RoutineForm}
+use Rattle.ep_check_unit.specs.Routines.{formal_of, has_number}
+use Rattle.ep_check_unit.specs.Blocks.{Block, RoutineForm, routine_form}
 use Rattle.ep_check_unit.specs.declared.block.OwnResult.{OwnResult}
 use Rattle.ep_check_unit.specs.declared.block.OwnVariables.{OwnVariables}
-use Rattle.ep_check_unit.proofs.valid.Holds.{Head, Holds, HoldsThing, head_of, things_push}
+use Rattle.ep_check_unit.proofs.valid.Holds.{Head, Holds, HoldsThing, head_of, innermost, levels_at, things_push}
+use Rattle.ep_check_unit.proofs.valid.Open.{IsOpen, IsThingOf, KeepsBodies, open_push}
 
 -- ---- lists that grow
 
@@ -76,16 +77,40 @@ pub record Grows (b c : Block) : Type 0 where
   pub own : IsPrefix b.own.variables c.own.variables
   pub parameters : c.own.parameters ≡ b.own.parameters
   pub result : c.own.result ≡ b.own.result
+  pub enclosing : c.own.enclosing ≡ b.own.enclosing
   -- no scope around this one changes
   pub outer : c.scopes.outer ≡ b.scopes.outer
   -- outside of routines no variable of a routine is added
-  pub alone : b.scopes.outer ≡ [] → c.own ≡ b.own
+  pub alone : b.own.enclosing ≡ [] → c.own ≡ b.own
   -- a heading stays as it is, and so does what is around its routine
   pub headings : IsPrefix (map head_in b.routines) (map head_in c.routines)
   pub waits : c.waits ≡ None → b.waits ≡ None
+  -- what is declared is still numbered behind the routines under way, and what has its body keeps it
+  pub opens : IsOpen b → IsOpen c
+  pub bodies : IsOpen b → KeepsBodies b c
+
+pub bodies_refl : (b : Block) → KeepsBodies b b
+bodies_refl b = λ n r has at. (has, at)
 
 pub grows_refl : (b : Block) → Grows b b
-grows_refl b = record { types = prefix_refl b.types; constants = prefix_refl b.constants; variables = prefix_refl b.variables; own = prefix_refl b.own.variables; parameters = refl; result = refl; outer = refl; alone = λ e. refl; headings = prefix_refl (map head_in b.routines); waits = λ w. w }
+grows_refl b = record {
+  types = prefix_refl b.types;
+  constants = prefix_refl b.constants;
+  variables = prefix_refl b.variables;
+  own = prefix_refl b.own.variables;
+  parameters = refl;
+  result = refl;
+  enclosing = refl;
+  outer = refl;
+  alone = λ e. refl;
+  headings = prefix_refl (map head_in b.routines);
+  waits = λ w. w;
+  opens = λ x. x;
+  bodies = λ x. bodies_refl b;
+}
+
+bodies_trans : (b c d : Block) → KeepsBodies b c → KeepsBodies c d → KeepsBodies b d
+bodies_trans b c d p q = λ n r has at. let k = p n r has at in q n r k.0 k.1
 
 pub grows_trans : (b c d : Block) → Grows b c → Grows c d → Grows b d
 grows_trans b c d p q = record {
@@ -95,10 +120,13 @@ grows_trans b c d p q = record {
   own = prefix_trans b.own.variables c.own.variables d.own.variables p.own q.own;
   parameters = q.parameters ∙ p.parameters;
   result = q.result ∙ p.result;
+  enclosing = q.enclosing ∙ p.enclosing;
   outer = q.outer ∙ p.outer;
-  alone = λ e. q.alone (p.outer ∙ e) ∙ p.alone e;
+  alone = λ e. q.alone (p.enclosing ∙ e) ∙ p.alone e;
   headings = prefix_trans (map head_in b.routines) (map head_in c.routines) (map head_in d.routines) p.headings q.headings;
   waits = λ w. p.waits (q.waits w);
+  opens = λ x. q.opens (p.opens x);
+  bodies = λ x. bodies_trans b c d (p.bodies x) (q.bodies (p.opens x));
 }
 
 -- an item that is not built makes the block wait
@@ -106,8 +134,8 @@ pub waits_some : (o : Option ℕ) (line : ℕ) → option_or o (Some line) ≡ N
 waits_some None line e = cc
 waits_some (Some other) line e = cc
 
-module _ (u : TypedUnit) (o : List UnitVariable) where
-  -- the unit has what is in the block's lists, and the routine its variables
+module _ (u : TypedUnit) where
+  -- the unit has what is in the block's lists, and the routine under way its variables
   pub record Extends (c : Block) : Type 0 where
     pub types : IsPrefix c.types u.types
     pub constants : IsPrefix c.constants u.constants
@@ -116,34 +144,38 @@ module _ (u : TypedUnit) (o : List UnitVariable) where
     pub line : ℕ
     -- the name of the variable that has its result
     pub name : List ℕ
-    pub own : IsPrefix (variables_in line name c.own) o
+    pub own : IsPrefix (variables_in line name c.own) (innermost (levels_at u.routines c.own.enclosing))
     pub headings : IsPrefix (map head_in c.routines) (map head_of u.routines)
+    -- a routine that has its body is that of the unit
+    pub bodies : (n : ℕ) (r : RoutineForm) → has_number n c.bodies ≡ true → slice_get c.routines n ≡ Some r → slice_get (map routine_form u.routines) n ≡ Some r
 
   -- so it has what was in them before
-  pub extends_before : (b c : Block) → Grows b c → Extends c → Extends b
-  extends_before b c g e = record {
+  pub extends_before : (b c : Block) → Grows b c → IsOpen b → Extends c → Extends b
+  extends_before b c g under e = record {
     types = prefix_trans b.types c.types u.types g.types e.types;
     constants = prefix_trans b.constants c.constants u.constants g.constants e.constants;
     variables = prefix_trans b.variables c.variables u.variables g.variables e.variables;
     line = e.line;
     name = e.name;
-    own = prefix_trans (variables_in e.line e.name b.own) (variables_in e.line e.name c.own) o (own_prefix e.line e.name b.own c.own g.parameters g.result g.own) e.own;
+    own = subst (λ es. IsPrefix (variables_in e.line e.name b.own) (innermost (levels_at u.routines es))) g.enclosing
+        (prefix_trans (variables_in e.line e.name b.own) (variables_in e.line e.name c.own) (innermost (levels_at u.routines c.own.enclosing)) (own_prefix e.line e.name b.own c.own g.parameters g.result g.own) e.own);
     headings = prefix_trans (map head_in b.routines) (map head_in c.routines) (map head_of u.routines) g.headings e.headings;
+    bodies = λ n r has at. let k = g.bodies under n r has at in e.bodies n r k.0 k.1;
   }
 
   -- ---- whole declarations
 
   pub record Leads (b c : Block) : Type 0 where
     pub grows : Grows b c
-    pub holds : Extends c → c.waits ≡ None → Holds u o (length b.types) b → Holds u o (length c.types) c
+    pub holds : IsOpen b → Extends c → c.waits ≡ None → Holds u (length b.types) b → Holds u (length c.types) c
 
   pub leads_refl : (b : Block) → Leads b b
-  leads_refl b = record { grows = grows_refl b; holds = λ e w h. h }
+  leads_refl b = record { grows = grows_refl b; holds = λ under e w h. h }
 
   pub leads_trans : (b c d : Block) → Leads b c → Leads c d → Leads b d
   leads_trans b c d p q = record {
     grows = grows_trans b c d p.grows q.grows;
-    holds = λ e w h. q.holds e w (p.holds (extends_before c d q.grows e) (q.grows.waits w) h);
+    holds = λ under e w h. q.holds (p.grows.opens under) e w (p.holds under (extends_before c d q.grows (p.grows.opens under) e) (q.grows.waits w) h);
   }
 
   pub leads_on : (b c : Block) (j : Judged Block) → Leads b c → Fits (Leads c) j → Fits (Leads b) j
@@ -158,21 +190,66 @@ module _ (u : TypedUnit) (o : List UnitVariable) where
   pub noted_leads : (built : Bool) (line : ℕ) (b c : Block) → (built ≡ true → Leads b c) → Grows b c → Leads b (noted built line c)
   noted_leads true line b c h g = h refl
   noted_leads false line b c h g = record {
-    grows = record { types = g.types; constants = g.constants; variables = g.variables; own = g.own; parameters = g.parameters; result = g.result; outer = g.outer; alone = g.alone; headings = g.headings; waits = λ w. absurd (waits_some c.waits line w) };
-    holds = λ e w x. absurd (waits_some c.waits line w);
+    grows = record {
+      types = g.types;
+      constants = g.constants;
+      variables = g.variables;
+      own = g.own;
+      parameters = g.parameters;
+      result = g.result;
+      enclosing = g.enclosing;
+      outer = g.outer;
+      alone = g.alone;
+      headings = g.headings;
+      waits = λ w. absurd (waits_some c.waits line w);
+      opens = g.opens;
+      bodies = g.bodies;
+    };
+    holds = λ under e w x. absurd (waits_some c.waits line w);
   }
 
-  named_grows : (name : List ℕ) (t : Thing) (b : Block) → Grows b (with_name name t b)
-  named_grows name t b = record { types = prefix_refl b.types; constants = prefix_refl b.constants; variables = prefix_refl b.variables; own = prefix_refl b.own.variables; parameters = refl; result = refl; outer = refl; alone = λ e. refl; headings = prefix_refl (map head_in b.routines); waits = λ w. w }
+  pub named_grows : (name : List ℕ) (t : Thing) (b : Block) → (IsOpen b → IsThingOf b.own.enclosing (length b.routines) t) → Grows b (with_name name t b)
+  named_grows name t b numbered = record {
+    types = prefix_refl b.types;
+    constants = prefix_refl b.constants;
+    variables = prefix_refl b.variables;
+    own = prefix_refl b.own.variables;
+    parameters = refl;
+    result = refl;
+    enclosing = refl;
+    outer = refl;
+    alone = λ e. refl;
+    headings = prefix_refl (map head_in b.routines);
+    waits = λ w. w;
+    opens = λ x. open_push b.scopes.inner.entries b.scopes.outer b.own.enclosing (length b.routines) b.bodies name t (numbered x) x;
+    bodies = λ x. bodies_refl b;
+  }
 
   -- a name for something that the unit holds
-  pub named_holds : (i : ℕ) (name : List ℕ) (t : Thing) (b : Block) → HoldsThing u o i t → Holds u o i b → Holds u o i (with_name name t b)
-  named_holds i name t b h x = record { unit = x.unit; things = things_push u o i b.scopes.inner.entries name t x.things h; plain = x.plain; outer = x.outer; routines = x.routines; types = x.types; constants = x.constants; variables = x.variables; parameters = x.parameters; result = x.result; owned = x.owned }
+  pub named_holds : (i : ℕ) (name : List ℕ) (t : Thing) (b : Block) → HoldsThing u b.own.enclosing i t → Holds u i b → Holds u i (with_name name t b)
+  named_holds i name t b h x = record {
+    unit = x.unit;
+    things = things_push u b.own.enclosing i b.scopes.inner.entries name t x.things h;
+    plain = x.plain;
+    outer = x.outer;
+    types = x.types;
+    constants = x.constants;
+    variables = x.variables;
+    parameters = x.parameters;
+    result = x.result;
+    owned = x.owned;
+    headed = x.headed;
+    results = x.results;
+    routines = x.routines;
+  }
 
-  pub entered_leads : (name : List ℕ) (t : Thing) (b : Block) → (Extends b → Holds u o (length b.types) b → HoldsThing u o (length b.types) t) → Fits (Leads b) (entered name t b)
-  entered_leads name t b h =
+  pub entered_leads : (name : List ℕ) (t : Thing) (b : Block) → (IsOpen b → IsThingOf b.own.enclosing (length b.routines) t) → (IsOpen b → Extends b → Holds u (length b.types) b → HoldsThing u b.own.enclosing (length b.types) t) → Fits (Leads b) (entered name t b)
+  entered_leads name t b numbered h =
       fits_then Any (Leads b) (λ _. Accepts (with_name name t b)) (unused name b) (fits_any (unused name b))
-      (λ a i. record { grows = named_grows name t b; holds = λ e w x. named_holds (length b.types) name t b (h (extends_before b (with_name name t b) (named_grows name t b) e) x) x })
+      (λ a i. record {
+        grows = named_grows name t b numbered;
+        holds = λ under e w x. named_holds (length b.types) name t b (h under (extends_before b (with_name name t b) (named_grows name t b numbered) under e) x) x;
+      })
 
   -- ---- declarations that leave the types as they are
 
@@ -180,16 +257,16 @@ module _ (u : TypedUnit) (o : List UnitVariable) where
   pub record Enters (P : Type 0) (i : ℕ) (b c : Block) : Type 0 where
     pub grows : Grows b c
     pub same : c.types ≡ b.types
-    pub holds : P → Extends c → Holds u o i b → Holds u o i c
+    pub holds : P → IsOpen b → Extends c → Holds u i b → Holds u i c
 
   pub enters_refl : (P : Type 0) (i : ℕ) (b : Block) → Enters P i b b
-  enters_refl P i b = record { grows = grows_refl b; same = refl; holds = λ p e x. x }
+  enters_refl P i b = record { grows = grows_refl b; same = refl; holds = λ p under e x. x }
 
   pub enters_trans : (P : Type 0) (i : ℕ) (b c d : Block) → Enters P i b c → Enters P i c d → Enters P i b d
   enters_trans P i b c d p q = record {
     grows = grows_trans b c d p.grows q.grows;
     same = q.same ∙ p.same;
-    holds = λ h e x. q.holds h e (p.holds h (extends_before c d q.grows e) x);
+    holds = λ h under e x. q.holds h (p.grows.opens under) e (p.holds h under (extends_before c d q.grows (p.grows.opens under) e) x);
   }
 
   enters_on : (P : Type 0) (i : ℕ) (b c : Block) (j : Judged Block) → Enters P i b c → Fits (Enters P i c) j → Fits (Enters P i b) j

@@ -11,13 +11,11 @@ use Rattle.ep_typed.specs.Hosts.{is_of_host}
 use Rattle.ep_typed.specs.Operations.{maxint}
 use Rattle.ep_typed.specs.Trees as tree
 use Rattle.ep_typed.specs.Viewed.{denoter_of}
-use Rattle.ep_typed.specs.Valid.{in_routine, own}
 use Rattle.ep_typed.specs.declared.denoter.Bound.TheVariants.{Constant as Fixed}
 use Rattle.ep_typed.specs.declared.denoter.Denoter.TheVariants as denoter
 use Rattle.ep_typed.specs.declared.denoter.RequiredType.{RequiredType}
 use Rattle.ep_typed.specs.declared.denoter.RequiredType.TheVariants as simple
 use Rattle.ep_typed.specs.declared.unit.Unit.{Unit as TypedUnit}
-use Rattle.ep_typed.specs.declared.unit.UnitVariable.{UnitVariable}
 use Rattle.ep_typed.specs.declared.unit.UnitType.{UnitType}
 use Rattle.ep_typed.specs.declared.value.TypeValue.{TypeValue}
 use Rattle.ep_typed.specs.declared.value.TypeValue.TheVariants.{Ordinal as Range}
@@ -49,17 +47,18 @@ use Rattle.ep_check_unit.specs.Declarations.{Written, common_host, core_written,
 use Rattle.ep_check_unit.specs.Blocks.{Block}
 use Rattle.ep_check_unit.proofs.valid.Constants.{ListsWithin, enumerated_counts, enumerated_enters}
 use Rattle.ep_check_unit.proofs.valid.Denoting.{Denotes, IsSmall, denotes_enumeration, denotes_more, denotes_named, denotes_required, denotes_subrange, full_type}
-use Rattle.ep_check_unit.proofs.valid.Holds.{HasHostHere, HasTypeHere, Holds, HoldsDeclaration, Lists, ListsEnumeration, ListsKind, enumeration_is, holds_agrees, holds_more, host_denotes, known_listed, lists_more, lists_small, named_is, named_tree, one_level, required_lists, subrange_is}
-use Rattle.ep_check_unit.proofs.valid.Leading.{Extends, Enters, Grows, grows_refl, head_in, prefix_length, prefix_refl, waits_some}
+use Rattle.ep_check_unit.proofs.valid.Holds.{HasHostHere, HasTypeHere, Holds, HoldsDeclaration, Lists, ListsEnumeration, ListsKind, enumeration_is, holds_agrees, holds_more, host_denotes, known_listed, lists_more, lists_small, named_is, named_tree, required_lists, subrange_is, within}
+use Rattle.ep_check_unit.proofs.valid.Open.{IsOpen}
+use Rattle.ep_check_unit.proofs.valid.Leading.{Extends, Enters, Grows, bodies_refl, grows_refl, head_in, prefix_length, prefix_refl, waits_some}
 use Rattle.ep_check_unit.proofs.valid.Meant.{HoldsMeant, meant_holds, meant_in_holds}
 
-module _ (u : TypedUnit) (o : List UnitVariable) where
+module _ (u : TypedUnit) where
   -- ---- types by their names
 
   -- The type has a name that is there already, and nothing is declared with it.
   pub record Names (b : Block) (w : Written) : Type 0 where
     pub same : w.block ≡ b
-    pub holds : (i : ℕ) → Holds u o i b → HasTypeHere u i (denoter_of w.denoter) w.of w.host × Lists u i w.host
+    pub holds : (i : ℕ) → Holds u i b → HasTypeHere u i (denoter_of w.denoter) w.of w.host × Lists u i w.host
 
   required_typed : (i : ℕ) (r : RequiredType) (h : Host) → Denotes u.types 0 (tree.Required r) (typed_host h) (full_type (typed_host h)) → HasTypeHere u i (denoter_of (denoter.Required r)) (type_name.Required r) h
   required_typed i r h d = (full_type (typed_host h), required_lists u i r (typed_host h) d, denotes_more u.types 0 i (tree.Required r) (typed_host h) (full_type (typed_host h)) (omega arith) d)
@@ -71,9 +70,9 @@ module _ (u : TypedUnit) (o : List UnitVariable) where
 
   -- what is meant is held wherever the block is
   abbrev HeldThroughout : Block → Meant → Type 0
-  HeldThroughout b m = (i : ℕ) → Holds u o i b → HoldsMeant u o i m
+  HeldThroughout b m = (i : ℕ) → Holds u i b → HoldsMeant u b.own.enclosing i m
 
-  declared_names : (d : Declared) (what : Declaration) (b : Block) → ((i : ℕ) → Holds u o i b → HoldsDeclaration u o i d.number what) → Fits (Names b) (declared_type d what b)
+  declared_names : (d : Declared) (what : Declaration) (b : Block) → ((i : ℕ) → Holds u i b → HoldsDeclaration u b.own.enclosing i d what) → Fits (Names b) (declared_type d what b)
   declared_names d (declaration.«Type» of h) b held = record {
     same = refl;
     holds = λ i x.
@@ -96,8 +95,8 @@ module _ (u : TypedUnit) (o : List UnitVariable) where
   meant_names missing Nothing b held = tt
 
   pub type_named-names : (name : List ℕ) (second : Option (List ℕ)) (b : Block) → Fits (Names b) (type_named name second b)
-  type_named-names name None b = meant_names (undeclared name) (meant (scopes_of b) name) b (λ i x. meant_holds u o i b name x)
-  type_named-names interface (Some name) b = meant_names (rule.UNDECLARED ∷ []) (meant_in (scopes_of b) interface name) b (λ i x. meant_in_holds u o i b interface name x)
+  type_named-names name None b = meant_names (undeclared name) (meant (scopes_of b) name) b (λ i x. meant_holds u i b name x)
+  type_named-names interface (Some name) b = meant_names (rule.UNDECLARED ∷ []) (meant_in (scopes_of b) interface name) b (λ i x. meant_in_holds u i b interface name x)
 
   -- ---- types that are written
 
@@ -109,7 +108,7 @@ module _ (u : TypedUnit) (o : List UnitVariable) where
 
   -- what the unit holds then
   pub record Wrote (i : ℕ) (w : Written) : Type 0 where
-    pub block : Holds u o (suc i) w.block
+    pub block : Holds u (suc i) w.block
     pub denotes : HasHostHere u i (denoter_of w.denoter) w.host
     -- the type has the type value of the denoter
     pub of : Denotes u.types (suc i) (named_tree w.of) (typed_host w.host) denotes.0
@@ -119,17 +118,17 @@ module _ (u : TypedUnit) (o : List UnitVariable) where
   pub record Writes (b : Block) (w : Written) : Type 0 where
     pub grows : Grows b w.block
     pub same : w.block.types ≡ b.types
-    pub holds : Extends u o w.block → w.block.waits ≡ None → IsNext b (denoter_of w.denoter) → Holds u o (length b.types) b → Wrote (length b.types) w
+    pub holds : IsOpen b → Extends u w.block → w.block.waits ≡ None → IsNext b (denoter_of w.denoter) → Holds u (length b.types) b → Wrote (length b.types) w
 
   named_writes : (b : Block) (w : Written) → Names b w → Writes b w
   named_writes b w n = record {
     grows = subst (Grows b) (sym n.same) (grows_refl b);
     same = ap (λ c. c.types) n.same;
-    holds = λ e free next x.
+    holds = λ under e free next x.
         let i : ℕ = length b.types in
         let y = n.holds i x in
         record {
-          block = subst (Holds u o (suc i)) (sym n.same) (holds_more u o i (suc i) b (omega arith) x);
+          block = subst (Holds u (suc i)) (sym n.same) (holds_more u i (suc i) b (omega arith) x);
           denotes = (y.0.0, y.0.1);
           of = denotes_more u.types i (suc i) (named_tree w.of) (typed_host w.host) y.0.0 (omega arith) y.0.2;
           lists = lists_more u i (suc i) w.host (omega arith) y.1;
@@ -179,9 +178,9 @@ module _ (u : TypedUnit) (o : List UnitVariable) where
   record AreBounds (b : Block) (h : Host) (low high : ConstantForm) : Type 0 where
     hosts : OneHost low.kind high.kind h
     order : (built : Bool) → (low.built && high.built) ≡ built → built ≡ true → IsTrue (int_le (number_in low.value) (number_in high.value))
-    lists : (i : ℕ) → Holds u o i b → Lists u i h
-    low_is : (i : ℕ) → i ≤ length u.types → Holds u o i b → IsTrue (is_of_host (typed_host h) (number_in low.value))
-    high_is : (i : ℕ) → i ≤ length u.types → Holds u o i b → IsTrue (is_of_host (typed_host h) (number_in high.value))
+    lists : (i : ℕ) → Holds u i b → Lists u i h
+    low_is : IsOpen b → (i : ℕ) → i ≤ length u.types → Holds u i b → IsTrue (is_of_host (typed_host h) (number_in low.value))
+    high_is : IsOpen b → (i : ℕ) → i ≤ length u.types → Holds u i b → IsTrue (is_of_host (typed_host h) (number_in high.value))
 
   range_denotes : (i : ℕ) (h : Host) (low high : ConstantForm) → Lists u i h → IsTrue (int_le (number_in low.value) (number_in high.value)) → IsTrue (is_of_host (typed_host h) (number_in low.value)) → IsTrue (is_of_host (typed_host h) (number_in high.value))
       → HasHostHere u i (denoter_of (subrange_denoter h low high)) h
@@ -195,21 +194,21 @@ module _ (u : TypedUnit) (o : List UnitVariable) where
   subrange_writes true line h low high b e k = record {
     grows = grows_refl b;
     same = refl;
-    holds = λ ext free next x.
+    holds = λ under ext free next x.
         let i : ℕ = length b.types in
         let le : i ≤ length u.types = prefix_length b.types u.types ext.types in
-        let range = range_denotes i h low high (k.lists i x) (k.order true e refl) (k.low_is i le x) (k.high_is i le x) in
+        let range = range_denotes i h low high (k.lists i x) (k.order true e refl) (k.low_is under i le x) (k.high_is under i le x) in
         record {
-          block = holds_more u o i (suc i) b (omega arith) x;
+          block = holds_more u i (suc i) b (omega arith) x;
           denotes = range;
           of = next_denotes b (denoter_of (subrange_denoter h low high)) h range.0 next range.1;
           lists = lists_more u i (suc i) h (omega arith) (k.lists i x);
         };
   }
   subrange_writes false line h low high b e k = record {
-    grows = record { types = prefix_refl b.types; constants = prefix_refl b.constants; variables = prefix_refl b.variables; own = prefix_refl b.own.variables; parameters = refl; result = refl; outer = refl; alone = λ e. refl; headings = prefix_refl (map head_in b.routines); waits = λ w. absurd (waits_some b.waits line w) };
+    grows = record { types = prefix_refl b.types; constants = prefix_refl b.constants; variables = prefix_refl b.variables; own = prefix_refl b.own.variables; parameters = refl; result = refl; enclosing = refl; outer = refl; alone = λ e. refl; headings = prefix_refl (map head_in b.routines); waits = λ w. absurd (waits_some b.waits line w); opens = λ x. x; bodies = λ x. bodies_refl b };
     same = refl;
-    holds = λ ext free next x. absurd (waits_some b.waits line free);
+    holds = λ under ext free next x. absurd (waits_some b.waits line free);
   }
 
   ordinal_constant : (k : Kind) (h : Host) (v : Value) → k ≡ kind.Ordinal h → IsConstantOf k v → IsConstantOf (kind.Ordinal h) v
@@ -222,11 +221,11 @@ module _ (u : TypedUnit) (o : List UnitVariable) where
       record {
         hosts = hosts;
         order = λ built is yes. in_order built low high yes (subst (λ x. (if x then int_le (number_in low.value) (number_in high.value) else true) ≡ true) is (ordered_if _ a ordering));
-        lists = λ i x. subst (ListsKind u i) hosts.left (known_listed u o i b low.kind x (known (scopes_of b) first low e));
-        low_is = λ i le x. bound_of_host h low.value (ordinal_constant low.kind h low.value hosts.left (sound (scopes_of b) first low e (in_routine (one_level 0 o) (own u)) (holds_agrees u o 0 i b le x)));
-        high_is = λ i le x.
+        lists = λ i x. subst (ListsKind u i) hosts.left (known_listed u i b low.kind x (known (scopes_of b) first low e));
+        low_is = λ under i le x. bound_of_host h low.value (ordinal_constant low.kind h low.value hosts.left (sound (scopes_of b) first low e (within u b.own.enclosing) (holds_agrees u i b under le x)));
+        high_is = λ under i le x.
             subst (λ g. IsTrue (is_of_host g (number_in high.value))) (host_same h hosts.other hosts.alike)
-            (bound_of_host hosts.other high.value (ordinal_constant high.kind hosts.other high.value hosts.right (sound (scopes_of b) second high f (in_routine (one_level 0 o) (own u)) (holds_agrees u o 0 i b le x))));
+            (bound_of_host hosts.other high.value (ordinal_constant high.kind hosts.other high.value hosts.right (sound (scopes_of b) second high f (within u b.own.enclosing) (holds_agrees u i b under le x))));
       }
 
   range_writes : BoundsAreSound → BoundsAreKnown → (line : ℕ) (b : Block) (first second : Expression) (low high : ConstantForm) → bound_judged (scopes_of b) first ≡ Accepts low → bound_judged (scopes_of b) second ≡ Accepts high → Fits (Writes b) (range line b low high)
@@ -241,12 +240,12 @@ module _ (u : TypedUnit) (o : List UnitVariable) where
   few_constants n m k last e le few = grind (arith, nat_tests)
 
   enumeration_writes : length u.constants ≤ maxint → (first : List ℕ) (others : List (List ℕ)) (b c : Block)
-      → Enters u o (ListsWithin u o (suc (length b.types)) (record { number = length b.types; last = length others })) (suc (length b.types)) b c → length c.constants ≡ length b.constants + suc (length others)
+      → Enters u (ListsWithin u (suc (length b.types)) (record { number = length b.types; last = length others })) (suc (length b.types)) b c → length c.constants ≡ length b.constants + suc (length others)
       → Writes b (record { denoter = denoter.Enumeration (first ∷ others); of = next_type b; host = next_enumeration (length others) b; block = c })
   enumeration_writes few first others b c enters counts = record {
     grows = enters.grows;
     same = enters.same;
-    holds = λ ext free next x.
+    holds = λ under ext free next x.
         let i : ℕ = length b.types in
         let small = few_constants (length c.constants) (length b.constants) (length u.constants) (length others) counts (prefix_length c.constants u.constants ext.constants) few in
         let le : suc i ≤ length u.types = omega (arith, slice_get_within u.types i next.entry next.at) in
@@ -256,7 +255,7 @@ module _ (u : TypedUnit) (o : List UnitVariable) where
         subst (λ d. Denotes u.types i d (typed.Enumeration (length others)) (full_type (typed.Enumeration (length others)))) (sym (enumeration_is (first ∷ others)))
         (denotes_more u.types 0 i (tree.Enumeration (first ∷ others)) (typed.Enumeration (length others)) (full_type (typed.Enumeration (length others))) (omega arith) (denotes_enumeration u.types first others small)) in
         record {
-          block = enters.holds (le, listed) ext (holds_more u o i (suc i) b (omega arith) x);
+          block = enters.holds (le, listed) under ext (holds_more u i (suc i) b (omega arith) x);
           denotes = (full_type (typed.Enumeration (length others)), denotes);
           of = next_denotes b (denoter_of (denoter.Enumeration (first ∷ others))) (next_enumeration (length others) b) (full_type (typed.Enumeration (length others))) next denotes;
           lists = listed;
@@ -268,8 +267,8 @@ module _ (u : TypedUnit) (o : List UnitVariable) where
   enumeration-writes few (first ∷ others) b =
       let e : Enumeration = record { number = length b.types; last = length others } in
       let entered = enumerated (host.Enumeration e) 0 (first ∷ others) b in
-      fits_then (λ c. Enters u o (ListsWithin u o (suc (length b.types)) e) (suc (length b.types)) b c × (length c.constants ≡ length b.constants + suc (length others))) (Writes b) _ entered
-      (fits_pair (Enters u o (ListsWithin u o (suc (length b.types)) e) (suc (length b.types)) b) (λ c. length c.constants ≡ length b.constants + suc (length others)) entered (enumerated_enters u o (suc (length b.types)) e 0 (first ∷ others) b (omega arith)) (enumerated_counts e 0 (first ∷ others) b))
+      fits_then (λ c. Enters u (ListsWithin u (suc (length b.types)) e) (suc (length b.types)) b c × (length c.constants ≡ length b.constants + suc (length others))) (Writes b) _ entered
+      (fits_pair (Enters u (ListsWithin u (suc (length b.types)) e) (suc (length b.types)) b) (λ c. length c.constants ≡ length b.constants + suc (length others)) entered (enumerated_enters u (suc (length b.types)) e 0 (first ∷ others) b (omega arith)) (enumerated_counts e 0 (first ∷ others) b))
       (λ c p. enumeration_writes few first others b c p.0 p.1)
 
   -- ---- denoters

@@ -10,7 +10,7 @@ use Rattle.ep_check_stmt.specs.Cases.{selector_judged}
 use Rattle.ep_check_stmt.specs.Statements.{arm_judged, arm_row, arms_in_order, at_item, control_judged, expr_item, other_judged, statement_judged}
 use Rattle.ep_check_stmt.proofs.CaseParts.{all_arms, arms_more, case_is, less_arms, more_arms, rest_judged, selector_falls}
 use Rattle.ep_check_stmt.proofs.judged.Rounds.{rest_built}
-use Rattle.ep_check_stmt.proofs.Branches.{call_is, other_built, repeat_is, then_built, while_is}
+use Rattle.ep_check_stmt.proofs.Branches.{call_is, for_is, other_built, repeat_is, then_built, while_is}
 use Rattle.ep_check_stmt.proofs.ForParts.{end_built, inner_built, start_built}
 use Rattle.ep_check_stmt.proofs.Rows.{all_together, assignment_is, item_answers, less_together, more_together, statements_more}
 use Rattle.ep_check_stmt.proofs.statements.Context.+statements.Goals as goal
@@ -55,6 +55,9 @@ pub statement-counting-requires : goal.statement-counting-requires
 statement-counting-requires t c =
     let built : statement_unbuilt (statement.For c.in-For.line c.in-For.name c.in-For.start c.in-For.direction c.in-For.end c.in-For.body) ≡ None = rw c.in-For.is at c.requires in
     (search (rules, the_lemmas), (rw c.get-in-For.ensures (inner_built c.in-For.line c.in-For.name c.in-For.start c.in-For.direction c.in-For.end c.in-For.body built), (rw c.get-in-For-2.ensures (start_built c.in-For.line c.in-For.name c.in-For.start c.in-For.direction c.in-For.end c.in-For.body built), rw c.get-in-For-3.ensures (end_built c.in-For.line c.in-For.name c.in-For.start c.in-For.direction c.in-For.end c.in-For.body built))))
+
+pub statement-returns-in-For : goal.statement-returns-in-For
+statement-returns-in-For t c = rw (c.in-For.is, for_is) (rw (c.get-in-For.ensures, c.get-in-For-2.ensures, c.get-in-For-3.ensures) at c.counting.ensures)
 
 pub counting-returns : goal.counting-returns
 counting-returns t c =

@@ -1,6 +1,0 @@
-use Rattle.std.proofs.Common.{◌≡◌, drop, map}
-use Rattle.ep_built.specs.Built.{first_in, part_unbuilt}
-use Rattle.ep_built.proofs.built.parts.parts.Given as goal
-
-abbrev pub invariant-loop-p : goal.invariant-loop-p
-invariant-loop-p l = first_in (map part_unbuilt (drop l.p-index l.all)) ≡ first_in (map part_unbuilt l.all)

@@ -1,0 +1,121 @@
+//! What is assigned to: variables, and the names of functions for their results (ISO 10206, 6.9.2.2).
+
+ghost use Rattle.std.specs.Prelude.{◌≡◌, IsTrue, map};
+ghost use Rattle.ep_scope.specs.Scopes.{depth_in, meant};
+ghost use Rattle.ep_check_stmt.specs.Answers.{AnswersForm, context_of, fails_among, result_of, target_of};
+ghost use Rattle.ep_check_stmt.specs.Statements.{declared_target, function_target, has_result, place_named, target_rules};
+
+use crate::statements::{Context, FunctionResult};
+use ep_base::Name;
+use ep_check_expr::{Refusal, own_place, undeclared, unless_protected};
+use ep_scope::{Declaration, Declared, Kind, Meaning, Required, depth_in, meaning_of, rule};
+use ep_typed::TypedPlace;
+
+/// What is assigned to, and its kind.
+pub(crate) struct Target {
+    /// The place.
+    pub(crate) place: TypedPlace,
+    /// The kind.
+    pub(crate) kind: Kind,
+}
+
+impl Drop for Target {
+    fn drop(self) {
+        let Target { place: _, kind: _ } = self;
+    }
+}
+
+impl Target {
+    /// The place alone.
+    pub(crate) fn into_place(self) -> TypedPlace
+        ensures { result ≡ self.place }
+    {
+        let Target { place, kind: _ } = self;
+        place
+    }
+}
+
+/// Whether what is declared is this function of a unit.
+fn has_result(unit: &Name, declared: &Declared, function: FunctionResult) -> bool
+    ensures { result ≡ has_result unit.now declared.now (result_of function) }
+{
+    declared.number == function.function && declared.unit.bytes() == unit.bytes()
+}
+
+/// The name of a function as what is assigned to, in code of a depth, in the blocks of these functions of a unit.
+fn function_target(
+    depth: u32,
+    unit: &Name,
+    declared: &Declared,
+    results: &[FunctionResult],
+) -> Result<Target, Refusal>
+    ensures { AnswersForm target_of result
+        (function_target depth unit.now declared.now (map result_of results.now)) }
+{
+    for function in results {
+        if has_result(unit, declared, *function) {
+            return Ok(Target {
+                place: TypedPlace::Own(depth.saturating_sub(function.level), function.variable),
+                kind: Kind::Ordinal(function.host),
+            });
+        }
+    }
+    Err(Refusal::Rule(rule::FUNCTION_ASSIGNED))
+}
+
+/// A rule that fails where a required identifier is assigned to.
+fn required_target(required: Required) -> u32
+    ensures { IsTrue (fails_among result (target_rules required)) }
+{
+    match required {
+        Required::Constant(_) => rule::CONSTANT_THREATENED,
+        Required::Type(_) => rule::OTHER_THING,
+        Required::Function(_) => rule::FUNCTION_ASSIGNED,
+        Required::Procedure(_) => rule::OTHER_THING,
+    }
+}
+
+impl Context<'_> {
+    /// A name that is assigned to.
+    pub(crate) fn target(&self, name: &Name) -> Result<Target, Refusal>
+        ensures { AnswersForm target_of result
+            (place_named (depth_in self.now.scopes.now) (context_of self.now).unit (context_of self.now).results
+            name.now (meant self.now.scopes.now name.now)) }
+    {
+        match &meaning_of(self.scopes, name) {
+            Meaning::Declared(declared) => self.declared_target(declared),
+            Meaning::Standard(file) => Ok(Target {
+                place: TypedPlace::Standard(*file),
+                kind: Kind::File,
+            }),
+            Meaning::Required(required) => Err(Refusal::Rule(required_target(*required))),
+            Meaning::Nothing => Err(Refusal::Rule(undeclared(name))),
+        }
+    }
+
+    /// A declared name as what is assigned to.
+    fn declared_target(&self, declared: &Declared) -> Result<Target, Refusal>
+        ensures { AnswersForm target_of result
+            (declared_target (depth_in self.now.scopes.now) (context_of self.now).unit (context_of self.now).results
+            declared.now declared.now.what) }
+    {
+        match &declared.what {
+            Declaration::Variable(_, kind) => {
+                let unit = declared.unit.copy(self.alloc)?;
+                let place = TypedPlace::Variable(unit, declared.number);
+                Ok(Target { place, kind: *kind })
+            }
+            Declaration::Own(_, kind, protection) => {
+                unless_protected(*protection)?;
+                let place = own_place(depth_in(self.scopes)?, declared);
+                Ok(Target { place, kind: *kind })
+            }
+            Declaration::Constant(_, _) => Err(Refusal::Rule(rule::CONSTANT_THREATENED)),
+            Declaration::Type(_, _) => Err(Refusal::Rule(rule::OTHER_THING)),
+            Declaration::Procedure(_) => Err(Refusal::Rule(rule::OTHER_THING)),
+            Declaration::Function(_, _, _) => {
+                function_target(depth_in(self.scopes)?, self.unit, declared, self.results)
+            }
+        }
+    }
+}
