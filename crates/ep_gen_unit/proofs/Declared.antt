@@ -4,18 +4,13 @@ use Rattle.std.proofs.lemmas.Option.{get_or_from_slice_get, slice_get_within}
 use Rattle.std.proofs.lemmas.Slice.Eq.{bytes_eq-Decides}
 use Rattle.std.specs.Prelude.{All, if◌then◌else◌}
 use Rattle.ep_gen_unit.specs.UnitLaws.{AreDeclared}
-use Rattle.ep_object.specs.Matching.{IsValueOf}
 use Rattle.ep_object.specs.Scene.{HaveValidTypes}
 use Rattle.ep_typed.proofs.Auxiliaries.{auxiliaries_valid}
 use Rattle.ep_typed.specs.Auxiliaries.{auxiliary_variables, first_for}
 use Rattle.ep_typed.specs.Routines.{unit_variables}
 use Rattle.ep_typed.specs.declared.unit.UnitType.{UnitType}
-use Rattle.ep_typed.specs.Valid.{IsDenoter, IsVariable, IsTypeOf, own}
+use Rattle.ep_typed.specs.Valid.{IsDenoter, IsVariable, own}
 use Rattle.ep_typed.specs.Viewed.{denoter_of, stmt_of}
-use Rattle.ep_typed.specs.Steps.{Undefined}
-use Rattle.ep_typed.specs.Hosts.{Host}
-use Rattle.ep_typed.specs.declared.value.TypeValue.{TypeValue}
-use Rattle.ep_typed.specs.declared.value.TypeValue.TheVariants as type
 use Rattle.ep_typed.specs.declared.unit.UnitVariable.{UnitVariable}
 use Rattle.ep_typed.specs.declared.unit.Unit.{Unit as TypedUnit}
 
@@ -46,11 +41,6 @@ own_declared u i v h = ap (λ b. if b then slice_get (unit_variables u) (0 + i) 
 -- and its own types
 pub own_types : (u : TypedUnit) → (own u).types u.name ≡ u.types
 own_types u = ap (λ b. if b then u.types else []) (name_same u.name u.name refl)
-
--- a type of a host has integers as its bounds
-pub integer_bounds : (h : Host) (t : TypeValue) → IsTypeOf h t → IsValueOf t Undefined
-integer_bounds h (type.Ordinal low high) valid = (valid.3, valid.4)
-integer_bounds h type.Text valid = tt
 
 -- variables that are valid, and the auxiliary ones behind them
 pub variables_valid : (types : List UnitType) (vs : List UnitVariable) (o : Option ℕ) → All (IsVariable types) vs → (k : ℕ) (v : UnitVariable) → slice_get (vs ++ auxiliary_variables o) k ≡ Some v → IsVariable types v

@@ -7,7 +7,7 @@ use Rattle.ep_gen_unit.specs.StmtCode.{type_code, elaborating_code, make_code, m
 use Rattle.ep_gen_unit.specs.UnitLaws.{AreDeclared}
 use Rattle.ep_gen_unit.proofs.Parts.{code_stands-parts}
 use Rattle.ep_object.specs.Follows.{point, Facts, Lasts, Fragment, Inside, Bare, SameRoutine}
-use Rattle.ep_object.specs.Matching.{Slots, Memory, Injection, IsValueOf, Describes, HasType}
+use Rattle.ep_object.specs.Matching.{Slots, Memory, Injection, Describes, HasType}
 use Rattle.ep_object.specs.Operands.{Operand, Word}
 use Rattle.ep_object.specs.Placing.{Placement, CodeStands, HasDistinctNames}
 use Rattle.ep_object.specs.State.{Frames}
@@ -21,14 +21,13 @@ use Rattle.ep_object.proofs.rows.MakeRow.{RunsInUnit, make_does}
 use Rattle.ep_object.specs.Scene.{HaveValidTypes}
 use Rattle.ep_object.proofs.rows.NewTypes.{TypeOnTop, ord_does}
 use Rattle.ep_object.proofs.rows.Rows.{push_pushes}
-use Rattle.ep_gen_unit.proofs.Declared.{integer_bounds}
 use Rattle.ep_typed.specs.Steady.{IsSteadyHandler}
 use Rattle.ep_typed.specs.Calls.{Handler}
 use Rattle.ep_typed.proofs.Denoters.{types_are_instances}
 use Rattle.ep_typed.proofs.Steady.{grows_refl, grows_made, steady_allocate, steady_make_all}
 use Rattle.ep_typed.specs.Operations.{is_integer}
 use Rattle.ep_typed.specs.Meaning.{elaborated, make, make_all}
-use Rattle.ep_typed.specs.Steps.{Undefined, Computation, bind, with_type, counted, made, allocate}
+use Rattle.ep_typed.specs.Steps.{Computation, bind, with_type, counted, made, allocate}
 use Rattle.ep_typed.specs.Valid.{Declarations, IsTypeOf, IsDenoter}
 use Rattle.ep_typed.specs.Viewed.{denoter_of}
 use Rattle.ep_typed.specs.Hosts.{Host}
@@ -71,12 +70,12 @@ module _ (declared : Declarations) (G : Image) (untouched : Slots) (Here : Facts
         fragment_less {n = suc n} (omega arith) (fragment_counted {weight = 1} 0 (counted (type.Ordinal low high)) (made x.name number (type.Ordinal low high)) tt (λ s. refl) (grows_made x.name number (type.Ordinal low high)) (λ s matches here. make_does declared G place line below low high type_number number x has distinct low_fits high_fits types_valid declared_so injection memory s home within (free memory.frames.unit home.unit number v is_declared) described lasts matches here) enough (omega arith) (omega arith) (omega arith))
 
     -- the code that makes a variable of a type
-    make_typed : (g : ℕ) (t : TypeValue) (host : Host) → IsTypeOf host t → IsValueOf t Undefined
+    make_typed : (g : ℕ) (t : TypeValue) (host : Host) → IsTypeOf host t
         → ((v : UnitVariable) → declared.variables x.name number ≡ Some v → HasType declared x.name v t)
         → CodeStands G ps p references at (type_code line t ++ instr op.MAKE (pos number) 0 line ∷ [])
         → MovesIn declared G untouched Here p n x at (at + length (type_code line t ++ instr op.MAKE (pos number) 0 line ∷ [])) (bind (elaborated call g x.name (Some t)) (λ a. allocate x.name number a))
-    make_typed g type.Text host valid fits declared_so stands injection memory below d enough home = absurd valid
-    make_typed g (type.Ordinal low high) host valid fits declared_so stands injection memory below d enough home =
+    make_typed g type.Text host valid declared_so stands injection memory below d enough home = absurd valid
+    make_typed g (type.Ordinal low high) host valid declared_so stands injection memory below d enough home =
         let second : p.instructions.before + at + 1 ≡ p.instructions.before + (at + 1) = omega arith in
         let third : p.instructions.before + (at + 1) + 1 ≡ p.instructions.before + (at + 1 + 1) = omega arith in
         let fourth : p.instructions.before + (at + 1 + 1) + 1 ≡ p.instructions.before + (at + 1 + 1 + 1) = omega arith in
@@ -88,7 +87,7 @@ module _ (declared : Declarations) (G : Image) (untouched : Slots) (Here : Facts
         (λ a longer after pushed grown routine top.
         subst (λ t. Fragment declared G Here n (point longer after (p.instructions.before + (at + 1 + 1) + 1) pushed) (allocate x.name number t) (p.instructions.before + (at + 4)) (λ b. Inside untouched longer after (Bare below b)) d (λ b. d)) (sym top.type_is)
         (subst (λ o. Fragment declared G Here n (point longer after (p.instructions.before + (at + 1 + 1) + 1) o) (allocate x.name number (type.Ordinal low high)) (p.instructions.before + (at + 4)) (λ b. Inside untouched longer after (Bare below b)) d (λ b. d)) (sym top.is)
-        (fragment_from fourth (fragment_to last (make_row_moves low high top.number fits.0 fits.1 declared_so (p.instructions.before + (at + 1 + 1 + 1)) stands.1.1.1.0 longer after below d (omega (arith, enough)) (same_frame G x memory.frames after.frames routine home) top.described)))))))))
+        (fragment_from fourth (fragment_to last (make_row_moves low high top.number valid.3 valid.4 declared_so (p.instructions.before + (at + 1 + 1 + 1)) stands.1.1.1.0 longer after below d (omega (arith, enough)) (same_frame G x memory.frames after.frames routine home) top.described)))))))))
 
   -- a variable is made in its slot
   one_moves : (g number at : ℕ) (v : UnitVariable) → declared.variables x.name number ≡ Some v
@@ -107,7 +106,7 @@ module _ (declared : Declarations) (G : Image) (untouched : Slots) (Here : Facts
       typed : CodeStands G ps p references at (type_code v.line valid.type_value ++ instr op.MAKE (pos number) 0 v.line ∷ [])
           → MovesIn declared G untouched Here p n x at (at + length (type_code v.line valid.type_value ++ instr op.MAKE (pos number) 0 v.line ∷ [])) (bind (elaborated call g x.name (Some valid.type_value)) (λ a. allocate x.name number a))
       typed s =
-          make_typed number v.line at v is_declared within g valid.type_value valid.host valid.is_type (integer_bounds valid.host valid.type_value valid.is_type) has_type s
+          make_typed number v.line at v is_declared within g valid.type_value valid.host valid.is_type has_type s
 
   -- and so are the variables from this number on
   all_moves : (g number at : ℕ) (vs : List UnitVariable) → AreDeclared declared x.name number vs

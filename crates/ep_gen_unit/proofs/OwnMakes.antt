@@ -6,11 +6,10 @@ use Rattle.ep_gen_expr.specs.Following.{least_credit}
 use Rattle.ep_gen_expr.specs.ExprCode.{instr, bare}
 use Rattle.ep_gen_expr.proofs.Placed.{instr_at}
 use Rattle.ep_gen_unit.specs.StmtCode.{type_code, elaborating_code, make_code, make_all_code, value_code, place_taken, take_code, take_all_code}
-use Rattle.ep_gen_unit.proofs.Declared.{integer_bounds}
 use Rattle.ep_gen_unit.proofs.Parts.{code_stands-parts}
 use Rattle.ep_object.specs.Activations.{InActivation}
 use Rattle.ep_object.specs.Follows.{point, operand_of, Fragment, Lasts, StillRuns, Inside}
-use Rattle.ep_object.specs.Matching.{Slots, Memory, Injection, IsPlaceOf, IsValueOf, Describes, HasOwnType}
+use Rattle.ep_object.specs.Matching.{Slots, Memory, Injection, IsPlaceOf, Describes, HasOwnType}
 use Rattle.ep_object.specs.Calls.{argument_at}
 use Rattle.ep_object.specs.Operands.{Operand, Word}
 use Rattle.ep_object.specs.Operands as operand
@@ -41,8 +40,9 @@ use Rattle.ep_typed.specs.declared.interface.FormalMode.{FormalMode}
 use Rattle.ep_typed.specs.declared.interface.FormalMode.TheVariants as mode
 use Rattle.ep_typed.proofs.Denoters.{types_are_instances}
 use Rattle.ep_typed.proofs.Steady.{grows_refl, grows_made_own, steady_bind, steady_allocate_own, steady_make_all_own, steady_initialized, steady_takes_all}
+use Rattle.ep_typed.specs.Operations.{is_integer}
 use Rattle.ep_typed.specs.Meaning.{elaborate, elaborated, make_own, make_all_own, initialized, takes_by, takes_all}
-use Rattle.ep_typed.specs.Steps.{Undefined, Computation, bind, spend, change, with_own_bound, with_type, counted, made_own, allocate_own}
+use Rattle.ep_typed.specs.Steps.{Computation, bind, spend, change, with_own_bound, with_type, counted, made_own, allocate_own}
 use Rattle.ep_typed.specs.Valid.{variables_up, Declarations, Kind, IsTypeOf, IsDenoter, formal_variable}
 use Rattle.ep_typed.specs.Valid as kind
 use Rattle.ep_typed.specs.Viewed.{denoter_of}
@@ -67,14 +67,14 @@ still_later runs longer after operands h = record { runs = still_runs-trans runs
 module _ (declared : Declarations) (G : Image) (untouched : Slots) (first : Injection) (start : Memory) (lasts : Lasts untouched (InActivation declared untouched first start)) (ps : List Placement) (p : Placement) (references : List Reference) (call : Handler) (steady_call : IsSteadyHandler call) (n : ℕ) (unit : List ℕ) (types_valid : HaveValidTypes declared) (own_valid : HaveValidOwnTypes declared) where
   module _ (number line at : ℕ) (v : UnitVariable) (is_declared : slice_get (variables_up declared 0) number ≡ Some v) where
     -- `Make`, over the number of the type
-    make_row_moves : (low high : ℤ) (type_number : ℕ) → IsValueOf (type.Ordinal low high) Undefined
+    make_row_moves : (low high : ℤ) (type_number : ℕ) → IsTrue (is_integer low) → IsTrue (is_integer high)
         → ((w : UnitVariable) → slice_get (variables_up declared 0) number ≡ Some w → HasOwnType declared w (type.Ordinal low high))
         → (place : ℕ) → slice_get G.instructions place ≡ Some (instr op.MAKE (pos number) 0 line)
         → (injection : Injection) (memory : Memory) (below : List Operand) (d : ℕ) → 1 ≤ d
         → Describes memory.types type_number (type.Ordinal low high)
         → Fragment declared G (InActivation declared untouched first start) n (point injection memory place (Word (pos type_number) ∷ below)) (allocate_own number (type.Ordinal low high)) (place + 1) (λ a. MadeOwn untouched number (type.Ordinal low high) injection memory below) d (λ a. d)
-    make_row_moves low high type_number fits declared_so place has injection memory below d enough described =
-        fragment_less {n = suc n} (omega arith) (fragment_counted {weight = 1} 0 (counted (type.Ordinal low high)) (made_own number (type.Ordinal low high)) tt (λ s. refl) (grows_made_own number (type.Ordinal low high)) (λ s matches here. make_own_does declared G place line below low high type_number number v has fits.0 fits.1 types_valid is_declared declared_so injection memory s described matches here) enough (omega arith) (omega arith) (omega arith))
+    make_row_moves low high type_number low_fits high_fits declared_so place has injection memory below d enough described =
+        fragment_less {n = suc n} (omega arith) (fragment_counted {weight = 1} 0 (counted (type.Ordinal low high)) (made_own number (type.Ordinal low high)) tt (λ s. refl) (grows_made_own number (type.Ordinal low high)) (λ s matches here. make_own_does declared G place line below low high type_number number v has low_fits high_fits types_valid is_declared declared_so injection memory s described matches here) enough (omega arith) (omega arith) (omega arith))
 
     -- the bounds of the type, and `TOrd` over them
     type_moves : (g : ℕ) (low high : ℤ) → IsTrue (int_le low high) → CodeStands G ps p references at (type_code line (type.Ordinal low high))
@@ -89,12 +89,12 @@ module _ (declared : Declarations) (G : Image) (untouched : Slots) (first : Inje
         (fragment_from third (fragment_less {n = suc n} (omega arith) (fragment_counted {weight = 0} 0 (with_type (type.Ordinal low high)) (λ s. s) (type.Ordinal low high) (λ s. refl) grows_refl (λ s matches here. ord_does declared G (p.instructions.before + (at + 1 + 1)) line below low high ordered stands.1.1.0 lasts injection memory s matches here) (omega (arith, enough)) (omega (arith, enough)) (omega (arith, enough)) (omega (arith, enough))))))))
 
     -- the code that makes a variable of a type
-    make_typed : (g : ℕ) (t : TypeValue) (host : Host) → IsTypeOf host t → IsValueOf t Undefined
+    make_typed : (g : ℕ) (t : TypeValue) (host : Host) → IsTypeOf host t
         → ((w : UnitVariable) → slice_get (variables_up declared 0) number ≡ Some w → HasOwnType declared w t)
         → CodeStands G ps p references at (type_code line t ++ instr op.MAKE (pos number) 0 line ∷ [])
         → MovesOwn declared G untouched first start p n at (at + length (type_code line t ++ instr op.MAKE (pos number) 0 line ∷ [])) (bind (elaborated call g unit (Some t)) (λ a. allocate_own number a))
-    make_typed g type.Text host valid fits declared_so stands injection memory below d enough = absurd valid
-    make_typed g (type.Ordinal low high) host valid fits declared_so stands injection memory below d enough =
+    make_typed g type.Text host valid declared_so stands injection memory below d enough = absurd valid
+    make_typed g (type.Ordinal low high) host valid declared_so stands injection memory below d enough =
         let parts = code_stands-parts G ps p references at (type_code line (type.Ordinal low high)) (instr op.MAKE (pos number) 0 line ∷ []) stands in
         fragment_bind {middle = p.instructions.before + (at + 3)} {P = λ a. Inside untouched injection memory (TypeOnTop (type.Ordinal low high) below a)} {e = λ a. d + 3} (λ a. steady_allocate_own number a)
         (type_moves g low high valid.0 parts.0 injection memory below d enough)
@@ -105,18 +105,18 @@ module _ (declared : Declarations) (G : Image) (untouched : Slots) (first : Inje
           subst (λ t. Fragment declared G (InActivation declared untouched first start) n (point longer after (p.instructions.before + (at + 3)) pushed) (allocate_own number t) (p.instructions.before + (at + 4)) (λ b. StillBare memory below) (d + 3) (λ b. d)) (sym top.type_is)
               (subst (λ o. Fragment declared G (InActivation declared untouched first start) n (point longer after (p.instructions.before + (at + 3)) o) (allocate_own number (type.Ordinal low high)) (p.instructions.before + (at + 4)) (λ b. StillBare memory below) (d + 3) (λ b. d)) (sym top.is)
               (fragment_to {to = p.instructions.before + (at + 3) + 1} (omega arith) (fragment_weaken {d = d + 3} {e = λ b. d + 3} (omega arith) (λ b. omega arith) (λ b last final operands made. record { runs = still_runs-trans runs made.runs; operands_are = made.operands_are })
-              (make_row_moves low high top.number fits declared_so (p.instructions.before + (at + 3)) parts.1.0 longer after below (d + 3) (omega arith) top.described)))),
+              (make_row_moves low high top.number valid.3 valid.4 declared_so (p.instructions.before + (at + 3)) parts.1.0 longer after below (d + 3) (omega arith) top.described)))),
         ))
 
     -- the code by which a value formal of a type takes its argument
-    value_typed : (g : ℕ) (t : TypeValue) (host : Host) → IsTypeOf host t → IsValueOf t Undefined
+    value_typed : (g : ℕ) (t : TypeValue) (host : Host) → IsTypeOf host t
         → ((w : UnitVariable) → slice_get (variables_up declared 0) number ≡ Some w → HasOwnType declared w t)
         → CodeStands G ps p references at (type_code line t ++ instr op.MAKE (pos number) 0 line ∷ instr op.SLOT (pos number) 0 line ∷ instr op.ARG (pos number) 0 line ∷ bare line op.STORE ∷ [])
         → (z : ℤ) (injection : Injection) (memory : Memory) (below : List Operand) (d : ℕ) → least_credit ≤ d → unit_in G memory.frames ≡ unit
         → argument_at (arguments_in memory.frames.calls) number ≡ Some (Word z) → suc number ≤ length (arguments_in memory.frames.calls)
         → Fragment declared G (InActivation declared untouched first start) n (point injection memory (p.instructions.before + at) below) (bind (elaborated call g unit (Some t)) (λ a. bind (allocate_own number a) (λ _. initialized unit line a z))) (p.instructions.before + (at + length (type_code line t ++ instr op.MAKE (pos number) 0 line ∷ instr op.SLOT (pos number) 0 line ∷ instr op.ARG (pos number) 0 line ∷ bare line op.STORE ∷ []))) (λ a. Taken untouched injection memory (without_argument number (arguments_in memory.frames.calls)) below) d (λ a. d)
-    value_typed g type.Text host valid fits declared_so stands z injection memory below d enough home there within = absurd valid
-    value_typed g (type.Ordinal low high) host valid fits declared_so stands z injection memory below d enough home there within =
+    value_typed g type.Text host valid declared_so stands z injection memory below d enough home there within = absurd valid
+    value_typed g (type.Ordinal low high) host valid declared_so stands z injection memory below d enough home there within =
         let t : TypeValue = type.Ordinal low high in
         let inside_args : List (Option Operand) = arguments_in memory.frames.calls in
         let parts = code_stands-parts G ps p references at (type_code line t) (instr op.MAKE (pos number) 0 line ∷ instr op.SLOT (pos number) 0 line ∷ instr op.ARG (pos number) 0 line ∷ bare line op.STORE ∷ []) stands in
@@ -131,7 +131,7 @@ module _ (declared : Declarations) (G : Image) (untouched : Slots) (first : Inje
           subst (λ t. Fragment declared G (InActivation declared untouched first start) n (point longer after (p.instructions.before + (at + 3)) pushed) (bind (allocate_own number t) (λ _. initialized unit line t z)) (p.instructions.before + (at + 7)) (λ b. Taken untouched injection memory (without_argument number inside_args) below) (d + 3) (λ b. d)) (sym top.type_is)
               (subst (λ o. Fragment declared G (InActivation declared untouched first start) n (point longer after (p.instructions.before + (at + 3)) o) (bind (allocate_own number t) (λ _. initialized unit line t z)) (p.instructions.before + (at + 7)) (λ b. Taken untouched injection memory (without_argument number inside_args) below) (d + 3) (λ b. d)) (sym top.is)
               (fragment_post (λ b. taken-later inside.grown runs) (fragment_bind {P = λ u. MadeOwn untouched number t longer after below} {e = λ u. d + 3} (λ u. steady_initialized unit line t z)
-              (make_row_moves low high top.number fits declared_so (p.instructions.before + (at + 3)) parts.1.0 longer after below (d + 3) (omega arith) top.described)
+              (make_row_moves low high top.number valid.3 valid.4 declared_so (p.instructions.before + (at + 3)) parts.1.0 longer after below (d + 3) (omega arith) top.described)
               (λ u last final above made.
               let f = in_frame final number (Some made.place) made.slot in
               let args : (f.frame).arguments ≡ inside_args = sym (ap arguments_in f.frames) ∙ (made.left_are ∙ same) in (
@@ -162,7 +162,7 @@ module _ (declared : Declarations) (G : Image) (untouched : Slots) (first : Inje
       typed : CodeStands G ps p references at (type_code v.line valid.type_value ++ instr op.MAKE (pos number) 0 v.line ∷ [])
           → MovesOwn declared G untouched first start p n at (at + length (type_code v.line valid.type_value ++ instr op.MAKE (pos number) 0 v.line ∷ [])) (bind (elaborated call g unit (Some valid.type_value)) (λ a. allocate_own number a))
       typed s =
-          make_typed number v.line at v is_declared g valid.type_value valid.host valid.is_type (integer_bounds valid.host valid.type_value valid.is_type) has_type s
+          make_typed number v.line at v is_declared g valid.type_value valid.host valid.is_type has_type s
 
   -- and so are the variables from this number on
   pub make_all_own_moves : (g number at : ℕ) (vs : List UnitVariable) → ((i : ℕ) (v : UnitVariable) → slice_get vs i ≡ Some v → slice_get (variables_up declared 0) (number + i) ≡ Some v)
@@ -201,7 +201,7 @@ module _ (declared : Declarations) (G : Image) (untouched : Slots) (first : Inje
         → (z : ℤ) (injection : Injection) (memory : Memory) (below : List Operand) (d : ℕ) → least_credit ≤ d → unit_in G memory.frames ≡ unit
         → argument_at (arguments_in memory.frames.calls) number ≡ Some (Word z) → suc number ≤ length (arguments_in memory.frames.calls)
         → Fragment declared G (InActivation declared untouched first start) n (point injection memory (p.instructions.before + at) below) (bind (elaborated call g unit o) (λ a. bind (allocate_own number a) (λ _. initialized unit line a z))) (p.instructions.before + (at + length (elaborating_code line o ++ instr op.MAKE (pos number) 0 line ∷ instr op.SLOT (pos number) 0 line ∷ instr op.ARG (pos number) 0 line ∷ bare line op.STORE ∷ []))) (λ a. Taken untouched injection memory (without_argument number (arguments_in memory.frames.calls)) below) d (λ a. d)) (sym its.has_type)
-        (value_typed number line at (formal_variable line f) is_declared g its.type_value its.host its.is_type (integer_bounds its.host its.type_value its.is_type) has_its_type)
+        (value_typed number line at (formal_variable line f) is_declared g its.type_value its.host its.is_type has_its_type)
 
     -- a variable formal takes a variable
     reference_moves : CodeStands G ps p references at (place_taken line number)

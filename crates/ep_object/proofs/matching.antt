@@ -12,3 +12,4 @@ pub mod NewVariables
 pub mod OwnVariables
 pub mod Standing
 pub mod TypeTables
+pub mod Words

@@ -5,7 +5,7 @@ use Rattle.ep_outside.specs.Known.{IsPrefix}
 use Rattle.ep_typed.specs.Denoters.{IsInstance}
 use Rattle.ep_typed.specs.Events.{Trace}
 use Rattle.ep_typed.specs.Operations.{is_integer}
-use Rattle.ep_typed.specs.Steps.{Value, Undefined, Allocation, Resources, is_within, same_type}
+use Rattle.ep_typed.specs.Steps.{Value, Undefined, Allocation, Resources, is_within, same_type, size_of}
 use Rattle.ep_typed.specs.Steps as meaning
 use Rattle.ep_typed.specs.Valid.{Declarations}
 use Rattle.ep_typed.specs.Viewed.{denoter_of}
@@ -57,33 +57,50 @@ abbrev pub Describes : TypeTable → ℕ → TypeValue → Type 0
 Describes types n (type.Ordinal low high) = slice_get types n ≡ Some (ordinal_entry low high)
 Describes types n type.Text = slice_get types n ≡ Some text_entry
 
--- the words of a value
-abbrev pub layout : Value → List ℤ
-layout Undefined = undefined ∷ []
-layout (meaning.Word w) = w ∷ []
+-- words by number
+abbrev pub Words : Type 0
+Words = ℕ → Option ℤ
 
--- a value of a type, whose bounds are integers
-abbrev pub IsValueOf : TypeValue → Value → Type 0
-IsValueOf (type.Ordinal low high) Undefined = IsTrue (is_integer low) × IsTrue (is_integer high)
-IsValueOf (type.Ordinal low high) (meaning.Word w) = IsTrue (is_integer low) × IsTrue (is_integer high) × IsTrue (is_within (type.Ordinal low high) w)
-IsValueOf type.Text Undefined = ⊤
-IsValueOf type.Text (meaning.Word w) = ⊥
+-- a word is a simple value of the type: a number of the type, or the undefined word
+abbrev pub WordAt : TypeValue → Value → Option ℤ → Type 0
+WordAt t Undefined word = word ≡ Some undefined
+WordAt t (meaning.Word w) word = (word ≡ Some w) × IsTrue (is_within t w)
 
--- a segment has the words of an allocation that lives, and its type describes the allocation's
-pub record Represents (segments : Segments) (types : TypeTable) (segment : ℕ)
+-- a word is a value of the ordinal type with these bounds, which are integers
+pub record OrdinalAt (low high : ℤ) (value : Value) (word : Option ℤ) : Type 0 where
+  pub low_fits : IsTrue (is_integer low)
+  pub high_fits : IsTrue (is_integer high)
+  pub is : WordAt (type.Ordinal low high) value word
+
+-- a word is that of a file variable, which has no value
+abbrev pub FileAt : Value → Option ℤ → Type 0
+FileAt Undefined word = word ≡ Some undefined
+FileAt (meaning.Word w) word = ⊥
+
+-- The words from an offset on hold the value, and it is one of the type. Words that the value leaves free may be any.
+-- Where a value is a pointer, the injection says which segment its word is the number of.
+abbrev pub HasAt : Injection → TypeValue → Value → Words → ℕ → Type 0
+HasAt injection (type.Ordinal low high) value words offset = OrdinalAt low high value (words offset)
+HasAt injection type.Text value words offset = FileAt value (words offset)
+
+-- A segment has as many words as the type of an allocation that lives, they hold its value, and the segment's type describes
+-- the allocation's.
+pub record Represents (injection : Injection) (segments : Segments) (types : TypeTable) (segment : ℕ)
     (allocation : Allocation) : Type 0 where
   pub type_number : ℕ
-  pub stands : slice_get segments segment ≡ Some (Some (record { type_number = type_number; words = layout allocation.value }))
+  pub words : List ℤ
+  pub stands : slice_get segments segment ≡ Some (Some (record { type_number = type_number; words = words }))
   pub described : Describes types type_number allocation.type_value
-  pub value : IsValueOf allocation.type_value allocation.value
+  pub sized : length words ≡ size_of allocation.type_value
+  pub holds : HasAt injection allocation.type_value allocation.value (slice_get words) 0
 
-abbrev pub IsRepresentedWhere : Bool → Segments → TypeTable → ℕ → Allocation → Type 0
-IsRepresentedWhere true segments types segment allocation = slice_get segments segment ≡ Some None
-IsRepresentedWhere false segments types segment allocation = Represents segments types segment allocation
+abbrev pub IsRepresentedWhere : Bool → Injection → Segments → TypeTable → ℕ → Allocation → Type 0
+IsRepresentedWhere true injection segments types segment allocation = slice_get segments segment ≡ Some None
+IsRepresentedWhere false injection segments types segment allocation = Represents injection segments types segment allocation
 
 -- the segment of an allocation that has ended has ended, and that of one that lives represents it
-abbrev pub IsRepresented : Segments → TypeTable → ℕ → Allocation → Type 0
-IsRepresented segments types segment allocation = IsRepresentedWhere allocation.ended segments types segment allocation
+abbrev pub IsRepresented : Injection → Segments → TypeTable → ℕ → Allocation → Type 0
+IsRepresented injection segments types segment allocation = IsRepresentedWhere allocation.ended injection segments types segment allocation
 
 -- a place is that of the whole allocation of this number
 pub record IsPlaceOf (injection : Injection) (segments : Segments) (n : ℕ) (place : Place) : Type 0 where
@@ -144,7 +161,7 @@ pub record MatchesInjection (injection : Injection) (allocations : List Allocati
 pub record MatchesStore (injection : Injection) (allocations : List Allocation) (segments : Segments)
     (types : TypeTable) : Type 0 where
   pub represented : (n segment : ℕ) (allocation : Allocation) → IsIn injection n segment
-      → meaning.allocation_at allocations n ≡ Some allocation → IsRepresented segments types segment allocation
+      → meaning.allocation_at allocations n ≡ Some allocation → IsRepresented injection segments types segment allocation
 
 -- the types: each that was elaborated has a number
 pub record MatchesTypes (elaborated : List TypeValue) (types : TypeTable) : Type 0 where

@@ -1,7 +1,7 @@
 -- The machine matches the meaning before the first start.
 use Rattle.std.proofs.Common.{◌≡◌, ℕ, zero, suc, ◌≤◌, List, [], ◌∷◌, length, Option, Some, None, slice_get, replicate, map, refl, ap, ◌∙◌, subst, arith}
 use Rattle.ep_object.specs.Matching.{Memory, Injection, IsIn, MatchesSlot, Represents, IsRepresented, Matches}
-use Rattle.ep_object.specs.State.{Frames, Segments, empty_slots, first_segments, first_types, first_live}
+use Rattle.ep_object.specs.State.{Frames, Segments, empty_slots, first_segments, first_types, first_live, undefined}
 use Rattle.ep_object.specs.declared.code.Image.{Image}
 use Rattle.ep_object.specs.declared.state.Place.{Place}
 use Rattle.ep_object.specs.declared.state.TypeEntry.{TypeEntry}
@@ -69,18 +69,18 @@ first_apart m (suc (suc (suc n))) segment h k = cc
 abbrev file : Allocation
 file = meaning.standard_allocation
 
-input_represented : Represents first_segments first_types 1 file
-input_represented = record { type_number = 3; stands = refl; described = refl; value = tt }
+input_represented : Represents first_injection first_segments first_types 1 file
+input_represented = record { type_number = 3; words = undefined ∷ []; stands = refl; described = refl; sized = refl; holds = refl }
 
-output_represented : Represents first_segments first_types 2 file
-output_represented = record { type_number = 3; stands = refl; described = refl; value = tt }
+output_represented : Represents first_injection first_segments first_types 2 file
+output_represented = record { type_number = 3; words = undefined ∷ []; stands = refl; described = refl; sized = refl; holds = refl }
 
 first_represented : (n segment : ℕ) (allocation : Allocation) → IsIn first_injection n segment
     → meaning.allocation_at meaning.first_state.allocations n ≡ Some allocation
-    → IsRepresented first_segments first_types segment allocation
+    → IsRepresented first_injection first_segments first_types segment allocation
 first_represented zero segment a h k = absurd h
-first_represented (suc zero) segment a h k = let e : 1 ≡ segment = cc in let f : file ≡ a = cc in subst (λ x. IsRepresented first_segments first_types x a) e (subst (λ x. IsRepresented first_segments first_types 1 x) f input_represented)
-first_represented (suc (suc zero)) segment a h k = let e : 2 ≡ segment = cc in let f : file ≡ a = cc in subst (λ x. IsRepresented first_segments first_types x a) e (subst (λ x. IsRepresented first_segments first_types 2 x) f output_represented)
+first_represented (suc zero) segment a h k = let e : 1 ≡ segment = cc in let f : file ≡ a = cc in subst (λ x. IsRepresented first_injection first_segments first_types x a) e (subst (λ x. IsRepresented first_injection first_segments first_types 1 x) f input_represented)
+first_represented (suc (suc zero)) segment a h k = let e : 2 ≡ segment = cc in let f : file ≡ a = cc in subst (λ x. IsRepresented first_injection first_segments first_types x a) e (subst (λ x. IsRepresented first_injection first_segments first_types 2 x) f output_represented)
 first_represented (suc (suc (suc n))) segment a h k = cc
 
 no_place : (place : Place) → ◌≡◌ {A = Option Place} None (Some place) → ⊥

@@ -1,7 +1,7 @@
 -- The machine goes on matching where a value is assigned or events are added.
-use Rattle.std.proofs.Common.{◌≡◌, ℕ, zero, suc, false, ◌<◌, ◌≤◌, ◌⊎◌, inl, inr, List, length, Option, Some, None, slice_get, slice_set, refl, sym, ap, ◌∙◌, subst, arith}
+use Rattle.std.proofs.Common.{◌≡◌, ℕ, ℤ, zero, suc, false, ◌<◌, ◌≤◌, ◌⊎◌, inl, inr, List, length, Option, Some, None, slice_get, slice_set, refl, sym, ap, ◌∙◌, subst, arith}
 use Rattle.std.proofs.lemmas.Option.{same_Some, slice_get_within}
-use Rattle.ep_object.specs.Matching.{Memory, Injection, IsIn, MatchesSlot, MatchesInjection, MatchesFrame, MatchesUnits, MatchesCounts, hidden_words, IsValueOf, layout, Represents, IsRepresented, HasType, Matches, Slots, every_slot, Grown}
+use Rattle.ep_object.specs.Matching.{Memory, Injection, IsIn, MatchesSlot, MatchesInjection, MatchesFrame, MatchesUnits, MatchesCounts, hidden_words, HasAt, Represents, IsRepresented, HasType, Matches, Slots, every_slot, Grown}
 use Rattle.ep_object.specs.declared.code.Image.{Image}
 use Rattle.ep_object.specs.declared.code.ImageUnit.{ImageUnit}
 use Rattle.ep_object.specs.declared.state.Place.{Place}
@@ -13,7 +13,7 @@ use Rattle.ep_object.proofs.Grows.{is_prefix}
 use Rattle.ep_object.proofs.matching.HiddenWords.{hidden_words-set, hidden_words-grown}
 use Rattle.ep_typed.specs.Calls.{entered, back_in}
 use Rattle.ep_typed.specs.Events.{Trace}
-use Rattle.ep_typed.specs.Steps.{Call, Value, Undefined, Allocation, allocation_at, assigned_at, assigned, type_in, type_at, ended_in, has_ended, with_events, is_within}
+use Rattle.ep_typed.specs.Steps.{Call, Value, Allocation, allocation_at, assigned_at, assigned, type_in, type_at, ended_in, has_ended, with_events, is_within}
 use Rattle.ep_typed.specs.Steps as meaning
 use Rattle.ep_typed.specs.Valid.{Declarations}
 
@@ -94,18 +94,18 @@ assigned_length allocations zero value a h = refl
 assigned_length allocations (suc n) value a h = rw h (length-set allocations n (record a { value = value }))
 
 -- the memory with the words of one segment replaced
-abbrev pub storing : Memory → ℕ → ℕ → Value → Memory
-storing memory segment type_number value = record memory { segments = slice_set memory.segments segment (Some (record { type_number = type_number; words = layout value })) }
+abbrev pub storing : Memory → ℕ → ℕ → List ℤ → Memory
+storing memory segment type_number words = record memory { segments = slice_set memory.segments segment (Some (record { type_number = type_number; words = words })) }
 
 -- one allocation is in one segment
 pub is_in-same : (injection : Injection) (n x y : ℕ) → IsIn injection n x → IsIn injection n y → x ≡ y
 is_in-same injection zero x y p q = absurd p
 is_in-same injection (suc n) x y p q = same_Some x y (sym p ∙ q)
 
-module _ {declared : Declarations} {G : Image} {injection : Injection} {s : meaning.State} {memory : Memory} (h : Matches declared G injection s memory) (n segment : ℕ) (a : Allocation) (value : Value) (is_in : IsIn injection n segment) (is : allocation_at s.allocations n ≡ Some a) (living : a.ended ≡ false) (r : Represents memory.segments memory.types segment a) where
+module _ {declared : Declarations} {G : Image} {injection : Injection} {s : meaning.State} {memory : Memory} (h : Matches declared G injection s memory) (n segment : ℕ) (a : Allocation) (is_in : IsIn injection n segment) (is : allocation_at s.allocations n ≡ Some a) (living : a.ended ≡ false) (r : Represents injection memory.segments memory.types segment a) (words : List ℤ) where
   -- no other segment changes, and this one keeps its type
   pub grown_storing : {untouched : Slots}
-      → Grown untouched injection memory injection (storing memory segment r.type_number value)
+      → Grown untouched injection memory injection (storing memory segment r.type_number words)
   grown_storing =
       record {
         larger = is_prefix injection;
@@ -120,10 +120,10 @@ module _ {declared : Declarations} {G : Image} {injection : Injection} {s : mean
       }
     where
       new : Segment
-      new = record { type_number = r.type_number; words = layout value }
+      new = record { type_number = r.type_number; words = words }
 
       old : Segment
-      old = record { type_number = r.type_number; words = layout a.value }
+      old = record { type_number = r.type_number; words = r.words }
 
       number : (x y : Segment) → ◌≡◌ {A = Option (Option Segment)} (Some (Some x)) (Some (Some y))
           → x.type_number ≡ y.type_number
@@ -145,10 +145,11 @@ module _ {declared : Declarations} {G : Image} {injection : Injection} {s : mean
       ended_at k y q (inl e) = (old, subst (λ j. slice_get memory.segments j ≡ Some (Some old)) e r.stands)
       ended_at k y q (inr other) = (y, sym (slice_get-set-other memory.segments segment k (Some new) other) ∙ q)
 
-  -- the assigned value is represented, and all else as before
-  pub matches_assigned : IsValueOf a.type_value value
-      → Matches declared G injection (assigned n value s) (storing memory segment r.type_number value)
-  matches_assigned of_type =
+  -- a value is assigned that as many words as before hold: it is represented, and all else as before
+  pub matches_assigned : (value : Value) → length words ≡ length r.words
+      → HasAt injection a.type_value value (slice_get words) 0
+      → Matches declared G injection (assigned n value s) (storing memory segment r.type_number words)
+  matches_assigned value as_many holds =
       record {
         injected = injected;
         store = record { represented = λ m k b p q. represented_at m k b p q (same_or_not n m) };
@@ -160,12 +161,12 @@ module _ {declared : Declarations} {G : Image} {injection : Injection} {s : mean
       }
     where
       new : Segment
-      new = record { type_number = r.type_number; words = layout value }
+      new = record { type_number = r.type_number; words = words }
 
       old : Segment
-      old = record { type_number = r.type_number; words = layout a.value }
+      old = record { type_number = r.type_number; words = r.words }
 
-      grown_whole : Grown every_slot injection memory injection (storing memory segment r.type_number value)
+      grown_whole : Grown every_slot injection memory injection (storing memory segment r.type_number words)
       grown_whole = grown_storing
 
       injected : MatchesInjection injection (assigned_at n value s.allocations) (slice_set memory.segments segment (Some new))
@@ -177,33 +178,26 @@ module _ {declared : Declarations} {G : Image} {injection : Injection} {s : mean
             within = λ m k p. let w = old_injected.within m k p in omega (arith, w, length-set memory.segments segment (Some new));
           }
 
-      -- a value of either kind has one word
-      one_word : (v w : Value) → length (layout v) ≡ length (layout w)
-      one_word Undefined Undefined = refl
-      one_word Undefined (meaning.Word w) = refl
-      one_word (meaning.Word v) Undefined = refl
-      one_word (meaning.Word v) (meaning.Word w) = refl
-
       counts : MatchesCounts injection s.resources (slice_set memory.segments segment (Some new)) memory.types memory.live
       counts =
           let c = h.counts in
-          let same : hidden_words injection (slice_set memory.segments segment (Some new)) ≡ hidden_words injection memory.segments = hidden_words-set injection memory.segments segment old new (one_word value a.value) r.stands in
+          let same : hidden_words injection (slice_set memory.segments segment (Some new)) ≡ hidden_words injection memory.segments = hidden_words-set injection memory.segments segment old new as_many r.stands in
           record { words = omega (arith, c.words, same); hidden = omega (arith, c.hidden, same); number = c.number }
 
       represented_at : (m k : ℕ) (b : Allocation) → IsIn injection m k
           → allocation_at (assigned_at n value s.allocations) m ≡ Some b → (n ≡ m) ⊎ (n ≡ m → ⊥)
-          → IsRepresented (slice_set memory.segments segment (Some new)) memory.types k b
+          → IsRepresented injection (slice_set memory.segments segment (Some new)) memory.types k b
       represented_at m k b p q (inl e) =
           let there : IsIn injection n k = subst (λ j. IsIn injection j k) (sym e) p in
           let seg : segment ≡ k = is_in-same injection n segment k is_in there in
           let b_is : record a { value = value } ≡ b = same_Some (record a { value = value }) b (sym (assigned_same s.allocations n value a is) ∙ subst (λ j. allocation_at (assigned_at n value s.allocations) j ≡ Some b) (sym e) q) in
-          subst (λ j. IsRepresented (slice_set memory.segments segment (Some new)) memory.types j b) seg (subst (λ x. IsRepresented (slice_set memory.segments segment (Some new)) memory.types segment x) b_is (living_represented (slice_set memory.segments segment (Some new)) memory.types segment (record a { value = value }) living (record { type_number = r.type_number; stands = slice_get-set-same memory.segments segment (Some new) (Some old) r.stands; described = r.described; value = of_type })))
+          subst (λ j. IsRepresented injection (slice_set memory.segments segment (Some new)) memory.types j b) seg (subst (λ x. IsRepresented injection (slice_set memory.segments segment (Some new)) memory.types segment x) b_is (living_represented injection (slice_set memory.segments segment (Some new)) memory.types segment (record a { value = value }) living (record { type_number = r.type_number; words = words; stands = slice_get-set-same memory.segments segment (Some new) (Some old) r.stands; described = r.described; sized = as_many ∙ r.sized; holds = holds })))
       represented_at m k b p q (inr other) =
           let store = h.store in
           let injected = h.injected in
-          let before : IsRepresented memory.segments memory.types k b = store.represented m k b p (sym (assigned_other s.allocations n m value a is other) ∙ q) in
+          let before : IsRepresented injection memory.segments memory.types k b = store.represented m k b p (sym (assigned_other s.allocations n m value a is other) ∙ q) in
           let apart : (segment ≡ k → ⊥) = λ e. other (injected.apart n m k (subst (λ j. IsIn injection n j) e is_in) p) in
-          represented-same memory.segments (slice_set memory.segments segment (Some new)) memory.types k b (slice_get-set-other memory.segments segment k (Some new) apart) before
+          represented-same injection memory.segments (slice_set memory.segments segment (Some new)) memory.types k b (slice_get-set-other memory.segments segment k (Some new) apart) before
 
       type_at_assigned : (m : ℕ) → (n ≡ m) ⊎ (n ≡ m → ⊥) → type_at m (assigned n value s) ≡ type_at m s
       type_at_assigned m (inl e) =

@@ -3,7 +3,7 @@ use Rattle.std.proofs.Common.{◌≡◌, ℕ, zero, suc, ◌+◌, ◌-◌, ◌<�
 use Rattle.std.proofs.lemmas.Option.{same_Some, slice_get_within}
 use Rattle.ep_object.specs.Activations.{AreMade}
 use Rattle.ep_object.specs.Calls.{ended, words_in, words_of}
-use Rattle.ep_object.specs.Matching.{Memory, Injection, IsIn, layout, MatchesInjection, MatchesCounts, hidden_words, IsRepresentedWhere, IsRepresented, Matches, Slots, every_slot, Grown}
+use Rattle.ep_object.specs.Matching.{Memory, Injection, IsIn, MatchesInjection, MatchesCounts, hidden_words, IsRepresentedWhere, IsRepresented, Matches, Slots, every_slot, Grown}
 use Rattle.ep_object.specs.State.{Segments}
 use Rattle.ep_object.specs.declared.code.Image.{Image}
 use Rattle.ep_object.specs.declared.state.Segment.{Segment}
@@ -13,11 +13,9 @@ use Rattle.ep_object.proofs.matching.Elements.{length-set, slice_get-set-same, s
 use Rattle.ep_object.proofs.matching.Growing.{grown_refl, grown_trans}
 use Rattle.ep_object.proofs.matching.HiddenWords.{hidden_words-ended}
 use Rattle.ep_object.proofs.matching.Standing.{allocated, represented-same}
-use Rattle.ep_typed.specs.Steps.{Value, Undefined, Allocation, allocation_at, with_ended, living_words, size_of, type_in, type_at, ended_in, has_ended, with_all_ended}
+use Rattle.ep_typed.specs.Steps.{Allocation, allocation_at, with_ended, living_words, type_in, type_at, ended_in, has_ended, with_all_ended}
 use Rattle.ep_typed.specs.Steps as meaning
 use Rattle.ep_typed.specs.Valid.{Declarations}
-use Rattle.ep_typed.specs.declared.value.TypeValue.{TypeValue}
-use Rattle.ep_typed.specs.declared.value.TypeValue.TheVariants as type
 
 -- ---- the allocation that ends, and the others
 
@@ -38,13 +36,6 @@ ended_length allocations zero a h = refl
 ended_length allocations (suc n) a h = rw h (length-set allocations n (record a { ended = true }))
 
 -- ---- the words of a segment that ends
-
--- a variable has a word
-one_word : (t : TypeValue) (v : Value) → length (layout v) ≡ size_of t
-one_word (type.Ordinal low high) Undefined = refl
-one_word (type.Ordinal low high) (meaning.Word w) = refl
-one_word type.Text Undefined = refl
-one_word type.Text (meaning.Word w) = refl
 
 -- what stands there, and as many words as are given back
 record Old (segments : Segments) (segment words : ℕ) : Type 0 where
@@ -70,14 +61,14 @@ module _ {declared : Declarations} {G : Image} {injection : Injection} {s : mean
   old : Old memory.segments segment (living_words (allocation_at s.allocations n))
   old = let store = h.store in go (its.0).ended refl (store.represented n segment its.0 is_in its.1)
     where
-      go : (b : Bool) → (its.0).ended ≡ b → IsRepresentedWhere b memory.segments memory.types segment its.0
+      go : (b : Bool) → (its.0).ended ≡ b → IsRepresentedWhere b injection memory.segments memory.types segment its.0
           → Old memory.segments segment (living_words (allocation_at s.allocations n))
       go true e stands = record { content = None; stands = stands; same = ap words_in stands ∙ sym (rw (its.1, e) refl) }
       go false e r =
           record {
-            content = Some (record { type_number = r.type_number; words = layout (its.0).value });
+            content = Some (record { type_number = r.type_number; words = r.words });
             stands = r.stands;
-            same = ap words_in r.stands ∙ ap (λ i. i + 1) (one_word (its.0).type_value (its.0).value) ∙ sym (rw (its.1, e) refl);
+            same = ap words_in r.stands ∙ ap (λ i. i + 1) r.sized ∙ sym (rw (its.1, e) refl);
           }
 
   gone : slice_get (slice_set memory.segments segment None) segment ≡ Some None
@@ -139,18 +130,18 @@ module _ {declared : Declarations} {G : Image} {injection : Injection} {s : mean
           record { words = omega (arith, c.words, same, old.same); hidden = omega (arith, c.hidden, same); number = c.number }
 
       represented_at : (m k : ℕ) (b : Allocation) → IsIn injection m k → allocation_at (with_ended n s.allocations) m ≡ Some b
-          → (n ≡ m) ⊎ (n ≡ m → ⊥) → IsRepresented (slice_set memory.segments segment None) memory.types k b
+          → (n ≡ m) ⊎ (n ≡ m → ⊥) → IsRepresented injection (slice_set memory.segments segment None) memory.types k b
       represented_at m k b p q (inl e) =
           let there : IsIn injection n k = subst (λ j. IsIn injection j k) (sym e) p in
           let at : segment ≡ k = is_in-same injection n segment k is_in there in
           let b_is : record its.0 { ended = true } ≡ b = same_Some (record its.0 { ended = true }) b (sym (ended_same s.allocations n its.0 its.1) ∙ subst (λ j. allocation_at (with_ended n s.allocations) j ≡ Some b) (sym e) q) in
-          subst (λ j. IsRepresented (slice_set memory.segments segment None) memory.types j b) at (subst (λ x. IsRepresented (slice_set memory.segments segment None) memory.types segment x) b_is gone)
+          subst (λ j. IsRepresented injection (slice_set memory.segments segment None) memory.types j b) at (subst (λ x. IsRepresented injection (slice_set memory.segments segment None) memory.types segment x) b_is gone)
       represented_at m k b p q (inr other) =
           let store = h.store in
           let injected = h.injected in
-          let before : IsRepresented memory.segments memory.types k b = store.represented m k b p (sym (ended_other s.allocations n m its.0 its.1 other) ∙ q) in
+          let before : IsRepresented injection memory.segments memory.types k b = store.represented m k b p (sym (ended_other s.allocations n m its.0 its.1 other) ∙ q) in
           let apart : (segment ≡ k → ⊥) = λ e. other (injected.apart n m k (subst (λ j. IsIn injection n j) e is_in) p) in
-          represented-same memory.segments (slice_set memory.segments segment None) memory.types k b (slice_get-set-other memory.segments segment k None apart) before
+          represented-same injection memory.segments (slice_set memory.segments segment None) memory.types k b (slice_get-set-other memory.segments segment k None apart) before
 
       type_ended : (m : ℕ) → (n ≡ m) ⊎ (n ≡ m → ⊥) → type_at m ended_state ≡ type_at m s
       type_ended m (inl e) = subst (λ j. type_at j ended_state ≡ type_at j s) e (ap type_in (ended_same s.allocations n its.0 its.1) ∙ sym (ap type_in its.1))

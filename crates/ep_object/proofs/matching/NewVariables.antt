@@ -19,7 +19,7 @@ use Rattle.ep_object.proofs.matching.Elements.{slice_get-push, slice_get-pushed,
 use Rattle.ep_object.proofs.matching.Growing.{slice_get-prefix, is_in-longer}
 use Rattle.ep_object.proofs.Grows.{is_prefix}
 use Rattle.ep_object.proofs.matching.HiddenWords.{hidden_words-pushed}
-use Rattle.ep_object.proofs.matching.Standing.{slice_get-some, both, instance_valid, one_type, represented-same, living_represented, allocated}
+use Rattle.ep_object.proofs.matching.Standing.{slice_get-some, both, instance_valid, one_type, represented-same, represented-longer, living_represented, allocated}
 use Rattle.ep_typed.specs.Operations.{is_integer}
 use Rattle.ep_typed.specs.Steps.{Undefined, Allocation, Resources, allocation_at, type_in, type_at, ended_in, bound, counted, made}
 use Rattle.ep_typed.specs.Steps as meaning
@@ -178,23 +178,31 @@ module _ {declared : Declarations} {G : Image} {injection : Injection} {s : mean
   -- the new segment represents the new allocation, and those before are as they were
   pub represented_making : (n segment : ℕ) (a : Allocation) → IsIn (with_segment injection memory) n segment
       → allocation_at (s.allocations ++ new_allocation ∷ []) n ≡ Some a
-      → IsRepresented (memory.segments ++ its_segment ∷ []) memory.types segment a
+      → IsRepresented (with_segment injection memory) (memory.segments ++ its_segment ∷ []) memory.types segment a
   represented_making zero segment a is_in is = absurd is_in
   represented_making (suc n) segment a is_in is = go (is_in-either injection memory (suc n) segment is_in) (slice_get-push s.allocations new_allocation a n is)
     where
       go : IsOldOrNew injection memory (suc n) segment
           → (slice_get s.allocations n ≡ Some a) ⊎ ((n ≡ length s.allocations) × (a ≡ new_allocation))
-          → IsRepresented (memory.segments ++ its_segment ∷ []) memory.types segment a
+          → IsRepresented (with_segment injection memory) (memory.segments ++ its_segment ∷ []) memory.types segment a
       go (inl old) (inl before) =
           let store = h.store in
           let injected = h.injected in
-          represented-same memory.segments (memory.segments ++ its_segment ∷ []) memory.types segment a (slice_get-before memory.segments its_segment segment (injected.within (suc n) segment old)) (store.represented (suc n) segment a old before)
+          represented-longer injection (with_segment injection memory) (memory.segments ++ its_segment ∷ []) memory.types segment a (record { rest = length memory.segments ∷ []; is = refl })
+          (represented-same injection memory.segments (memory.segments ++ its_segment ∷ []) memory.types segment a (slice_get-before memory.segments its_segment segment (injected.within (suc n) segment old)) (store.represented (suc n) segment a old before))
       go (inl old) (inr last) = absurd (omega (arith, is_in-within injection (suc n) segment old, last.0, made_same))
       go (inr new) (inl before) = absurd (omega (arith, slice_get_within s.allocations n a before, new.0, made_same))
       go (inr new) (inr last) =
-          subst (λ j. IsRepresented (memory.segments ++ its_segment ∷ []) memory.types j a) (sym new.1)
-          (subst (λ b. IsRepresented (memory.segments ++ its_segment ∷ []) memory.types (length memory.segments) b) (sym last.1)
-          (living_represented (memory.segments ++ its_segment ∷ []) memory.types (length memory.segments) new_allocation refl (record { type_number = number; stands = slice_get-pushed memory.segments its_segment; described = described; value = (low_fits, high_fits) })))
+          subst (λ j. IsRepresented (with_segment injection memory) (memory.segments ++ its_segment ∷ []) memory.types j a) (sym new.1)
+          (subst (λ b. IsRepresented (with_segment injection memory) (memory.segments ++ its_segment ∷ []) memory.types (length memory.segments) b) (sym last.1)
+          (living_represented (with_segment injection memory) (memory.segments ++ its_segment ∷ []) memory.types (length memory.segments) new_allocation refl (record {
+            type_number = number;
+            words = undefined ∷ [];
+            stands = slice_get-pushed memory.segments its_segment;
+            described = described;
+            sized = refl;
+            holds = record { low_fits = low_fits; high_fits = high_fits; is = refl };
+          })))
 
   -- no two allocations are in one segment
   apart_making : (m n segment : ℕ) → IsOldOrNew injection memory m segment

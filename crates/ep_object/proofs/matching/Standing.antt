@@ -3,12 +3,14 @@ use Rattle.std.proofs.Common.{◌≡◌, ℕ, ℤ, pos, negsuc, zero, suc, ◌<�
 use Rattle.std.proofs.lemmas.Bool.Decides.{nat_tests}
 use Rattle.std.proofs.lemmas.Option.{slice_get_within, same_Some}
 use Rattle.std.specs.Prelude.{int_le, int_lt, neg_ℤ}
-use Rattle.ep_object.specs.Matching.{Memory, Injection, IsIn, IsPlaceOf, Describes, Represents, IsRepresentedWhere, IsRepresented, Matches}
+use Rattle.ep_object.specs.Matching.{Memory, Injection, IsIn, IsPlaceOf, Describes, OrdinalAt, HasAt, Represents, IsRepresentedWhere, IsRepresented, Matches}
 use Rattle.ep_object.specs.State.{Segments, TypeTable, text_entry, undefined}
 use Rattle.ep_object.specs.Types.{ordinal_entry}
 use Rattle.ep_object.specs.declared.code.Image.{Image}
 use Rattle.ep_object.specs.declared.state.Place.{Place}
 use Rattle.ep_object.specs.declared.state.TypeEntry.{TypeEntry}
+use Rattle.ep_object.proofs.matching.Words.{has_at-longer}
+use Rattle.ep_outside.specs.Known.{IsPrefix}
 use Rattle.ep_typed.proofs.Denoters.{types_are_instances, instances_are_one}
 use Rattle.ep_typed.specs.Denoters.{IsInstance}
 use Rattle.ep_typed.specs.Operations.{is_integer, maxint}
@@ -28,37 +30,50 @@ slice_get-some (x ∷ xs) zero h = (x, refl)
 slice_get-some (x ∷ xs) (suc k) h = slice_get-some xs k (omega arith)
 
 -- what a segment represents it goes on representing where it stays what it is
-pub represented-same : (segments later : Segments) (types : TypeTable) (segment : ℕ) (a : Allocation)
-    → slice_get later segment ≡ slice_get segments segment → IsRepresented segments types segment a
-    → IsRepresented later types segment a
-represented-same segments later types segment a same h = go a.ended h
+pub represented-same : (injection : Injection) (segments later : Segments) (types : TypeTable) (segment : ℕ) (a : Allocation)
+    → slice_get later segment ≡ slice_get segments segment → IsRepresented injection segments types segment a
+    → IsRepresented injection later types segment a
+represented-same injection segments later types segment a same h = go a.ended h
   where
-    go : (b : Bool) → IsRepresentedWhere b segments types segment a → IsRepresentedWhere b later types segment a
+    go : (b : Bool) → IsRepresentedWhere b injection segments types segment a
+        → IsRepresentedWhere b injection later types segment a
     go true stands = same ∙ stands
-    go false r = record { type_number = r.type_number; stands = same ∙ r.stands; described = r.described; value = r.value }
+    go false r = record { type_number = r.type_number; words = r.words; stands = same ∙ r.stands; described = r.described; sized = r.sized; holds = r.holds }
+
+-- and where more allocations are made
+pub represented-longer : (injection longer : Injection) (segments : Segments) (types : TypeTable) (segment : ℕ) (a : Allocation)
+    → IsPrefix injection longer → IsRepresented injection segments types segment a
+    → IsRepresented longer segments types segment a
+represented-longer injection longer segments types segment a larger h = go a.ended h
+  where
+    go : (b : Bool) → IsRepresentedWhere b injection segments types segment a
+        → IsRepresentedWhere b longer segments types segment a
+    go true stands = stands
+    go false r = record { type_number = r.type_number; words = r.words; stands = r.stands; described = r.described; sized = r.sized; holds = has_at-longer larger a.type_value a.value (slice_get r.words) 0 r.holds }
 
 -- what is represented and lives, the segment represents
-pub represents_living : (segments : Segments) (types : TypeTable) (segment : ℕ) (a : Allocation) → a.ended ≡ false
-    → IsRepresented segments types segment a → Represents segments types segment a
-represents_living segments types segment a living h = subst (λ b. IsRepresentedWhere b segments types segment a) living h
+pub represents_living : (injection : Injection) (segments : Segments) (types : TypeTable) (segment : ℕ) (a : Allocation)
+    → a.ended ≡ false → IsRepresented injection segments types segment a → Represents injection segments types segment a
+represents_living injection segments types segment a living h = subst (λ b. IsRepresentedWhere b injection segments types segment a) living h
 
 -- the segment of what has ended has ended
-pub represents_ended : (segments : Segments) (types : TypeTable) (segment : ℕ) (a : Allocation) → a.ended ≡ true
-    → IsRepresented segments types segment a → slice_get segments segment ≡ Some None
-represents_ended segments types segment a ended h = subst (λ b. IsRepresentedWhere b segments types segment a) ended h
+pub represents_ended : (injection : Injection) (segments : Segments) (types : TypeTable) (segment : ℕ) (a : Allocation)
+    → a.ended ≡ true → IsRepresented injection segments types segment a → slice_get segments segment ≡ Some None
+represents_ended injection segments types segment a ended h = subst (λ b. IsRepresentedWhere b injection segments types segment a) ended h
 
 -- an allocation that lives is represented by what represents it
-pub living_represented : (segments : Segments) (types : TypeTable) (segment : ℕ) (a : Allocation) → a.ended ≡ false
-    → Represents segments types segment a → IsRepresented segments types segment a
-living_represented segments types segment a living h = subst (λ b. IsRepresentedWhere b segments types segment a) (sym living) h
+pub living_represented : (injection : Injection) (segments : Segments) (types : TypeTable) (segment : ℕ) (a : Allocation)
+    → a.ended ≡ false → Represents injection segments types segment a → IsRepresented injection segments types segment a
+living_represented injection segments types segment a living h = subst (λ b. IsRepresentedWhere b injection segments types segment a) (sym living) h
 
 -- the allocation at a place, which lives, and what the segment has of it
-pub record Stands (s : meaning.State) (memory : Memory) (n : ℕ) (place : Place) : Type 0 where
+pub record Stands (injection : Injection) (s : meaning.State) (memory : Memory) (n : ℕ) (place : Place) : Type 0 where
   pub allocation : Allocation
   pub is : allocation_at s.allocations n ≡ Some allocation
   pub lives : allocation.ended ≡ false
-  pub represents : Represents memory.segments memory.types place.segment allocation
+  pub represents : Represents injection memory.segments memory.types place.segment allocation
   pub type_number : place.type_number ≡ represents.type_number
+  pub holds : HasAt injection allocation.type_value allocation.value (slice_get represents.words) place.offset
 
 -- an allocation that is somewhere has been made
 pub allocated : (injection : Injection) (s : meaning.State) (n segment : ℕ)
@@ -72,14 +87,21 @@ allocated injection s (suc n) segment made h =
 -- at the place of an allocation that lives stands that allocation
 pub place_stands : {declared : Declarations} {G : Image} {injection : Injection} {s : meaning.State} {memory : Memory} {n : ℕ} {place : Place}
     → Matches declared G injection s memory → IsPlaceOf injection memory.segments n place
-    → meaning.has_ended n s ≡ false → Stands s memory n place
+    → meaning.has_ended n s ≡ false → Stands injection s memory n place
 place_stands {injection = injection} {s = s} {memory = memory} {n = n} {place = place} matches place_of living =
     let injected = matches.injected in
     let store = matches.store in
     let a = allocated injection s n place.segment injected.made place_of.is_in in
     let lives : (a.0).ended ≡ false = sym (ap meaning.ended_in a.1) ∙ living in
-    let r : Represents memory.segments memory.types place.segment a.0 = represents_living memory.segments memory.types place.segment a.0 lives (store.represented n place.segment a.0 place_of.is_in a.1) in
-    record { allocation = a.0; is = a.1; lives = lives; represents = r; type_number = place_of.typed (record { type_number = r.type_number; words = _ }) r.stands }
+    let r : Represents injection memory.segments memory.types place.segment a.0 = represents_living injection memory.segments memory.types place.segment a.0 lives (store.represented n place.segment a.0 place_of.is_in a.1) in
+    record {
+      allocation = a.0;
+      is = a.1;
+      lives = lives;
+      represents = r;
+      type_number = place_of.typed (record { type_number = r.type_number; words = r.words }) r.stands;
+      holds = subst (λ o. HasAt injection (a.0).type_value (a.0).value (slice_get r.words) o) (sym place_of.offset) r.holds;
+    }
 
 -- the segment at the place of an allocation that has ended has ended
 pub place_ended : {declared : Declarations} {G : Image} {injection : Injection} {s : meaning.State} {memory : Memory} {n : ℕ} {place : Place}
@@ -89,7 +111,7 @@ place_ended {injection = injection} {s = s} {memory = memory} {n = n} {place = p
     let injected = matches.injected in
     let store = matches.store in
     let a = allocated injection s n place.segment injected.made place_of.is_in in
-    represents_ended memory.segments memory.types place.segment a.0 (sym (ap meaning.ended_in a.1) ∙ ended) (store.represented n place.segment a.0 place_of.is_in a.1)
+    represents_ended injection memory.segments memory.types place.segment a.0 (sym (ap meaning.ended_in a.1) ∙ ended) (store.represented n place.segment a.0 place_of.is_in a.1)
 
 -- a type describes one type value
 pub described-same : (types : TypeTable) (n : ℕ) (t : TypeValue) (low high : ℤ) → Describes types n t
@@ -102,6 +124,34 @@ described-same types n type.Text low high p q =
     let e : text_entry ≡ ordinal_entry low high = same_Some text_entry (ordinal_entry low high) (sym p ∙ q) in
     let k : text_entry.kind ≡ (ordinal_entry low high).kind = ap (λ (x : TypeEntry). x.kind) e in
     cc
+
+-- the allocation of an ordinal type at a place, which lives, and the word that is its value
+pub record StandsOrdinal (injection : Injection) (s : meaning.State) (memory : Memory) (n : ℕ) (place : Place)
+    (low high : ℤ) : Type 0 where
+  pub allocation : Allocation
+  pub is : allocation_at s.allocations n ≡ Some allocation
+  pub lives : allocation.ended ≡ false
+  pub represents : Represents injection memory.segments memory.types place.segment allocation
+  pub type_is : allocation.type_value ≡ type.Ordinal low high
+  pub word : OrdinalAt low high allocation.value (slice_get represents.words place.offset)
+
+pub ordinal_stands : {declared : Declarations} {G : Image} {injection : Injection} {s : meaning.State} {memory : Memory} {n : ℕ} {place : Place} (low high : ℤ)
+    → Matches declared G injection s memory → IsPlaceOf injection memory.segments n place
+    → Describes memory.types place.type_number (type.Ordinal low high)
+    → meaning.has_ended n s ≡ false → StandsOrdinal injection s memory n place low high
+ordinal_stands {injection = injection} {s = s} {memory = memory} {n = n} {place = place} low high matches place_of described living =
+    let x : Stands injection s memory n place = place_stands matches place_of living in
+    let a : Allocation = x.allocation in
+    let r : Represents injection memory.segments memory.types place.segment a = x.represents in
+    let its_type : a.type_value ≡ type.Ordinal low high = described-same memory.types r.type_number a.type_value low high r.described (subst (λ k. Describes memory.types k (type.Ordinal low high)) x.type_number described) in
+    record {
+      allocation = a;
+      is = x.is;
+      lives = x.lives;
+      represents = r;
+      type_is = its_type;
+      word = subst (λ t. HasAt injection t a.value (slice_get r.words) place.offset) its_type x.holds;
+    }
 
 -- ---- values of types
 

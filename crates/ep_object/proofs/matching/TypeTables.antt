@@ -220,15 +220,15 @@ described-longer types longer n type.Text p h = slice_get-prefix types longer n 
 pub matches_store-types : {injection : Injection} {allocations : List Allocation} {segments : Segments} {types longer : TypeTable}
     → IsPrefix types longer → MatchesStore injection allocations segments types
     → MatchesStore injection allocations segments longer
-matches_store-types {segments = segments} {types = types} {longer = longer} prefix m =
+matches_store-types {injection = injection} {segments = segments} {types = types} {longer = longer} prefix m =
     record {
       represented = λ n segment allocation is_in at_n. go segment allocation allocation.ended (m.represented n segment allocation is_in at_n);
     }
   where
-    go : (segment : ℕ) (a : Allocation) (b : Bool) → IsRepresentedWhere b segments types segment a
-        → IsRepresentedWhere b segments longer segment a
+    go : (segment : ℕ) (a : Allocation) (b : Bool) → IsRepresentedWhere b injection segments types segment a
+        → IsRepresentedWhere b injection segments longer segment a
     go segment a true stands = stands
-    go segment a false r = record { type_number = r.type_number; stands = r.stands; described = described-longer types longer r.type_number a.type_value prefix r.described; value = r.value }
+    go segment a false r = record { type_number = r.type_number; words = r.words; stands = r.stands; described = described-longer types longer r.type_number a.type_value prefix r.described; sized = r.sized; holds = r.holds }
 
 -- and so do the units
 pub matches_units-types : {declared : Declarations} {G : Image} {injection : Injection} {allocations : List Allocation} {variables : List ℕ → ℕ → Option ℕ} {units : List (List (Option Place))} {segments : Segments} {types longer : TypeTable}

@@ -191,7 +191,7 @@ lives_where {injection = injection} {s = s} {memory = memory} n segment x h is_i
     let a = allocated injection s n segment injected.made is_in in
     ap ended_in a.1 ∙ go a.0 (a.0).ended refl (store.represented n segment a.0 is_in a.1)
   where
-    go : (a : Allocation) (b : Bool) → a.ended ≡ b → IsRepresentedWhere b memory.segments memory.types segment a → a.ended ≡ false
+    go : (a : Allocation) (b : Bool) → a.ended ≡ b → IsRepresentedWhere b injection memory.segments memory.types segment a → a.ended ≡ false
     go a true e gone = let none : ◌≡◌ {A = Option (Option Segment)} (Some None) (Some (Some x)) = sym gone ∙ stands in absurd cc
     go a false e r = e
 

@@ -1,36 +1,38 @@
 -- What the rows lead to that change variables and that write, where the machine matches.
-use Rattle.std.proofs.Common.{◌≡◌, ℕ, ℤ, pos, ◌+◌, Bool, true, false, cond, IsTrue, List, ◌∷◌, ◌++◌, length, Some, slice_get, refl, sym, ap, ◌∙◌, subst}
+use Rattle.std.proofs.Common.{◌≡◌, ℕ, ℤ, pos, ◌+◌, Bool, true, false, cond, List, ◌∷◌, ◌++◌, length, Some, slice_get, slice_set, refl, sym, ap, ◌∙◌, subst}
 use Rattle.ep_object.specs.Follows.{Facts, Lasts, Bare, Inside}
-use Rattle.ep_object.specs.Matching.{Memory, at, Injection, IsPlaceOf, Describes, IsValueOf, layout, Represents, Matches, Slots}
+use Rattle.ep_object.specs.Matching.{Memory, at, Injection, IsPlaceOf, Describes, OrdinalAt, HasAt, Represents, Matches, Slots}
 use Rattle.ep_object.specs.Operands.{Operand, Word, Text}
 use Rattle.ep_object.specs.Operands as operand
 use Rattle.ep_object.specs.Runs.{outcome, unit_in}
-use Rattle.ep_object.specs.State.{Running, Stopped, Error, output_place, text_entry, first_types}
+use Rattle.ep_object.specs.State.{Running, Stopped, Error, output_place, text_entry, first_types, undefined}
 use Rattle.ep_object.specs.Texts.{written}
 use Rattle.ep_object.specs.Types.{ordinal_entry}
 use Rattle.ep_object.specs.declared.code.Image.{Image}
 use Rattle.ep_object.specs.declared.state.Place.{Place}
 use Rattle.ep_object.proofs.matching.Changes.{storing, matches_events, grown_storing, matches_assigned}
+use Rattle.ep_object.proofs.matching.Elements.{length-set}
 use Rattle.ep_object.proofs.following.Fragments.{Does, FailsWith}
 use Rattle.ep_object.proofs.matching.Growing.{slice_get-prefix, grown_refl, same_routine-refl, inside_here}
 use Rattle.ep_object.proofs.rows.Rows.{instr, in_one, outcome_at}
-use Rattle.ep_object.proofs.matching.Standing.{Stands, allocated, place_stands, place_ended, described-same, represents_living}
+use Rattle.ep_object.proofs.matching.Standing.{StandsOrdinal, ordinal_stands, allocated, place_ended, represents_living}
+use Rattle.ep_object.proofs.matching.Words.{first_word, ordinal_word, ordinal-stored, ordinal-undefined}
 use Rattle.ep_object.proofs.rows.TextRows.{written-same}
 use Rattle.ep_typed.specs.Events.{Trace}
-use Rattle.ep_typed.specs.Operations.{is_integer}
 use Rattle.ep_typed.specs.Printing.{piece_events}
 use Rattle.ep_typed.specs.Steps.{Value, Undefined, Allocation, type_in, type_at, ended_in, has_ended, is_within, assigned, with_events}
 use Rattle.ep_typed.specs.Steps as meaning
 use Rattle.ep_typed.specs.Valid.{Declarations}
+use Rattle.ep_typed.specs.declared.value.TypeValue.{TypeValue}
 use Rattle.ep_typed.specs.declared.value.TypeValue.TheVariants as type
 use Rattle.ep_object.specs.declared.op.TheConstants as op
 use Rattle.ep_typed.specs.declared.run_error.TheConstants as run_error
 
--- the bounds of an ordinal type are integers
-bounds : (low high : ℤ) (value : Value) → IsValueOf (type.Ordinal low high) value
-    → IsTrue (is_integer low) × IsTrue (is_integer high)
-bounds low high Undefined h = (h.0, h.1)
-bounds low high (meaning.Word w) h = (h.0, h.1)
+-- what the words hold from the offset of a whole variable on, they hold as a whole
+of_whole : (injection : Injection) {t : TypeValue} (low high : ℤ) (value : Value) (words : List ℤ) (offset : ℕ) → t ≡ type.Ordinal low high
+    → offset ≡ 0 → OrdinalAt low high value (slice_get words offset) → HasAt injection t value (slice_get words) 0
+of_whole injection low high value words offset its_type first h =
+    subst (λ u. HasAt injection u value (slice_get words) 0) (sym its_type) (subst (λ o. OrdinalAt low high value (slice_get words o)) first h)
 
 module _ (declared : Declarations) (G : Image) (place line : ℕ) (below : List Operand) where
   -- `Put` of a text to `output`
@@ -44,39 +46,36 @@ module _ (declared : Declarations) (G : Image) (place line : ℕ) (below : List 
       let store = matches.store in
       let outside = matches.outside in
       let a = allocated injection s 2 2 injected.made outside.output in
-      let r : Represents memory.segments memory.types 2 a.0 = represents_living memory.segments memory.types 2 a.0 (sym (ap ended_in a.1) ∙ outside.lives) (store.represented 2 2 a.0 outside.output a.1) in
+      let r : Represents injection memory.segments memory.types 2 a.0 = represents_living injection memory.segments memory.types 2 a.0 (sym (ap ended_in a.1) ∙ outside.lives) (store.represented 2 2 a.0 outside.output a.1) in
       let types = matches.types in
+      let w = first_word injection (a.0).type_value (a.0).value (slice_get r.words) 0 r.holds in
       record {
         injection = injection;
         memory = memory;
         operands = below;
-        does = go a.0.value r.type_number (slice_get-prefix first_types memory.types 3 text_entry types.first refl) r.stands ∙ ap (λ events. record { weight = length bytes; to = Running 0 (at (place + 1) below memory (s.trace ++ events)) }) (written-same bytes);
+        does = go r.type_number r.words w.0 (slice_get-prefix first_types memory.types 3 text_entry types.first refl) r.stands w.1 ∙ ap (λ events. record { weight = length bytes; to = Running 0 (at (place + 1) below memory (s.trace ++ events)) }) (written-same bytes);
         matches = matches_events (piece_events bytes) matches;
         here = lasts.by injection injection s (with_events (piece_events bytes) s) memory memory (record { grown = grown_refl injection memory; routine = same_routine-refl memory.frames; calls = refl }) here;
         post = inside_here refl;
       }
     where
-      go : (value : Value) (type_number : ℕ) → slice_get memory.types 3 ≡ Some text_entry
-          → slice_get memory.segments 2 ≡ Some (Some (record { type_number = type_number; words = layout value }))
+      go : (type_number : ℕ) (words : List ℤ) (w : ℤ) → slice_get memory.types 3 ≡ Some text_entry
+          → slice_get memory.segments 2 ≡ Some (Some (record { type_number = type_number; words = words }))
+          → slice_get words 0 ≡ Some w
           → outcome G (at place (Text bytes ∷ operand.Place output_place ∷ below) memory s.trace) ≡ record { weight = length bytes; to = Running 0 (at (place + 1) below memory (s.trace ++ written bytes)) }
-      go Undefined type_number typed stands = outcome_at G (instr op.PUT (pos 0) 0 line) place (Text bytes ∷ operand.Place output_place ∷ below) memory s.trace has ∙ rw (typed, stands) refl
-      go (meaning.Word w) type_number typed stands = outcome_at G (instr op.PUT (pos 0) 0 line) place (Text bytes ∷ operand.Place output_place ∷ below) memory s.trace has ∙ rw (typed, stands) refl
+      go type_number words w typed stands there = outcome_at G (instr op.PUT (pos 0) 0 line) place (Text bytes ∷ operand.Place output_place ∷ below) memory s.trace has ∙ rw (typed, stands, there) refl
 
   -- `Store` of a word, which is checked as the assignment is
-  store_outcome : (memory : Memory) (trace : Trace) (p : Place) (low high z : ℤ) (type_number : ℕ) (value : Value) (b : Bool)
+  store_outcome : (memory : Memory) (trace : Trace) (p : Place) (low high z : ℤ) (type_number : ℕ) (words : List ℤ) (w : ℤ) (b : Bool)
       → slice_get G.instructions place ≡ Some (instr op.STORE (pos 0) 0 line)
       → slice_get memory.types p.type_number ≡ Some (ordinal_entry low high)
-      → slice_get memory.segments p.segment ≡ Some (Some (record { type_number = type_number; words = layout value }))
-      → p.offset ≡ 0 → is_within (type.Ordinal low high) z ≡ b
-      → outcome G (at place (Word z ∷ operand.Place p ∷ below) memory trace) ≡ in_one (cond b (Running 0 (at (place + 1) below (storing memory p.segment type_number (meaning.Word z)) trace)) (Stopped (Error run_error.OUTSIDE_TYPE (unit_in G memory.frames) line) trace))
-  store_outcome memory trace p low high z type_number Undefined true has typed stands offset within =
-      outcome_at G (instr op.STORE (pos 0) 0 line) place (Word z ∷ operand.Place p ∷ below) memory trace has ∙ rw (typed, stands, offset, within) refl
-  store_outcome memory trace p low high z type_number Undefined false has typed stands offset within =
-      outcome_at G (instr op.STORE (pos 0) 0 line) place (Word z ∷ operand.Place p ∷ below) memory trace has ∙ rw (typed, stands, offset, within) refl
-  store_outcome memory trace p low high z type_number (meaning.Word w) true has typed stands offset within =
-      outcome_at G (instr op.STORE (pos 0) 0 line) place (Word z ∷ operand.Place p ∷ below) memory trace has ∙ rw (typed, stands, offset, within) refl
-  store_outcome memory trace p low high z type_number (meaning.Word w) false has typed stands offset within =
-      outcome_at G (instr op.STORE (pos 0) 0 line) place (Word z ∷ operand.Place p ∷ below) memory trace has ∙ rw (typed, stands, offset, within) refl
+      → slice_get memory.segments p.segment ≡ Some (Some (record { type_number = type_number; words = words }))
+      → slice_get words p.offset ≡ Some w → is_within (type.Ordinal low high) z ≡ b
+      → outcome G (at place (Word z ∷ operand.Place p ∷ below) memory trace) ≡ in_one (cond b (Running 0 (at (place + 1) below (storing memory p.segment type_number (slice_set words p.offset z)) trace)) (Stopped (Error run_error.OUTSIDE_TYPE (unit_in G memory.frames) line) trace))
+  store_outcome memory trace p low high z type_number words w true has typed stands there within =
+      outcome_at G (instr op.STORE (pos 0) 0 line) place (Word z ∷ operand.Place p ∷ below) memory trace has ∙ rw (typed, stands, there, within) refl
+  store_outcome memory trace p low high z type_number words w false has typed stands there within =
+      outcome_at G (instr op.STORE (pos 0) 0 line) place (Word z ∷ operand.Place p ∷ below) memory trace has ∙ rw (typed, stands, there, within) refl
 
   -- `Store` of a word in a variable that has ended
   pub store_fails_ended : (low high z : ℤ) (n : ℕ) (p : Place)
@@ -89,54 +88,49 @@ module _ (declared : Declarations) (G : Image) (place line : ℕ) (below : List 
       record { fails = outcome_at G (instr op.STORE (pos 0) 0 line) place (Word z ∷ operand.Place p ∷ below) memory s.trace has ∙ rw (described, place_ended matches place_of ended) refl }
 
   module _ (low high z : ℤ) (n : ℕ) (p : Place) (has : slice_get G.instructions place ≡ Some (instr op.STORE (pos 0) 0 line)) (injection : Injection) (memory : Memory) (place_of : IsPlaceOf injection memory.segments n p) (described : Describes memory.types p.type_number (type.Ordinal low high)) (s : meaning.State) (matches : Matches declared G injection s memory) (living : has_ended n s ≡ false) where
-    here : Stands s memory n p
-    here = place_stands matches place_of living
-
-    its_type : here.allocation.type_value ≡ type.Ordinal low high
-    its_type =
-        let r : Represents memory.segments memory.types p.segment here.allocation = here.represents in
-        described-same memory.types r.type_number here.allocation.type_value low high r.described (subst (λ k. Describes memory.types k (type.Ordinal low high)) here.type_number described)
+    here : StandsOrdinal injection s memory n p low high
+    here = ordinal_stands low high matches place_of described living
 
     pub type_is : type_at n s ≡ type.Ordinal low high
-    type_is = ap type_in here.is ∙ its_type
+    type_is = ap type_in here.is ∙ here.type_is
 
     pub store_does : {untouched : Slots} {Here : Facts} → Lasts untouched Here → Here injection s memory
         → is_within (type_at n s) z ≡ true
         → Does declared G Here (at place (Word z ∷ operand.Place p ∷ below) memory s.trace) 0 (place + 1) (Inside untouched injection memory (Bare below tt)) (assigned n (meaning.Word z) s)
     store_does {untouched = untouched} lasts known within =
         let a : Allocation = here.allocation in
-        let r : Represents memory.segments memory.types p.segment a = here.represents in
+        let r : Represents injection memory.segments memory.types p.segment a = here.represents in
         let inside : is_within (type.Ordinal low high) z ≡ true = ap (λ t. is_within t z) (sym type_is) ∙ within in
-        let ends = bounds low high a.value (subst (λ t. IsValueOf t a.value) its_type r.value) in
-        let of_type : IsValueOf a.type_value (meaning.Word z) = subst (λ t. IsValueOf t (meaning.Word z)) (sym its_type) (ends.0, ends.1, inside) in
+        let words : List ℤ = slice_set r.words p.offset z in
+        let old = ordinal_word a.value here.word in
+        let holds : HasAt injection a.type_value (meaning.Word z) (slice_get words) 0 = of_whole injection low high (meaning.Word z) words p.offset here.type_is place_of.offset (ordinal-stored z a.value r.words p.offset here.word inside) in
         record {
           injection = injection;
-          memory = storing memory p.segment r.type_number (meaning.Word z);
+          memory = storing memory p.segment r.type_number words;
           operands = below;
-          does = store_outcome memory s.trace p low high z r.type_number a.value true has described r.stands place_of.offset inside;
-          matches = matches_assigned matches n p.segment a (meaning.Word z) place_of.is_in here.is here.lives r of_type;
-          here = lasts.by injection injection s (assigned n (meaning.Word z) s) memory (storing memory p.segment r.type_number (meaning.Word z)) (record { grown = grown_storing matches n p.segment a (meaning.Word z) place_of.is_in here.is here.lives r; routine = same_routine-refl memory.frames; calls = refl }) known;
-          post = record { grown = grown_storing matches n p.segment a (meaning.Word z) place_of.is_in here.is here.lives r; routine = same_routine-refl memory.frames; operands_are = refl };
+          does = store_outcome memory s.trace p low high z r.type_number r.words old.0 true has described r.stands old.1 inside;
+          matches = matches_assigned matches n p.segment a place_of.is_in here.is here.lives r words (meaning.Word z) (length-set r.words p.offset z) holds;
+          here = lasts.by injection injection s (assigned n (meaning.Word z) s) memory (storing memory p.segment r.type_number words) (record { grown = grown_storing matches n p.segment a place_of.is_in here.is here.lives r words; routine = same_routine-refl memory.frames; calls = refl }) known;
+          post = record { grown = grown_storing matches n p.segment a place_of.is_in here.is here.lives r words; routine = same_routine-refl memory.frames; operands_are = refl };
         }
 
     pub store_fails : is_within (type_at n s) z ≡ false
         → FailsWith G (at place (Word z ∷ operand.Place p ∷ below) memory s.trace) 0 2 (unit_in G memory.frames) line s
     store_fails within =
-        let r : Represents memory.segments memory.types p.segment here.allocation = here.represents in
+        let r : Represents injection memory.segments memory.types p.segment here.allocation = here.represents in
         let outside : is_within (type.Ordinal low high) z ≡ false = ap (λ t. is_within t z) (sym type_is) ∙ within in
-        record { fails = store_outcome memory s.trace p low high z r.type_number here.allocation.value false has described r.stands place_of.offset outside }
+        let old = ordinal_word here.allocation.value here.word in
+        record { fails = store_outcome memory s.trace p low high z r.type_number r.words old.0 false has described r.stands old.1 outside }
 
   -- `Undefine` of a variable of an ordinal type
-  undefine_outcome : (memory : Memory) (trace : Trace) (p : Place) (low high : ℤ) (type_number : ℕ) (value : Value)
+  undefine_outcome : (memory : Memory) (trace : Trace) (p : Place) (low high : ℤ) (type_number : ℕ) (words : List ℤ) (w : ℤ)
       → slice_get G.instructions place ≡ Some (instr op.UNDEFINE (pos 0) 0 line)
       → slice_get memory.types p.type_number ≡ Some (ordinal_entry low high)
-      → slice_get memory.segments p.segment ≡ Some (Some (record { type_number = type_number; words = layout value }))
-      → p.offset ≡ 0
-      → outcome G (at place (operand.Place p ∷ below) memory trace) ≡ record { weight = 1; to = Running 0 (at (place + 1) below (storing memory p.segment type_number Undefined) trace) }
-  undefine_outcome memory trace p low high type_number Undefined has typed stands offset =
-      outcome_at G (instr op.UNDEFINE (pos 0) 0 line) place (operand.Place p ∷ below) memory trace has ∙ rw (typed, stands, offset) refl
-  undefine_outcome memory trace p low high type_number (meaning.Word w) has typed stands offset =
-      outcome_at G (instr op.UNDEFINE (pos 0) 0 line) place (operand.Place p ∷ below) memory trace has ∙ rw (typed, stands, offset) refl
+      → slice_get memory.segments p.segment ≡ Some (Some (record { type_number = type_number; words = words }))
+      → slice_get words p.offset ≡ Some w
+      → outcome G (at place (operand.Place p ∷ below) memory trace) ≡ record { weight = 1; to = Running 0 (at (place + 1) below (storing memory p.segment type_number (slice_set words p.offset undefined)) trace) }
+  undefine_outcome memory trace p low high type_number words w has typed stands there =
+      outcome_at G (instr op.UNDEFINE (pos 0) 0 line) place (operand.Place p ∷ below) memory trace has ∙ rw (typed, stands, there) refl
 
   -- `Undefine` of a variable that has ended
   pub undefine_fails_ended : (low high : ℤ) (n : ℕ) (p : Place)
@@ -157,18 +151,18 @@ module _ (declared : Declarations) (G : Image) (place line : ℕ) (below : List 
       → Lasts untouched Here → Here injection s memory
       → Does declared G Here (at place (operand.Place p ∷ below) memory s.trace) 1 (place + 1) (Inside untouched injection memory (Bare below tt)) (assigned n Undefined s)
   undefine_does low high n p has injection memory place_of described s matches living lasts known =
-      let x : Stands s memory n p = place_stands matches place_of living in
+      let x : StandsOrdinal injection s memory n p low high = ordinal_stands low high matches place_of described living in
       let a : Allocation = x.allocation in
-      let r : Represents memory.segments memory.types p.segment a = x.represents in
-      let its_type : a.type_value ≡ type.Ordinal low high = described-same memory.types r.type_number a.type_value low high r.described (subst (λ k. Describes memory.types k (type.Ordinal low high)) x.type_number described) in
-      let ends = bounds low high a.value (subst (λ t. IsValueOf t a.value) its_type r.value) in
-      let of_type : IsValueOf a.type_value Undefined = subst (λ t. IsValueOf t Undefined) (sym its_type) (ends.0, ends.1) in
+      let r : Represents injection memory.segments memory.types p.segment a = x.represents in
+      let words : List ℤ = slice_set r.words p.offset undefined in
+      let old = ordinal_word a.value x.word in
+      let holds : HasAt injection a.type_value Undefined (slice_get words) 0 = of_whole injection low high Undefined words p.offset x.type_is place_of.offset (ordinal-undefined a.value r.words p.offset x.word) in
       record {
         injection = injection;
-        memory = storing memory p.segment r.type_number Undefined;
+        memory = storing memory p.segment r.type_number words;
         operands = below;
-        does = undefine_outcome memory s.trace p low high r.type_number a.value has described r.stands place_of.offset;
-        matches = matches_assigned matches n p.segment a Undefined place_of.is_in x.is x.lives r of_type;
-        here = lasts.by injection injection s (assigned n Undefined s) memory (storing memory p.segment r.type_number Undefined) (record { grown = grown_storing matches n p.segment a Undefined place_of.is_in x.is x.lives r; routine = same_routine-refl memory.frames; calls = refl }) known;
-        post = record { grown = grown_storing matches n p.segment a Undefined place_of.is_in x.is x.lives r; routine = same_routine-refl memory.frames; operands_are = refl };
+        does = undefine_outcome memory s.trace p low high r.type_number r.words old.0 has described r.stands old.1;
+        matches = matches_assigned matches n p.segment a place_of.is_in x.is x.lives r words Undefined (length-set r.words p.offset undefined) holds;
+        here = lasts.by injection injection s (assigned n Undefined s) memory (storing memory p.segment r.type_number words) (record { grown = grown_storing matches n p.segment a place_of.is_in x.is x.lives r words; routine = same_routine-refl memory.frames; calls = refl }) known;
+        post = record { grown = grown_storing matches n p.segment a place_of.is_in x.is x.lives r words; routine = same_routine-refl memory.frames; operands_are = refl };
       }

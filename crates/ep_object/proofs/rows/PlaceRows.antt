@@ -1,8 +1,8 @@
 -- What the rows on places and variables lead to, where the machine matches.
-use Rattle.std.proofs.Common.{◌≡◌, ℕ, ℤ, pos, negsuc, ◌+◌, ◌<◌, true, false, List, [], ◌∷◌, Option, Some, None, slice_get, refl, ap, ◌∙◌, subst, arith}
+use Rattle.std.proofs.Common.{◌≡◌, ℕ, ℤ, pos, negsuc, ◌+◌, ◌<◌, true, false, List, ◌∷◌, Option, Some, None, slice_get, refl, ap, ◌∙◌, arith}
 use Rattle.std.specs.Prelude.{int_lt, is_some}
 use Rattle.ep_object.specs.Follows.{Facts, OnTop, PlaceOnTop, Inside}
-use Rattle.ep_object.specs.Matching.{Memory, at, Injection, MatchesSlot, MatchesFrame, IsPlaceOf, Describes, IsValueOf, layout, Represents, HasType, Matches, Slots}
+use Rattle.ep_object.specs.Matching.{Memory, at, Injection, MatchesSlot, MatchesFrame, IsPlaceOf, Describes, OrdinalAt, Represents, HasType, Matches, Slots}
 use Rattle.ep_object.specs.Operands.{Operand, Word, Text}
 use Rattle.ep_object.specs.Operands as operand
 use Rattle.ep_object.specs.Places.{loaded}
@@ -18,7 +18,7 @@ use Rattle.ep_object.proofs.following.Choices.{Reads, Misses, Finds}
 use Rattle.ep_object.proofs.following.Fragments.{FailsWith}
 use Rattle.ep_object.proofs.matching.Growing.{inside_here}
 use Rattle.ep_object.proofs.rows.Rows.{instr, in_one, RowPushes, outcome_at}
-use Rattle.ep_object.proofs.matching.Standing.{slice_get-some, Stands, place_stands, place_ended, described-same, within_host, word_defined}
+use Rattle.ep_object.proofs.matching.Standing.{slice_get-some, StandsOrdinal, ordinal_stands, place_ended, within_host, word_defined}
 use Rattle.ep_typed.specs.Events.{Trace}
 use Rattle.ep_typed.specs.Printing.{Number}
 use Rattle.ep_typed.specs.Steps.{has_ended, Value, Undefined, Allocation, allocation_at, word_of, word_in, word_at, is_within}
@@ -71,14 +71,14 @@ module _ (declared : Declarations) (G : Image) (place line : ℕ) (below : List 
           })
 
   -- what `Load` finds
-  load_outcome : (memory : Memory) (trace : Trace) (p : Place) (low high : ℤ) (type_number : ℕ) (w : ℤ)
+  load_outcome : (memory : Memory) (trace : Trace) (p : Place) (low high : ℤ) (type_number : ℕ) (words : List ℤ) (w : ℤ)
       → slice_get G.instructions place ≡ Some (instr op.LOAD (pos 0) 0 line)
       → slice_get memory.types p.type_number ≡ Some (ordinal_entry low high)
-      → slice_get memory.segments p.segment ≡ Some (Some (record { type_number = type_number; words = w ∷ [] }))
-      → p.offset ≡ 0
+      → slice_get memory.segments p.segment ≡ Some (Some (record { type_number = type_number; words = words }))
+      → slice_get words p.offset ≡ Some w
       → outcome G (at place (operand.Place p ∷ below) memory trace) ≡ in_one (after G (instr op.LOAD (pos 0) 0 line) (at place (operand.Place p ∷ below) memory trace) (on_operands (at place (operand.Place p ∷ below) memory trace) (loaded w below)))
-  load_outcome memory trace p low high type_number w has typed stands offset =
-      outcome_at G (instr op.LOAD (pos 0) 0 line) place (operand.Place p ∷ below) memory trace has ∙ rw (typed, stands, offset) refl
+  load_outcome memory trace p low high type_number words w has typed stands there =
+      outcome_at G (instr op.LOAD (pos 0) 0 line) place (operand.Place p ∷ below) memory trace has ∙ rw (typed, stands, there) refl
 
   -- `Load`, of a variable that has ended
   pub load_fails : (low high : ℤ) (n : ℕ) (p : Place)
@@ -99,40 +99,40 @@ module _ (declared : Declarations) (G : Image) (place line : ℕ) (below : List 
       → Matches declared G injection s memory → Here injection s memory → has_ended n s ≡ false
       → Reads declared G Here (at place (operand.Place p ∷ below) memory s.trace) 1 (unit_in G memory.frames) line (place + 1) (λ w. Inside untouched injection memory (OnTop (kind.Ordinal host) below (Number w))) s (word_at n s)
   load_reads {untouched = untouched} {Here = Here} host low high n p of_host has injection memory place_of described s matches known living =
-      let x : Stands s memory n p = place_stands matches place_of living in
+      let x : StandsOrdinal injection s memory n p low high = ordinal_stands low high matches place_of described living in
       let a : Allocation = x.allocation in
-      let r : Represents memory.segments memory.types p.segment a = x.represents in
-      let e : a.type_value ≡ type.Ordinal low high = described-same memory.types r.type_number a.type_value low high r.described (subst (λ k. Describes memory.types k (type.Ordinal low high)) x.type_number described) in
-      go a x.is r.type_number a.value refl r.stands (subst (λ t. IsValueOf t a.value) e r.value)
+      let r : Represents injection memory.segments memory.types p.segment a = x.represents in
+      go a x.is r.type_number r.words a.value refl r.stands x.word
     where
-      go : (a : Allocation) → allocation_at s.allocations n ≡ Some a → (type_number : ℕ) (value : Value)
+      go : (a : Allocation) → allocation_at s.allocations n ≡ Some a → (type_number : ℕ) (words : List ℤ) (value : Value)
           → a.value ≡ value
-          → slice_get memory.segments p.segment ≡ Some (Some (record { type_number = type_number; words = layout value }))
-          → IsValueOf (type.Ordinal low high) value
+          → slice_get memory.segments p.segment ≡ Some (Some (record { type_number = type_number; words = words }))
+          → OrdinalAt low high value (slice_get words p.offset)
           → Reads declared G Here (at place (operand.Place p ∷ below) memory s.trace) 1 (unit_in G memory.frames) line (place + 1) (λ w. Inside untouched injection memory (OnTop (kind.Ordinal host) below (Number w))) s (word_at n s)
-      go a is type_number Undefined value_is stands of_type =
-          Misses (ap word_in is ∙ ap word_of value_is) (record { fails = load_outcome memory s.trace p low high type_number undefined has described stands place_of.offset })
-      go a is type_number (meaning.Word w) value_is stands of_type =
-          let found : int_lt undefined w ≡ true = word_defined low high w of_type.0 of_type.2 in
+      go a is type_number words Undefined value_is stands word =
+          Misses (ap word_in is ∙ ap word_of value_is) (record { fails = load_outcome memory s.trace p low high type_number words undefined has described stands word.is })
+      go a is type_number words (meaning.Word w) value_is stands word =
+          let at_place = word.is in
+          let found : int_lt undefined w ≡ true = word_defined low high w word.low_fits at_place.1 in
           Finds w (ap word_in is ∙ ap word_of value_is) (record {
             injection = injection;
             memory = memory;
             operands = Word w ∷ below;
-            does = load_outcome memory s.trace p low high type_number w has described stands place_of.offset ∙ rw found refl;
+            does = load_outcome memory s.trace p low high type_number words w has described stands at_place.0 ∙ rw found refl;
             matches = matches;
             here = known;
-            post = inside_here (record { number = w; is_number = refl; of_host = within_host host low high w of_host of_type.2; is = refl });
+            post = inside_here (record { number = w; is_number = refl; of_host = within_host host low high w of_host at_place.1; is = refl });
           })
 
   -- what `Defined` finds
-  defined_outcome : (memory : Memory) (trace : Trace) (p : Place) (low high : ℤ) (type_number : ℕ) (w : ℤ)
+  defined_outcome : (memory : Memory) (trace : Trace) (p : Place) (low high : ℤ) (type_number : ℕ) (words : List ℤ) (w : ℤ)
       → slice_get G.instructions place ≡ Some (instr op.DEFINED (pos 0) 0 line)
       → slice_get memory.types p.type_number ≡ Some (ordinal_entry low high)
-      → slice_get memory.segments p.segment ≡ Some (Some (record { type_number = type_number; words = w ∷ [] }))
-      → p.offset ≡ 0
+      → slice_get memory.segments p.segment ≡ Some (Some (record { type_number = type_number; words = words }))
+      → slice_get words p.offset ≡ Some w
       → outcome G (at place (operand.Place p ∷ below) memory trace) ≡ record { weight = 0; to = Running 0 (at (place + 1) (Word (bit (int_lt undefined w)) ∷ below) memory trace) }
-  defined_outcome memory trace p low high type_number w has typed stands offset =
-      outcome_at G (instr op.DEFINED (pos 0) 0 line) place (operand.Place p ∷ below) memory trace has ∙ rw (typed, stands, offset) refl
+  defined_outcome memory trace p low high type_number words w has typed stands there =
+      outcome_at G (instr op.DEFINED (pos 0) 0 line) place (operand.Place p ∷ below) memory trace has ∙ rw (typed, stands, there) refl
 
   -- `Defined`, of a variable that has ended
   pub defined_fails : (low high : ℤ) (n : ℕ) (p : Place)
@@ -152,21 +152,21 @@ module _ (declared : Declarations) (G : Image) (place line : ℕ) (below : List 
       → Matches declared G injection s memory → has_ended n s ≡ false
       → outcome G (at place (operand.Place p ∷ below) memory s.trace) ≡ record { weight = 0; to = Running 0 (at (place + 1) (Word (bit (is_some (word_at n s))) ∷ below) memory s.trace) }
   defined_tells low high n p has injection memory place_of described s matches living =
-      let x : Stands s memory n p = place_stands matches place_of living in
+      let x : StandsOrdinal injection s memory n p low high = ordinal_stands low high matches place_of described living in
       let a : Allocation = x.allocation in
-      let r : Represents memory.segments memory.types p.segment a = x.represents in
-      let e : a.type_value ≡ type.Ordinal low high = described-same memory.types r.type_number a.type_value low high r.described (subst (λ k. Describes memory.types k (type.Ordinal low high)) x.type_number described) in
-      go a x.is r.type_number a.value refl r.stands (subst (λ t. IsValueOf t a.value) e r.value)
+      let r : Represents injection memory.segments memory.types p.segment a = x.represents in
+      go a x.is r.type_number r.words a.value refl r.stands x.word
     where
-      go : (a : Allocation) → allocation_at s.allocations n ≡ Some a → (type_number : ℕ) (value : Value)
+      go : (a : Allocation) → allocation_at s.allocations n ≡ Some a → (type_number : ℕ) (words : List ℤ) (value : Value)
           → a.value ≡ value
-          → slice_get memory.segments p.segment ≡ Some (Some (record { type_number = type_number; words = layout value }))
-          → IsValueOf (type.Ordinal low high) value
+          → slice_get memory.segments p.segment ≡ Some (Some (record { type_number = type_number; words = words }))
+          → OrdinalAt low high value (slice_get words p.offset)
           → outcome G (at place (operand.Place p ∷ below) memory s.trace) ≡ record { weight = 0; to = Running 0 (at (place + 1) (Word (bit (is_some (word_at n s))) ∷ below) memory s.trace) }
-      go a is type_number Undefined value_is stands of_type =
+      go a is type_number words Undefined value_is stands word =
           let none : word_at n s ≡ None = ap word_in is ∙ ap word_of value_is in
-          defined_outcome memory s.trace p low high type_number undefined has described stands place_of.offset ∙ rw none refl
-      go a is type_number (meaning.Word w) value_is stands of_type =
+          defined_outcome memory s.trace p low high type_number words undefined has described stands word.is ∙ rw none refl
+      go a is type_number words (meaning.Word w) value_is stands word =
           let some : word_at n s ≡ Some w = ap word_in is ∙ ap word_of value_is in
-          let found : int_lt undefined w ≡ true = word_defined low high w of_type.0 of_type.2 in
-          defined_outcome memory s.trace p low high type_number w has described stands place_of.offset ∙ rw (some, found) refl
+          let at_place = word.is in
+          let found : int_lt undefined w ≡ true = word_defined low high w word.low_fits at_place.1 in
+          defined_outcome memory s.trace p low high type_number words w has described stands at_place.0 ∙ rw (some, found) refl
