@@ -15,7 +15,7 @@ use Rattle.ep_typed.specs.declared.unit.UnitVariable.{UnitVariable}
 use Rattle.ep_object.specs.Frames.{slots_over}
 use Rattle.ep_object.specs.Operands.{Operand}
 use Rattle.ep_object.specs.State.{Frames, Segments, TypeTable, State, text_entry, first_types, undefined}
-use Rattle.ep_object.specs.Types.{ordinal_entry, ordinal_number}
+use Rattle.ep_object.specs.Types.{ordinal_entry, size_of_kind}
 use Rattle.ep_object.specs.declared.code.Image.{Image}
 use Rattle.ep_object.specs.declared.code.ImageUnit.{ImageUnit}
 use Rattle.ep_object.specs.declared.state.Place.{Place}
@@ -163,12 +163,14 @@ pub record MatchesStore (injection : Injection) (allocations : List Allocation) 
   pub represented : (n segment : ℕ) (allocation : Allocation) → IsIn injection n segment
       → meaning.allocation_at allocations n ≡ Some allocation → IsRepresented injection segments types segment allocation
 
--- the types: each that was elaborated has a number
+-- The types: the table begins with the first ones, each entry has the size that its kind gives, none stands twice, and one
+-- describes each type value that was elaborated. Which others there are is left open.
 pub record MatchesTypes (elaborated : List TypeValue) (types : TypeTable) : Type 0 where
   pub first : IsPrefix first_types types
-  pub known : (low high : ℤ) → IsTrue (list_any (same_type (type.Ordinal low high)) elaborated)
-      → (n : ℕ) × (ordinal_number low high types ≡ Some n)
-  pub sized : (n : ℕ) (entry : TypeEntry) → slice_get types n ≡ Some entry → entry.size ≡ 1
+  pub sized : (n : ℕ) (entry : TypeEntry) → slice_get types n ≡ Some entry → entry.size ≡ size_of_kind entry.kind
+  pub shared : (m n : ℕ) (entry : TypeEntry) → slice_get types m ≡ Some entry → slice_get types n ≡ Some entry
+      → m ≡ n
+  pub known : (t : TypeValue) → IsTrue (list_any (same_type t) elaborated) → (n : ℕ) × Describes types n t
 
 -- The frame of a unit has the places of the variables that are declared, with types that describe those of the
 -- declarations; its other slots match nothing.

@@ -1,9 +1,14 @@
 -- The machine matches the meaning before the first start.
-use Rattle.std.proofs.Common.{◌≡◌, ℕ, zero, suc, ◌≤◌, List, [], ◌∷◌, length, Option, Some, None, slice_get, replicate, map, refl, ap, ◌∙◌, subst, arith}
+use Rattle.std.proofs.Common.{◌≡◌, ℕ, zero, suc, ◌≤◌, List, [], ◌∷◌, length, Option, Some, None, slice_get, replicate, map, refl, sym, ap, ◌∙◌, subst, arith}
+use Rattle.std.specs.Prelude.{pos, int_le, if◌then◌else◌}
+use Rattle.ep_typed.specs.Operations.{last_char}
 use Rattle.ep_object.specs.Matching.{Memory, Injection, IsIn, MatchesSlot, Represents, IsRepresented, Matches}
-use Rattle.ep_object.specs.State.{Frames, Segments, empty_slots, first_segments, first_types, first_live, undefined}
+use Rattle.ep_object.specs.State.{Frames, Segments, empty_slots, first_segments, first_types, integer_entry, char_entry, boolean_entry, text_entry, pointer_entry, first_live, undefined}
 use Rattle.ep_object.specs.declared.code.Image.{Image}
 use Rattle.ep_object.specs.declared.state.Place.{Place}
+use Rattle.ep_object.specs.Types.{size_of_kind}
+use Rattle.ep_object.specs.declared.state.Kind.{Kind}
+use Rattle.ep_object.specs.declared.state.Kind.TheVariants.{Ord, Pointer, Text}
 use Rattle.ep_object.specs.declared.state.TypeEntry.{TypeEntry}
 use Rattle.ep_object.proofs.Grows.{is_prefix}
 use Rattle.ep_typed.specs.Steps.{Allocation, Resources}
@@ -40,14 +45,34 @@ empty_slot : (segments : Segments) (slot : Option Place) → ◌≡◌ {A = Opti
 empty_slot segments None h = tt
 empty_slot segments (Some place) h = cc
 
--- the first types have one word each
-first_sized : (n : ℕ) (entry : TypeEntry) → slice_get first_types n ≡ Some entry → entry.size ≡ 1
-first_sized zero e h = cc
-first_sized (suc zero) e h = cc
-first_sized (suc (suc zero)) e h = cc
-first_sized (suc (suc (suc zero))) e h = cc
-first_sized (suc (suc (suc (suc zero)))) e h = cc
+-- the first types have the sizes that their kinds give
+first_sized : (n : ℕ) (entry : TypeEntry) → slice_get first_types n ≡ Some entry
+    → entry.size ≡ size_of_kind entry.kind
+first_sized zero e h = let f : integer_entry ≡ e = cc in subst (λ x. x.size ≡ size_of_kind x.kind) f refl
+first_sized (suc zero) e h = let f : char_entry ≡ e = cc in subst (λ x. x.size ≡ size_of_kind x.kind) f refl
+first_sized (suc (suc zero)) e h = let f : boolean_entry ≡ e = cc in subst (λ x. x.size ≡ size_of_kind x.kind) f refl
+first_sized (suc (suc (suc zero))) e h = let f : text_entry ≡ e = cc in subst (λ x. x.size ≡ size_of_kind x.kind) f refl
+first_sized (suc (suc (suc (suc zero)))) e h = let f : pointer_entry ≡ e = cc in subst (λ x. x.size ≡ size_of_kind x.kind) f refl
 first_sized (suc (suc (suc (suc (suc n))))) e h = cc
+
+-- the place of a first type is told by its kind
+abbrev place_of_kind : Kind → ℕ
+place_of_kind (Ord low high) = if int_le high (pos 1) then 2 else (if int_le high (pos last_char) then 1 else 0)
+place_of_kind Text = 3
+place_of_kind Pointer = 4
+
+place_is : (n : ℕ) (entry : TypeEntry) → slice_get first_types n ≡ Some entry → place_of_kind entry.kind ≡ n
+place_is zero e h = let f : integer_entry ≡ e = cc in subst (λ x. place_of_kind x.kind ≡ 0) f refl
+place_is (suc zero) e h = let f : char_entry ≡ e = cc in subst (λ x. place_of_kind x.kind ≡ 1) f refl
+place_is (suc (suc zero)) e h = let f : boolean_entry ≡ e = cc in subst (λ x. place_of_kind x.kind ≡ 2) f refl
+place_is (suc (suc (suc zero))) e h = let f : text_entry ≡ e = cc in subst (λ x. place_of_kind x.kind ≡ 3) f refl
+place_is (suc (suc (suc (suc zero)))) e h = let f : pointer_entry ≡ e = cc in subst (λ x. place_of_kind x.kind ≡ 4) f refl
+place_is (suc (suc (suc (suc (suc n))))) e h = cc
+
+-- no first type stands twice
+first_shared : (m n : ℕ) (entry : TypeEntry) → slice_get first_types m ≡ Some entry
+    → slice_get first_types n ≡ Some entry → m ≡ n
+first_shared m n e at_m at_n = sym (place_is m e at_m) ∙ place_is n e at_n
 
 first_within : (n segment : ℕ) → IsIn first_injection n segment → suc segment ≤ 3
 first_within zero segment h = absurd h
@@ -97,7 +122,7 @@ first_matches declared G frames empty alone =
     record {
       injected = record { made = refl; apart = first_apart; within = first_within };
       store = record { represented = first_represented };
-      types = record { first = is_prefix first_types; known = λ low high h. cc; sized = first_sized };
+      types = record { first = is_prefix first_types; sized = first_sized; shared = first_shared; known = λ t h. cc };
       units = record {
         frames = λ unit u there. record {
           slots = empty_slots u;

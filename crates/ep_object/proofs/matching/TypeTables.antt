@@ -1,5 +1,5 @@
 -- Tables of types: they go on matching where a type is met, whether it has a number already or gets a new one.
-use Rattle.std.proofs.Common.{length-append, ◌≡◌, ℕ, ℤ, suc, ◌+◌, ◌<◌, ◌⊎◌, inl, inr, Bool, true, false, IsTrue, List, [], ◌∷◌, ◌++◌, length, Option, Some, None, slice_get, refl, sym, ap, ◌∙◌, arith, cond, get_or, position}
+use Rattle.std.proofs.Common.{length-append, ◌≡◌, ℕ, ℤ, zero, suc, ◌+◌, ◌<◌, ◌⊎◌, inl, inr, Bool, true, false, IsTrue, List, [], ◌∷◌, ◌++◌, length, Option, Some, None, slice_get, refl, sym, ap, subst, ◌∙◌, arith, cond, get_or, position}
 use Rattle.std.specs.Prelude.{nat_lt, int_le, ◌&&◌, ◌||◌, not, if◌then◌else◌}
 use Rattle.std.specs.List.{list_any, position_or_len}
 use Rattle.std.proofs.lemmas.Option.{slice_get-get_or}
@@ -9,13 +9,13 @@ use Rattle.std.proofs.lemmas.Int.{ints}
 use Rattle.ep_object.specs.Matching.{Memory, Injection, Describes, MatchesTypes, IsRepresentedWhere, MatchesStore, MatchesUnits, MatchesCounts, Matches, Slots, Grown}
 use Rattle.ep_object.specs.Runs.{after}
 use Rattle.ep_object.specs.State.{Segments, TypeTable, integer_entry, char_entry, boolean_entry, text_entry, pointer_entry, first_types}
-use Rattle.ep_object.specs.Types.{is_ordinal, ordinal_number, ordinal_entry}
+use Rattle.ep_object.specs.Types.{is_ordinal, ordinal_number, ordinal_entry, size_of_kind}
 use Rattle.ep_object.specs.declared.state.Kind.{Kind}
 use Rattle.ep_object.specs.declared.state.Kind.TheVariants.{Ord, Pointer, Text}
 use Rattle.ep_object.specs.declared.state.TypeEntry.{TypeEntry}
 use Rattle.ep_object.proofs.Grows.{prefix_then}
 use Rattle.ep_object.proofs.matching.Growing.{slice_get-prefix, grown_refl}
-use Rattle.ep_object.proofs.matching.Elements.{slice_get-push}
+use Rattle.ep_object.proofs.matching.Elements.{slice_get-push, slice_get-pushed}
 use Rattle.ep_typed.specs.Steps.{Resources, held, words_of_type, met, watched, same_type}
 use Rattle.ep_typed.specs.Steps as meaning
 use Rattle.ep_typed.specs.Steps.{Allocation}
@@ -52,7 +52,7 @@ described-found {types = types} low high n m h =
     let at_n : slice_get types n ≡ Some (get_or types n d) = slice_get-get_or types n d p.0 in
     let size = m.sized n (get_or types n d) at_n in
     let kind = ordinal_is low high (get_or types n d).kind p.1 in
-    at_n ∙ (λ i. Some (record { kind = kind i; size = size i }))
+    at_n ∙ (λ i. Some (record { kind = kind i; size = (size ∙ ap size_of_kind kind) i }))
 
 -- the type value that is met is among those that are counted
 same_type-refl : (low high : ℤ) → IsTrue (same_type (type.Ordinal low high) (type.Ordinal low high))
@@ -88,6 +88,27 @@ position_of : {A : Type 0} (p : A → Bool) (xs : List A) → position_or_len p 
     → position p xs ≡ Some (position_or_len p xs)
 position_of p xs h = let less : nat_lt (position_or_len p xs) (length xs) ≡ true = grind (arith, nat_tests) in ap (λ b. cond b (Some (position_or_len p xs)) None) less
 
+-- an element that passes is there, and so a position is found
+place_at : {A : Type 0} (p : A → Bool) (xs : List A) (n : ℕ) (x : A) → slice_get xs n ≡ Some x → IsTrue (p x)
+    → position_or_len p xs < length xs
+place_at p [] n x h t = cc
+place_at p (y ∷ ys) zero x h t = let e : x ≡ y = cc in step (p y) (subst (λ z. IsTrue (p z)) e t)
+  where
+    step : (b : Bool) → IsTrue b → (if not b then 1 + (position_or_len p ys) else 0) < suc (length ys)
+    step true k = omega arith
+    step false k = cc
+place_at p (y ∷ ys) (suc n) x h t = step (p y) (place_at p ys n x h t)
+  where
+    step : (b : Bool) → position_or_len p ys < length ys
+        → (if not b then 1 + (position_or_len p ys) else 0) < suc (length ys)
+    step true k = omega arith
+    step false k = omega arith
+
+position_at : {A : Type 0} (p : A → Bool) (xs : List A) (n : ℕ) (x : A) → slice_get xs n ≡ Some x
+    → IsTrue (p x) → position p xs ≡ None → ⊥
+position_at p xs n x h t none =
+    let e : ◌≡◌ {A = Option ℕ} None (Some (position_or_len p xs)) = sym none ∙ position_of p xs (place_at p xs n x h t) in cc
+
 position_within : (b : Bool) (k n : ℕ) → cond b (Some k) None ≡ Some n → (b ≡ true) × (k ≡ n)
 position_within true k n h = (refl, cc)
 position_within false k n h = cc
@@ -110,21 +131,27 @@ either true b t = inl refl
 either false b t = inr t
 
 -- what is among the types that are counted after one is met
-met_among : (low high l h : ℤ) (r : Resources)
-    → IsTrue (list_any (same_type (type.Ordinal l h)) (met (type.Ordinal low high) r).types)
-    → IsTrue (same_type (type.Ordinal l h) (type.Ordinal low high)) ⊎ IsTrue (list_any (same_type (type.Ordinal l h)) r.types)
-met_among low high l h r = go (list_any (same_type (type.Ordinal low high)) r.types)
+met_among : (low high : ℤ) (t : TypeValue) (r : Resources)
+    → IsTrue (list_any (same_type t) (met (type.Ordinal low high) r).types)
+    → IsTrue (same_type t (type.Ordinal low high)) ⊎ IsTrue (list_any (same_type t) r.types)
+met_among low high t r = go (list_any (same_type (type.Ordinal low high)) r.types)
   where
     go : (b : Bool)
-        → IsTrue (list_any (same_type (type.Ordinal l h)) (watched (if b then r else record r { types = type.Ordinal low high ∷ r.types; typed = r.typed + words_of_type (type.Ordinal low high) })).types)
-        → IsTrue (same_type (type.Ordinal l h) (type.Ordinal low high)) ⊎ IsTrue (list_any (same_type (type.Ordinal l h)) r.types)
-    go true t = inr t
-    go false t = either (same_type (type.Ordinal l h) (type.Ordinal low high)) (list_any (same_type (type.Ordinal l h)) r.types) t
+        → IsTrue (list_any (same_type t) (watched (if b then r else record r { types = type.Ordinal low high ∷ r.types; typed = r.typed + words_of_type (type.Ordinal low high) })).types)
+        → IsTrue (same_type t (type.Ordinal low high)) ⊎ IsTrue (list_any (same_type t) r.types)
+    go true h = inr h
+    go false h = either (same_type t (type.Ordinal low high)) (list_any (same_type t) r.types) h
 
 -- the same bounds
 pub same_bounds : (low high l h : ℤ) → IsTrue (same_type (type.Ordinal l h) (type.Ordinal low high))
     → (l ≡ low) × (h ≡ high)
 same_bounds low high l h t = let p = both (int_le l low && int_le low l) (int_le h high && int_le high h) t in (same_number l low p.0, same_number h high p.1)
+
+-- what is the same as an ordinal type is that type
+same_ordinal : (low high : ℤ) (t : TypeValue) → IsTrue (same_type t (type.Ordinal low high))
+    → t ≡ type.Ordinal low high
+same_ordinal low high (type.Ordinal l h) same = let e = same_bounds low high l h same in λ i. type.Ordinal (e.0 i) (e.1 i)
+same_ordinal low high type.Text same = cc
 
 -- the type has a number already
 pub types-found : (r : Resources) {types : TypeTable} (low high : ℤ) (n : ℕ) → MatchesTypes r.types types
@@ -132,21 +159,29 @@ pub types-found : (r : Resources) {types : TypeTable} (low high : ℤ) (n : ℕ)
 types-found r {types = types} low high n m found =
     record {
       first = m.first;
-      known = λ l h t. known l h (met_among low high l h r t);
       sized = m.sized;
+      shared = m.shared;
+      known = λ t h. known t (met_among low high t r h);
     }
   where
-    known : (l h : ℤ)
-        → IsTrue (same_type (type.Ordinal l h) (type.Ordinal low high)) ⊎ IsTrue (list_any (same_type (type.Ordinal l h)) r.types)
-        → (k : ℕ) × (ordinal_number l h types ≡ Some k)
-    known l h (inl t) = let e = same_bounds low high l h t in (n, (λ i. ordinal_number (e.0 i) (e.1 i) types) ∙ found)
-    known l h (inr t) = m.known l h t
+    known : (t : TypeValue) → IsTrue (same_type t (type.Ordinal low high)) ⊎ IsTrue (list_any (same_type t) r.types)
+        → (k : ℕ) × Describes types k t
+    known t (inl same) = (n, subst (λ x. Describes types n x) (sym (same_ordinal low high t same)) (described-found low high n m found))
+    known t (inr h) = m.known t h
 
--- a type without a number was never met
+is_ordinal-refl : (low high : ℤ) → IsTrue (is_ordinal low high (Ord low high))
+is_ordinal-refl low high = grind (arith, ints)
+
+-- a type without a number does not stand in the table
+not_there : (types : TypeTable) (low high : ℤ) (n : ℕ) → ordinal_number low high types ≡ None
+    → slice_get types n ≡ Some (ordinal_entry low high) → ⊥
+not_there types low high n none h = position_at (λ (e : TypeEntry). is_ordinal low high e.kind) types n (ordinal_entry low high) h (is_ordinal-refl low high) none
+
+-- and was never met
 pub not_known : {elaborated : List TypeValue} {types : TypeTable} (low high : ℤ) → MatchesTypes elaborated types
     → ordinal_number low high types ≡ None → IsTrue (list_any (same_type (type.Ordinal low high)) elaborated)
     → ⊥
-not_known low high m none t = let k = m.known low high t in let e : ◌≡◌ {A = Option ℕ} None (Some k.0) = sym none ∙ k.1 in cc
+not_known {types = types} low high m none t = let k = m.known (type.Ordinal low high) t in not_there types low high k.0 none k.1
 
 -- a first type has a number
 first_known : (low high : ℤ) (rest : TypeTable)
@@ -188,33 +223,47 @@ new_word {types = types} low high m none = go (list_any (same_type (type.Ordinal
     go true f = absurd (f refl)
     go false f = refl
 
+-- a number keeps its type in a longer table
+pub described-longer : (types longer : TypeTable) (n : ℕ) (t : TypeValue) → IsPrefix types longer
+    → Describes types n t → Describes longer n t
+described-longer types longer n (type.Ordinal low high) p h = slice_get-prefix types longer n (ordinal_entry low high) p h
+described-longer types longer n type.Text p h = slice_get-prefix types longer n text_entry p h
+
 -- the type gets a new number
 pub types-added : (r : Resources) {types : TypeTable} (low high : ℤ) → MatchesTypes r.types types
     → ordinal_number low high types ≡ None
     → MatchesTypes (met (type.Ordinal low high) r).types (types ++ ordinal_entry low high ∷ [])
 types-added r {types = types} low high m none =
     record {
-      first = prefix_then m.first (record { rest = ordinal_entry low high ∷ []; is = refl });
-      known = λ l h t. known l h (met_among low high l h r t);
-      sized = λ n e at_n. sized n e (slice_get-push types (ordinal_entry low high) e n at_n);
+      first = prefix_then m.first longer;
+      sized = λ n e at_n. sized n e (slice_get-push types new e n at_n);
+      shared = λ j k e at_j at_k. shared j k e (slice_get-push types new e j at_j) (slice_get-push types new e k at_k);
+      known = λ t h. known t (met_among low high t r h);
     }
   where
-    known : (l h : ℤ)
-        → IsTrue (same_type (type.Ordinal l h) (type.Ordinal low high)) ⊎ IsTrue (list_any (same_type (type.Ordinal l h)) r.types)
-        → (k : ℕ) × (ordinal_number l h (types ++ ordinal_entry low high ∷ []) ≡ Some k)
-    known l h (inl t) = position_from-new (λ (e : TypeEntry). is_ordinal l h e.kind) types (ordinal_entry low high) t
-    known l h (inr t) = let k = m.known l h t in (k.0, position_from-more (λ (e : TypeEntry). is_ordinal l h e.kind) types (ordinal_entry low high ∷ []) k.0 k.1)
+    new : TypeEntry
+    new = ordinal_entry low high
 
-    sized : (n : ℕ) (e : TypeEntry)
-        → (slice_get types n ≡ Some e) ⊎ ((n ≡ length types) × (e ≡ ordinal_entry low high)) → e.size ≡ 1
+    longer : IsPrefix types (types ++ ordinal_entry low high ∷ [])
+    longer = record { rest = ordinal_entry low high ∷ []; is = refl }
+
+    sized : (n : ℕ) (e : TypeEntry) → (slice_get types n ≡ Some e) ⊎ ((n ≡ length types) × (e ≡ ordinal_entry low high))
+        → e.size ≡ size_of_kind e.kind
     sized n e (inl h) = m.sized n e h
-    sized n e (inr h) = ap (λ (x : TypeEntry). x.size) h.1
+    sized n e (inr h) = subst (λ (x : TypeEntry). x.size ≡ size_of_kind x.kind) (sym h.1) refl
 
--- a number keeps its type in a longer table
-pub described-longer : (types longer : TypeTable) (n : ℕ) (t : TypeValue) → IsPrefix types longer
-    → Describes types n t → Describes longer n t
-described-longer types longer n (type.Ordinal low high) p h = slice_get-prefix types longer n (ordinal_entry low high) p h
-described-longer types longer n type.Text p h = slice_get-prefix types longer n text_entry p h
+    shared : (j k : ℕ) (e : TypeEntry)
+        → (slice_get types j ≡ Some e) ⊎ ((j ≡ length types) × (e ≡ ordinal_entry low high))
+        → (slice_get types k ≡ Some e) ⊎ ((k ≡ length types) × (e ≡ ordinal_entry low high)) → j ≡ k
+    shared j k e (inl a) (inl b) = m.shared j k e a b
+    shared j k e (inr a) (inr b) = a.0 ∙ sym b.0
+    shared j k e (inl a) (inr b) = absurd (not_there types low high j none (a ∙ ap Some b.1))
+    shared j k e (inr a) (inl b) = absurd (not_there types low high k none (b ∙ ap Some a.1))
+
+    known : (t : TypeValue) → IsTrue (same_type t (type.Ordinal low high)) ⊎ IsTrue (list_any (same_type t) r.types)
+        → (n : ℕ) × Describes (types ++ ordinal_entry low high ∷ []) n t
+    known t (inl same) = (length types, subst (λ x. Describes (types ++ ordinal_entry low high ∷ []) (length types) x) (sym (same_ordinal low high t same)) (slice_get-pushed types (ordinal_entry low high)))
+    known t (inr h) = let k = m.known t h in (k.0, described-longer types (types ++ ordinal_entry low high ∷ []) k.0 t longer k.1)
 
 -- the store goes on matching with a longer table of types
 pub matches_store-types : {injection : Injection} {allocations : List Allocation} {segments : Segments} {types longer : TypeTable}
