@@ -8,6 +8,8 @@ mod choices;
 #[cfg(test)]
 mod expressions;
 #[cfg(test)]
+mod images;
+#[cfg(test)]
 mod machine;
 #[cfg(test)]
 mod nesting;

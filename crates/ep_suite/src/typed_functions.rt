@@ -1,8 +1,9 @@
 //! Functions of typed programs on the whole way, as typed_runs.rt tries procedures.
 
+use crate::images::image;
 use crate::typed_programs::builder::{Builder, Step, Unbuilt};
 use crate::typed_programs::unit_of;
-use crate::typed_runs::{BY_REFERENCE, BY_VALUE, Parameter, formals, image, integer, ran};
+use crate::typed_runs::{BY_REFERENCE, BY_VALUE, Parameter, formals, integer, ran};
 use ep_base::{List, Name};
 use ep_gen_unit::program_code;
 use ep_typed::{Binary, Denoter, Print, RequiredType, RoutineResult, TypedStmt, Unit, UnitRoutine};
