@@ -4,7 +4,7 @@ use Rattle.std.proofs.lemmas.Option.{same_Some}
 use Rattle.ep_gen_expr.specs.Following.{least_credit, HasPlaceType}
 use Rattle.ep_gen_expr.proofs.Answering.{IsFollowed}
 use Rattle.ep_object.proofs.following.Fragments.{fragment_to, fragment_give, inside_bind, fragment_bind_number, fragment_bind_place}
-use Rattle.ep_object.proofs.matching.Growing.{unit_in-same, is_place_of-grown, describes-grown, inside_here}
+use Rattle.ep_object.proofs.matching.Growing.{unit_in-same, is_spot-grown, describes-grown, inside_here}
 use Rattle.ep_object.specs.Follows.{Facts, Fragment, Inside, Operands, PlaceOnTop, point}
 use Rattle.ep_object.specs.Matching.{Memory, Injection, Slots, Grown}
 use Rattle.ep_object.specs.Operands.{Operand, Word}
@@ -38,7 +38,7 @@ argument_later : {untouched : Slots} {injection longer : Injection} {memory afte
 argument_later (ByValue k) (Value r) o g h = h
 argument_later (ByValue k) (Variable m) o g h = absurd h
 argument_later (ByReference t) (Value r) o g h = absurd h
-argument_later (ByReference t) (Variable m) o g h = (h.0, h.1, is_place_of-grown g h.2, describes-grown (h.0).type_number t g h.3)
+argument_later (ByReference t) (Variable m) o g h = (h.0, h.1, is_spot-grown g h.2, describes-grown (h.0).type_number t g h.3)
 
 -- an argument lies on the operands below
 abbrev pub ArgumentOnTop : Passing → List Operand → Argument → Operands
@@ -99,8 +99,8 @@ module _ {declared : Declarations} {G : Image} {untouched : Slots} {Here : Facts
       → Fragment declared G Here n (point injection memory (p.instructions.before + at) below) (place call g unit line q) (p.instructions.before + (at + length is)) (λ a. Inside untouched injection memory (PlaceOnTop t below a)) d (λ a. d + 8))
       → IsArgumentFollowed declared G untouched Here p call g unit n (ByReference t) (Accessed q) line at is
   accessed_follows t q line at is follows injection memory below d enough home =
-      fragment_bind_place {type = t} {e = λ m. d + 8} (λ m. steady_give (Variable m)) (follows injection memory below d enough home) (λ m spot longer after grown routine place_of described.
-      fragment_give (omega arith) (inside_here (operand.Place spot, (spot, refl, place_of, described), refl)))
+      fragment_bind_place {type = t} {e = λ m. d + 8} (λ m. steady_give (Variable m)) (follows injection memory below d enough home) (λ m place longer after grown routine spot described.
+      fragment_give (omega arith) (inside_here (operand.Place place, (place, refl, spot, described), refl)))
 
   -- no actual parameter
   pub none_follows : (line at : ℕ) (is : List Instr) → is ≡ [] → AreArgumentsFollowed declared G untouched Here p call g unit n [] no_actual line at is

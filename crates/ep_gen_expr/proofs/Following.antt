@@ -2,7 +2,7 @@
 use Rattle.std.proofs.Common.{◌≡◌, ℕ, ℤ, pos, zero, suc, Option, None, ◌+◌, ◌<◌, ◌≤◌, Bool, IsTrue, List, [], ◌∷◌, ◌++◌, length, Some, slice_get, refl, sym, ap, ◌∙◌, subst, arith, append_assoc, length-append, true, false}
 use Rattle.ep_object.specs.Activations.{KnowsNames}
 use Rattle.ep_object.specs.Follows.{point, Facts, Lasts, Fragment, SameRoutine, Operands, OnTop, PlaceOnTop, Inside}
-use Rattle.ep_object.specs.Matching.{Slots, AreAmong, Grown, kept_slots, Memory, at, Injection, IsPlaceOf, Describes, HasType, HasOwnType, Matches}
+use Rattle.ep_object.specs.Matching.{Slots, AreAmong, Grown, kept_slots, Memory, at, Injection, IsSpot, Describes, HasType, HasOwnType, Matches}
 use Rattle.ep_object.specs.Matching.{at as standing}
 use Rattle.ep_object.specs.Operands.{Operand}
 use Rattle.ep_object.specs.Operands as operand
@@ -30,7 +30,7 @@ use Rattle.ep_typed.specs.Meaning.{eval, arguments, place, weight_of}
 use Rattle.ep_typed.specs.Operations.{decides}
 use Rattle.ep_typed.specs.Printing.{Result, number_of}
 use Rattle.ep_typed.specs.Printing as result
-use Rattle.ep_typed.specs.Steps.{Computation, bind, word_at, own_variable, has_ended}
+use Rattle.ep_typed.specs.Steps.{Component, Computation, bind, word_at, own_variable, has_ended}
 use Rattle.ep_typed.specs.Steps as meaning
 use Rattle.ep_typed.specs.Trees.{Callee, Place, Variable, Own, Standard, Expr, Constant, Text, Read, One, Two, Short, Step, Function, Actual, Evaluated, Accessed, Actuals, no_actual, next_actual}
 use Rattle.ep_typed.specs.Valid.{Declarations, Kind, Ordinal, Bytes, IsUnary, IsBinary, IsTypeOf, IsPlace, IsExpr, AreGiven, IsDeclaredUp, Level, variables_at, variables_up}
@@ -85,14 +85,14 @@ typed_place declared types_valid own_valid h (Standard file) is = absurd is
 -- `Load` of a variable that has ended, where the routine is one of the unit
 load_ends : (declared : Declarations) (G : Image) (unit : List ℕ) (at_place line : ℕ) (h : Host) (t : TypeValue) → IsTypeOf h t
     → slice_get G.instructions at_place ≡ Some (instr op.LOAD (pos 0) 0 line)
-    → (injection : Injection) (memory : Memory) (below : List Operand) (a : ℕ) (q : PlaceOf)
-    → IsPlaceOf injection memory.segments a q → Describes memory.types q.type_number t
+    → (injection : Injection) (memory : Memory) (below : List Operand) (a : Component) (q : PlaceOf)
+    → IsSpot injection memory.types a q → Describes memory.types q.type_number t
     → unit_in G memory.frames ≡ unit → (s : meaning.State) → Matches declared G injection s memory
-    → has_ended a s ≡ true
+    → has_ended a.allocation s ≡ true
     → FailsWith G (at at_place (operand.Place q ∷ below) memory s.trace) 0 11 unit line s
-load_ends declared G unit at_place line h (type.Ordinal low high) of_host has injection memory below a q place_of described unit_is s matches ended =
-    subst (λ u. FailsWith G (at at_place (operand.Place q ∷ below) memory s.trace) 0 11 u line s) unit_is (load_fails declared G at_place line below low high a q has injection memory place_of described s matches ended)
-load_ends declared G unit at_place line h type.Text of_host has injection memory below a q place_of described unit_is s matches ended = absurd of_host
+load_ends declared G unit at_place line h (type.Ordinal low high) of_host has injection memory below a q spot described unit_is s matches ended =
+    subst (λ u. FailsWith G (at at_place (operand.Place q ∷ below) memory s.trace) 0 11 u line s) unit_is (load_fails declared G at_place line below low high a q has injection memory spot described s matches ended)
+load_ends declared G unit at_place line h type.Text of_host has injection memory below a q spot described unit_is s matches ended = absurd of_host
 
 module _ {declared : Declarations} {G : Image} {untouched : Slots} {Here : Facts} (ps : List Placement) (p : Placement) (texts : List (List ℕ)) (references : List Reference) (scene : Scene declared G ps p texts) (knows : KnowsNames declared Here) (call : Handler) (steady_call : IsSteadyHandler call) (g : ℕ) (unit : List ℕ) where
   -- a constant, by `Push`
@@ -155,24 +155,24 @@ module _ {declared : Declarations} {G : Image} {untouched : Slots} {Here : Facts
   -- what `Load` finds of a variable of a type of the host
   load_finds : (place line : ℕ) (h : Host) (t : TypeValue) → IsTypeOf h t
       → slice_get G.instructions place ≡ Some (instr op.LOAD (pos 0) 0 line)
-      → (injection : Injection) (memory : Memory) (below : List Operand) (a : ℕ) (q : PlaceOf)
-      → IsPlaceOf injection memory.segments a q → Describes memory.types q.type_number t
+      → (injection : Injection) (memory : Memory) (below : List Operand) (a : Component) (q : PlaceOf)
+      → IsSpot injection memory.types a q → Describes memory.types q.type_number t
       → unit_in G memory.frames ≡ unit → (s : meaning.State) → Matches declared G injection s memory
-      → Here injection s memory → has_ended a s ≡ false
+      → Here injection s memory → has_ended a.allocation s ≡ false
       → Reads declared G Here (at place (operand.Place q ∷ below) memory s.trace) 1 unit line (place + 1) (λ w. Inside untouched injection memory (OnTop (Ordinal h) below (result.Number w))) s (word_at a s)
-  load_finds place line h (type.Ordinal low high) of_host has injection memory below a q place_of described unit_is s matches here living =
-      subst (λ u. Reads declared G Here (at place (operand.Place q ∷ below) memory s.trace) 1 u line (place + 1) (λ w. Inside untouched injection memory (OnTop (Ordinal h) below (result.Number w))) s (word_at a s)) unit_is (load_reads declared G place line below h low high a q of_host has injection memory place_of described s matches here living)
-  load_finds place line h type.Text of_host has injection memory below a q place_of described unit_is s matches here living = absurd of_host
+  load_finds place line h (type.Ordinal low high) of_host has injection memory below a q spot described unit_is s matches here living =
+      subst (λ u. Reads declared G Here (at place (operand.Place q ∷ below) memory s.trace) 1 u line (place + 1) (λ w. Inside untouched injection memory (OnTop (Ordinal h) below (result.Number w))) s (word_at a s)) unit_is (load_reads declared G place line below h low high a q of_host has injection memory spot described s matches here living)
+  load_finds place line h type.Text of_host has injection memory below a q spot described unit_is s matches here living = absurd of_host
 
   -- the value of a variable, by its place and `Load`
   read_follows : (n : ℕ) (h : Host) (place : Place) → IsTyped declared place h → (line at : ℕ) (xs : List Instr) → IsPlaceCode references line place xs → CodeStands G ps p references at (xs ++ bare line op.LOAD ∷ []) → (injection : Injection) (memory : Memory) (below : List Operand) (d : ℕ) → least_credit ≤ d → unit_in G memory.frames ≡ unit → Evaluates declared G untouched Here n injection memory (p.instructions.before + at) below (eval call g unit line (Read place)) (p.instructions.before + (at + length (xs ++ bare line op.LOAD ∷ []))) (Ordinal h) below d (d + 8)
   read_follows n h place v line at xs is_code stands injection memory below d le unit_is =
       let middle : ℕ = p.instructions.before + (at + length xs) in
       let has : CodeStands G ps p references (at + length xs) (bare line op.LOAD ∷ []) = code_back G ps p references at xs (bare line op.LOAD ∷ []) stands in
-      fragment_bind_place (steady_read call steady_call g unit line) (place_follows n place v.type_value v.has_type line at xs is_code (code_front G ps p references at xs (bare line op.LOAD ∷ []) stands) injection memory below d le unit_is) (λ a q longer after grown routine place_of described.
-      fragment_less {n = suc n} (omega arith) (fragment_to (omega (arith, length-append xs (bare line op.LOAD ∷ []))) (fragment_using {n = suc n} {e = λ r. d + 8 + weight_of r} a
-      (λ s matches ended. load_ends declared G unit middle line h v.type_value v.of_host has.0 longer after below a q place_of described (unit_in-same G routine ∙ unit_is) s matches ended) (omega arith)
-      (λ s matches here living. follows_fetch {e = λ r. d + 8 + weight_of r} (point longer after middle (operand.Place q ∷ below)) (word_at a) (λ w. result.Number w) s (load_finds middle line h v.type_value v.of_host has.0 longer after below a q place_of described (unit_in-same G routine ∙ unit_is) s matches here living) (omega arith) (λ w. omega arith)))))
+      fragment_bind_place (steady_read call steady_call g unit line) (place_follows n place v.type_value v.has_type line at xs is_code (code_front G ps p references at xs (bare line op.LOAD ∷ []) stands) injection memory below d le unit_is) (λ a q longer after grown routine spot described.
+      fragment_less {n = suc n} (omega arith) (fragment_to (omega (arith, length-append xs (bare line op.LOAD ∷ []))) (fragment_using {n = suc n} {e = λ r. d + 8 + weight_of r} a.allocation
+      (λ s matches ended. load_ends declared G unit middle line h v.type_value v.of_host has.0 longer after below a q spot described (unit_in-same G routine ∙ unit_is) s matches ended) (omega arith)
+      (λ s matches here living. follows_fetch {e = λ r. d + 8 + weight_of r} (point longer after middle (operand.Place q ∷ below)) (word_at a) (λ w. result.Number w) s (load_finds middle line h v.type_value v.of_host has.0 longer after below a q spot described (unit_in-same G routine ∙ unit_is) s matches here living) (omega arith) (λ w. omega arith)))))
 
   -- an operation with one operand
   one_follows : (n : ℕ) (operation : Unary) (x : Expr) (k kind : Kind) → IsUnary operation k kind → (line at : ℕ) (xs : List Instr) → IsFollowed declared G untouched Here p call g unit n k x line at xs → CodeStands G ps p references at (xs ++ one_code line operation) → IsFollowed declared G untouched Here p call g unit n kind (One operation x) line at (xs ++ one_code line operation)

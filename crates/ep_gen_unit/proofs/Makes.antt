@@ -67,7 +67,7 @@ module _ (declared : Declarations) (G : Image) (untouched : Slots) (Here : Facts
         → Describes memory.types type_number (type.Ordinal low high)
         → Fragment declared G Here n (point injection memory place (Word (pos type_number) ∷ below)) (allocate x.name number (type.Ordinal low high)) (place + 1) (λ a. Inside untouched injection memory (Bare below a)) d (λ a. d)
     make_row_moves low high type_number low_fits high_fits declared_so place has injection memory below d enough home described =
-        fragment_less {n = suc n} (omega arith) (fragment_counted {weight = 1} 0 (counted (type.Ordinal low high)) (made x.name number (type.Ordinal low high)) tt (λ s. refl) (grows_made x.name number (type.Ordinal low high)) (λ s matches here. make_does declared G place line below low high type_number number x has distinct low_fits high_fits types_valid declared_so injection memory s home within (free memory.frames.unit home.unit number v is_declared) described lasts matches here) enough (omega arith) (omega arith) (omega arith))
+        fragment_less {n = suc n} (omega arith) (fragment_counted {weight = 1} 0 (counted (type.Ordinal low high)) (made x.name number (type.Ordinal low high)) tt (λ s. refl) (grows_made x.name number (type.Ordinal low high)) (λ s matches here. make_does declared G place line below low high type_number number x has distinct low_fits high_fits declared_so injection memory s home within (free memory.frames.unit home.unit number v is_declared) described lasts matches here) enough (omega arith) (omega arith) (omega arith))
 
     -- the code that makes a variable of a type
     make_typed : (g : ℕ) (t : TypeValue) (host : Host) → IsTypeOf host t

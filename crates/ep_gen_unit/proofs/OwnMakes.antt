@@ -9,7 +9,7 @@ use Rattle.ep_gen_unit.specs.StmtCode.{type_code, elaborating_code, make_code, m
 use Rattle.ep_gen_unit.proofs.Parts.{code_stands-parts}
 use Rattle.ep_object.specs.Activations.{InActivation}
 use Rattle.ep_object.specs.Follows.{point, operand_of, Fragment, Lasts, StillRuns, Inside}
-use Rattle.ep_object.specs.Matching.{Slots, Memory, Injection, IsPlaceOf, Describes, HasOwnType}
+use Rattle.ep_object.specs.Matching.{Slots, Memory, Injection, IsSpot, Describes, HasOwnType}
 use Rattle.ep_object.specs.Calls.{argument_at}
 use Rattle.ep_object.specs.Operands.{Operand, Word}
 use Rattle.ep_object.specs.Operands as operand
@@ -19,7 +19,7 @@ use Rattle.ep_object.specs.State.{Frame}
 use Rattle.ep_object.specs.declared.code.Instr.{Instr}
 use Rattle.ep_object.specs.declared.state.Place.{Place as PlaceOf}
 use Rattle.ep_object.specs.Placing.{Placement, CodeStands}
-use Rattle.ep_object.specs.Scene.{HaveValidTypes, HaveValidOwnTypes}
+use Rattle.ep_object.specs.Scene.{HaveValidOwnTypes}
 use Rattle.ep_object.specs.declared.code.Image.{Image}
 use Rattle.ep_object.specs.declared.code.Reference.{Reference}
 use Rattle.ep_object.proofs.following.Fragments.{fragment_bind, fragment_credit, fragment_weaken, fragment_post, fragment_give, fragment_from, fragment_to, fragment_less, fragment_waits}
@@ -42,7 +42,7 @@ use Rattle.ep_typed.proofs.Denoters.{types_are_instances}
 use Rattle.ep_typed.proofs.Steady.{grows_refl, grows_made_own, steady_bind, steady_allocate_own, steady_make_all_own, steady_initialized, steady_takes_all}
 use Rattle.ep_typed.specs.Operations.{is_integer}
 use Rattle.ep_typed.specs.Meaning.{elaborate, elaborated, make_own, make_all_own, initialized, takes_by, takes_all}
-use Rattle.ep_typed.specs.Steps.{Computation, bind, spend, change, with_own_bound, with_type, counted, made_own, allocate_own}
+use Rattle.ep_typed.specs.Steps.{Component, Computation, bind, spend, change, with_own_bound, with_type, counted, made_own, allocate_own}
 use Rattle.ep_typed.specs.Valid.{variables_up, Declarations, Kind, IsTypeOf, IsDenoter, formal_variable}
 use Rattle.ep_typed.specs.Valid as kind
 use Rattle.ep_typed.specs.Viewed.{denoter_of}
@@ -64,7 +64,7 @@ still_later : {before memory : Memory} {below : List Operand} → StillRuns befo
     → StillBare memory below longer after operands → StillBare before below longer after operands
 still_later runs longer after operands h = record { runs = still_runs-trans runs h.runs; operands_are = h.operands_are }
 
-module _ (declared : Declarations) (G : Image) (untouched : Slots) (first : Injection) (start : Memory) (lasts : Lasts untouched (InActivation declared untouched first start)) (ps : List Placement) (p : Placement) (references : List Reference) (call : Handler) (steady_call : IsSteadyHandler call) (n : ℕ) (unit : List ℕ) (types_valid : HaveValidTypes declared) (own_valid : HaveValidOwnTypes declared) where
+module _ (declared : Declarations) (G : Image) (untouched : Slots) (first : Injection) (start : Memory) (lasts : Lasts untouched (InActivation declared untouched first start)) (ps : List Placement) (p : Placement) (references : List Reference) (call : Handler) (steady_call : IsSteadyHandler call) (n : ℕ) (unit : List ℕ) (own_valid : HaveValidOwnTypes declared) where
   module _ (number line at : ℕ) (v : UnitVariable) (is_declared : slice_get (variables_up declared 0) number ≡ Some v) where
     -- `Make`, over the number of the type
     make_row_moves : (low high : ℤ) (type_number : ℕ) → IsTrue (is_integer low) → IsTrue (is_integer high)
@@ -74,7 +74,7 @@ module _ (declared : Declarations) (G : Image) (untouched : Slots) (first : Inje
         → Describes memory.types type_number (type.Ordinal low high)
         → Fragment declared G (InActivation declared untouched first start) n (point injection memory place (Word (pos type_number) ∷ below)) (allocate_own number (type.Ordinal low high)) (place + 1) (λ a. MadeOwn untouched number (type.Ordinal low high) injection memory below) d (λ a. d)
     make_row_moves low high type_number low_fits high_fits declared_so place has injection memory below d enough described =
-        fragment_less {n = suc n} (omega arith) (fragment_counted {weight = 1} 0 (counted (type.Ordinal low high)) (made_own number (type.Ordinal low high)) tt (λ s. refl) (grows_made_own number (type.Ordinal low high)) (λ s matches here. make_own_does declared G place line below low high type_number number v has low_fits high_fits types_valid is_declared declared_so injection memory s described matches here) enough (omega arith) (omega arith) (omega arith))
+        fragment_less {n = suc n} (omega arith) (fragment_counted {weight = 1} 0 (counted (type.Ordinal low high)) (made_own number (type.Ordinal low high)) tt (λ s. refl) (grows_made_own number (type.Ordinal low high)) (λ s matches here. make_own_does declared G place line below low high type_number number v has low_fits high_fits is_declared declared_so injection memory s described matches here) enough (omega arith) (omega arith) (omega arith))
 
     -- the bounds of the type, and `TOrd` over them
     type_moves : (g : ℕ) (low high : ℤ) → IsTrue (int_le low high) → CodeStands G ps p references at (type_code line (type.Ordinal low high))
@@ -141,7 +141,7 @@ module _ (declared : Declarations) (G : Image) (untouched : Slots) (first : Inje
                     (fragment_credit {d = d + 3} {e = λ b. d + 3 - 3} (omega arith) (λ b. omega arith) (fragment_from {place = p.instructions.before + (at + 4) + 1 - 1} (omega arith) (fragment_to {to = p.instructions.before + (at + 4) + 1 + 1 + 1} (omega arith)
                     (value_taken declared G untouched first start lasts (p.instructions.before + (at + 4) + 1) line number unit below last final f.frame f.below f.frames (unit_in-still G made.runs ∙ (unit_in-still G runs ∙ home)) (omega (arith, within, ap length args)) n (d + 3) low high z made.number made.place
                     (instr_at G {other = p.instructions.before + (at + 3 + 1)} (omega arith) parts.1.1.0) (omega arith) (instr_at G {other = p.instructions.before + (at + 3 + 1 + 1)} (omega arith) parts.1.1.1.0) (instr_at G {other = p.instructions.before + (at + 3 + 1 + 1 + 1)} (omega arith) parts.1.1.1.1.0)
-                    (ap (λ l. argument_at l number) args ∙ there) made.slot made.place_of made.stands made.described (omega arith))))))),
+                    (ap (λ l. argument_at l number) args ∙ there) made.slot made.spot made.stands made.described (omega arith))))))),
               ))))),
         ))
 
@@ -205,12 +205,12 @@ module _ (declared : Declarations) (G : Image) (untouched : Slots) (first : Inje
 
     -- a variable formal takes a variable
     reference_moves : CodeStands G ps p references at (place_taken line number)
-        → (m : ℕ) (t : TypeValue) (q : PlaceOf) → type_of declared.routine_types (denoter_of f.denoter) ≡ Some t
+        → (m : Component) (t : TypeValue) (q : PlaceOf) → type_of declared.routine_types (denoter_of f.denoter) ≡ Some t
         → (injection : Injection) (memory : Memory) (below : List Operand) (d : ℕ) → least_credit ≤ d → unit_in G memory.frames ≡ unit
         → argument_at (arguments_in memory.frames.calls) number ≡ Some (operand.Place q) → suc number ≤ length (arguments_in memory.frames.calls)
-        → IsPlaceOf injection memory.segments m q → Describes memory.types q.type_number t
+        → IsSpot injection memory.types m q → Describes memory.types q.type_number t
         → Fragment declared G (InActivation declared untouched first start) n (point injection memory (p.instructions.before + at) below) (spend 1 (change (with_own_bound number m))) (p.instructions.before + (at + 2)) (λ a. Taken untouched injection memory (without_argument number (arguments_in memory.frames.calls)) below) d (λ a. d)
-    reference_moves stands m t q has_type injection memory below d enough home there within place_of described =
+    reference_moves stands m t q has_type injection memory below d enough home there within spot described =
         by_calls memory.frames.calls refl there within
       where
         typed : (w : UnitVariable) → slice_get (variables_up declared 0) number ≡ Some w → HasOwnType declared w t
@@ -222,7 +222,7 @@ module _ (declared : Declarations) (G : Image) (untouched : Slots) (first : Inje
         by_calls (c ∷ calls) e there within =
             subst (λ l. Fragment declared G (InActivation declared untouched first start) n (point injection memory (p.instructions.before + at) below) (spend 1 (change (with_own_bound number m))) (p.instructions.before + (at + 2)) (λ a. Taken untouched injection memory (without_argument number l) below) d (λ a. d)) (sym (ap arguments_in e))
             (fragment_less {n = suc n} (omega arith) (fragment_to {to = p.instructions.before + at + 1 + 1} (omega arith)
-            (variable_taken declared G untouched first start lasts (p.instructions.before + at) line number unit below injection memory c calls e home within n m d q t (formal_variable line f) stands.0 (instr_at G {other = p.instructions.before + (at + 1)} (omega arith) stands.1.0) there place_of described is_declared typed (omega (arith, enough)))))
+            (variable_taken declared G untouched first start lasts (p.instructions.before + at) line number unit below injection memory c calls e home within n m d q t (formal_variable line f) stands.0 (instr_at G {other = p.instructions.before + (at + 1)} (omega arith) stands.1.0) there spot described is_declared typed (omega (arith, enough)))))
 
     -- a value formal takes a result that is a number
     number_moves : (k : Kind) (h : Host) (r : Result) → k ≡ kind.Ordinal h → CodeStands G ps p references at (value_code declared.routine_types line number f)
@@ -250,12 +250,12 @@ module _ (declared : Declarations) (G : Image) (untouched : Slots) (first : Inje
     take_moves mode.ProtectedValue (ByReference t) x passed stands o injection memory below d enough home there within is = absurd passed
     take_moves mode.Variable (ByValue k) x passed stands o injection memory below d enough home there within is = absurd passed
     take_moves mode.Variable (ByReference t) (Value r) passed stands o injection memory below d enough home there within is = absurd is
-    take_moves mode.Variable (ByReference t) (argument_is.Variable m) passed stands o injection memory below d enough home there within (q, q_is, place_of, described) =
-        reference_moves stands m t q passed injection memory below d enough home (there ∙ ap Some q_is) within place_of described
+    take_moves mode.Variable (ByReference t) (argument_is.Variable m) passed stands o injection memory below d enough home there within (q, q_is, spot, described) =
+        reference_moves stands m t q passed injection memory below d enough home (there ∙ ap Some q_is) within spot described
     take_moves mode.ProtectedVariable (ByValue k) x passed stands o injection memory below d enough home there within is = absurd passed
     take_moves mode.ProtectedVariable (ByReference t) (Value r) passed stands o injection memory below d enough home there within is = absurd is
-    take_moves mode.ProtectedVariable (ByReference t) (argument_is.Variable m) passed stands o injection memory below d enough home there within (q, q_is, place_of, described) =
-        reference_moves stands m t q passed injection memory below d enough home (there ∙ ap Some q_is) within place_of described
+    take_moves mode.ProtectedVariable (ByReference t) (argument_is.Variable m) passed stands o injection memory below d enough home there within (q, q_is, spot, described) =
+        reference_moves stands m t q passed injection memory below d enough home (there ∙ ap Some q_is) within spot described
 
   -- the formal parameters take their arguments, from this number on
   pub takes_all_moves : (g line number at : ℕ) (fs : List Formal) (qs : List Passing) (xs : List Argument) → ArePassed declared.routine_types fs qs

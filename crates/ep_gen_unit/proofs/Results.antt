@@ -13,7 +13,7 @@ use Rattle.ep_object.proofs.rows.PlaceRows.{defined_fails, defined_tells, load_r
 use Rattle.ep_object.proofs.rows.Rows.{RowPushes, outcome_at, fail_fails, jump_false_jumps}
 use Rattle.ep_object.specs.Activations.{KnowsNames}
 use Rattle.ep_object.specs.Follows.{Facts, Follows, Fragment, Lands, Inside, OnTop, PlaceOnTop, IsNotLeft, point}
-use Rattle.ep_object.specs.Matching.{Memory, Injection, Matches, Slots, HasOwnType, IsPlaceOf, Describes, at as standing}
+use Rattle.ep_object.specs.Matching.{Memory, Injection, Matches, Slots, HasOwnType, IsSpot, Describes, at as standing}
 use Rattle.ep_object.specs.Operands.{Operand, Word}
 use Rattle.ep_object.specs.Operands as operand
 use Rattle.ep_object.specs.Placing.{Placement, CodeStands}
@@ -31,7 +31,7 @@ use Rattle.ep_typed.specs.Meaning.{result_at}
 use Rattle.ep_typed.specs.Operations.{is_true}
 use Rattle.ep_typed.specs.Printing.{Result}
 use Rattle.ep_typed.specs.Printing as result
-use Rattle.ep_typed.specs.Steps.{Computation, bind, fetch, found, give, using, word_at, own_variable, has_ended}
+use Rattle.ep_typed.specs.Steps.{Component, Computation, bind, fetch, found, give, using, word_at, own_variable, has_ended}
 use Rattle.ep_typed.specs.Steps as meaning
 use Rattle.ep_typed.specs.Valid as kind
 use Rattle.ep_typed.specs.Valid.{variables_up, Declarations, IsTypeOf}
@@ -57,18 +57,18 @@ same_number w z e = cc
 module _ {declared : Declarations} {G : Image} {Here : Facts} (untouched : Slots) (knows : KnowsNames declared Here) (ps : List Placement) (p : Placement) (references : List Reference) (n : ℕ) (unit : List ℕ) (room : p.instructions.before + p.instructions.own ≤ length G.instructions)
     (number line at : ℕ) (h : Host) (low high : ℤ) (of_host : IsTypeOf h (type.Ordinal low high)) (stands : CodeStands G ps p references at (result_code line number at)) (inside : at + 6 < p.instructions.own) where
   -- from the instruction that tells whether the variable has a value, where it lives
-  given_follows : (injection : Injection) (memory : Memory) (below : List Operand) (a : ℕ) (q : PlaceOf) → IsPlaceOf injection memory.segments a q → Describes memory.types q.type_number (type.Ordinal low high) → (d : ℕ) → 8 ≤ d → unit_in G memory.frames ≡ unit
-      → (s : meaning.State) → Matches declared G injection s memory → Here injection s memory → has_ended a s ≡ false
+  given_follows : (injection : Injection) (memory : Memory) (below : List Operand) (a : Component) (q : PlaceOf) → IsSpot injection memory.types a q → Describes memory.types q.type_number (type.Ordinal low high) → (d : ℕ) → 8 ≤ d → unit_in G memory.frames ≡ unit
+      → (s : meaning.State) → Matches declared G injection s memory → Here injection s memory → has_ended a.allocation s ≡ false
       → Follows (λ k. IsNotLeft memory.frames k.frames) G n (standing ((p.instructions.before + at) + 2) (operand.Place q ∷ operand.Place q ∷ below) memory s.trace) s (bind (fetch (meaning.Error run_error.RESULT_UNDEFINED unit line) (word_at a)) (λ w. give (result.Number w ∷ []))) (λ rs. Lands declared G Here ((p.instructions.before + at) + 5) (ResultsOnTop (kind.Ordinal h ∷ []) below rs)) d (λ rs. 1)
-  given_follows injection memory below a q place_of described d enough home s matches here living =
-      by_value (load_reads declared G ((p.instructions.before + at) + 4) line below {untouched = untouched} h low high a q of_host (instr_at G (omega arith) stands.1.1.1.1.0) injection memory place_of described s matches here living)
+  given_follows injection memory below a q spot described d enough home s matches here living =
+      by_value (load_reads declared G ((p.instructions.before + at) + 4) line below {untouched = untouched} h low high a q of_host (instr_at G (omega arith) stands.1.1.1.1.0) injection memory spot described s matches here living)
     where
       In : State → Type 0
       In k = IsNotLeft memory.frames k.frames
 
       -- whether it has a value, and on to what that is for
       asked : outcome G (standing ((p.instructions.before + at) + 2) (operand.Place q ∷ operand.Place q ∷ below) memory s.trace) ≡ record { weight = 0; to = Running 0 (standing ((p.instructions.before + at) + 2 + 1) (Word (bit (is_some (word_at a s))) ∷ operand.Place q ∷ below) memory s.trace) }
-      asked = defined_tells declared G ((p.instructions.before + at) + 2) line (operand.Place q ∷ below) low high a q (instr_at G (omega arith) stands.1.1.0) injection memory place_of described s matches living
+      asked = defined_tells declared G ((p.instructions.before + at) + 2) line (operand.Place q ∷ below) low high a q (instr_at G (omega arith) stands.1.1.0) injection memory spot described s matches living
 
       jumped : (z : ℤ) → outcome G (standing ((p.instructions.before + at) + 2 + 1) (Word z ∷ operand.Place q ∷ below) memory s.trace) ≡ record { weight = 0; to = Running 0 (standing (if is_true z then (p.instructions.before + at) + 2 + 1 + 1 else p.instructions.before + (at + 6)) (operand.Place q ∷ below) memory s.trace) }
       jumped z = jump_false_jumps G ((p.instructions.before + at) + 2 + 1) line (operand.Place q ∷ below) z (p.instructions.before + (at + 6)) (omega (arith, room, inside)) (instr_at G (omega arith) (jump_false_has G ps p references line (at + 1 + 1 + 1) (at + 6) (bare line op.LOAD ∷ bare line op.RETURN ∷ instr op.FAIL (pos run_error.RESULT_UNDEFINED) 0 line ∷ []) inside stands.1.1.1)) memory s.trace
@@ -108,7 +108,7 @@ module _ {declared : Declarations} {G : Image} {Here : Facts} (untouched : Slots
       → Fragment declared G Here n (point injection memory (p.instructions.before + at) below) (result_at unit line number) ((p.instructions.before + at) + 5) (λ rs. ResultsOnTop (kind.Ordinal h ∷ []) below rs) d (λ rs. 1)
   ordinal_moves v is_declared has_type injection memory below d enough home =
       fragment_bind {middle = (p.instructions.before + at) + 1} {P = λ a. Inside untouched injection memory (PlaceOnTop (type.Ordinal low high) below a)} {e = λ a. d - 1}
-      (λ a. steady_using (meaning.Error run_error.DISPOSED unit line) a (steady_bind (steady_fetch (meaning.Error run_error.RESULT_UNDEFINED unit line) (word_at a)) (λ w. steady_give (result.Number w ∷ []))))
+      (λ a. steady_using (meaning.Error run_error.DISPOSED unit line) a.allocation (steady_bind (steady_fetch (meaning.Error run_error.RESULT_UNDEFINED unit line) (word_at a)) (λ w. steady_give (result.Number w ∷ []))))
       (fragment_fetched (own_variable 0 number) (λ s matches here.
       subst (λ u. Reads declared G Here (standing (p.instructions.before + at) below memory s.trace) 1 u line ((p.instructions.before + at) + 1) (λ a. Inside untouched injection memory (PlaceOnTop (type.Ordinal low high) below a)) s (own_variable 0 number s)) home
       (own_reads declared G (p.instructions.before + at) line below number v (type.Ordinal low high) stands.0 has_type injection memory s matches ((knows injection s memory here).own number v is_declared) here)) (omega (arith, enough)))
@@ -116,13 +116,13 @@ module _ {declared : Declarations} {G : Image} {Here : Facts} (untouched : Slots
       let top = i.operands_are in
       let at_home : unit_in G after.frames ≡ unit = unit_in-same G i.routine ∙ home in (
         still_routine i.routine,
-        subst (λ st. Fragment declared G Here n (point longer after ((p.instructions.before + at) + 1) st) (using (meaning.Error run_error.DISPOSED unit line) a (bind (fetch (meaning.Error run_error.RESULT_UNDEFINED unit line) (word_at a)) (λ w. give (result.Number w ∷ [])))) ((p.instructions.before + at) + 5) (λ rs. ResultsOnTop (kind.Ordinal h ∷ []) below rs) (d - 1) (λ rs. 1)) (sym top.is)
+        subst (λ st. Fragment declared G Here n (point longer after ((p.instructions.before + at) + 1) st) (using (meaning.Error run_error.DISPOSED unit line) a.allocation (bind (fetch (meaning.Error run_error.RESULT_UNDEFINED unit line) (word_at a)) (λ w. give (result.Number w ∷ [])))) ((p.instructions.before + at) + 5) (λ rs. ResultsOnTop (kind.Ordinal h ∷ []) below rs) (d - 1) (λ rs. 1)) (sym top.is)
             (fragment_waits {d1 = d - 2} (λ s matches. dup_place G ((p.instructions.before + at) + 1) line below top.place (instr_at G (omega arith) stands.1.0) after s.trace) (omega (arith, enough))
             (fragment_from {place = (p.instructions.before + at) + 2} (omega arith)
-            (fragment_using {n = n} a
-            (λ s matches ended. subst (λ u. FailsWith G (standing ((p.instructions.before + at) + 2) (operand.Place top.place ∷ operand.Place top.place ∷ below) after s.trace) 0 11 u line s) at_home (defined_fails declared G ((p.instructions.before + at) + 2) line (operand.Place top.place ∷ below) low high a top.place (instr_at G (omega arith) stands.1.1.0) longer after top.place_of top.described s matches ended))
+            (fragment_using {n = n} a.allocation
+            (λ s matches ended. subst (λ u. FailsWith G (standing ((p.instructions.before + at) + 2) (operand.Place top.place ∷ operand.Place top.place ∷ below) after s.trace) 0 11 u line s) at_home (defined_fails declared G ((p.instructions.before + at) + 2) line (operand.Place top.place ∷ below) low high a top.place (instr_at G (omega arith) stands.1.1.0) longer after top.spot top.described s matches ended))
             (omega (arith, enough))
-            (λ s matches here living. given_follows longer after below a top.place top.place_of top.described (d - 2) (omega (arith, enough)) at_home s matches here living)))),
+            (λ s matches here living. given_follows longer after below a top.place top.spot top.described (d - 2) (omega (arith, enough)) at_home s matches here living)))),
       ))
 
 -- the end of a function, whose result is in a variable of a type of the host

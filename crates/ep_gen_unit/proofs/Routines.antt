@@ -411,7 +411,7 @@ module _ (u : TypedUnit) (o : Object) (is : IsProgramCode u o) (valid : IsValid 
           let size : x.entry.entry + length takes_code + length makes_code ≡ x.entry.entry + length (own_code u.types r) = omega (arith, length-append takes_code makes_code) in
           subst (λ st. Fragment within G Here m (point longer after (p.instructions.before + (x.entry.entry + length takes_code)) st) (bind (make_all_own call m u.name u.types (length formals) (made_variables r)) (λ a. bind (exec call m u.name (stmt_of r.block)) (λ b. gives))) ends.place (λ rs. ResultsOnTop results below rs) 63 (λ rs. 1)) (sym is_below)
           (fragment_bind {middle = p.instructions.before + (x.entry.entry + length (own_code u.types r))} {e = λ a. 63} (λ a. steady_bind (steady_exec call steady_call m u.name (stmt_of r.block)) (λ b. steady_gives))
-          (fragment_to (ap (λ k. p.instructions.before + k) size) (make_all_own_moves within G untouched injection begun lasts ps p o.references call steady_call m u.name scene.types_valid scene.own_types_valid m (length formals) (x.entry.entry + length takes_code) (made_variables r) variable_is parts.1 longer after below 63 (omega arith)))
+          (fragment_to (ap (λ k. p.instructions.before + k) size) (make_all_own_moves within G untouched injection begun lasts ps p o.references call steady_call m u.name scene.own_types_valid m (length formals) (x.entry.entry + length takes_code) (made_variables r) variable_is parts.1 longer after below 63 (omega arith)))
           (λ a last final above still. (still.runs, blocks last final above (unit_in-still G still.runs ∙ at_home) still.operands_are)))
 
       -- the machine follows the routine, in any activation of it
@@ -420,7 +420,7 @@ module _ (u : TypedUnit) (o : Object) (is : IsProgramCode u o) (valid : IsValid 
           let parts = code_stands-parts G ps p o.references x.entry.entry takes_code makes_code x.makes_stand in
           fragment_outside within.levels (own u) (fragment_from entry
           (fragment_bind {middle = p.instructions.before + (x.entry.entry + length takes_code)} {e = λ a. 63} (λ a. steady_bind (steady_make_all_own call steady_call m u.name u.types (length formals) (made_variables r)) (λ b. steady_bind (steady_exec call steady_call m u.name (stmt_of r.block)) (λ c. steady_gives)))
-          (takes_all_moves within G untouched injection begun lasts ps p o.references call steady_call m u.name scene.types_valid scene.own_types_valid m line_of 0 x.entry.entry formals passings.0 xs passings.1 formal_is parts.0 injection begun below 63 (omega arith) home awaited)
+          (takes_all_moves within G untouched injection begun lasts ps p o.references call steady_call m u.name scene.own_types_valid m line_of 0 x.entry.entry formals passings.0 xs passings.1 formal_is parts.0 injection begun below 63 (omega arith) home awaited)
           (λ a longer after pushed still. (still.runs, makes longer after pushed (unit_in-still G still.runs ∙ home) still.operands_are))))
 
     -- what a call of it does

@@ -6,7 +6,7 @@ use Rattle.ep_gen_unit.specs.StmtCode.{IsAssignCode}
 use Rattle.ep_gen_expr.proofs.Following.{IsTyped, typed_place}
 use Rattle.ep_gen_unit.proofs.Parts.{Moves, ExpressionsFollow, PlacesFollow, code_stands-parts, ordinal_of_host}
 use Rattle.ep_object.specs.Follows.{point, Facts, Lasts, Fragment, Inside, Bare}
-use Rattle.ep_object.specs.Matching.{Slots, Memory, Injection, IsPlaceOf, Describes, at as standing}
+use Rattle.ep_object.specs.Matching.{Slots, Memory, Injection, IsSpot, Describes, at as standing}
 use Rattle.ep_object.specs.Operands.{Operand, Word}
 use Rattle.ep_object.specs.Operands as operand
 use Rattle.ep_object.specs.Placing.{Placement, CodeStands}
@@ -19,14 +19,14 @@ use Rattle.ep_object.specs.declared.state.Place.{Place as PlaceOf}
 use Rattle.ep_object.proofs.rows.ChangeRows.{store_does, store_fails, store_fails_ended}
 use Rattle.ep_object.proofs.following.Choices.{follows_checked, fragment_using}
 use Rattle.ep_object.proofs.following.Fragments.{FailsWith, fragment_give, fragment_stop, fragment_to, fragment_less, fragment_credit, fragment_bind_number, fragment_bind_place}
-use Rattle.ep_object.proofs.matching.Growing.{unit_in-same, is_place_of-grown, describes-grown, inside_here}
+use Rattle.ep_object.proofs.matching.Growing.{unit_in-same, is_spot-grown, describes-grown, inside_here}
 use Rattle.ep_object.proofs.rows.Rows.{outcome_at}
 use Rattle.ep_typed.specs.Steady.{IsSteadyHandler}
 use Rattle.ep_typed.specs.Calls.{Handler}
 use Rattle.ep_typed.proofs.Steady.{steady_bind, steady_eval, steady_assign}
 use Rattle.ep_typed.specs.Meaning.{exec, assign, assigns, weight_of}
 use Rattle.ep_typed.specs.Printing.{number_of}
-use Rattle.ep_typed.specs.Steps.{assigned, is_within, type_at, has_ended}
+use Rattle.ep_typed.specs.Steps.{Component, is_among, assigned, is_within, type_at, has_ended}
 use Rattle.ep_typed.specs.Steps as meaning
 use Rattle.ep_typed.specs.Trees.{Place, Expr, Empty, Halt}
 use Rattle.ep_typed.specs.Valid as kind
@@ -46,15 +46,15 @@ module _ {declared : Declarations} {G : Image} {untouched : Slots} {Here : Facts
       fragment_stop {weight = 0} (λ s matches. outcome_at G (bare line op.HALT) (p.instructions.before + at) below memory s.trace stands.0) (omega arith)
 
   -- `Store`, where the variable's place and the value are on top
-  store_moves : (low high z : ℤ) (a : ℕ) (q : PlaceOf) (line at : ℕ) → CodeStands G ps p references at (bare line op.STORE ∷ []) → (injection : Injection) (memory : Memory) (below : List Operand) (d : ℕ) → least_credit ≤ d → unit_in G memory.frames ≡ unit → IsPlaceOf injection memory.segments a q → Describes memory.types q.type_number (type.Ordinal low high)
+  store_moves : (low high z : ℤ) (a : Component) (q : PlaceOf) (line at : ℕ) → CodeStands G ps p references at (bare line op.STORE ∷ []) → (injection : Injection) (memory : Memory) (below : List Operand) (d : ℕ) → least_credit ≤ d → unit_in G memory.frames ≡ unit → IsSpot injection memory.types a q → Describes memory.types q.type_number (type.Ordinal low high)
       → Fragment declared G Here n (point injection memory (p.instructions.before + at) (Word z ∷ operand.Place q ∷ below)) (assign call n unit line a z) (p.instructions.before + at + 1) (λ b. Inside untouched injection memory (Bare below b)) d (λ b. d)
-  store_moves low high z a q line at stands injection memory below d enough home place_of described =
-      fragment_less {n = suc n} (omega arith) (fragment_using {n = suc n} {e = λ b. d} a
-      (λ s matches ended. subst (λ u. FailsWith G (standing (p.instructions.before + at) (Word z ∷ operand.Place q ∷ below) memory s.trace) 0 11 u line s) home (store_fails_ended declared G (p.instructions.before + at) line below low high z a q stands.0 injection memory place_of described s matches ended))
+  store_moves low high z a q line at stands injection memory below d enough home spot described =
+      fragment_less {n = suc n} (omega arith) (fragment_using {n = suc n} {e = λ b. d} a.allocation
+      (λ s matches ended. subst (λ u. FailsWith G (standing (p.instructions.before + at) (Word z ∷ operand.Place q ∷ below) memory s.trace) 0 11 u line s) home (store_fails_ended declared G (p.instructions.before + at) line below low high z a q stands.0 injection memory spot described s matches ended))
       (omega arith)
-      (λ s matches here living. follows_checked {e = λ b. d} (point injection memory (p.instructions.before + at) (Word z ∷ operand.Place q ∷ below)) (λ s. is_within (type_at a s) z) (assigned a (meaning.Word z)) s
-      (λ is. store_does declared G (p.instructions.before + at) line below low high z a q stands.0 injection memory place_of described s matches living lasts here is)
-      (λ is. subst (λ u. FailsWith G (standing (p.instructions.before + at) (Word z ∷ operand.Place q ∷ below) memory s.trace) 0 2 u line s) home (store_fails declared G (p.instructions.before + at) line below low high z a q stands.0 injection memory place_of described s matches living is))
+      (λ s matches here living. follows_checked {e = λ b. d} (point injection memory (p.instructions.before + at) (Word z ∷ operand.Place q ∷ below)) (λ s. is_among (type_at a s) z) (assigned a (meaning.Word z)) s
+      (λ is. store_does declared G (p.instructions.before + at) line below low high z a q stands.0 injection memory spot described s matches living lasts here is)
+      (λ is. subst (λ u. FailsWith G (standing (p.instructions.before + at) (Word z ∷ operand.Place q ∷ below) memory s.trace) 0 2 u line s) home (store_fails declared G (p.instructions.before + at) line below low high z a q stands.0 injection memory spot described s matches living is))
       (omega arith) (omega arith)))
 
   module _ (scene : Scene declared G ps p texts) (expressions : ExpressionsFollow declared G untouched Here ps p texts references call n unit) (places : PlacesFollow declared G untouched Here ps p texts references call n unit) where
@@ -62,11 +62,11 @@ module _ {declared : Declarations} {G : Image} {untouched : Slots} {Here : Facts
     assign_to : (line at : ℕ) (q : Place) (h k : Host) (v : IsTyped declared q h) (low high : ℤ) (x : Expr) (pcode xcode : List Instr) → v.type_value ≡ type.Ordinal low high → IsExpr declared (kind.Ordinal k) x → IsPlaceCode references line q pcode → IsExprCode texts references line (at + length pcode) x xcode → at + length pcode + length xcode < p.instructions.own
         → CodeStands G ps p references at pcode → CodeStands G ps p references (at + length pcode) xcode → CodeStands G ps p references (at + length pcode + length xcode) (bare line op.STORE ∷ []) → Moves declared G untouched Here ps p texts references call n unit at (at + length pcode + length xcode + 1) (assigns call n unit line q x)
     assign_to line at q h k v low high x pcode xcode of_type valid place_code expr_code inside at_place at_expr at_store injection memory below d enough home =
-        fragment_bind_place {type = v.type_value} {e = λ a. d + 8} (λ a. steady_bind (steady_eval call steady_call n unit line x) (λ r. steady_assign call steady_call n unit line a (number_of r))) (places q v.type_value v.has_type line at pcode place_code at_place injection memory below d (omega arith) home) (λ a spot longer after grown routine place_of described.
-        fragment_bind_number {host = k} {e = λ r. d + 8 + 8 + weight_of r} (λ r. steady_assign call steady_call n unit line a (number_of r)) (expressions (kind.Ordinal k) x valid line (at + length pcode) xcode expr_code at_expr inside longer after (operand.Place spot ∷ below) (d + 8) (omega arith) (unit_in-same G routine ∙ home)) (λ z last final of_host grown2 routine2.
+        fragment_bind_place {type = v.type_value} {e = λ a. d + 8} (λ a. steady_bind (steady_eval call steady_call n unit line x) (λ r. steady_assign call steady_call n unit line a (number_of r))) (places q v.type_value v.has_type line at pcode place_code at_place injection memory below d (omega arith) home) (λ a place_here longer after grown routine spot described.
+        fragment_bind_number {host = k} {e = λ r. d + 8 + 8 + weight_of r} (λ r. steady_assign call steady_call n unit line a (number_of r)) (expressions (kind.Ordinal k) x valid line (at + length pcode) xcode expr_code at_expr inside longer after (operand.Place place_here ∷ below) (d + 8) (omega arith) (unit_in-same G routine ∙ home)) (λ z last final of_host grown2 routine2.
         fragment_to {to = p.instructions.before + (at + length pcode + length xcode) + 1} (omega arith) (fragment_credit {d = d + 8 + 8 + 0} {e = λ b. d + 8 + 8 + 0} (omega arith) (λ b. omega arith) (
-        store_moves low high z a spot line (at + length pcode + length xcode) at_store last final below (d + 8 + 8 + 0) (omega arith) (unit_in-same G routine2 ∙ (unit_in-same G routine ∙ home)) (is_place_of-grown grown2 place_of)
-        (describes-grown spot.type_number (type.Ordinal low high) grown2 (subst (λ t. Describes after.types spot.type_number t) of_type described))))))
+        store_moves low high z a place_here line (at + length pcode + length xcode) at_store last final below (d + 8 + 8 + 0) (omega arith) (unit_in-same G routine2 ∙ (unit_in-same G routine ∙ home)) (is_spot-grown grown2 spot)
+        (describes-grown place_here.type_number (type.Ordinal low high) grown2 (subst (λ t. Describes after.types place_here.type_number t) of_type described))))))
 
     -- wherever the code of an assignment stands
     pub assigned_moves : (line at : ℕ) (q : Place) (h k : Host) (x : Expr) (is : List Instr) → IsPlace declared h q → IsExpr declared (kind.Ordinal k) x → IsAssignCode texts references line at q x is → at + length is < p.instructions.own → CodeStands G ps p references at is

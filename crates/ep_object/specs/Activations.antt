@@ -20,7 +20,7 @@ pub record OwnSlot (declared : Declarations) (injection : Injection) (s : meanin
     (v : UnitVariable) : Type 0 where
   pub slot : Option Place
   pub is : own_slot memory.frames k ≡ Some slot
-  pub matches : MatchesSlot injection memory.segments (own_variable 0 k s) slot
+  pub matches : MatchesSlot injection memory.types (own_variable 0 k s) slot
   pub described : (place : Place) (t : TypeValue) → slot ≡ Some place → HasOwnType declared v t
       → Describes memory.types place.type_number t
 
@@ -42,7 +42,7 @@ pub record LevelSlot (types : List UnitType) (injection : Injection) (variables 
     (memory : Memory) (k : ℕ) (v : UnitVariable) : Type 0 where
   pub slot : Option Place
   pub is : slice_get slots k ≡ Some slot
-  pub matches : MatchesSlot injection memory.segments (variables k) slot
+  pub matches : MatchesSlot injection memory.types (variables k) slot
   pub described : (place : Place) (t : TypeValue) → slot ≡ Some place → IsInstance types (denoter_of v.denoter) t
       → Describes memory.types place.type_number t
 

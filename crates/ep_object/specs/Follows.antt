@@ -3,13 +3,13 @@ use Rattle.std.specs.Prelude.{◌≡◌, ℕ, ℤ, suc, ◌+◌, ◌*◌, ◌≤
 use Rattle.ep_outside.specs.Known.{IsPrefix}
 use Rattle.ep_typed.specs.Events.{Trace}
 use Rattle.ep_typed.specs.Printing.{Result, Number, Bytes}
-use Rattle.ep_typed.specs.Steps.{Outcome, Gives, Ends, Cut, Computation, state_of}
+use Rattle.ep_typed.specs.Steps.{Component, Outcome, Gives, Ends, Cut, Computation, state_of}
 use Rattle.ep_typed.specs.Steps as meaning
 use Rattle.ep_typed.specs.Valid as kind
 use Rattle.ep_typed.specs.Valid.{Declarations, Kind}
 use Rattle.ep_typed.specs.Hosts.{Host, is_of_host}
 use Rattle.ep_typed.specs.declared.value.TypeValue.{TypeValue}
-use Rattle.ep_object.specs.Matching.{Memory, at, Injection, Matches, Slots, own_slot, Grown, IsPlaceOf, Describes}
+use Rattle.ep_object.specs.Matching.{Memory, at, Injection, Matches, Slots, own_slot, Grown, IsSpot, Describes}
 use Rattle.ep_object.specs.Operands.{Operand, Word, Place, Text}
 use Rattle.ep_object.specs.Runs.{run, tick}
 use Rattle.ep_object.specs.State.{State, Frame, Frames, End, Running, Stopped, Normal, Halt, Error}
@@ -230,12 +230,12 @@ abbrev pub OnTop : Kind → List Operand → Result → Operands
 OnTop (kind.Ordinal host) below r = NumberOnTop host below r
 OnTop kind.Bytes below r = TextOnTop below r
 
--- a place of the allocation of this number on top, whose type describes the type value
-pub record PlaceOnTop (type : TypeValue) (below : List Operand) (n : ℕ) (injection : Injection)
+-- a place of the variable on top, whose type describes the type value
+pub record PlaceOnTop (type : TypeValue) (below : List Operand) (variable : Component) (injection : Injection)
     (memory : Memory) (operands : List Operand) : Type 0 where
   pub place : PlaceOf
   pub is : operands ≡ Place place ∷ below
-  pub place_of : IsPlaceOf injection memory.segments n place
+  pub spot : IsSpot injection memory.types variable place
   pub described : Describes memory.types place.type_number type
 
 -- inside of a routine: memory has grown and these slots are untouched, the routine is the same, and the operands are such

@@ -1,11 +1,11 @@
 -- When a state of the machine matches a state of the meaning.
-use Rattle.std.specs.Prelude.{◌≡◌, ℕ, ℤ, zero, suc, ◌+◌, ◌*◌, ◌≤◌, ◌==◌, Bool, true, false, IsTrue, List, [], ◌∷◌, length, slice_get, Option, Some, None, ⊤, if◌then◌else◌}
+use Rattle.std.specs.Prelude.{◌≡◌, ℕ, ℤ, zero, suc, ◌+◌, ◌*◌, ◌≤◌, ◌==◌, Bool, true, false, IsTrue, List, [], ◌∷◌, length, slice_get, Option, Some, None, option_map, ⊤, if◌then◌else◌}
 use Rattle.std.specs.List.{list_any}
 use Rattle.ep_outside.specs.Known.{IsPrefix}
 use Rattle.ep_typed.specs.Denoters.{IsInstance}
 use Rattle.ep_typed.specs.Events.{Trace}
 use Rattle.ep_typed.specs.Operations.{is_integer}
-use Rattle.ep_typed.specs.Steps.{Value, Undefined, Allocation, Resources, is_within, same_type, size_of}
+use Rattle.ep_typed.specs.Steps.{Value, Undefined, Component, Allocation, Resources, is_within, same_type, size_of}
 use Rattle.ep_typed.specs.Steps as meaning
 use Rattle.ep_typed.specs.Valid.{Declarations}
 use Rattle.ep_typed.specs.Viewed.{denoter_of}
@@ -42,20 +42,58 @@ at place operands memory trace =
       trace = trace;
     }
 
--- The injection of allocations into segments: the segment of each allocation, in the order of making. The
--- allocation of number 1, which is `input`, is its first item. Segments that are no item are hidden ones.
+-- where an allocation is, and its type
+pub record Mapped : Type 0 where
+  pub segment : ℕ
+  pub type_value : TypeValue
+
+-- The injection of allocations into segments: the segment of each allocation, in the order of making, with the type. The
+-- allocation of number 1, which is `input`, is its first item. Segments that are in no item are hidden ones.
 abbrev pub Injection : Type 0
-Injection = List ℕ
+Injection = List Mapped
+
+-- the item is that of this segment
+abbrev pub is_at : ℕ → Mapped → Bool
+is_at segment m = m.segment == segment
 
 -- the allocation of this number is in the segment
 abbrev pub IsIn : Injection → ℕ → ℕ → Type 0
 IsIn injection zero segment = ⊥
-IsIn injection (suc n) segment = slice_get injection n ≡ Some segment
+IsIn injection (suc n) segment = option_map (λ m. m.segment) (slice_get injection n) ≡ Some segment
+
+-- the allocation of this number is of the type
+abbrev pub IsOf : Injection → ℕ → TypeValue → Type 0
+IsOf injection zero t = ⊥
+IsOf injection (suc n) t = option_map (λ m. m.type_value) (slice_get injection n) ≡ Some t
 
 -- the type of this number describes the type value
 abbrev pub Describes : TypeTable → ℕ → TypeValue → Type 0
 Describes types n (type.Ordinal low high) = slice_get types n ≡ Some (ordinal_entry low high)
 Describes types n type.Text = slice_get types n ≡ Some text_entry
+
+-- a component of a type: how many words are before it, and its type
+pub record Part : Type 0 where
+  pub offset : ℕ
+  pub type_value : TypeValue
+
+abbrev pub part_behind : ℕ → Option Part → Option Part
+part_behind n None = None
+part_behind n (Some p) = Some (record p { offset = n + p.offset })
+
+-- the component of this number, where the type has one
+abbrev pub part_of : TypeValue → ℕ → Option Part
+part_of (type.Ordinal low high) k = None
+part_of type.Text k = None
+
+-- the part at a path, of a part that begins behind so many words
+abbrev pub part_along : Option Part → List ℕ → Option Part
+part_along part [] = part
+part_along None (k ∷ path) = None
+part_along (Some p) (k ∷ path) = part_along (part_behind p.offset (part_of p.type_value k)) path
+
+-- all of a type
+abbrev pub all_of : TypeValue → Part
+all_of t = record { offset = 0; type_value = t }
 
 -- words by number
 abbrev pub Words : Type 0
@@ -65,6 +103,7 @@ Words = ℕ → Option ℤ
 abbrev pub WordAt : TypeValue → Value → Option ℤ → Type 0
 WordAt t Undefined word = word ≡ Some undefined
 WordAt t (meaning.Word w) word = (word ≡ Some w) × IsTrue (is_within t w)
+WordAt t (meaning.Components of) word = ⊥
 
 -- a word is a value of the ordinal type with these bounds, which are integers
 pub record OrdinalAt (low high : ℤ) (value : Value) (word : Option ℤ) : Type 0 where
@@ -76,6 +115,7 @@ pub record OrdinalAt (low high : ℤ) (value : Value) (word : Option ℤ) : Type
 abbrev pub FileAt : Value → Option ℤ → Type 0
 FileAt Undefined word = word ≡ Some undefined
 FileAt (meaning.Word w) word = ⊥
+FileAt (meaning.Components of) word = ⊥
 
 -- The words from an offset on hold the value, and it is one of the type. Words that the value leaves free may be any.
 -- Where a value is a pointer, the injection says which segment its word is the number of.
@@ -102,20 +142,22 @@ IsRepresentedWhere false injection segments types segment allocation = Represent
 abbrev pub IsRepresented : Injection → Segments → TypeTable → ℕ → Allocation → Type 0
 IsRepresented injection segments types segment allocation = IsRepresentedWhere allocation.ended injection segments types segment allocation
 
--- a place is that of the whole allocation of this number
-pub record IsPlaceOf (injection : Injection) (segments : Segments) (n : ℕ) (place : Place) : Type 0 where
-  pub is_in : IsIn injection n place.segment
-  pub within : suc place.segment ≤ length segments
-  pub offset : place.offset ≡ 0
-  pub typed : (x : Segment) → slice_get segments place.segment ≡ Some (Some x)
-      → place.type_number ≡ x.type_number
+-- A place is that of a variable: it is in the segment of the variable's allocation, where the path leads in that
+-- allocation's type, and its type describes that of the variable. What the segment has does not matter, nor whether it has ended.
+pub record IsSpot (injection : Injection) (types : TypeTable) (variable : Component) (place : Place) : Type 0 where
+  pub is_in : IsIn injection variable.allocation place.segment
+  pub root : TypeValue
+  pub is_of : IsOf injection variable.allocation root
+  pub type_value : TypeValue
+  pub leads : part_along (Some (all_of root)) variable.path ≡ Some (record { offset = place.offset; type_value = type_value })
+  pub described : Describes types place.type_number type_value
 
 -- a slot holds the place of a variable once it is made, and none before
-abbrev pub MatchesSlot : Injection → Segments → Option ℕ → Option Place → Type 0
-MatchesSlot injection segments None None = ⊤
-MatchesSlot injection segments None (Some place) = ⊥
-MatchesSlot injection segments (Some n) None = ⊥
-MatchesSlot injection segments (Some n) (Some place) = IsPlaceOf injection segments n place
+abbrev pub MatchesSlot : Injection → TypeTable → Option Component → Option Place → Type 0
+MatchesSlot injection types None None = ⊤
+MatchesSlot injection types None (Some place) = ⊥
+MatchesSlot injection types (Some variable) None = ⊥
+MatchesSlot injection types (Some variable) (Some place) = IsSpot injection types variable place
 
 -- a slot of a frame, where both are there
 abbrev pub slot_of_frame : Option (List (Option Place)) → ℕ → Option (Option Place)
@@ -142,7 +184,7 @@ HasOwnType declared v t = IsInstance declared.routine_types (denoter_of v.denote
 abbrev pub hidden_from : Injection → ℕ → Segments → ℕ
 hidden_from injection k [] = 0
 hidden_from injection k (None ∷ segments) = hidden_from injection (suc k) segments
-hidden_from injection k (Some x ∷ segments) = (if list_any (λ j. j == k) injection then 0 else length x.words + 1) + hidden_from injection (suc k) segments
+hidden_from injection k (Some x ∷ segments) = (if list_any (is_at k) injection then 0 else length x.words + 1) + hidden_from injection (suc k) segments
 
 -- the words of all hidden segments, with one more for each
 abbrev pub hidden_words : Injection → Segments → ℕ
@@ -150,12 +192,13 @@ hidden_words injection segments = hidden_from injection 0 segments
 
 -- ---- matching, in groups: each is over what it reads, so that it goes on holding where nothing of that changes
 
--- each allocation that was made is in a segment of its own
+-- each allocation that was made is in a segment of its own, and has the type that is told with it
 pub record MatchesInjection (injection : Injection) (allocations : List Allocation)
     (segments : Segments) : Type 0 where
   pub made : length injection ≡ length allocations
   pub apart : (m n segment : ℕ) → IsIn injection m segment → IsIn injection n segment → m ≡ n
   pub within : (n segment : ℕ) → IsIn injection n segment → suc segment ≤ length segments
+  pub typed : (n : ℕ) (t : TypeValue) → IsOf injection n t → meaning.type_in (meaning.allocation_at allocations n) ≡ Some t
 
 -- the store: the segment of an allocation represents it, or both have ended
 pub record MatchesStore (injection : Injection) (allocations : List Allocation) (segments : Segments)
@@ -174,27 +217,31 @@ pub record MatchesTypes (elaborated : List TypeValue) (types : TypeTable) : Type
 
 -- The frame of a unit has the places of the variables that are declared, with types that describe those of the
 -- declarations; its other slots match nothing.
-pub record MatchesFrame (declared : Declarations) (injection : Injection) (variables : List ℕ → ℕ → Option ℕ)
-    (units : List (List (Option Place))) (segments : Segments) (types : TypeTable) (unit : ℕ)
-    (u : ImageUnit) : Type 0 where
+pub record MatchesFrame (declared : Declarations) (injection : Injection) (variables : List ℕ → ℕ → Option Component)
+    (units : List (List (Option Place))) (types : TypeTable) (unit : ℕ) (u : ImageUnit) : Type 0 where
   pub slots : List (Option Place)
   pub is : slice_get units unit ≡ Some slots
   pub count : length slots ≡ u.slots
   pub matches : (k : ℕ) (v : UnitVariable) (slot : Option Place) → declared.variables u.name k ≡ Some v
-      → slice_get slots k ≡ Some slot → MatchesSlot injection segments (variables u.name k) slot
+      → slice_get slots k ≡ Some slot → MatchesSlot injection types (variables u.name k) slot
   pub described : (k : ℕ) (v : UnitVariable) (place : Place) (t : TypeValue)
       → declared.variables u.name k ≡ Some v → slice_get slots k ≡ Some (Some place)
       → HasType declared u.name v t → Describes types place.type_number t
 
--- the slots of units: the frame of each unit matches, and an allocation of a variable has the type of its declaration
+-- the variable has a type of which this holds
+pub record IsOfType (allocations : List Allocation) (variable : Component) (Holds : TypeValue → Type 0) : Type 0 where
+  pub type_value : TypeValue
+  pub is : meaning.type_along (meaning.type_in (meaning.allocation_at allocations variable.allocation)) variable.path ≡ Some type_value
+  pub holds : Holds type_value
+
+-- the slots of units: the frame of each unit matches, and a variable has the type of its declaration
 pub record MatchesUnits (declared : Declarations) (G : Image) (injection : Injection)
-    (allocations : List Allocation) (variables : List ℕ → ℕ → Option ℕ) (units : List (List (Option Place)))
-    (segments : Segments) (types : TypeTable) : Type 0 where
+    (allocations : List Allocation) (variables : List ℕ → ℕ → Option Component) (units : List (List (Option Place)))
+    (types : TypeTable) : Type 0 where
   pub frames : (unit : ℕ) (u : ImageUnit) → slice_get G.units unit ≡ Some u
-      → MatchesFrame declared injection variables units segments types unit u
-  pub typed : (unit : List ℕ) (k n : ℕ) (v : UnitVariable) → variables unit k ≡ Some n
-      → declared.variables unit k ≡ Some v
-      → HasType declared unit v (meaning.type_in (meaning.allocation_at allocations n))
+      → MatchesFrame declared injection variables units types unit u
+  pub typed : (unit : List ℕ) (k : ℕ) (c : Component) (v : UnitVariable) → variables unit k ≡ Some c
+      → declared.variables unit k ≡ Some v → IsOfType allocations c (HasType declared unit v)
 
 -- the outside: `output` is the second allocation and the second segment, and lives
 pub record MatchesOutside (injection : Injection) (allocations : List Allocation) : Type 0 where
@@ -215,7 +262,7 @@ pub record Matches (declared : Declarations) (G : Image) (injection : Injection)
   pub injected : MatchesInjection injection s.allocations memory.segments
   pub store : MatchesStore injection s.allocations memory.segments memory.types
   pub types : MatchesTypes s.resources.types memory.types
-  pub units : MatchesUnits declared G injection s.allocations s.variables memory.frames.units memory.segments memory.types
+  pub units : MatchesUnits declared G injection s.allocations s.variables memory.frames.units memory.types
   pub outside : MatchesOutside injection s.allocations
   pub counts : MatchesCounts injection s.resources memory.segments memory.types memory.live
   -- no more calls are under way than the meaning has under way

@@ -11,7 +11,7 @@ use Rattle.ep_typed.specs.declared.unit.UnitType.{UnitType}
 use Rattle.ep_typed.specs.declared.value.TypeValue.{TypeValue}
 use Rattle.ep_object.specs.Follows.{end_of, Operands, point, state_at, operand_of, Fragment, Since, Lands, Inside, GivesUp}
 use Rattle.ep_object.specs.Activations.{IsCallable}
-use Rattle.ep_object.specs.Matching.{Memory, Injection, Matches, IsPlaceOf, Describes, kept_slots}
+use Rattle.ep_object.specs.Matching.{Memory, Injection, Matches, IsSpot, Describes, kept_slots}
 use Rattle.ep_object.specs.Operands.{Operand, Place}
 use Rattle.ep_object.specs.Runs.{run, unit_in}
 use Rattle.ep_object.specs.Simulates.{KeepPace, StaysIn, EndsAfter, StaysAfter}
@@ -63,7 +63,7 @@ IsArgument injection memory (ByValue k) (Value r) o = IsOfKind k r × (o ≡ ope
 IsArgument injection memory (ByValue k) (Variable n) o = ⊥
 IsArgument injection memory (ByReference t) (Value r) o = ⊥
 IsArgument injection memory (ByReference t) (Variable n) o =
-    (p : PlaceOf) × (o ≡ Place p) × IsPlaceOf injection memory.segments n p × Describes memory.types p.type_number t
+    (p : PlaceOf) × (o ≡ Place p) × IsSpot injection memory.types n p × Describes memory.types p.type_number t
 
 -- the operands are those of the arguments, one for each formal and the first lowest, on the ones below
 abbrev pub AreArguments : Injection → Memory → List Passing → List Argument → List Operand → List Operand

@@ -10,7 +10,7 @@ use Rattle.ep_typed.specs.Printing as result
 use Rattle.ep_typed.specs.Calls.{Argument, Value, Handler, entered, given_back, in_call}
 use Rattle.ep_typed.specs.Calls as argument_is
 use Rattle.ep_typed.specs.Steady.{Grows, Steady, IsSteadyHandler}
-use Rattle.ep_typed.specs.Steps.{Call, End, Normal, Halted, Error, Word, Undefined, State, Outcome, Gives, Ends, Cut, state_of, Computation, give, cut, stop, go_on, bind, spend, change, found, fetch, assigned, type_at, is_within, size_of, with_type, counted, made, made_own, allocate, allocate_own, newest_assigned, with_own_bound, standard_file, first_state, using, has_ended, own_variable, word_at}
+use Rattle.ep_typed.specs.Steps.{Call, End, Normal, Halted, Error, Word, Undefined, State, Outcome, Gives, Ends, Cut, state_of, Computation, give, cut, stop, go_on, bind, spend, change, found, fetch, assigned, type_at, is_within, is_among, Component, whole, size_of, with_type, counted, made, made_own, allocate, allocate_own, newest_assigned, with_own_bound, standard_file, first_state, using, has_ended, own_variable, word_at}
 use Rattle.ep_typed.specs.Trees.{Callee, Place, Variable, Own, Standard, Expr, Constant, Text, Read, One, Two, Short, Step, Function, Actual, Evaluated, Accessed, Actuals, no_actual, next_actual, Item, Plain, Wide, Stmt, Stmts, Empty, Compound, Assign, If, While, Repeat, Control, For, Procedure, Halt, Write, none, next, Case, Arms, no_arm, next_arm, Other, no_other, otherwise_do}
 use Rattle.ep_typed.specs.Routines.{made_variables, unit_variables}
 use Rattle.ep_typed.specs.Viewed.{denoter_of, stmt_of}
@@ -147,11 +147,11 @@ module _ (call other : Handler) (lasts : IsLastingHandler call other) (g j : ℕ
   lasting_place : (line : ℕ) (p : Place) → Lasting (place call g unit line p) (place other (g + j) unit line p)
   lasting_place line (Variable u k) = lasting_bind (lasting_fetch _ _) (λ n. lasting_spend 1 (lasting_give n))
   lasting_place line (Own levels k) = lasting_bind (lasting_fetch _ _) (λ n. lasting_spend 1 (lasting_give n))
-  lasting_place line (Standard file) = lasting_spend 1 (lasting_give (standard_file file))
+  lasting_place line (Standard file) = lasting_spend 1 (lasting_give (whole (standard_file file)))
 
   -- the value of an allocation
-  lasting_read : (line n : ℕ) → Lasting (read call g unit line n) (read other (g + j) unit line n)
-  lasting_read line n = lasting_using _ n (lasting_bind (lasting_fetch _ _) (λ w. lasting_spend 1 (lasting_give (result.Number w))))
+  lasting_read : (line : ℕ) (v : Component) → Lasting (read call g unit line v) (read other (g + j) unit line v)
+  lasting_read line v = lasting_using _ v.allocation (lasting_bind (lasting_fetch _ _) (λ w. lasting_spend 1 (lasting_give (result.Number w))))
 
   -- what a function gives
   lasting_one_result : (rs : List Result) → Lasting (one_result call g unit rs) (one_result other (g + j) unit rs)
@@ -207,28 +207,28 @@ module _ (call other : Handler) (lasts : IsLastingHandler call other) (g j : ℕ
   lasting_write_items line (i ∷ is) ends_line = lasting_bind (lasting_write_item line i) (λ _. lasting_write_items line is ends_line)
 
   -- a value that is assigned
-  lasting_assigned : (n : ℕ) (z : ℤ) → Lasting (spend 1 (change (assigned n (Word z)))) (spend 1 (change (assigned n (Word z))))
-  lasting_assigned n z = lasting_spend 1 (lasting_change (λ s. grows_quiet s (assigned n (Word z) s) refl refl))
+  lasting_assigned : (v : Component) (z : ℤ) → Lasting (spend 1 (change (assigned v (Word z)))) (spend 1 (change (assigned v (Word z))))
+  lasting_assigned v z = lasting_spend 1 (lasting_change (λ s. grows_quiet s (assigned v (Word z) s) refl refl))
 
   -- an assignment to a variable that lives
-  lasting_assign_living : (line n : ℕ) (z : ℤ) → Lasting (assign_living call g unit line n z) (assign_living other (g + j) unit line n z)
-  lasting_assign_living line n z = record { steady = steady_assign_living other lasts.steady (g + j) unit line n z; by = λ m k s. go m k s (is_within (type_at n s) z) }
+  lasting_assign_living : (line : ℕ) (v : Component) (z : ℤ) → Lasting (assign_living call g unit line v z) (assign_living other (g + j) unit line v z)
+  lasting_assign_living line v z = record { steady = steady_assign_living other lasts.steady (g + j) unit line v z; by = λ m k s. go m k s (is_among (type_at v s) z) }
     where
-      go : (m k : ℕ) (s : State) (b : Bool) → IsLonger k ((if b then spend 1 (change (assigned n (Word z))) else stop (Error run_error.OUTSIDE_TYPE unit line)) m s) ((if b then spend 1 (change (assigned n (Word z))) else stop (Error run_error.OUTSIDE_TYPE unit line)) (m + k) s)
+      go : (m k : ℕ) (s : State) (b : Bool) → IsLonger k ((if b then spend 1 (change (assigned v (Word z))) else stop (Error run_error.OUTSIDE_TYPE unit line)) m s) ((if b then spend 1 (change (assigned v (Word z))) else stop (Error run_error.OUTSIDE_TYPE unit line)) (m + k) s)
       go m k s true =
-          let x = lasting_assigned n z in x.by m k s
+          let x = lasting_assigned v z in x.by m k s
       go m k s false = refl
 
   -- an assignment
-  lasting_assign : (line n : ℕ) (z : ℤ) → Lasting (assign call g unit line n z) (assign other (g + j) unit line n z)
-  lasting_assign line n z = lasting_using _ n (lasting_assign_living line n z)
+  lasting_assign : (line : ℕ) (v : Component) (z : ℤ) → Lasting (assign call g unit line v z) (assign other (g + j) unit line v z)
+  lasting_assign line v z = lasting_using _ v.allocation (lasting_assign_living line v z)
 
   lasting_assigns : (line : ℕ) (p : Place) (x : Expr) → Lasting (assigns call g unit line p x) (assigns other (g + j) unit line p x)
-  lasting_assigns line p x = lasting_bind (lasting_place line p) (λ n. lasting_bind (lasting_eval line x) (λ r. lasting_assign line n (number_of r)))
+  lasting_assigns line p x = lasting_bind (lasting_place line p) (λ v. lasting_bind (lasting_eval line x) (λ r. lasting_assign line v (number_of r)))
 
   -- a variable that becomes undefined
   lasting_undefines : (line : ℕ) (p : Place) → Lasting (undefines call g unit line p) (undefines other (g + j) unit line p)
-  lasting_undefines line p = lasting_bind (lasting_place line p) (λ n. lasting_using _ n (lasting_spend 1 (lasting_change (λ s. grows_quiet s (assigned n Undefined s) refl refl))))
+  lasting_undefines line p = lasting_bind (lasting_place line p) (λ v. lasting_using _ v.allocation (lasting_spend 1 (lasting_change (λ s. grows_quiet s (assigned v Undefined s) refl refl))))
 
   -- the turns of a `for`, of which there may be more
   lasting_turns_to : (turns line : ℕ) (c : Control) (last : ℤ) {body body2 : Computation (Unit {0})} → Lasting body body2 → Lasting (turns_to call g unit turns line c last body) (turns_to other (g + j) unit (turns + j) line c last body2)
@@ -341,8 +341,8 @@ module _ (call other : Handler) (lasts : IsLastingHandler call other) (g j : ℕ
   lasting_takes_value line number f z =
       lasting_bind (lasting_elaborated call other lasts g j unit (type_of types (denoter_of f.denoter))) (λ t. lasting_bind (lasting_allocate_own call other lasts g j unit number t) (λ _. lasting_initialized unit line t z))
 
-  lasting_takes_variable : (number n : ℕ) → Lasting (spend 1 (change (with_own_bound number n))) (spend 1 (change (with_own_bound number n)))
-  lasting_takes_variable number n = lasting_spend 1 (lasting_change (λ s. grows_quiet s (with_own_bound number n s) refl refl))
+  lasting_takes_variable : (number : ℕ) (v : Component) → Lasting (spend 1 (change (with_own_bound number v))) (spend 1 (change (with_own_bound number v)))
+  lasting_takes_variable number v = lasting_spend 1 (lasting_change (λ s. grows_quiet s (with_own_bound number v s) refl refl))
 
   lasting_takes_by : (m : FormalMode) (line number : ℕ) (f : Formal) (x : Argument) → Lasting (takes_by call g unit types m line number f x) (takes_by other (g + j) unit types m line number f x)
   lasting_takes_by mode.Value line number f (Value r) = lasting_takes_value line number f (number_of r)
@@ -364,8 +364,8 @@ module _ (call other : Handler) (lasts : IsLastingHandler call other) (g j : ℕ
 lasting_results_given : (unit : List ℕ) (line number : ℕ) (r : Option RoutineResult) → Lasting (results_given unit line number r) (results_given unit line number r)
 lasting_results_given unit line number None = lasting_give []
 lasting_results_given unit line number (Some r) =
-    lasting_bind (lasting_fetch (Error run_error.UNDEFINED_VALUE unit line) (own_variable 0 number)) (λ n.
-    lasting_using (Error run_error.DISPOSED unit line) n (lasting_bind (lasting_fetch (Error run_error.RESULT_UNDEFINED unit line) (word_at n)) (λ w. lasting_give (result.Number w ∷ []))))
+    lasting_bind (lasting_fetch (Error run_error.UNDEFINED_VALUE unit line) (own_variable 0 number)) (λ v.
+    lasting_using (Error run_error.DISPOSED unit line) v.allocation (lasting_bind (lasting_fetch (Error run_error.RESULT_UNDEFINED unit line) (word_at v)) (λ w. lasting_give (result.Number w ∷ []))))
 
 -- a routine
 lasting_runs_routine : (call other : Handler) → IsLastingHandler call other → (g j : ℕ) (unit : List ℕ) (f : Found) (xs : List Argument) → Lasting (runs_routine call g unit f xs) (runs_routine other (g + j) unit f xs)

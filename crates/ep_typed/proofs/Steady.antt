@@ -13,7 +13,7 @@ use Rattle.ep_typed.specs.Printing as result
 use Rattle.ep_typed.specs.Calls.{Argument, Value, Handler, entered, given_back, in_call}
 use Rattle.ep_typed.specs.Calls as argument_is
 use Rattle.ep_typed.specs.Steady.{Grows, Steady, IsSteadyHandler}
-use Rattle.ep_typed.specs.Steps.{Call, End, Normal, Halted, Error, Word, Undefined, State, Outcome, Gives, Ends, Cut, state_of, Computation, give, cut, stop, go_on, bind, spend, change, found, fetch, with_events, assigned, type_at, is_within, size_of, same_type, Resources, watched, words_of_type, met, with_type, counted, made, made_own, allocate, allocate_own, newest_assigned, with_own_bound, standard_file, using, has_ended, own_variable, word_at}
+use Rattle.ep_typed.specs.Steps.{Call, End, Normal, Halted, Error, Word, Undefined, State, Outcome, Gives, Ends, Cut, state_of, Computation, give, cut, stop, go_on, bind, spend, change, found, fetch, with_events, assigned, type_at, is_within, is_among, Component, whole, size_of, same_type, Resources, watched, words_of_type, met, with_type, counted, made, made_own, allocate, allocate_own, newest_assigned, with_own_bound, standard_file, using, has_ended, own_variable, word_at}
 use Rattle.ep_typed.specs.Trees.{Callee, Place, Variable, Own, Standard, Expr, Constant, Text, Read, One, Two, Short, Step, Function, Actual, Evaluated, Accessed, Actuals, no_actual, next_actual, Item, Plain, Wide, Stmt, Stmts, Empty, Compound, Assign, If, While, Repeat, Control, For, Procedure, Halt, Write, none, next, Case, Arms, no_arm, next_arm, Other, no_other, otherwise_do}
 use Rattle.ep_typed.specs.Routines.{made_variables, unit_variables}
 use Rattle.ep_typed.specs.Viewed.{denoter_of, stmt_of}
@@ -178,11 +178,11 @@ module _ (call : Handler) (steady : IsSteadyHandler call) (g : ℕ) (unit : List
   pub steady_place : (line : ℕ) (p : Place) → Steady (place call g unit line p)
   steady_place line (Variable u k) = steady_bind (steady_fetch _ _) (λ n. steady_spend 1 (steady_give n))
   steady_place line (Own levels k) = steady_bind (steady_fetch _ _) (λ n. steady_spend 1 (steady_give n))
-  steady_place line (Standard file) = steady_spend 1 (steady_give (standard_file file))
+  steady_place line (Standard file) = steady_spend 1 (steady_give (whole (standard_file file)))
 
   -- the value of an allocation
-  pub steady_read : (line n : ℕ) → Steady (read call g unit line n)
-  steady_read line n = steady_using _ n (steady_bind (steady_fetch _ _) (λ w. steady_spend 1 (steady_give (result.Number w))))
+  pub steady_read : (line : ℕ) (c : Component) → Steady (read call g unit line c)
+  steady_read line c = steady_using _ c.allocation (steady_bind (steady_fetch _ _) (λ w. steady_spend 1 (steady_give (result.Number w))))
 
   -- what a function gives
   steady_one_result : (rs : List Result) → Steady (one_result call g unit rs)
@@ -237,31 +237,31 @@ module _ (call : Handler) (steady : IsSteadyHandler call) (g : ℕ) (unit : List
   steady_write_items line (i ∷ is) ends_line = steady_bind (steady_write_item line i) (λ _. steady_write_items line is ends_line)
 
   -- a value that is assigned
-  pub steady_assigned : (n : ℕ) (z : ℤ) → Steady (spend 1 (change (assigned n (Word z))))
-  steady_assigned n z = steady_spend 1 (steady_change (λ s. grows_quiet s (assigned n (Word z) s) refl refl))
+  pub steady_assigned : (v : Component) (z : ℤ) → Steady (spend 1 (change (assigned v (Word z))))
+  steady_assigned v z = steady_spend 1 (steady_change (λ s. grows_quiet s (assigned v (Word z) s) refl refl))
 
   -- an assignment to a variable that lives
-  pub steady_assign_living : (line n : ℕ) (z : ℤ) → Steady (assign_living call g unit line n z)
-  steady_assign_living line n z = record { by = λ m s. go m s (is_within (type_at n s) z) }
+  pub steady_assign_living : (line : ℕ) (v : Component) (z : ℤ) → Steady (assign_living call g unit line v z)
+  steady_assign_living line v z = record { by = λ m s. go m s (is_among (type_at v s) z) }
     where
-      go : (m : ℕ) (s : State) (b : Bool) → Grows s (state_of ((if b then spend 1 (change (assigned n (Word z))) else stop (Error run_error.OUTSIDE_TYPE unit line)) m s))
+      go : (m : ℕ) (s : State) (b : Bool) → Grows s (state_of ((if b then spend 1 (change (assigned v (Word z))) else stop (Error run_error.OUTSIDE_TYPE unit line)) m s))
       go m s true =
-          let x = steady_assigned n z in x.by m s
+          let x = steady_assigned v z in x.by m s
       go m s false = grows_refl s
 
   -- an assignment
-  pub steady_assign : (line n : ℕ) (z : ℤ) → Steady (assign call g unit line n z)
-  steady_assign line n z = steady_using _ n (steady_assign_living line n z)
+  pub steady_assign : (line : ℕ) (v : Component) (z : ℤ) → Steady (assign call g unit line v z)
+  steady_assign line v z = steady_using _ v.allocation (steady_assign_living line v z)
 
   pub steady_assigns : (line : ℕ) (p : Place) (x : Expr) → Steady (assigns call g unit line p x)
-  steady_assigns line p x = steady_bind (steady_place line p) (λ n. steady_bind (steady_eval line x) (λ r. steady_assign line n (number_of r)))
+  steady_assigns line p x = steady_bind (steady_place line p) (λ v. steady_bind (steady_eval line x) (λ r. steady_assign line v (number_of r)))
 
   -- a variable that becomes undefined
-  pub steady_undefined : (n : ℕ) → Steady (spend 1 (change (assigned n Undefined)))
-  steady_undefined n = steady_spend 1 (steady_change (λ s. grows_quiet s (assigned n Undefined s) refl refl))
+  pub steady_undefined : (v : Component) → Steady (spend 1 (change (assigned v Undefined)))
+  steady_undefined v = steady_spend 1 (steady_change (λ s. grows_quiet s (assigned v Undefined s) refl refl))
 
   pub steady_undefines : (line : ℕ) (p : Place) → Steady (undefines call g unit line p)
-  steady_undefines line p = steady_bind (steady_place line p) (λ n. steady_using _ n (steady_undefined n))
+  steady_undefines line p = steady_bind (steady_place line p) (λ v. steady_using _ v.allocation (steady_undefined v))
 
   -- the turns of a `for`
   pub steady_turns_to : (turns line : ℕ) (c : Control) (last : ℤ) {body : Computation (Unit {0})} → Steady body → Steady (turns_to call g unit turns line c last body)
@@ -360,8 +360,8 @@ module _ (call : Handler) (steady : IsSteadyHandler call) (g : ℕ) (unit : List
   steady_takes_value line number f z =
       steady_bind (steady_elaborated call steady g unit (type_of types (denoter_of f.denoter))) (λ t. steady_bind (steady_allocate_own number t) (λ _. steady_initialized unit line t z))
 
-  steady_takes_variable : (number n : ℕ) → Steady (spend 1 (change (with_own_bound number n)))
-  steady_takes_variable number n = steady_spend 1 (steady_change (λ s. grows_quiet s (with_own_bound number n s) refl refl))
+  steady_takes_variable : (number : ℕ) (c : Component) → Steady (spend 1 (change (with_own_bound number c)))
+  steady_takes_variable number c = steady_spend 1 (steady_change (λ s. grows_quiet s (with_own_bound number c s) refl refl))
 
   pub steady_takes_by : (m : FormalMode) (line number : ℕ) (f : Formal) (x : Argument) → Steady (takes_by call g unit types m line number f x)
   steady_takes_by mode.Value line number f (Value r) = steady_takes_value line number f (number_of r)
@@ -382,8 +382,8 @@ module _ (call : Handler) (steady : IsSteadyHandler call) (g : ℕ) (unit : List
 -- the result of a function
 pub steady_result_at : (unit : List ℕ) (line number : ℕ) → Steady (result_at unit line number)
 steady_result_at unit line number =
-    steady_bind (steady_fetch (Error run_error.UNDEFINED_VALUE unit line) (own_variable 0 number)) (λ n.
-    steady_using (Error run_error.DISPOSED unit line) n (steady_bind (steady_fetch (Error run_error.RESULT_UNDEFINED unit line) (word_at n)) (λ w. steady_give (result.Number w ∷ []))))
+    steady_bind (steady_fetch (Error run_error.UNDEFINED_VALUE unit line) (own_variable 0 number)) (λ c.
+    steady_using (Error run_error.DISPOSED unit line) c.allocation (steady_bind (steady_fetch (Error run_error.RESULT_UNDEFINED unit line) (word_at c)) (λ w. steady_give (result.Number w ∷ []))))
 
 -- what a routine gives
 pub steady_results_given : (unit : List ℕ) (line number : ℕ) (r : Option RoutineResult) → Steady (results_given unit line number r)

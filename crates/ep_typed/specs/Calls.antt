@@ -1,13 +1,13 @@
 -- Calls of routines: what is handed over, what a call does, and how long it is under way.
 use Rattle.std.specs.Prelude.{ℕ, suc, ◌+◌, ◌||◌, not, nat_le, List, [], ◌∷◌, length}
 use Rattle.ep_typed.specs.Printing.{Result}
-use Rattle.ep_typed.specs.Steps.{Call, State, Resources, Outcome, Gives, Ends, Cut, Computation, watched, with_all_ended, around_by}
+use Rattle.ep_typed.specs.Steps.{Component, Call, State, Resources, Outcome, Gives, Ends, Cut, Computation, watched, with_all_ended, around_by}
 use Rattle.ep_typed.specs.Trees.{Callee}
 
--- what is handed over for a formal: a value, or a variable by the number of its allocation (ISO 10206, 6.7.3)
+-- what is handed over for a formal: a value, or a variable (ISO 10206, 6.7.3)
 pub data Argument : Type 0 where
   Value : (result : Result) → Argument
-  Variable : (allocation : ℕ) → Argument
+  Variable : (variable : Component) → Argument
 
 -- What calls do: by the unit and the line of the statement or declaration that makes the call, the routine, and the
 -- arguments. A call gives as many results as the routine has.

@@ -8,7 +8,7 @@ use Rattle.ep_typed.specs.Denoters.{type_of}
 use Rattle.ep_typed.specs.Trees.{Denoter, Callee, Place, Variable, Own, Standard, Expr, Constant, Text, Read, One, Two, Short, Step, Function, Actual, Evaluated, Accessed, Actuals, no_actual, next_actual, Item, Plain, Wide, Stmt, Stmts, Empty, Compound, Assign, If, While, Repeat, Control, For, Procedure, Halt, Write, none, next, Case, Arms, no_arm, next_arm, Other, no_other, otherwise_do}
 use Rattle.ep_typed.specs.Routines.{made_variables, unit_variables}
 use Rattle.ep_typed.specs.Viewed.{denoter_of, stmt_of}
-use Rattle.ep_typed.specs.Steps.{Call, Normal, Halted, Error, Word, Undefined, Outcome, Computation, give, cut, stop, bind, spend, change, fetch, with_events, word_at, assigned, type_at, is_within, with_type, allocate, allocate_own, own_variable, newest_assigned, with_own_bound, standard_file, first_state, using}
+use Rattle.ep_typed.specs.Steps.{Call, Normal, Halted, Error, Word, Undefined, Outcome, Computation, give, cut, stop, bind, spend, change, fetch, with_events, word_at, assigned, type_at, is_within, is_among, whole, Component, with_type, allocate, allocate_own, own_variable, newest_assigned, with_own_bound, standard_file, first_state, using}
 use Rattle.ep_typed.specs.Operations.{Answer, Number, Fault, unary_answer, binary_answer, step_answer, is_same, is_true, decides, is_in}
 use Rattle.ep_typed.specs.Printing.{Result, Bytes, number_of, line_end, plain_text, wide_text, piece_events}
 use Rattle.ep_typed.specs.Printing as result
@@ -36,15 +36,15 @@ module _ (call : Handler) (g : ℕ) (unit : List ℕ) where
   answered line (Number z) = give z
   answered line (Fault error) = stop (Error error unit line)
 
-  -- a place is an allocation; an undefined value where the variable is not made yet
-  abbrev pub place : ℕ → Place → Computation ℕ
-  place line (Variable u k) = bind (fetch (Error run_error.UNDEFINED_VALUE unit line) (λ s. s.variables u k)) (λ n. spend 1 (give n))
-  place line (Own levels k) = bind (fetch (Error run_error.UNDEFINED_VALUE unit line) (own_variable levels k)) (λ n. spend 1 (give n))
-  place line (Standard file) = spend 1 (give (standard_file file))
+  -- a place is a variable; an undefined value where that is not made yet
+  abbrev pub place : ℕ → Place → Computation Component
+  place line (Variable u k) = bind (fetch (Error run_error.UNDEFINED_VALUE unit line) (λ s. s.variables u k)) (λ c. spend 1 (give c))
+  place line (Own levels k) = bind (fetch (Error run_error.UNDEFINED_VALUE unit line) (own_variable levels k)) (λ c. spend 1 (give c))
+  place line (Standard file) = spend 1 (give (whole (standard_file file)))
 
-  -- the value of an allocation: an error where that has ended, and else where the value is undefined
-  abbrev pub read : ℕ → ℕ → Computation Result
-  read line n = using (Error run_error.DISPOSED unit line) n (bind (fetch (Error run_error.UNDEFINED_VALUE unit line) (word_at n)) (λ w. spend 1 (give (result.Number w))))
+  -- the value of a variable: an error where its allocation has ended, and else where the value is undefined
+  abbrev pub read : ℕ → Component → Computation Result
+  read line c = using (Error run_error.DISPOSED unit line) c.allocation (bind (fetch (Error run_error.UNDEFINED_VALUE unit line) (word_at c)) (λ w. spend 1 (give (result.Number w))))
 
   -- what a call of a function gives, which has one result; what is none has no meaning
   abbrev pub one_result : List Result → Computation Result
@@ -67,10 +67,10 @@ module _ (call : Handler) (g : ℕ) (unit : List ℕ) where
         bind (eval line x) (λ a. bind (eval line y) (λ b. bind (answered line (step_answer down low high (number_of a) (number_of b))) (λ z. spend 1 (give (result.Number z)))))
     eval line (Function callee given) = bind (arguments line given) (λ xs. bind (call unit line callee xs) one_result)
 
-    -- an argument: a value, or the allocation of a variable (ISO 10206, 6.7.3)
+    -- an argument: a value, or a variable (ISO 10206, 6.7.3)
     pub argument : ℕ → Actual → Computation Argument
     argument line (Evaluated x) = bind (eval line x) (λ r. give (Value r))
-    argument line (Accessed p) = bind (place line p) (λ n. give (argument_is.Variable n))
+    argument line (Accessed p) = bind (place line p) (λ c. give (argument_is.Variable c))
 
     -- arguments, from left to right
     pub arguments : ℕ → Actuals → Computation (List Argument)
@@ -97,20 +97,20 @@ module _ (call : Handler) (g : ℕ) (unit : List ℕ) where
   write_items line (i ∷ is) ends_line = bind (write_item line i) (λ _. write_items line is ends_line)
 
   -- an error where the value is outside the type of the variable
-  abbrev pub assign_living : ℕ → ℕ → ℤ → Computation (Unit {0})
-  assign_living line n z m s = (if is_within (type_at n s) z then spend 1 (change (assigned n (Word z))) else stop (Error run_error.OUTSIDE_TYPE unit line)) m s
+  abbrev pub assign_living : ℕ → Component → ℤ → Computation (Unit {0})
+  assign_living line c z m s = (if is_among (type_at c s) z then spend 1 (change (assigned c (Word z))) else stop (Error run_error.OUTSIDE_TYPE unit line)) m s
 
   -- an error where the variable has ended, and else where the value is outside its type
-  abbrev pub assign : ℕ → ℕ → ℤ → Computation (Unit {0})
-  assign line n z = using (Error run_error.DISPOSED unit line) n (assign_living line n z)
+  abbrev pub assign : ℕ → Component → ℤ → Computation (Unit {0})
+  assign line c z = using (Error run_error.DISPOSED unit line) c.allocation (assign_living line c z)
 
   -- an assignment: the place, and then the value
   abbrev pub assigns : ℕ → Place → Expr → Computation (Unit {0})
-  assigns line p x = bind (place line p) (λ n. bind (eval line x) (λ r. assign line n (number_of r)))
+  assigns line p x = bind (place line p) (λ c. bind (eval line x) (λ r. assign line c (number_of r)))
 
   -- a variable becomes undefined: an error where it has ended
   abbrev pub undefines : ℕ → Place → Computation (Unit {0})
-  undefines line p = bind (place line p) (λ n. using (Error run_error.DISPOSED unit line) n (spend 1 (change (assigned n Undefined))))
+  undefines line p = bind (place line p) (λ c. using (Error run_error.DISPOSED unit line) c.allocation (spend 1 (change (assigned c Undefined))))
 
   -- at most so many turns; a turn spends a step, and so does the statement in the end
   abbrev pub turns : ℕ → Computation Result → Computation (Unit {0}) → Computation (Unit {0})
@@ -241,8 +241,8 @@ module _ (call : Handler) (g : ℕ) (unit : List ℕ) (types : List UnitType) wh
       bind (elaborate call g unit types (denoter_of f.denoter)) (λ t. bind (allocate_own number t) (λ _. initialized unit line t (number_of r)))
   takes_by mode.ProtectedValue line number f (Value r) =
       bind (elaborate call g unit types (denoter_of f.denoter)) (λ t. bind (allocate_own number t) (λ _. initialized unit line t (number_of r)))
-  takes_by mode.Variable line number f (argument_is.Variable n) = spend 1 (change (with_own_bound number n))
-  takes_by mode.ProtectedVariable line number f (argument_is.Variable n) = spend 1 (change (with_own_bound number n))
+  takes_by mode.Variable line number f (argument_is.Variable c) = spend 1 (change (with_own_bound number c))
+  takes_by mode.ProtectedVariable line number f (argument_is.Variable c) = spend 1 (change (with_own_bound number c))
   takes_by mode line number f x = cut
 
   -- the formal parameters take their arguments in order, as the variables of the routine from this number on
@@ -256,8 +256,8 @@ module _ (call : Handler) (g : ℕ) (unit : List ℕ) (types : List UnitType) wh
 -- the result of a function that was never given (ISO 10206, 6.7.2).
 abbrev pub result_at : List ℕ → ℕ → ℕ → Computation (List Result)
 result_at unit line number =
-    bind (fetch (Error run_error.UNDEFINED_VALUE unit line) (own_variable 0 number)) (λ n.
-    using (Error run_error.DISPOSED unit line) n (bind (fetch (Error run_error.RESULT_UNDEFINED unit line) (word_at n)) (λ w. give (result.Number w ∷ []))))
+    bind (fetch (Error run_error.UNDEFINED_VALUE unit line) (own_variable 0 number)) (λ c.
+    using (Error run_error.DISPOSED unit line) c.allocation (bind (fetch (Error run_error.RESULT_UNDEFINED unit line) (word_at c)) (λ w. give (result.Number w ∷ []))))
 
 -- what a routine gives when it is done: a function the value of the variable of this number, and a procedure nothing
 abbrev pub results_given : List ℕ → ℕ → ℕ → Option RoutineResult → Computation (List Result)

@@ -16,10 +16,21 @@ pub data End : Type 0 where
   Halted : End
   Error : (number : ℕ) (unit : List ℕ) (line : ℕ) → End
 
--- a value, which is undefined as a whole or the ordinal number of a simple value
+-- A value, which is undefined as a whole, the ordinal number of a simple value, or the values of components by their
+-- numbers. What is behind the last component does not count.
 pub data Value : Type 0 where
   Undefined : Value
   Word : (number : ℤ) → Value
+  Components : (of : ℕ → Value) → Value
+
+-- a variable (ISO 10206, 6.5.1): the component of an allocation to which a path of numbers leads, and all of the allocation
+-- where the path is empty
+pub record Component : Type 0 where
+  pub allocation : ℕ
+  pub path : List ℕ
+
+abbrev pub whole : ℕ → Component
+whole n = record { allocation = n; path = [] }
 
 -- an allocation: a variable that a declaration makes, or a standard file. They are numbered from 1 in the order of
 -- their making, and `input` and `output` are the first two. One that has ended keeps its number.
@@ -42,9 +53,9 @@ pub record Resources : Type 0 where
 abbrev pub held : Resources → ℕ
 held r = r.allocated + r.reserved
 
--- the variables of an activation (ISO 10206, 6.2.3.2): the allocation of each variable of the routine, once it is made
+-- the variables of an activation (ISO 10206, 6.2.3.2): what each variable of the routine is, once it is made
 abbrev pub Variables : Type 0
-Variables = ℕ → Option ℕ
+Variables = ℕ → Option Component
 
 -- A call under way: the name of its routine, and the unit and the line of the statement or declaration that made it; and
 -- its activation: its variables, those of the activations around it, in which its routine and the ones around that are
@@ -61,8 +72,8 @@ pub record Call : Type 0 where
 -- the state of a run
 pub record State : Type 0 where
   pub allocations : List Allocation
-  -- the allocation of each variable of each unit, by the unit's name, once it is made
-  pub variables : List ℕ → ℕ → Option ℕ
+  -- what each variable of each unit is, by the unit's name, once it is made
+  pub variables : List ℕ → ℕ → Option Component
   -- the calls under way, the innermost first
   pub calls : List Call
   pub resources : Resources
@@ -143,42 +154,87 @@ has_ended n s = ended_in (allocation_at s.allocations n)
 abbrev pub using : {A : Type 0} → End → ℕ → Computation A → Computation A
 using e n c m s = (if has_ended n s then stop e else c) m s
 
+-- the value of a component; each one of an undefined value is undefined
+abbrev pub component_of : Value → ℕ → Value
+component_of (Components of) k = of k
+component_of Undefined k = Undefined
+component_of (Word w) k = Undefined
+
+-- these values by number, with another one for this number
+abbrev pub values_with : (ℕ → Value) → ℕ → Value → ℕ → Value
+values_with of zero value zero = value
+values_with of zero value (suc i) = of (suc i)
+values_with of (suc k) value zero = of zero
+values_with of (suc k) value (suc i) = values_with (λ j. of (suc j)) k value i
+
+-- the value with another one for a component
+abbrev pub with_component : Value → ℕ → Value → Value
+with_component v k value = Components (values_with (component_of v) k value)
+
+-- the value at a path
+abbrev pub value_along : Value → List ℕ → Value
+value_along v [] = v
+value_along v (k ∷ path) = value_along (component_of v k) path
+
+-- the value with another one at a path
+abbrev pub value_with : Value → List ℕ → Value → Value
+value_with v [] value = value
+value_with v (k ∷ path) value = with_component v k (value_with (component_of v k) path value)
+
 abbrev pub word_of : Value → Option ℤ
 word_of Undefined = None
 word_of (Word w) = Some w
+word_of (Components of) = None
 
-abbrev pub word_in : Option Allocation → Option ℤ
-word_in None = None
-word_in (Some a) = word_of a.value
+abbrev pub word_in : Option Allocation → List ℕ → Option ℤ
+word_in None path = None
+word_in (Some a) path = word_of (value_along a.value path)
 
--- the word that an allocation has, where it is defined
-abbrev pub word_at : ℕ → State → Option ℤ
-word_at n s = word_in (allocation_at s.allocations n)
+-- the word that a variable has, where it is defined
+abbrev pub word_at : Component → State → Option ℤ
+word_at c s = word_in (allocation_at s.allocations c.allocation) c.path
 
-abbrev pub changed_at : ℕ → Value → List Allocation → Option Allocation → List Allocation
-changed_at n value allocations None = allocations
-changed_at n value allocations (Some a) = slice_set allocations n (record a { value = value })
+abbrev pub changed_at : ℕ → List ℕ → Value → List Allocation → Option Allocation → List Allocation
+changed_at n path value allocations None = allocations
+changed_at n path value allocations (Some a) = slice_set allocations n (record a { value = value_with a.value path value })
 
-abbrev pub assigned_at : ℕ → Value → List Allocation → List Allocation
-assigned_at zero value allocations = allocations
-assigned_at (suc n) value allocations = changed_at n value allocations (slice_get allocations n)
+abbrev pub assigned_at : ℕ → List ℕ → Value → List Allocation → List Allocation
+assigned_at zero path value allocations = allocations
+assigned_at (suc n) path value allocations = changed_at n path value allocations (slice_get allocations n)
 
--- the allocation of this number has the value
-abbrev pub assigned : ℕ → Value → State → State
-assigned n value s = record s { allocations = assigned_at n value s.allocations }
+-- the variable has the value
+abbrev pub assigned : Component → Value → State → State
+assigned c value s = record s { allocations = assigned_at c.allocation c.path value s.allocations }
 
--- the type of the allocation of this number
-abbrev pub type_in : Option Allocation → TypeValue
-type_in None = Text
-type_in (Some a) = a.type_value
+-- the type of a component of this number, where the type has one
+abbrev pub component_type : TypeValue → ℕ → Option TypeValue
+component_type (Ordinal low high) k = None
+component_type Text k = None
 
-abbrev pub type_at : ℕ → State → TypeValue
-type_at n s = type_in (allocation_at s.allocations n)
+-- the type at a path
+abbrev pub type_along : Option TypeValue → List ℕ → Option TypeValue
+type_along t [] = t
+type_along None (k ∷ path) = None
+type_along (Some t) (k ∷ path) = type_along (component_type t k) path
+
+-- the type of an allocation
+abbrev pub type_in : Option Allocation → Option TypeValue
+type_in None = None
+type_in (Some a) = Some a.type_value
+
+-- the type of a variable
+abbrev pub type_at : Component → State → Option TypeValue
+type_at c s = type_along (type_in (allocation_at s.allocations c.allocation)) c.path
 
 -- whether a word is a value of a type
 abbrev pub is_within : TypeValue → ℤ → Bool
 is_within (Ordinal low high) w = int_le low w && int_le w high
 is_within Text w = false
+
+-- what has no type has no values
+abbrev pub is_among : Option TypeValue → ℤ → Bool
+is_among None w = false
+is_among (Some t) w = is_within t w
 
 -- the words of a variable of a type
 abbrev pub size_of : TypeValue → ℕ
@@ -225,9 +281,9 @@ with_type t s = record s { resources = met t s.resources }
 abbrev pub taken : ℕ → Resources → Resources
 taken n r = watched (record r { allocated = r.allocated + n })
 
--- the variable of this number of the unit is the allocation
-abbrev pub bound : List ℕ → ℕ → ℕ → (List ℕ → ℕ → Option ℕ) → List ℕ → ℕ → Option ℕ
-bound unit number n variables u k = if bytes_eq unit u && (nat_le number k && nat_le k number) then Some n else variables u k
+-- the variable of this number of the unit is this one
+abbrev pub bound : List ℕ → ℕ → Component → (List ℕ → ℕ → Option Component) → List ℕ → ℕ → Option Component
+bound unit number c variables u k = if bytes_eq unit u && (nat_le number k && nat_le k number) then Some c else variables u k
 
 -- the words of a variable of a type, and one more, are counted
 abbrev pub counted : TypeValue → State → State
@@ -238,7 +294,7 @@ abbrev pub made : List ℕ → ℕ → TypeValue → State → State
 made unit number t s =
     record s {
       allocations = s.allocations ++ record { type_value = t; value = Undefined; ended = false } ∷ [];
-      variables = bound unit number (suc (length s.allocations)) s.variables;
+      variables = bound unit number (whole (suc (length s.allocations))) s.variables;
     }
 
 -- the variables of the activation that runs and of those around it, the innermost first
@@ -246,15 +302,15 @@ abbrev pub named_in : List Call → List Variables
 named_in [] = []
 named_in (c ∷ calls) = c.variables ∷ c.around
 
-abbrev pub variable_in : Option Variables → ℕ → Option ℕ
+abbrev pub variable_in : Option Variables → ℕ → Option Component
 variable_in None k = None
 variable_in (Some variables) k = variables k
 
--- the allocation of a variable of the routine so many levels up from the one that runs
-abbrev pub own_in : List Call → ℕ → ℕ → Option ℕ
+-- what a variable is of the routine so many levels up from the one that runs
+abbrev pub own_in : List Call → ℕ → ℕ → Option Component
 own_in calls levels k = variable_in (slice_get (named_in calls) levels) k
 
-abbrev pub own_variable : ℕ → ℕ → State → Option ℕ
+abbrev pub own_variable : ℕ → ℕ → State → Option Component
 own_variable levels k s = own_in s.calls levels k
 
 -- The variables that an activation has around it: none where its routine is one of the unit, and else those of the
@@ -263,14 +319,14 @@ abbrev pub around_by : ℕ → List Call → List Variables
 around_by zero calls = []
 around_by (suc up) calls = drop up (named_in calls)
 
--- the variable of this number of a routine is the allocation
-abbrev pub bound_own : ℕ → ℕ → (ℕ → Option ℕ) → ℕ → Option ℕ
-bound_own number n variables k = if nat_le number k && nat_le k number then Some n else variables k
+-- the variable of this number of a routine is this one
+abbrev pub bound_own : ℕ → Component → Variables → Variables
+bound_own number c variables k = if nat_le number k && nat_le k number then Some c else variables k
 
 -- it was made in the innermost call
 abbrev pub with_own : ℕ → ℕ → List Call → List Call
 with_own number n [] = []
-with_own number n (c ∷ calls) = record c { variables = bound_own number n c.variables; made = c.made ++ n ∷ [] } ∷ calls
+with_own number n (c ∷ calls) = record c { variables = bound_own number (whole n) c.variables; made = c.made ++ n ∷ [] } ∷ calls
 
 -- a new variable of the routine that runs, undefined, once its words are counted
 abbrev pub made_own : ℕ → TypeValue → State → State
@@ -282,15 +338,15 @@ made_own number t s =
 
 -- the newest allocation has the value
 abbrev pub newest_assigned : Value → State → State
-newest_assigned value s = assigned (length s.allocations) value s
+newest_assigned value s = assigned (whole (length s.allocations)) value s
 
--- a variable of the routine that runs is an allocation that there is
-abbrev pub own_bound_in : ℕ → ℕ → List Call → List Call
-own_bound_in number n [] = []
-own_bound_in number n (c ∷ calls) = record c { variables = bound_own number n c.variables } ∷ calls
+-- a variable of the routine that runs is one that there is
+abbrev pub own_bound_in : ℕ → Component → List Call → List Call
+own_bound_in number bound [] = []
+own_bound_in number bound (c ∷ calls) = record c { variables = bound_own number bound c.variables } ∷ calls
 
-abbrev pub with_own_bound : ℕ → ℕ → State → State
-with_own_bound number n s = record s { calls = own_bound_in number n s.calls }
+abbrev pub with_own_bound : ℕ → Component → State → State
+with_own_bound number bound s = record s { calls = own_bound_in number bound s.calls }
 
 -- A variable is made: its words are counted, and then it is there, which spends its size. So room is lost before the steps that it is wanted for.
 abbrev pub allocate : List ℕ → ℕ → TypeValue → Computation (Unit {0})

@@ -1,7 +1,7 @@
 -- How the machine follows computations from place to place of the code.
 use Rattle.std.proofs.Common.{◌≡◌, ℕ, ℤ, suc, ◌+◌, ◌*◌, ◌≤◌, IsTrue, List, ◌∷◌, refl, sym, subst, arith}
 use Rattle.ep_object.specs.Follows.{end_of, Point, point, state_at, Facts, After, Lands, Fragment, Operands, Bare, OnTop, PlaceOnTop, StillRuns, SameRoutine, Inside}
-use Rattle.ep_object.specs.Matching.{Memory, at, Injection, Matches, Slots, Grown, IsPlaceOf, Describes}
+use Rattle.ep_object.specs.Matching.{Memory, at, Injection, Matches, Slots, Grown, IsSpot, Describes}
 use Rattle.ep_object.specs.Operands.{Operand, Word, Place, Text}
 use Rattle.ep_object.specs.Runs.{outcome}
 use Rattle.ep_object.specs.State.{State, Running, Stopped, Error}
@@ -12,7 +12,7 @@ use Rattle.ep_object.proofs.matching.Growing.{inside_later, not_left-here, not_l
 use Rattle.ep_typed.specs.Printing.{Result}
 use Rattle.ep_typed.specs.Printing as result
 use Rattle.ep_typed.specs.Steady.{Steady}
-use Rattle.ep_typed.specs.Steps.{Gives, Ends, Cut, Computation, state_of, give, cut, stop, go_on, bind, spend, change, found, fetch}
+use Rattle.ep_typed.specs.Steps.{Component, Gives, Ends, Cut, Computation, state_of, give, cut, stop, go_on, bind, spend, change, found, fetch}
 use Rattle.ep_typed.specs.Steps as meaning
 use Rattle.ep_typed.specs.Valid as kind
 use Rattle.ep_typed.specs.Valid.{Declarations, Kind}
@@ -124,13 +124,13 @@ module _ {untouched : Slots} {B : Type 0} {declared : Declarations} {G : Image} 
       inside_bind steady first (λ a longer after pushed grown routine is. subst (λ x. Fragment declared G Here n (point longer after middle x) (f a) to (λ b. Inside untouched longer after (Then b)) (e a) g) (sym is) (second a longer after grown routine))
 
   -- after a place
-  pub fragment_bind_place : {type : TypeValue} {below : List Operand} {c : Computation ℕ} {f : ℕ → Computation B} {e : ℕ → ℕ}
-      → ((a : ℕ) → Steady (f a))
+  pub fragment_bind_place : {type : TypeValue} {below : List Operand} {c : Computation Component} {f : Component → Computation B} {e : Component → ℕ}
+      → ((a : Component) → Steady (f a))
       → Fragment declared G Here n from c middle (λ a. Inside untouched from.injection from.memory (PlaceOnTop type below a)) d e
-      → ((a : ℕ) (p : PlaceOf) (longer : Injection) (after : Memory) → Grown untouched from.injection from.memory longer after → SameRoutine untouched from.memory.frames after.frames → IsPlaceOf longer after.segments a p → Describes after.types p.type_number type → Fragment declared G Here n (point longer after middle (Place p ∷ below)) (f a) to (λ b. Inside untouched longer after (Then b)) (e a) g)
+      → ((a : Component) (p : PlaceOf) (longer : Injection) (after : Memory) → Grown untouched from.injection from.memory longer after → SameRoutine untouched from.memory.frames after.frames → IsSpot longer after.types a p → Describes after.types p.type_number type → Fragment declared G Here n (point longer after middle (Place p ∷ below)) (f a) to (λ b. Inside untouched longer after (Then b)) (e a) g)
       → Fragment declared G Here n from (bind c f) to (λ b. Inside untouched from.injection from.memory (Then b)) d g
   fragment_bind_place {f = f} {e = e} steady first second =
-      inside_bind steady first (λ a longer after pushed grown routine top. subst (λ x. Fragment declared G Here n (point longer after middle x) (f a) to (λ b. Inside untouched longer after (Then b)) (e a) g) (sym top.is) (second a top.place longer after grown routine top.place_of top.described))
+      inside_bind steady first (λ a longer after pushed grown routine top. subst (λ x. Fragment declared G Here n (point longer after middle x) (f a) to (λ b. Inside untouched longer after (Then b)) (e a) g) (sym top.is) (second a top.place longer after grown routine top.spot top.described))
 
 -- ---- one instruction
 

@@ -8,7 +8,7 @@ use Rattle.ep_object.specs.Operands.{Operand, weight, weights}
 use Rattle.ep_object.specs.Promises.{Passing, ByValue, ByReference, IsArgument, AreArguments}
 use Rattle.ep_object.specs.State.{Frame}
 use Rattle.ep_object.proofs.matching.Elements.{length-set, slice_get-set-other}
-use Rattle.ep_object.proofs.matching.Growing.{describes-grown, is_place_of-grown}
+use Rattle.ep_object.proofs.matching.Growing.{describes-grown, is_spot-grown}
 use Rattle.ep_typed.specs.Calls.{Argument, Value, Variable}
 use Rattle.ep_typed.specs.Valid as kind
 
@@ -33,7 +33,7 @@ pub is_argument-grown : {untouched : Slots} {injection longer : Injection} {memo
 is_argument-grown (ByValue k) (Value r) o g h = h
 is_argument-grown (ByValue k) (Variable n) o g h = h
 is_argument-grown (ByReference t) (Value r) o g h = h
-is_argument-grown (ByReference t) (Variable n) o g (p, is, place_of, described) = (p, is, is_place_of-grown g place_of, describes-grown p.type_number t g described)
+is_argument-grown (ByReference t) (Variable n) o g (p, is, spot, described) = (p, is, is_spot-grown g spot, describes-grown p.type_number t g described)
 
 pub awaited-grown : {untouched : Slots} {injection longer : Injection} {memory after : Memory} → Grown untouched injection memory longer after
     → (fs : List Passing) (xs : List Argument) (k : ℕ) (inside : List (Option Operand)) → AreAwaited injection memory fs xs k inside → AreAwaited longer after fs xs k inside
@@ -74,7 +74,7 @@ light_argument injection memory (ByValue (kind.Ordinal h)) (Value r) o light ((z
 light_argument injection memory (ByValue kind.Bytes) (Value r) o light is = absurd light
 light_argument injection memory (ByValue k) (Variable n) o light is = absurd is
 light_argument injection memory (ByReference t) (Value r) o light is = absurd is
-light_argument injection memory (ByReference t) (Variable n) o light (p, is, place_of, described) = ap (λ y. weight y) is
+light_argument injection memory (ByReference t) (Variable n) o light (p, is, spot, described) = ap (λ y. weight y) is
 
 -- the operand in the middle of arguments
 at_middle : (xs ys : List Operand) (o : Operand) → slice_get (map Some (xs ++ o ∷ ys)) (length xs) ≡ Some (Some o)

@@ -2,8 +2,8 @@
 use Rattle.std.proofs.Common.{◌≡◌, ℕ, zero, suc, ◌≤◌, List, [], ◌∷◌, length, Option, Some, None, slice_get, replicate, map, refl, sym, ap, ◌∙◌, subst, arith}
 use Rattle.std.specs.Prelude.{pos, int_le, if◌then◌else◌}
 use Rattle.ep_typed.specs.Operations.{last_char}
-use Rattle.ep_object.specs.Matching.{Memory, Injection, IsIn, MatchesSlot, Represents, IsRepresented, Matches}
-use Rattle.ep_object.specs.State.{Frames, Segments, empty_slots, first_segments, first_types, integer_entry, char_entry, boolean_entry, text_entry, pointer_entry, first_live, undefined}
+use Rattle.ep_object.specs.Matching.{Memory, Injection, IsIn, IsOf, MatchesSlot, Represents, IsRepresented, Matches}
+use Rattle.ep_object.specs.State.{Frames, TypeTable, empty_slots, first_segments, first_types, integer_entry, char_entry, boolean_entry, text_entry, pointer_entry, first_live, undefined}
 use Rattle.ep_object.specs.declared.code.Image.{Image}
 use Rattle.ep_object.specs.declared.state.Place.{Place}
 use Rattle.ep_object.specs.Types.{size_of_kind}
@@ -11,9 +11,11 @@ use Rattle.ep_object.specs.declared.state.Kind.{Kind}
 use Rattle.ep_object.specs.declared.state.Kind.TheVariants.{Ord, Pointer, Text}
 use Rattle.ep_object.specs.declared.state.TypeEntry.{TypeEntry}
 use Rattle.ep_object.proofs.Grows.{is_prefix}
-use Rattle.ep_typed.specs.Steps.{Allocation, Resources}
+use Rattle.ep_typed.specs.Steps.{Component, Allocation, Resources}
 use Rattle.ep_typed.specs.Steps as meaning
 use Rattle.ep_typed.specs.Valid.{Declarations}
+use Rattle.ep_typed.specs.declared.value.TypeValue.{TypeValue}
+use Rattle.ep_typed.specs.declared.value.TypeValue.TheVariants as type
 
 -- before the first start, in these frames
 abbrev pub first_memory : Frames → Memory
@@ -21,7 +23,7 @@ first_memory frames = record { frames = frames; segments = first_segments; types
 
 -- `input` and `output` have the first two segments
 abbrev pub first_injection : Injection
-first_injection = 1 ∷ 2 ∷ []
+first_injection = record { segment = 1; type_value = type.Text } ∷ record { segment = 2; type_value = type.Text } ∷ []
 
 -- an element of a list is mapped in its place
 pub map_at : {A B : Type 0} (f : A → B) (xs : List A) (k : ℕ) (x : A) → slice_get xs k ≡ Some x
@@ -40,10 +42,10 @@ length-replicate zero x = refl
 length-replicate (suc n) x = ap suc (length-replicate n x)
 
 -- no slot holds a place yet
-empty_slot : (segments : Segments) (slot : Option Place) → ◌≡◌ {A = Option Place} None slot
-    → MatchesSlot first_injection segments None slot
-empty_slot segments None h = tt
-empty_slot segments (Some place) h = cc
+empty_slot : (types : TypeTable) (slot : Option Place) → ◌≡◌ {A = Option Place} None slot
+    → MatchesSlot first_injection types None slot
+empty_slot types None h = tt
+empty_slot types (Some place) h = cc
 
 -- the first types have the sizes that their kinds give
 first_sized : (n : ℕ) (entry : TypeEntry) → slice_get first_types n ≡ Some entry
@@ -56,17 +58,17 @@ first_sized (suc (suc (suc (suc zero)))) e h = let f : pointer_entry ≡ e = cc 
 first_sized (suc (suc (suc (suc (suc n))))) e h = cc
 
 -- the place of a first type is told by its kind
-abbrev place_of_kind : Kind → ℕ
-place_of_kind (Ord low high) = if int_le high (pos 1) then 2 else (if int_le high (pos last_char) then 1 else 0)
-place_of_kind Text = 3
-place_of_kind Pointer = 4
+abbrev spot_kind : Kind → ℕ
+spot_kind (Ord low high) = if int_le high (pos 1) then 2 else (if int_le high (pos last_char) then 1 else 0)
+spot_kind Text = 3
+spot_kind Pointer = 4
 
-place_is : (n : ℕ) (entry : TypeEntry) → slice_get first_types n ≡ Some entry → place_of_kind entry.kind ≡ n
-place_is zero e h = let f : integer_entry ≡ e = cc in subst (λ x. place_of_kind x.kind ≡ 0) f refl
-place_is (suc zero) e h = let f : char_entry ≡ e = cc in subst (λ x. place_of_kind x.kind ≡ 1) f refl
-place_is (suc (suc zero)) e h = let f : boolean_entry ≡ e = cc in subst (λ x. place_of_kind x.kind ≡ 2) f refl
-place_is (suc (suc (suc zero))) e h = let f : text_entry ≡ e = cc in subst (λ x. place_of_kind x.kind ≡ 3) f refl
-place_is (suc (suc (suc (suc zero)))) e h = let f : pointer_entry ≡ e = cc in subst (λ x. place_of_kind x.kind ≡ 4) f refl
+place_is : (n : ℕ) (entry : TypeEntry) → slice_get first_types n ≡ Some entry → spot_kind entry.kind ≡ n
+place_is zero e h = let f : integer_entry ≡ e = cc in subst (λ x. spot_kind x.kind ≡ 0) f refl
+place_is (suc zero) e h = let f : char_entry ≡ e = cc in subst (λ x. spot_kind x.kind ≡ 1) f refl
+place_is (suc (suc zero)) e h = let f : boolean_entry ≡ e = cc in subst (λ x. spot_kind x.kind ≡ 2) f refl
+place_is (suc (suc (suc zero))) e h = let f : text_entry ≡ e = cc in subst (λ x. spot_kind x.kind ≡ 3) f refl
+place_is (suc (suc (suc (suc zero)))) e h = let f : pointer_entry ≡ e = cc in subst (λ x. spot_kind x.kind ≡ 4) f refl
 place_is (suc (suc (suc (suc (suc n))))) e h = cc
 
 -- no first type stands twice
@@ -90,6 +92,13 @@ first_apart (suc (suc zero)) (suc zero) segment h k = let e : 2 ≡ segment = cc
 first_apart (suc (suc (suc m))) n segment h k = cc
 first_apart m (suc (suc (suc n))) segment h k = cc
 
+first_typed : (n : ℕ) (t : TypeValue) → IsOf first_injection n t
+    → meaning.type_in (meaning.allocation_at meaning.first_state.allocations n) ≡ Some t
+first_typed zero t h = absurd h
+first_typed (suc zero) t h = h
+first_typed (suc (suc zero)) t h = h
+first_typed (suc (suc (suc n))) t h = cc
+
 -- a standard file
 abbrev file : Allocation
 file = meaning.standard_allocation
@@ -111,8 +120,8 @@ first_represented (suc (suc (suc n))) segment a h k = cc
 no_place : (place : Place) → ◌≡◌ {A = Option Place} None (Some place) → ⊥
 no_place place h = cc
 
-nothing : (n : ℕ) → ◌≡◌ {A = Option ℕ} None (Some n) → ⊥
-nothing n h = cc
+nothing : (c : Component) → ◌≡◌ {A = Option Component} None (Some c) → ⊥
+nothing c h = cc
 
 -- no variable is made, no type is met, and nothing is written
 pub first_matches : (declared : Declarations) (G : Image) (frames : Frames)
@@ -120,7 +129,7 @@ pub first_matches : (declared : Declarations) (G : Image) (frames : Frames)
     → Matches declared G first_injection meaning.first_state (first_memory frames)
 first_matches declared G frames empty alone =
     record {
-      injected = record { made = refl; apart = first_apart; within = first_within };
+      injected = record { made = refl; apart = first_apart; within = first_within; typed = first_typed };
       store = record { represented = first_represented };
       types = record { first = is_prefix first_types; sized = first_sized; shared = first_shared; known = λ t h. cc };
       units = record {
@@ -128,10 +137,10 @@ first_matches declared G frames empty alone =
           slots = empty_slots u;
           is = ap (λ units. slice_get units unit) empty ∙ map_at empty_slots G.units unit u there;
           count = length-replicate u.slots None;
-          matches = λ k v slot is_declared at_k. empty_slot first_segments slot (replicate_at u.slots None slot k at_k);
+          matches = λ k v slot is_declared at_k. empty_slot first_types slot (replicate_at u.slots None slot k at_k);
           described = λ k v place t is_declared at_k has_type. absurd (no_place place (replicate_at u.slots None (Some place) k at_k));
         };
-        typed = λ unit k n v h e. absurd (nothing n h);
+        typed = λ unit k c v h e. absurd (nothing c h);
       };
       outside = record { output = refl; lives = refl };
       counts = record { words = omega arith; hidden = omega arith; number = omega arith };

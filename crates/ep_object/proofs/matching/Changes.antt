@@ -1,20 +1,21 @@
 -- The machine goes on matching where a value is assigned or events are added.
 use Rattle.std.proofs.Common.{◌≡◌, ℕ, ℤ, zero, suc, false, ◌<◌, ◌≤◌, ◌⊎◌, inl, inr, List, length, Option, Some, None, slice_get, slice_set, refl, sym, ap, ◌∙◌, subst, arith}
 use Rattle.std.proofs.lemmas.Option.{same_Some, slice_get_within}
-use Rattle.ep_object.specs.Matching.{Memory, Injection, IsIn, MatchesSlot, MatchesInjection, MatchesFrame, MatchesUnits, MatchesCounts, hidden_words, HasAt, Represents, IsRepresented, HasType, Matches, Slots, every_slot, Grown}
+use Rattle.ep_object.specs.Matching.{IsOfType, Memory, Injection, IsIn, MatchesSlot, MatchesInjection, MatchesFrame, MatchesUnits, MatchesCounts, hidden_words, HasAt, Represents, IsRepresented, Matches, Slots, every_slot, Grown}
 use Rattle.ep_object.specs.declared.code.Image.{Image}
 use Rattle.ep_object.specs.declared.code.ImageUnit.{ImageUnit}
 use Rattle.ep_object.specs.declared.state.Place.{Place}
 use Rattle.ep_object.specs.declared.state.Segment.{Segment}
 use Rattle.ep_object.proofs.matching.Elements.{length-set, slice_get-set-same, slice_get-set-other}
-use Rattle.ep_object.proofs.matching.Growing.{is_place_of-grown, describes-grown}
+use Rattle.ep_object.proofs.matching.Growing.{is_spot-grown, describes-grown}
 use Rattle.ep_object.proofs.matching.Standing.{represented-same, living_represented}
 use Rattle.ep_object.proofs.Grows.{is_prefix}
 use Rattle.ep_object.proofs.matching.HiddenWords.{hidden_words-set, hidden_words-grown}
 use Rattle.ep_typed.specs.Calls.{entered, back_in}
 use Rattle.ep_typed.specs.Events.{Trace}
-use Rattle.ep_typed.specs.Steps.{Call, Value, Allocation, allocation_at, assigned_at, assigned, type_in, type_at, ended_in, has_ended, with_events, is_within}
+use Rattle.ep_typed.specs.Steps.{Component, Call, Value, Allocation, value_with, type_along, allocation_at, assigned_at, assigned, type_in, type_at, ended_in, has_ended, with_events, is_within}
 use Rattle.ep_typed.specs.Steps as meaning
+use Rattle.ep_typed.specs.declared.value.TypeValue.{TypeValue}
 use Rattle.ep_typed.specs.Valid.{Declarations}
 
 -- two numbers are the same or not
@@ -27,39 +28,45 @@ same_or_not (suc m) (suc n) = elim (same_or_not m n) [ inl e ↦ inl (ap suc e) 
 -- ---- frames in a memory that grows
 
 -- a slot goes on matching
-pub slot-grown : {untouched : Slots} {injection longer : Injection} {memory after : Memory} (o : Option ℕ) (slot : Option Place)
-    → Grown untouched injection memory longer after → MatchesSlot injection memory.segments o slot
-    → MatchesSlot longer after.segments o slot
+pub slot-grown : {untouched : Slots} {injection longer : Injection} {memory after : Memory} (o : Option Component) (slot : Option Place)
+    → Grown untouched injection memory longer after → MatchesSlot injection memory.types o slot
+    → MatchesSlot longer after.types o slot
 slot-grown None None g h = tt
 slot-grown None (Some p) g h = h
 slot-grown (Some n) None g h = h
-slot-grown (Some n) (Some p) g h = is_place_of-grown g h
+slot-grown (Some n) (Some p) g h = is_spot-grown g h
 
 -- a frame that stays what it is goes on matching
-pub matches_frame-grown : {untouched : Slots} {declared : Declarations} {injection longer : Injection} {before later : List ℕ → ℕ → Option ℕ} {memory after : Memory} (unit : ℕ) (u : ImageUnit)
+pub matches_frame-grown : {untouched : Slots} {declared : Declarations} {injection longer : Injection} {before later : List ℕ → ℕ → Option Component} {memory after : Memory} (unit : ℕ) (u : ImageUnit)
     → Grown untouched injection memory longer after → after.frames ≡ memory.frames
     → ((k : ℕ) → later u.name k ≡ before u.name k)
-    → MatchesFrame declared injection before memory.frames.units memory.segments memory.types unit u
-    → MatchesFrame declared longer later after.frames.units after.segments after.types unit u
+    → MatchesFrame declared injection before memory.frames.units memory.types unit u
+    → MatchesFrame declared longer later after.frames.units after.types unit u
 matches_frame-grown {longer = longer} {before = before} {after = after} unit u g same variables h =
     record {
       slots = h.slots;
       is = ap (λ f. slice_get f.units unit) same ∙ h.is;
       count = h.count;
-      matches = λ k v slot is_declared e. subst (λ o. MatchesSlot longer after.segments o slot) (sym (variables k)) (slot-grown (before u.name k) slot g (h.matches k v slot is_declared e));
+      matches = λ k v slot is_declared e. subst (λ o. MatchesSlot longer after.types o slot) (sym (variables k)) (slot-grown (before u.name k) slot g (h.matches k v slot is_declared e));
       described = λ k v place t is_declared e has_type. describes-grown place.type_number t g (h.described k v place t is_declared e has_type);
     }
 
+-- a variable keeps its type where its allocation does
+pub of_type-same : {allocations others : List Allocation} {Holds : TypeValue → Type 0} (c : Component)
+    → type_in (allocation_at others c.allocation) ≡ type_in (allocation_at allocations c.allocation)
+    → IsOfType allocations c Holds → IsOfType others c Holds
+of_type-same c same h = record { type_value = h.type_value; is = ap (λ o. type_along o c.path) same ∙ h.is; holds = h.holds }
+
 -- the units go on matching where memory grows, frames and variables stay, and no allocation changes its type
-pub matches_units-grown : {untouched : Slots} {declared : Declarations} {G : Image} {injection longer : Injection} {allocations others : List Allocation} {variables : List ℕ → ℕ → Option ℕ} {memory after : Memory}
+pub matches_units-grown : {untouched : Slots} {declared : Declarations} {G : Image} {injection longer : Injection} {allocations others : List Allocation} {variables : List ℕ → ℕ → Option Component} {memory after : Memory}
     → Grown untouched injection memory longer after → after.frames ≡ memory.frames
     → ((n : ℕ) → type_in (allocation_at others n) ≡ type_in (allocation_at allocations n))
-    → MatchesUnits declared G injection allocations variables memory.frames.units memory.segments memory.types
-    → MatchesUnits declared G longer others variables after.frames.units after.segments after.types
+    → MatchesUnits declared G injection allocations variables memory.frames.units memory.types
+    → MatchesUnits declared G longer others variables after.frames.units after.types
 matches_units-grown {declared = declared} {variables = variables} g same types h =
     record {
       frames = λ unit u e. matches_frame-grown {before = variables} unit u g same (λ k. refl) (h.frames unit u e);
-      typed = λ unit k n v p q. subst (λ t. HasType declared unit v t) (sym (types n)) (h.typed unit k n v p q);
+      typed = λ unit k c v p q. of_type-same c (types c.allocation) (h.typed unit k c v p q);
     }
 
 -- ---- events
@@ -73,25 +80,25 @@ matches_events events h =
 -- ---- a value that is assigned
 
 -- the allocation that a value is assigned to, and the others
-assigned_same : (allocations : List Allocation) (n : ℕ) (value : Value) (a : Allocation)
+assigned_same : (allocations : List Allocation) (n : ℕ) (path : List ℕ) (value : Value) (a : Allocation)
     → allocation_at allocations n ≡ Some a
-    → allocation_at (assigned_at n value allocations) n ≡ Some (record a { value = value })
-assigned_same allocations zero value a h = cc
-assigned_same allocations (suc n) value a h = rw h (slice_get-set-same allocations n (record a { value = value }) a h)
+    → allocation_at (assigned_at n path value allocations) n ≡ Some (record a { value = value_with a.value path value })
+assigned_same allocations zero path value a h = cc
+assigned_same allocations (suc n) path value a h = rw h (slice_get-set-same allocations n (record a { value = value_with a.value path value }) a h)
 
 -- the others stay what they are
-assigned_other : (allocations : List Allocation) (n m : ℕ) (value : Value) (a : Allocation)
+assigned_other : (allocations : List Allocation) (n m : ℕ) (path : List ℕ) (value : Value) (a : Allocation)
     → allocation_at allocations n ≡ Some a → (n ≡ m → ⊥)
-    → allocation_at (assigned_at n value allocations) m ≡ allocation_at allocations m
-assigned_other allocations zero m value a h other = refl
-assigned_other allocations (suc n) zero value a h other = refl
-assigned_other allocations (suc n) (suc m) value a h other = rw h (slice_get-set-other allocations n m (record a { value = value }) (λ e. other (ap suc e)))
+    → allocation_at (assigned_at n path value allocations) m ≡ allocation_at allocations m
+assigned_other allocations zero m path value a h other = refl
+assigned_other allocations (suc n) zero path value a h other = refl
+assigned_other allocations (suc n) (suc m) path value a h other = rw h (slice_get-set-other allocations n m (record a { value = value_with a.value path value }) (λ e. other (ap suc e)))
 
 -- and as many as before
-assigned_length : (allocations : List Allocation) (n : ℕ) (value : Value) (a : Allocation)
-    → allocation_at allocations n ≡ Some a → length (assigned_at n value allocations) ≡ length allocations
-assigned_length allocations zero value a h = refl
-assigned_length allocations (suc n) value a h = rw h (length-set allocations n (record a { value = value }))
+assigned_length : (allocations : List Allocation) (n : ℕ) (path : List ℕ) (value : Value) (a : Allocation)
+    → allocation_at allocations n ≡ Some a → length (assigned_at n path value allocations) ≡ length allocations
+assigned_length allocations zero path value a h = refl
+assigned_length allocations (suc n) path value a h = rw h (length-set allocations n (record a { value = value_with a.value path value }))
 
 -- the memory with the words of one segment replaced
 abbrev pub storing : Memory → ℕ → ℕ → List ℤ → Memory
@@ -145,11 +152,11 @@ module _ {declared : Declarations} {G : Image} {injection : Injection} {s : mean
       ended_at k y q (inl e) = (old, subst (λ j. slice_get memory.segments j ≡ Some (Some old)) e r.stands)
       ended_at k y q (inr other) = (y, sym (slice_get-set-other memory.segments segment k (Some new) other) ∙ q)
 
-  -- a value is assigned that as many words as before hold: it is represented, and all else as before
-  pub matches_assigned : (value : Value) → length words ≡ length r.words
-      → HasAt injection a.type_value value (slice_get words) 0
-      → Matches declared G injection (assigned n value s) (storing memory segment r.type_number words)
-  matches_assigned value as_many holds =
+  -- a value is assigned to a component of it, and as many words as before hold what it has then: it is represented, and all else as before
+  pub matches_assigned : (path : List ℕ) (value : Value) → length words ≡ length r.words
+      → HasAt injection a.type_value (value_with a.value path value) (slice_get words) 0
+      → Matches declared G injection (assigned (record { allocation = n; path = path }) value s) (storing memory segment r.type_number words)
+  matches_assigned path value as_many holds =
       record {
         injected = injected;
         store = record { represented = λ m k b p q. represented_at m k b p q (same_or_not n m) };
@@ -169,13 +176,21 @@ module _ {declared : Declarations} {G : Image} {injection : Injection} {s : mean
       grown_whole : Grown every_slot injection memory injection (storing memory segment r.type_number words)
       grown_whole = grown_storing
 
-      injected : MatchesInjection injection (assigned_at n value s.allocations) (slice_set memory.segments segment (Some new))
+      type_at_assigned : (m : ℕ) → (n ≡ m) ⊎ (n ≡ m → ⊥)
+          → type_in (allocation_at (assigned_at n path value s.allocations) m) ≡ type_in (allocation_at s.allocations m)
+      type_at_assigned m (inl e) =
+          let now : allocation_at (assigned_at n path value s.allocations) n ≡ Some (record a { value = value_with a.value path value }) = assigned_same s.allocations n path value a is in
+          subst (λ j. type_in (allocation_at (assigned_at n path value s.allocations) j) ≡ type_in (allocation_at s.allocations j)) e (ap type_in now ∙ sym (ap type_in is))
+      type_at_assigned m (inr other) = ap type_in (assigned_other s.allocations n m path value a is other)
+
+      injected : MatchesInjection injection (assigned_at n path value s.allocations) (slice_set memory.segments segment (Some new))
       injected =
           let old_injected = h.injected in
           record {
-            made = old_injected.made ∙ sym (assigned_length s.allocations n value a is);
+            made = old_injected.made ∙ sym (assigned_length s.allocations n path value a is);
             apart = old_injected.apart;
             within = λ m k p. let w = old_injected.within m k p in omega (arith, w, length-set memory.segments segment (Some new));
+            typed = λ m t p. type_at_assigned m (same_or_not n m) ∙ old_injected.typed m t p;
           }
 
       counts : MatchesCounts injection s.resources (slice_set memory.segments segment (Some new)) memory.types memory.live
@@ -185,32 +200,26 @@ module _ {declared : Declarations} {G : Image} {injection : Injection} {s : mean
           record { words = omega (arith, c.words, same); hidden = omega (arith, c.hidden, same); number = c.number }
 
       represented_at : (m k : ℕ) (b : Allocation) → IsIn injection m k
-          → allocation_at (assigned_at n value s.allocations) m ≡ Some b → (n ≡ m) ⊎ (n ≡ m → ⊥)
+          → allocation_at (assigned_at n path value s.allocations) m ≡ Some b → (n ≡ m) ⊎ (n ≡ m → ⊥)
           → IsRepresented injection (slice_set memory.segments segment (Some new)) memory.types k b
       represented_at m k b p q (inl e) =
           let there : IsIn injection n k = subst (λ j. IsIn injection j k) (sym e) p in
           let seg : segment ≡ k = is_in-same injection n segment k is_in there in
-          let b_is : record a { value = value } ≡ b = same_Some (record a { value = value }) b (sym (assigned_same s.allocations n value a is) ∙ subst (λ j. allocation_at (assigned_at n value s.allocations) j ≡ Some b) (sym e) q) in
-          subst (λ j. IsRepresented injection (slice_set memory.segments segment (Some new)) memory.types j b) seg (subst (λ x. IsRepresented injection (slice_set memory.segments segment (Some new)) memory.types segment x) b_is (living_represented injection (slice_set memory.segments segment (Some new)) memory.types segment (record a { value = value }) living (record { type_number = r.type_number; words = words; stands = slice_get-set-same memory.segments segment (Some new) (Some old) r.stands; described = r.described; sized = as_many ∙ r.sized; holds = holds })))
+          let b_is : record a { value = value_with a.value path value } ≡ b = same_Some (record a { value = value_with a.value path value }) b (sym (assigned_same s.allocations n path value a is) ∙ subst (λ j. allocation_at (assigned_at n path value s.allocations) j ≡ Some b) (sym e) q) in
+          subst (λ j. IsRepresented injection (slice_set memory.segments segment (Some new)) memory.types j b) seg (subst (λ x. IsRepresented injection (slice_set memory.segments segment (Some new)) memory.types segment x) b_is (living_represented injection (slice_set memory.segments segment (Some new)) memory.types segment (record a { value = value_with a.value path value }) living (record { type_number = r.type_number; words = words; stands = slice_get-set-same memory.segments segment (Some new) (Some old) r.stands; described = r.described; sized = as_many ∙ r.sized; holds = holds })))
       represented_at m k b p q (inr other) =
           let store = h.store in
           let injected = h.injected in
-          let before : IsRepresented injection memory.segments memory.types k b = store.represented m k b p (sym (assigned_other s.allocations n m value a is other) ∙ q) in
+          let before : IsRepresented injection memory.segments memory.types k b = store.represented m k b p (sym (assigned_other s.allocations n m path value a is other) ∙ q) in
           let apart : (segment ≡ k → ⊥) = λ e. other (injected.apart n m k (subst (λ j. IsIn injection n j) e is_in) p) in
           represented-same injection memory.segments (slice_set memory.segments segment (Some new)) memory.types k b (slice_get-set-other memory.segments segment k (Some new) apart) before
 
-      type_at_assigned : (m : ℕ) → (n ≡ m) ⊎ (n ≡ m → ⊥) → type_at m (assigned n value s) ≡ type_at m s
-      type_at_assigned m (inl e) =
-          let now : allocation_at (assigned_at n value s.allocations) n ≡ Some (record a { value = value }) = assigned_same s.allocations n value a is in
-          subst (λ j. type_at j (assigned n value s) ≡ type_at j s) e (ap type_in now ∙ sym (ap type_in is))
-      type_at_assigned m (inr other) = ap type_in (assigned_other s.allocations n m value a is other)
-
       ended_assigned : (m : ℕ) → (n ≡ m) ⊎ (n ≡ m → ⊥)
-          → has_ended m (assigned n value s) ≡ has_ended m s
+          → has_ended m (assigned (record { allocation = n; path = path }) value s) ≡ has_ended m s
       ended_assigned m (inl e) =
-          let now : allocation_at (assigned_at n value s.allocations) n ≡ Some (record a { value = value }) = assigned_same s.allocations n value a is in
-          subst (λ j. has_ended j (assigned n value s) ≡ has_ended j s) e (ap ended_in now ∙ sym (ap ended_in is))
-      ended_assigned m (inr other) = ap ended_in (assigned_other s.allocations n m value a is other)
+          let now : allocation_at (assigned_at n path value s.allocations) n ≡ Some (record a { value = value_with a.value path value }) = assigned_same s.allocations n path value a is in
+          subst (λ j. has_ended j (assigned (record { allocation = n; path = path }) value s) ≡ has_ended j s) e (ap ended_in now ∙ sym (ap ended_in is))
+      ended_assigned m (inr other) = ap ended_in (assigned_other s.allocations n m path value a is other)
 
 -- ---- calls
 

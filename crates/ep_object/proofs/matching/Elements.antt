@@ -1,5 +1,5 @@
 -- Elements of lists that grow at the end, and of lists of which one element is replaced.
-use Rattle.std.proofs.Common.{◌≡◌, ◌≢◌, ℕ, zero, suc, List, [], ◌∷◌, ◌++◌, length, drop, Some, slice_get, slice_set, ◌⊎◌, inl, inr, refl, ap, ◌∙◌, ◌+◌, arith}
+use Rattle.std.proofs.Common.{◌≡◌, ◌≢◌, ℕ, zero, suc, List, [], ◌∷◌, ◌++◌, length, drop, Some, option_map, slice_get, slice_set, ◌⊎◌, inl, inr, refl, ap, ◌∙◌, ◌+◌, arith}
 use Rattle.std.proofs.lemmas.Grind.{common_steps}
 
 -- an element of a longer list is one of the list, or the new one
@@ -9,6 +9,15 @@ slice_get-push [] x y zero h = inr (refl, cc)
 slice_get-push [] x y (suc i) h = inl h
 slice_get-push (z ∷ xs) x y zero h = inl h
 slice_get-push (z ∷ xs) x y (suc i) h = elim (slice_get-push xs x y i h) [ inl k ↦ inl k | inr k ↦ inr (ap suc k.0, k.1) ]
+
+-- and so is what is told of it
+pub mapped-push : {A B : Type 0} (f : A → B) (xs : List A) (x : A) (y : B) (i : ℕ)
+    → option_map f (slice_get (xs ++ x ∷ []) i) ≡ Some y
+    → (option_map f (slice_get xs i) ≡ Some y) ⊎ ((i ≡ length xs) × (y ≡ f x))
+mapped-push f [] x y zero h = inr (refl, cc)
+mapped-push f [] x y (suc i) h = inl h
+mapped-push f (z ∷ xs) x y zero h = inl h
+mapped-push f (z ∷ xs) x y (suc i) h = elim (mapped-push f xs x y i h) [ inl k ↦ inl k | inr k ↦ inr (ap suc k.0, k.1) ]
 
 -- the new element stands behind the others
 pub slice_get-pushed : {A : Type 0} (xs : List A) (x : A) → slice_get (xs ++ x ∷ []) (length xs) ≡ Some x

@@ -114,6 +114,11 @@ module _ {declared : Declarations} {G : Image} {injection : Injection} {s : mean
         depth = h.depth;
       }
     where
+      type_ended : (m : ℕ) → (n ≡ m) ⊎ (n ≡ m → ⊥)
+          → type_in (allocation_at (with_ended n s.allocations) m) ≡ type_in (allocation_at s.allocations m)
+      type_ended m (inl e) = subst (λ j. type_in (allocation_at (with_ended n s.allocations) j) ≡ type_in (allocation_at s.allocations j)) e (ap type_in (ended_same s.allocations n its.0 its.1) ∙ sym (ap type_in its.1))
+      type_ended m (inr other) = ap type_in (ended_other s.allocations n m its.0 its.1 other)
+
       injected : MatchesInjection injection (with_ended n s.allocations) (slice_set memory.segments segment None)
       injected =
           let before = h.injected in
@@ -121,6 +126,7 @@ module _ {declared : Declarations} {G : Image} {injection : Injection} {s : mean
             made = before.made ∙ sym (ended_length s.allocations n its.0 its.1);
             apart = before.apart;
             within = λ m k p. let w = before.within m k p in omega (arith, w, length-set memory.segments segment None);
+            typed = λ m t p. type_ended m (same_or_not n m) ∙ before.typed m t p;
           }
 
       counts : MatchesCounts injection ended_state.resources (slice_set memory.segments segment None) memory.types ended_memory.live
@@ -142,10 +148,6 @@ module _ {declared : Declarations} {G : Image} {injection : Injection} {s : mean
           let before : IsRepresented injection memory.segments memory.types k b = store.represented m k b p (sym (ended_other s.allocations n m its.0 its.1 other) ∙ q) in
           let apart : (segment ≡ k → ⊥) = λ e. other (injected.apart n m k (subst (λ j. IsIn injection n j) e is_in) p) in
           represented-same injection memory.segments (slice_set memory.segments segment None) memory.types k b (slice_get-set-other memory.segments segment k None apart) before
-
-      type_ended : (m : ℕ) → (n ≡ m) ⊎ (n ≡ m → ⊥) → type_at m ended_state ≡ type_at m s
-      type_ended m (inl e) = subst (λ j. type_at j ended_state ≡ type_at j s) e (ap type_in (ended_same s.allocations n its.0 its.1) ∙ sym (ap type_in its.1))
-      type_ended m (inr other) = ap type_in (ended_other s.allocations n m its.0 its.1 other)
 
 -- ---- all that was made in a call
 

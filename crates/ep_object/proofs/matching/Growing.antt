@@ -1,10 +1,11 @@
 -- Memory grows while a routine runs.
-use Rattle.std.proofs.Common.{◌≡◌, ℕ, zero, suc, ◌≤◌, ◌<◌, ◌⊎◌, inl, inr, List, [], ◌∷◌, ◌++◌, length, Option, Some, slice_get, refl, sym, ap, ◌∙◌, subst, arith}
+use Rattle.std.proofs.Common.{◌≡◌, ℕ, zero, suc, ◌≤◌, ◌<◌, ◌⊎◌, inl, inr, List, [], ◌∷◌, ◌++◌, length, Option, Some, None, option_map, slice_get, refl, sym, ap, ◌∙◌, subst, arith}
 use Rattle.std.proofs.lemmas.Option.{slice_get_within}
 use Rattle.ep_object.specs.Follows.{Facts, IsStillCall, IsSameCall, IsNotLeft, StillRuns, HasGrown, Lasts, Since, SameRoutine, Inside, Operands}
+use Rattle.ep_typed.specs.Steps.{Component}
 use Rattle.ep_typed.specs.Steps as meaning
 use Rattle.ep_object.specs.Frames.{routine_over}
-use Rattle.ep_object.specs.Matching.{Memory, Injection, IsIn, IsPlaceOf, Describes, Slots, every_slot, AreAmong, Grown}
+use Rattle.ep_object.specs.Matching.{Memory, Injection, IsIn, IsOf, IsSpot, Describes, Slots, every_slot, AreAmong, Grown}
 use Rattle.ep_object.specs.Operands.{Operand}
 use Rattle.ep_object.specs.Routines.{unit_of}
 use Rattle.ep_object.specs.Runs.{name_of, unit_in}
@@ -28,11 +29,26 @@ slice_get-prefix {A = A} xs ys i x p h = subst (λ l. slice_get l i ≡ Some x) 
     go (y ∷ l) zero h = h
     go (y ∷ l) (suc i) h = go l i h
 
+-- and so is what is told of it
+pub mapped-prefix : {A B : Type 0} (f : A → B) (xs ys : List A) (i : ℕ) (y : B) → IsPrefix xs ys
+    → option_map f (slice_get xs i) ≡ Some y → option_map f (slice_get ys i) ≡ Some y
+mapped-prefix {A = A} f xs ys i y p h = go (slice_get xs i) refl h
+  where
+    go : (o : Option A) → slice_get xs i ≡ o → option_map f o ≡ Some y → option_map f (slice_get ys i) ≡ Some y
+    go None e k = cc
+    go (Some x) e k = ap (option_map f) (slice_get-prefix xs ys i x p e) ∙ k
+
 -- allocations stay where they are
 pub is_in-longer : (injection longer : Injection) (n segment : ℕ) → IsPrefix injection longer
     → IsIn injection n segment → IsIn longer n segment
 is_in-longer injection longer zero segment p h = h
-is_in-longer injection longer (suc n) segment p h = slice_get-prefix injection longer n segment p h
+is_in-longer injection longer (suc n) segment p h = mapped-prefix (λ m. m.segment) injection longer n segment p h
+
+-- and keep their types
+pub is_of-longer : (injection longer : Injection) (n : ℕ) (t : TypeValue) → IsPrefix injection longer
+    → IsOf injection n t → IsOf longer n t
+is_of-longer injection longer zero t p h = h
+is_of-longer injection longer (suc n) t p h = mapped-prefix (λ m. m.type_value) injection longer n t p h
 
 -- slots are among themselves
 pub among_same : {some : Slots} → AreAmong some some
@@ -95,26 +111,26 @@ grown_trans {longer = longer} {last = last} {memory = memory} {after = after} {f
         let y = q.ended segment z (omega (arith, old)) hz in
         let n = p.allocated segment y.0 le y.1 in (n.0, is_in-longer longer last n.0 segment q.larger n.1)
 
--- the place of an allocation stays its place
-pub is_place_of-grown : {untouched : Slots} {injection longer : Injection} {memory after : Memory} {n : ℕ} {place : Place}
-    → Grown untouched injection memory longer after → IsPlaceOf injection memory.segments n place
-    → IsPlaceOf longer after.segments n place
-is_place_of-grown {injection = injection} {longer = longer} {n = n} {place = place} g h =
-    record {
-      is_in = is_in-longer injection longer n place.segment g.larger h.is_in;
-      within = omega (arith, g.segments, h.within);
-      offset = h.offset;
-      typed = λ y hy.
-          let x = g.ended place.segment y h.within hy in
-          h.typed x.0 x.1 ∙ sym (g.typed place.segment x.0 y x.1 hy);
-    }
-
 -- a type stays what it is
 pub describes-grown : {untouched : Slots} {injection longer : Injection} {memory after : Memory} (n : ℕ) (type_value : TypeValue)
     → Grown untouched injection memory longer after → Describes memory.types n type_value
     → Describes after.types n type_value
 describes-grown {memory = memory} {after = after} n (type.Ordinal low high) g h = slice_get-prefix memory.types after.types n (ordinal_entry low high) g.types h
 describes-grown {memory = memory} {after = after} n type.Text g h = slice_get-prefix memory.types after.types n text_entry g.types h
+
+-- the place of a variable stays its place
+pub is_spot-grown : {untouched : Slots} {injection longer : Injection} {memory after : Memory} {v : Component} {place : Place}
+    → Grown untouched injection memory longer after → IsSpot injection memory.types v place
+    → IsSpot longer after.types v place
+is_spot-grown {injection = injection} {longer = longer} {v = v} {place = place} g h =
+    record {
+      is_in = is_in-longer injection longer v.allocation place.segment g.larger h.is_in;
+      root = h.root;
+      is_of = is_of-longer injection longer v.allocation h.root g.larger h.is_of;
+      type_value = h.type_value;
+      leads = h.leads;
+      described = describes-grown place.type_number h.type_value g h.described;
+    }
 
 -- the innermost call is the same as itself
 pub same_call-refl : (calls : List Frame) → IsSameCall calls calls

@@ -79,7 +79,7 @@ module _ {declared : Declarations} {injection : Injection} {s : meaning.State} {
           record {
             slot = x.slot;
             is = sym (ap (λ cs. slot_of_frame (slots_over cs None) k) w.frames) ∙ x.is;
-            matches = subst (λ o. MatchesSlot injection memory.segments o x.slot) (ap (λ cs. own_in cs 0 k) w.calls) x.matches;
+            matches = subst (λ o. MatchesSlot injection memory.types o x.slot) (ap (λ cs. own_in cs 0 k) w.calls) x.matches;
             described = x.described;
           }
 

@@ -2,13 +2,12 @@
 use Rattle.std.proofs.Common.{◌≡◌, ℕ, ℤ, suc, ◌≤◌, ◌<◌, Bool, true, false, ◌&&◌, IsTrue, List, [], ◌∷◌, ◌++◌, length, Option, Some, slice_get, slice_set, refl, sym, ap, ◌∙◌, subst, arith}
 use Rattle.std.specs.Prelude.{nat_le, if◌then◌else◌}
 use Rattle.std.proofs.lemmas.Bool.Decides.{nat_tests}
-use Rattle.std.proofs.lemmas.Option.{slice_get_within, same_Some}
+use Rattle.std.proofs.lemmas.Option.{same_Some}
 use native.Mathlib.Decide.{ℕ_discrete}
 use Rattle.ep_outside.specs.Known.{IsPrefix}
 use Rattle.ep_object.specs.Activations.{OwnSlot, MatchesOwn, MatchesAround, OwnAreKept, AreMade, InActivation}
 use Rattle.ep_object.specs.Follows.{IsSameCall, IsStillCall, StillRuns, HasGrown, Lasts}
-use Rattle.ep_object.specs.Matching.{Memory, Injection, IsIn, Describes, Slots, own_slot, MatchesSlot, HasType, HasOwnType, Matches, Grown}
-use Rattle.ep_object.specs.Scene.{HaveValidTypes}
+use Rattle.ep_object.specs.Matching.{Memory, Injection, IsIn, Describes, Slots, own_slot, MatchesSlot, HasOwnType, Matches, Grown}
 use Rattle.ep_object.specs.State.{Frame, Frames}
 use Rattle.ep_object.specs.declared.code.Image.{Image}
 use Rattle.ep_object.specs.declared.state.Place.{Place}
@@ -16,10 +15,10 @@ use Rattle.ep_object.proofs.matching.Changes.{slot-grown, matches_frame-grown}
 use Rattle.ep_object.proofs.matching.Elements.{slice_get-set-same, slice_get-set-other}
 use Rattle.ep_object.proofs.matching.Growing.{is_in-longer, describes-grown, grown_trans, still_routine, still_runs-trans}
 use Rattle.ep_object.proofs.matching.Levels.{level-same, around-lasts}
-use Rattle.ep_object.proofs.matching.NewVariables.{new_place, with_variable, with_segment, grown_making, grown_same_frames, type_more, new_allocation, represented_making, new_place_of, output_lives, injected_making, counts_making}
-use Rattle.ep_object.proofs.matching.Standing.{slice_get-some, both, instance_valid, one_type}
+use Rattle.ep_object.proofs.matching.NewVariables.{new_place, with_variable, with_segment, next_item, grown_making, grown_same_frames, of_type-more, new_allocation, represented_making, new_spot, output_lives, injected_making, counts_making}
+use Rattle.ep_object.proofs.matching.Standing.{slice_get-some, mapped_within, both, one_type}
 use Rattle.ep_typed.specs.Operations.{is_integer}
-use Rattle.ep_typed.specs.Steps.{Call, named_in, type_at, bound_own, own_in, own_variable, with_own, counted, made_own}
+use Rattle.ep_typed.specs.Steps.{Component, whole, Call, Variables, named_in, bound_own, own_in, own_variable, with_own, counted, made_own}
 use Rattle.ep_typed.specs.Steps as meaning
 use Rattle.ep_typed.specs.Valid.{Declarations, variables_up}
 use Rattle.ep_typed.specs.declared.unit.UnitVariable.{UnitVariable}
@@ -37,7 +36,7 @@ matches_own-lasts {untouched = untouched} {declared = declared} kept = record { 
         record {
           slot = h.slot;
           is = r.slots k own ∙ h.is;
-          matches = subst (λ o. MatchesSlot longer after.segments o h.slot) (sym (ap (λ cs. own_in cs 0 k) g.calls)) (slot-grown (own_variable 0 k s) h.slot g.grown h.matches);
+          matches = subst (λ o. MatchesSlot longer after.types o h.slot) (sym (ap (λ cs. own_in cs 0 k) g.calls)) (slot-grown (own_variable 0 k s) h.slot g.grown h.matches);
           described = λ place t is has_type. describes-grown place.type_number t g.grown (h.described place t is has_type);
         }
 
@@ -100,8 +99,8 @@ in_activation-lasts {untouched = untouched} {declared = declared} {injection = i
 
 -- ---- a variable of the routine is made
 
-module _ (number n : ℕ) (variables : ℕ → Option ℕ) where
-  -- the variable that is bound is the allocation
+module _ (number : ℕ) (n : Component) (variables : Variables) where
+  -- the variable that is bound is that one
   pub bound_own-same : bound_own number n variables number ≡ Some n
   bound_own-same = let self : nat_le number number ≡ true = grind (arith, nat_tests) in rw self refl
 
@@ -129,15 +128,15 @@ module _ {declared : Declarations} {G : Image} {injection : Injection} {s : mean
   own_state = made_own k (type.Ordinal low high) (counted (type.Ordinal low high) s)
 
   abbrev longer : Injection
-  longer = with_segment injection memory
+  longer = with_segment (type.Ordinal low high) injection memory
 
   -- memory grows by the new segment
   pub grown_making_own : {untouched : Slots} → Grown untouched injection memory longer own_later
-  grown_making_own = grown_making injection memory number (with_own_place number k frame below memory) (λ unit j kept. refl)
+  grown_making_own = grown_making (type.Ordinal low high) injection memory number (with_own_place number k frame below memory) (λ unit j kept. refl)
 
   -- the machine goes on matching
-  pub matches_making_own : HaveValidTypes declared → Matches declared G longer own_state own_later
-  matches_making_own types_valid =
+  pub matches_making_own : Matches declared G longer own_state own_later
+  matches_making_own =
       let units = h.units in
       let outside = h.outside in
       record {
@@ -146,30 +145,21 @@ module _ {declared : Declarations} {G : Image} {injection : Injection} {s : mean
         types = h.types;
         units = record {
           frames = λ unit u e.
-              let f = matches_frame-grown {before = s.variables} {later = s.variables} {memory = memory} {after = with_variable number memory.frames memory} unit u (grown_same_frames injection memory number) refl (λ j. refl) (units.frames unit u e) in
+              let f = matches_frame-grown {before = s.variables} {later = s.variables} {memory = memory} {after = with_variable number memory.frames memory} unit u (grown_same_frames (type.Ordinal low high) injection memory number) refl (λ j. refl) (units.frames unit u e) in
               record { slots = f.slots; is = f.is; count = f.count; matches = f.matches; described = f.described };
-          typed = typed;
+          typed = λ unit j c v is is_declared. of_type-more s.allocations (new_allocation h low high number described low_fits high_fits) c (units.typed unit j c v is is_declared);
         };
-        outside = record { output = is_in-longer injection longer 2 2 (record { rest = length memory.segments ∷ []; is = refl }) outside.output; lives = output_lives h low high number described low_fits high_fits };
+        outside = record { output = is_in-longer injection longer 2 2 (record { rest = next_item (type.Ordinal low high) memory ∷ []; is = refl }) outside.output; lives = output_lives h low high number described low_fits high_fits };
         counts = counts_making h low high number described low_fits high_fits;
         depth = subst (λ cs. suc (length below) ≤ length (with_own k (suc (length s.allocations)) cs)) (sym calls) (omega (arith, h.depth, ap length frames, ap length calls));
       }
-    where
-      -- no allocation of a unit's variable changes its type
-      typed : (unit : List ℕ) (j n : ℕ) (v : UnitVariable) → s.variables unit j ≡ Some n → declared.variables unit j ≡ Some v
-          → HasType declared unit v (type_at n own_state)
-      typed unit j n v is is_declared =
-          let units = h.units in
-          let has_type : HasType declared unit v (type_at n s) = units.typed unit j n v is is_declared in
-          let kept : type_at n own_state ≡ type_at n s = type_more s.allocations (new_allocation h low high number described low_fits high_fits) n (types_valid unit j v is_declared).host (type_at n s) (instance_valid (types_valid unit j v is_declared) (type_at n s) has_type) refl in
-          subst (λ t. HasType declared unit v t) (sym kept) has_type
 
   -- its number is above those of the standard files
   new_number : 2 < suc (length s.allocations)
   new_number =
       let outside = h.outside in
       let injected = h.injected in
-      let w : 1 < length injection = slice_get_within injection 1 2 outside.output in
+      let w : 1 < length injection = mapped_within (λ m. m.segment) injection 1 2 outside.output in
       omega (arith, w, injected.made)
 
   -- the slot has its place, and the others have theirs
@@ -181,11 +171,11 @@ module _ {declared : Declarations} {G : Image} {injection : Injection} {s : mean
       place : Place
       place = new_place memory number
 
-      n : ℕ
-      n = suc (length s.allocations)
+      n : Component
+      n = whole (suc (length s.allocations))
 
-      bound_to : (i : ℕ) (o : Option ℕ) → bound_own k n call.variables i ≡ o → own_variable 0 i own_state ≡ o
-      bound_to i o e = ap (λ cs. own_in (with_own k n cs) 0 i) calls ∙ e
+      bound_to : (i : ℕ) (o : Option Component) → bound_own k n call.variables i ≡ o → own_variable 0 i own_state ≡ o
+      bound_to i o e = ap (λ cs. own_in (with_own k (suc (length s.allocations)) cs) 0 i) calls ∙ e
 
       same : k ≡ j → OwnSlot declared longer own_state own_later j v
       same e =
@@ -194,7 +184,7 @@ module _ {declared : Declarations} {G : Image} {injection : Injection} {s : mean
           (record {
             slot = Some place;
             is = slice_get-set-same frame.slots k (Some place) old.0 old.1;
-            matches = subst (λ o. MatchesSlot longer own_later.segments o (Some place)) (sym (bound_to k (Some n) (bound_own-same k n call.variables))) (new_place_of h low high number described low_fits high_fits);
+            matches = subst (λ o. MatchesSlot longer own_later.types o (Some place)) (sym (bound_to k (Some n) (bound_own-same k n call.variables))) (new_spot h low high number described low_fits high_fits);
             described = λ p t p_is has_type.
                 let its : type.Ordinal low high ≡ t = one_type (declared_so v (subst (λ i. slice_get (variables_up declared 0) i ≡ Some v) (sym e) is)) has_type in
                 let number_is : number ≡ p.type_number = ap (λ (q : Place). q.type_number) (same_Some place p p_is) in
@@ -208,7 +198,7 @@ module _ {declared : Declarations} {G : Image} {injection : Injection} {s : mean
           record {
             slot = before.slot;
             is = slice_get-set-other frame.slots k j (Some place) e ∙ in_frame;
-            matches = subst (λ o. MatchesSlot longer own_later.segments o before.slot) variable (slot-grown (own_variable 0 j s) before.slot (grown_same_frames injection memory number) before.matches);
+            matches = subst (λ o. MatchesSlot longer own_later.types o before.slot) variable (slot-grown (own_variable 0 j s) before.slot (grown_same_frames (type.Ordinal low high) injection memory number) before.matches);
             described = before.described;
           }
 
@@ -218,20 +208,20 @@ module _ {declared : Declarations} {G : Image} {injection : Injection} {s : mean
       → InActivation declared untouched first start longer own_state own_later
   in_activation_making {untouched = untouched} own around grown runs made =
       let injected = h.injected in
-      let place_of = new_place_of h low high number described low_fits high_fits in
+      let spot = new_spot h low high number described low_fits high_fits in
       record {
         grown = grown_trans grown grown_making_own;
         runs = still_runs-trans runs runs_on;
         frame = record frame { slots = slice_set frame.slots k (Some (new_place memory number)); made = frame.made ++ length memory.segments ∷ [] };
         below = below;
         frames = refl;
-        call = record call { variables = bound_own k (suc (length s.allocations)) call.variables; made = call.made ++ suc (length s.allocations) ∷ [] };
+        call = record call { variables = bound_own k (whole (suc (length s.allocations))) call.variables; made = call.made ++ suc (length s.allocations) ∷ [] };
         others = others;
         calls = ap (λ cs. with_own k (suc (length s.allocations)) cs) calls;
         own = own;
         around = λ up level is. level-same {untouched = untouched} frame (record frame { slots = slice_set frame.slots k (Some (new_place memory number)); made = frame.made ++ length memory.segments ∷ [] }) below up frames refl refl
             (ap (λ cs. slice_get (named_in (with_own k (suc (length s.allocations)) cs)) (suc up)) calls ∙ sym (ap (λ cs. slice_get (named_in cs) (suc up)) calls)) grown_making_own (around up level is);
-        made = are_made-more longer (suc (length s.allocations)) (length memory.segments) place_of.is_in new_number call.made frame.made (are_made-longer injection longer (record { rest = length memory.segments ∷ []; is = refl }) call.made frame.made made);
+        made = are_made-more longer (suc (length s.allocations)) (length memory.segments) spot.is_in new_number call.made frame.made (are_made-longer injection longer (record { rest = next_item (type.Ordinal low high) memory ∷ []; is = refl }) call.made frame.made made);
       }
     where
       runs_on : StillRuns memory.frames own_later.frames

@@ -1,22 +1,22 @@
 -- What stands in the store where a state of the machine matches.
-use Rattle.std.proofs.Common.{◌≡◌, ℕ, ℤ, pos, negsuc, zero, suc, ◌<◌, Bool, true, false, ◌&&◌, IsTrue, List, [], ◌∷◌, length, Some, None, slice_get, refl, sym, ap, ◌∙◌, subst, arith}
+use Rattle.std.proofs.Common.{◌≡◌, ℕ, ℤ, pos, negsuc, zero, suc, ◌<◌, Bool, true, false, ◌&&◌, IsTrue, List, [], ◌∷◌, length, Option, Some, None, option_map, slice_get, refl, sym, ap, ◌∙◌, subst, arith}
 use Rattle.std.proofs.lemmas.Bool.Decides.{nat_tests}
 use Rattle.std.proofs.lemmas.Option.{slice_get_within, same_Some}
 use Rattle.std.specs.Prelude.{int_le, int_lt, neg_ℤ}
-use Rattle.ep_object.specs.Matching.{Memory, Injection, IsIn, IsPlaceOf, Describes, OrdinalAt, HasAt, Represents, IsRepresentedWhere, IsRepresented, Matches}
+use Rattle.ep_object.specs.Matching.{Memory, Injection, part_along, all_of, IsIn, IsSpot, Describes, OrdinalAt, HasAt, Represents, IsRepresentedWhere, IsRepresented, Matches}
 use Rattle.ep_object.specs.State.{Segments, TypeTable, text_entry, undefined}
 use Rattle.ep_object.specs.Types.{ordinal_entry}
 use Rattle.ep_object.specs.declared.code.Image.{Image}
 use Rattle.ep_object.specs.declared.state.Place.{Place}
 use Rattle.ep_object.specs.declared.state.TypeEntry.{TypeEntry}
-use Rattle.ep_object.proofs.matching.Words.{has_at-longer}
+use Rattle.ep_object.proofs.matching.Words.{has_at-longer, has_along}
 use Rattle.ep_outside.specs.Known.{IsPrefix}
-use Rattle.ep_typed.proofs.Denoters.{types_are_instances, instances_are_one}
+use Rattle.ep_typed.proofs.Denoters.{instances_are_one}
 use Rattle.ep_typed.specs.Denoters.{IsInstance}
 use Rattle.ep_typed.specs.Operations.{is_integer, maxint}
-use Rattle.ep_typed.specs.Steps.{Allocation, allocation_at, type_in, is_within}
+use Rattle.ep_typed.specs.Steps.{Component, Allocation, allocation_at, type_in, is_within, value_along}
 use Rattle.ep_typed.specs.Steps as meaning
-use Rattle.ep_typed.specs.Valid.{Declarations, IsTypeOf, IsDenoter}
+use Rattle.ep_typed.specs.Valid.{Declarations, IsTypeOf}
 use Rattle.ep_typed.specs.Hosts.{Host, is_of_host, least, greatest}
 use Rattle.ep_typed.specs.Trees.{Denoter}
 use Rattle.ep_typed.specs.declared.unit.UnitType.{UnitType}
@@ -67,13 +67,24 @@ pub living_represented : (injection : Injection) (segments : Segments) (types : 
 living_represented injection segments types segment a living h = subst (λ b. IsRepresentedWhere b injection segments types segment a) (sym living) h
 
 -- the allocation at a place, which lives, and what the segment has of it
-pub record Stands (injection : Injection) (s : meaning.State) (memory : Memory) (n : ℕ) (place : Place) : Type 0 where
+pub record Stands (injection : Injection) (s : meaning.State) (memory : Memory) (v : Component) (place : Place) : Type 0 where
   pub allocation : Allocation
-  pub is : allocation_at s.allocations n ≡ Some allocation
+  pub is : allocation_at s.allocations v.allocation ≡ Some allocation
   pub lives : allocation.ended ≡ false
   pub represents : Represents injection memory.segments memory.types place.segment allocation
-  pub type_number : place.type_number ≡ represents.type_number
-  pub holds : HasAt injection allocation.type_value allocation.value (slice_get represents.words) place.offset
+  pub type_value : TypeValue
+  pub leads : part_along (Some (all_of allocation.type_value)) v.path ≡ Some (record { offset = place.offset; type_value = type_value })
+  pub described : Describes memory.types place.type_number type_value
+  pub holds : HasAt injection type_value (value_along allocation.value v.path) (slice_get represents.words) place.offset
+
+-- what is told of an element is of one that is there
+pub mapped_within : {A B : Type 0} (f : A → B) (xs : List A) (i : ℕ) (y : B) → option_map f (slice_get xs i) ≡ Some y
+    → i < length xs
+mapped_within {A = A} f xs i y h = go (slice_get xs i) refl h
+  where
+    go : (o : Option A) → slice_get xs i ≡ o → option_map f o ≡ Some y → i < length xs
+    go None e k = cc
+    go (Some x) e k = slice_get_within xs i x e
 
 -- an allocation that is somewhere has been made
 pub allocated : (injection : Injection) (s : meaning.State) (n segment : ℕ)
@@ -81,37 +92,41 @@ pub allocated : (injection : Injection) (s : meaning.State) (n segment : ℕ)
     → (a : Allocation) × (allocation_at s.allocations n ≡ Some a)
 allocated injection s zero segment made h = absurd h
 allocated injection s (suc n) segment made h =
-    let w : n < length injection = slice_get_within injection n segment h in
+    let w : n < length injection = mapped_within (λ m. m.segment) injection n segment h in
     slice_get-some s.allocations n (omega arith)
 
--- at the place of an allocation that lives stands that allocation
-pub place_stands : {declared : Declarations} {G : Image} {injection : Injection} {s : meaning.State} {memory : Memory} {n : ℕ} {place : Place}
-    → Matches declared G injection s memory → IsPlaceOf injection memory.segments n place
-    → meaning.has_ended n s ≡ false → Stands injection s memory n place
-place_stands {injection = injection} {s = s} {memory = memory} {n = n} {place = place} matches place_of living =
+-- at the place of a variable of an allocation that lives stands that variable
+pub place_stands : {declared : Declarations} {G : Image} {injection : Injection} {s : meaning.State} {memory : Memory} {v : Component} {place : Place}
+    → Matches declared G injection s memory → IsSpot injection memory.types v place
+    → meaning.has_ended v.allocation s ≡ false → Stands injection s memory v place
+place_stands {injection = injection} {s = s} {memory = memory} {v = v} {place = place} matches spot living =
     let injected = matches.injected in
     let store = matches.store in
-    let a = allocated injection s n place.segment injected.made place_of.is_in in
+    let a = allocated injection s v.allocation place.segment injected.made spot.is_in in
     let lives : (a.0).ended ≡ false = sym (ap meaning.ended_in a.1) ∙ living in
-    let r : Represents injection memory.segments memory.types place.segment a.0 = represents_living injection memory.segments memory.types place.segment a.0 lives (store.represented n place.segment a.0 place_of.is_in a.1) in
+    let r : Represents injection memory.segments memory.types place.segment a.0 = represents_living injection memory.segments memory.types place.segment a.0 lives (store.represented v.allocation place.segment a.0 spot.is_in a.1) in
+    let root : (a.0).type_value ≡ spot.root = same_Some (a.0).type_value spot.root (sym (ap type_in a.1) ∙ injected.typed v.allocation spot.root spot.is_of) in
+    let leads : part_along (Some (all_of (a.0).type_value)) v.path ≡ Some (record { offset = place.offset; type_value = spot.type_value }) = ap (λ t. part_along (Some (all_of t)) v.path) root ∙ spot.leads in
     record {
       allocation = a.0;
       is = a.1;
       lives = lives;
       represents = r;
-      type_number = place_of.typed (record { type_number = r.type_number; words = r.words }) r.stands;
-      holds = subst (λ o. HasAt injection (a.0).type_value (a.0).value (slice_get r.words) o) (sym place_of.offset) r.holds;
+      type_value = spot.type_value;
+      leads = leads;
+      described = spot.described;
+      holds = has_along injection (a.0).type_value v.path (a.0).value (slice_get r.words) (record { offset = place.offset; type_value = spot.type_value }) leads r.holds;
     }
 
--- the segment at the place of an allocation that has ended has ended
-pub place_ended : {declared : Declarations} {G : Image} {injection : Injection} {s : meaning.State} {memory : Memory} {n : ℕ} {place : Place}
-    → Matches declared G injection s memory → IsPlaceOf injection memory.segments n place
-    → meaning.has_ended n s ≡ true → slice_get memory.segments place.segment ≡ Some None
-place_ended {injection = injection} {s = s} {memory = memory} {n = n} {place = place} matches place_of ended =
+-- the segment at the place of a variable whose allocation has ended has ended
+pub place_ended : {declared : Declarations} {G : Image} {injection : Injection} {s : meaning.State} {memory : Memory} {v : Component} {place : Place}
+    → Matches declared G injection s memory → IsSpot injection memory.types v place
+    → meaning.has_ended v.allocation s ≡ true → slice_get memory.segments place.segment ≡ Some None
+place_ended {injection = injection} {s = s} {memory = memory} {v = v} {place = place} matches spot ended =
     let injected = matches.injected in
     let store = matches.store in
-    let a = allocated injection s n place.segment injected.made place_of.is_in in
-    represents_ended injection memory.segments memory.types place.segment a.0 (sym (ap meaning.ended_in a.1) ∙ ended) (store.represented n place.segment a.0 place_of.is_in a.1)
+    let a = allocated injection s v.allocation place.segment injected.made spot.is_in in
+    represents_ended injection memory.segments memory.types place.segment a.0 (sym (ap meaning.ended_in a.1) ∙ ended) (store.represented v.allocation place.segment a.0 spot.is_in a.1)
 
 -- a type describes one type value
 pub described-same : (types : TypeTable) (n : ℕ) (t : TypeValue) (low high : ℤ) → Describes types n t
@@ -125,32 +140,32 @@ described-same types n type.Text low high p q =
     let k : text_entry.kind ≡ (ordinal_entry low high).kind = ap (λ (x : TypeEntry). x.kind) e in
     cc
 
--- the allocation of an ordinal type at a place, which lives, and the word that is its value
-pub record StandsOrdinal (injection : Injection) (s : meaning.State) (memory : Memory) (n : ℕ) (place : Place)
+-- the variable of an ordinal type at a place, whose allocation lives, and the word that is its value
+pub record StandsOrdinal (injection : Injection) (s : meaning.State) (memory : Memory) (v : Component) (place : Place)
     (low high : ℤ) : Type 0 where
   pub allocation : Allocation
-  pub is : allocation_at s.allocations n ≡ Some allocation
+  pub is : allocation_at s.allocations v.allocation ≡ Some allocation
   pub lives : allocation.ended ≡ false
   pub represents : Represents injection memory.segments memory.types place.segment allocation
-  pub type_is : allocation.type_value ≡ type.Ordinal low high
-  pub word : OrdinalAt low high allocation.value (slice_get represents.words place.offset)
+  pub leads : part_along (Some (all_of allocation.type_value)) v.path ≡ Some (record { offset = place.offset; type_value = type.Ordinal low high })
+  pub word : OrdinalAt low high (value_along allocation.value v.path) (slice_get represents.words place.offset)
 
-pub ordinal_stands : {declared : Declarations} {G : Image} {injection : Injection} {s : meaning.State} {memory : Memory} {n : ℕ} {place : Place} (low high : ℤ)
-    → Matches declared G injection s memory → IsPlaceOf injection memory.segments n place
+pub ordinal_stands : {declared : Declarations} {G : Image} {injection : Injection} {s : meaning.State} {memory : Memory} {v : Component} {place : Place} (low high : ℤ)
+    → Matches declared G injection s memory → IsSpot injection memory.types v place
     → Describes memory.types place.type_number (type.Ordinal low high)
-    → meaning.has_ended n s ≡ false → StandsOrdinal injection s memory n place low high
-ordinal_stands {injection = injection} {s = s} {memory = memory} {n = n} {place = place} low high matches place_of described living =
-    let x : Stands injection s memory n place = place_stands matches place_of living in
+    → meaning.has_ended v.allocation s ≡ false → StandsOrdinal injection s memory v place low high
+ordinal_stands {injection = injection} {s = s} {memory = memory} {v = v} {place = place} low high matches spot described living =
+    let x : Stands injection s memory v place = place_stands matches spot living in
     let a : Allocation = x.allocation in
     let r : Represents injection memory.segments memory.types place.segment a = x.represents in
-    let its_type : a.type_value ≡ type.Ordinal low high = described-same memory.types r.type_number a.type_value low high r.described (subst (λ k. Describes memory.types k (type.Ordinal low high)) x.type_number described) in
+    let its_type : x.type_value ≡ type.Ordinal low high = described-same memory.types place.type_number x.type_value low high x.described described in
     record {
       allocation = a;
       is = x.is;
       lives = x.lives;
       represents = r;
-      type_is = its_type;
-      word = subst (λ t. HasAt injection t a.value (slice_get r.words) place.offset) its_type x.holds;
+      leads = subst (λ t. part_along (Some (all_of a.type_value)) v.path ≡ Some (record { offset = place.offset; type_value = t })) its_type x.leads;
+      word = subst (λ t. HasAt injection t (value_along a.value v.path) (slice_get r.words) place.offset) its_type x.holds;
     }
 
 -- ---- values of types
@@ -174,11 +189,6 @@ both false b h = cc
 pub one_type : {types : List UnitType} {d : Denoter} {t u : TypeValue} → IsInstance types d t
     → IsInstance types d u → t ≡ u
 one_type {types = types} {d = d} {t = t} {u = u} p q = instances_are_one types d t u p q
-
--- the type value of a valid denoter is one of its host
-pub instance_valid : {types : List UnitType} {d : Denoter} (valid : IsDenoter types d) (t : TypeValue)
-    → IsInstance types d t → IsTypeOf valid.host t
-instance_valid {types = types} {d = d} valid t h = subst (λ u. IsTypeOf valid.host u) (one_type (types_are_instances types d valid.type_value valid.has_type) h) valid.is_type
 
 -- a value of a type is one of its host
 pub within_host : (h : Host) (low high w : ℤ) → IsTypeOf h (type.Ordinal low high)

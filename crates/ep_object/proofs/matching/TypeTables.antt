@@ -6,7 +6,7 @@ use Rattle.std.proofs.lemmas.Option.{slice_get-get_or}
 use Rattle.std.proofs.lemmas.List.Quantifiers.{position-Some}
 use Rattle.std.proofs.lemmas.Bool.Decides.{nat_tests}
 use Rattle.std.proofs.lemmas.Int.{ints}
-use Rattle.ep_object.specs.Matching.{Memory, Injection, Describes, MatchesTypes, IsRepresentedWhere, MatchesStore, MatchesUnits, MatchesCounts, Matches, Slots, Grown}
+use Rattle.ep_object.specs.Matching.{Memory, Injection, Describes, MatchesSlot, MatchesTypes, IsRepresentedWhere, MatchesStore, MatchesUnits, MatchesCounts, Matches, Slots, Grown}
 use Rattle.ep_object.specs.Runs.{after}
 use Rattle.ep_object.specs.State.{Segments, TypeTable, integer_entry, char_entry, boolean_entry, text_entry, pointer_entry, first_types}
 use Rattle.ep_object.specs.Types.{is_ordinal, ordinal_number, ordinal_entry, size_of_kind}
@@ -18,7 +18,7 @@ use Rattle.ep_object.proofs.matching.Growing.{slice_get-prefix, grown_refl}
 use Rattle.ep_object.proofs.matching.Elements.{slice_get-push, slice_get-pushed}
 use Rattle.ep_typed.specs.Steps.{Resources, held, words_of_type, met, watched, same_type}
 use Rattle.ep_typed.specs.Steps as meaning
-use Rattle.ep_typed.specs.Steps.{Allocation}
+use Rattle.ep_typed.specs.Steps.{Component, Allocation}
 use Rattle.ep_typed.specs.Valid.{Declarations}
 use Rattle.ep_outside.specs.Known.{IsPrefix}
 use Rattle.ep_object.specs.declared.code.Image.{Image}
@@ -279,11 +279,20 @@ matches_store-types {injection = injection} {segments = segments} {types = types
     go segment a true stands = stands
     go segment a false r = record { type_number = r.type_number; words = r.words; stands = r.stands; described = described-longer types longer r.type_number a.type_value prefix r.described; sized = r.sized; holds = r.holds }
 
--- and so do the units
-pub matches_units-types : {declared : Declarations} {G : Image} {injection : Injection} {allocations : List Allocation} {variables : List ℕ → ℕ → Option ℕ} {units : List (List (Option Place))} {segments : Segments} {types longer : TypeTable}
-    → IsPrefix types longer → MatchesUnits declared G injection allocations variables units segments types
-    → MatchesUnits declared G injection allocations variables units segments longer
-matches_units-types {types = types} {longer = longer} prefix m =
+-- and so does a slot
+slot-types : (injection : Injection) {types longer : TypeTable} → IsPrefix types longer → (o : Option Component) (slot : Option Place)
+    → MatchesSlot injection types o slot → MatchesSlot injection longer o slot
+slot-types injection prefix None None h = tt
+slot-types injection prefix None (Some p) h = h
+slot-types injection prefix (Some c) None h = h
+slot-types injection {types = types} {longer = longer} prefix (Some c) (Some p) h =
+    record { is_in = h.is_in; root = h.root; is_of = h.is_of; type_value = h.type_value; leads = h.leads; described = described-longer types longer p.type_number h.type_value prefix h.described }
+
+-- and the units
+pub matches_units-types : {declared : Declarations} {G : Image} {injection : Injection} {allocations : List Allocation} {variables : List ℕ → ℕ → Option Component} {units : List (List (Option Place))} {types longer : TypeTable}
+    → IsPrefix types longer → MatchesUnits declared G injection allocations variables units types
+    → MatchesUnits declared G injection allocations variables units longer
+matches_units-types {injection = injection} {variables = variables} {types = types} {longer = longer} prefix m =
     record {
       frames = λ unit u there.
           let f = m.frames unit u there in
@@ -291,7 +300,7 @@ matches_units-types {types = types} {longer = longer} prefix m =
             slots = f.slots;
             is = f.is;
             count = f.count;
-            matches = f.matches;
+            matches = λ k v slot is_declared at_k. slot-types injection prefix (variables u.name k) slot (f.matches k v slot is_declared at_k);
             described = λ k v place t is_declared at_k has_type. described-longer types longer place.type_number t prefix (f.described k v place t is_declared at_k has_type);
           };
       typed = m.typed;

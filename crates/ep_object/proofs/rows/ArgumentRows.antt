@@ -7,7 +7,7 @@ use native.Mathlib.Decide.{ℕ_discrete}
 use Rattle.ep_object.specs.Activations.{OwnSlot, AreMade, InActivation}
 use Rattle.ep_object.specs.Calls.{argument_at}
 use Rattle.ep_object.specs.Follows.{Facts, After, point, Follows, Fragment, Lasts, IsSameCall, IsStillCall, StillRuns, IsNotLeft, Lands}
-use Rattle.ep_object.specs.Matching.{Memory, at, Injection, IsIn, IsRepresentedWhere, IsPlaceOf, Describes, Slots, own_slot, slot_of_frame, MatchesSlot, HasOwnType, Matches, Grown}
+use Rattle.ep_object.specs.Matching.{Memory, at, Injection, IsIn, IsRepresentedWhere, IsSpot, Describes, Slots, own_slot, slot_of_frame, MatchesSlot, HasOwnType, Matches, Grown}
 use Rattle.ep_object.specs.Operands.{Operand, Word, weight}
 use Rattle.ep_object.specs.Operands as operand
 use Rattle.ep_object.specs.Frames.{slots_over}
@@ -30,7 +30,7 @@ use Rattle.ep_object.proofs.rows.FrameRows.{own_slots, slot_pushes}
 use Rattle.ep_object.proofs.rows.Rows.{instr, in_one, outcome_at}
 use Rattle.ep_typed.specs.Events.{Trace}
 use Rattle.ep_typed.specs.Meaning.{initialized}
-use Rattle.ep_typed.specs.Steps.{Call, named_in, Allocation, Computation, spend, change, stop, own_in, own_variable, bound_own, own_bound_in, with_own_bound, newest_assigned, is_within, type_at, has_ended, ended_in, allocation_at}
+use Rattle.ep_typed.specs.Steps.{Component, whole, Call, named_in, Allocation, Computation, spend, change, stop, own_in, own_variable, bound_own, own_bound_in, with_own_bound, newest_assigned, is_within, is_among, type_at, has_ended, ended_in, allocation_at}
 use Rattle.ep_typed.specs.Steps as meaning
 use Rattle.ep_typed.specs.Valid.{Declarations, variables_up}
 use Rattle.ep_typed.specs.declared.unit.UnitVariable.{UnitVariable}
@@ -126,11 +126,11 @@ module _ (declared : Declarations) (G : Image) (untouched : Slots) (first : Inje
       outcome_at G (instr op.BIND (pos k) 0 line) place (operand.Place p ∷ below) memory trace has ∙ rw (frames, lt-ltb k (length frame.slots) within) refl
 
   -- the variable of the routine is the allocation at the place
-  knows_bound : (s : meaning.State) (n : ℕ) (p : Place) (t : TypeValue) → InActivation declared untouched first start injection s memory → k < length frame.slots
-      → IsPlaceOf injection memory.segments n p → Describes memory.types p.type_number t
+  knows_bound : (s : meaning.State) (n : Component) (p : Place) (t : TypeValue) → InActivation declared untouched first start injection s memory → k < length frame.slots
+      → IsSpot injection memory.types n p → Describes memory.types p.type_number t
       → ((v : UnitVariable) → slice_get (variables_up declared 0) k ≡ Some v → HasOwnType declared v t)
       → InActivation declared untouched first start injection (with_own_bound k n s) (with_innermost (with_slot k p frame) others memory)
-  knows_bound s n p t h within place_of described declared_so =
+  knows_bound s n p t h within spot described declared_so =
       let same : h.frame ∷ h.below ≡ frame ∷ others = sym h.frames ∙ frames in
       record {
         grown = grown_trans h.grown (grown_innermost injection memory (with_slot k p frame) others);
@@ -153,7 +153,7 @@ module _ (declared : Declarations) (G : Image) (untouched : Slots) (first : Inje
       first_of : {x y : Frame} {xs ys : List Frame} → x ∷ xs ≡ y ∷ ys → x ≡ y
       first_of e = cc
 
-      bound_to : (i : ℕ) (o : Option ℕ) → bound_own k n (h.call).variables i ≡ o → own_variable 0 i (with_own_bound k n s) ≡ o
+      bound_to : (i : ℕ) (o : Option Component) → bound_own k n (h.call).variables i ≡ o → own_variable 0 i (with_own_bound k n s) ≡ o
       bound_to i o e = ap (λ cs. own_in (own_bound_in k n cs) 0 i) h.calls ∙ e
 
       same_slot : (j : ℕ) (v : UnitVariable) → slice_get (variables_up declared 0) j ≡ Some v → k ≡ j → OwnSlot declared injection (with_own_bound k n s) later j v
@@ -163,7 +163,7 @@ module _ (declared : Declarations) (G : Image) (untouched : Slots) (first : Inje
           (record {
             slot = Some p;
             is = slice_get-set-same frame.slots k (Some p) old.0 old.1;
-            matches = subst (λ o. MatchesSlot injection memory.segments o (Some p)) (sym (bound_to k (Some n) (bound_own-same k n (h.call).variables))) place_of;
+            matches = subst (λ o. MatchesSlot injection memory.types o (Some p)) (sym (bound_to k (Some n) (bound_own-same k n (h.call).variables))) spot;
             described = λ q u q_is has_type.
                 let its : t ≡ u = one_type (declared_so v (subst (λ i. slice_get (variables_up declared 0) i ≡ Some v) (sym e) is)) has_type in
                 subst (λ (x : Place). Describes memory.types x.type_number u) (same_Some p q q_is) (subst (λ u. Describes memory.types p.type_number u) its described);
@@ -176,7 +176,7 @@ module _ (declared : Declarations) (G : Image) (untouched : Slots) (first : Inje
           record {
             slot = old.slot;
             is = slice_get-set-other frame.slots k j (Some p) e ∙ in_frame;
-            matches = subst (λ o. MatchesSlot injection memory.segments o old.slot) variable old.matches;
+            matches = subst (λ o. MatchesSlot injection memory.types o old.slot) variable old.matches;
             described = old.described;
           }
 
@@ -232,12 +232,12 @@ module _ (declared : Declarations) (G : Image) (untouched : Slots) (first : Inje
       )) lighter_runs le next
 
   -- a variable of the caller, by `Bind`
-  pub variable_taken : (n m d : ℕ) (p : Place) (t : TypeValue) (v : UnitVariable)
+  pub variable_taken : (n : ℕ) (m : Component) (d : ℕ) (p : Place) (t : TypeValue) (v : UnitVariable)
       → slice_get G.instructions place ≡ Some (instr op.ARG (pos k) 0 line) → slice_get G.instructions (place + 1) ≡ Some (instr op.BIND (pos k) 0 line)
-      → argument_at frame.arguments k ≡ Some (operand.Place p) → IsPlaceOf injection memory.segments m p → Describes memory.types p.type_number t
+      → argument_at frame.arguments k ≡ Some (operand.Place p) → IsSpot injection memory.types m p → Describes memory.types p.type_number t
       → slice_get (variables_up declared 0) k ≡ Some v → ((w : UnitVariable) → slice_get (variables_up declared 0) k ≡ Some w → HasOwnType declared w t) → 2 ≤ d
       → Fragment declared G Here (suc n) (point injection memory place below) (spend 1 (change (with_own_bound k m))) (place + 1 + 1) (λ a. Taken untouched injection memory left below) d (λ a. d)
-  variable_taken n m d p t v has_arg has_bind there place_of described is_declared declared_so enough =
+  variable_taken n m d p t v has_arg has_bind there spot described is_declared declared_so enough =
       arg_moves {d1 = d - 1} below (operand.Place p) has_arg there refl (omega (arith, enough)) (record { by = λ s matches here. bound s matches here })
     where
       final : Memory
@@ -260,7 +260,7 @@ module _ (declared : Declarations) (G : Image) (untouched : Slots) (first : Inje
             operands = below;
             is = refl;
             matches = (let h = matches in record { injected = h.injected; store = h.store; types = h.types; units = h.units; outside = h.outside; counts = h.counts; depth = subst (λ cs. suc (length others) ≤ length (own_bound_in k m cs)) (sym here.calls) (omega (arith, h.depth, ap length here.calls)) });
-            here = knows_bound declared G untouched first start (place + 1) line k below injection lighter (taken_from k frame) others refl s m p t here inside place_of described declared_so;
+            here = knows_bound declared G untouched first start (place + 1) line k below injection lighter (taken_from k frame) others refl s m p t here inside spot described declared_so;
             post = record { grown = grown_trans (grown_innermost injection memory (taken_from k frame) others) (grown_innermost injection lighter (with_slot k p (taken_from k frame)) others); runs = still_runs-trans lighter_runs final_runs; left_are = refl; operands_are = refl };
           }))
 
@@ -269,28 +269,28 @@ module _ (declared : Declarations) (G : Image) (untouched : Slots) (first : Inje
       → slice_get G.instructions (place - 1) ≡ Some (instr op.SLOT (pos k) 0 line) → 1 ≤ place
       → slice_get G.instructions place ≡ Some (instr op.ARG (pos k) 0 line) → slice_get G.instructions (place + 1) ≡ Some (instr op.STORE (pos 0) 0 line)
       → argument_at frame.arguments k ≡ Some (Word z) → own_slot memory.frames k ≡ Some (Some p)
-      → IsPlaceOf injection memory.segments (length injection) p → slice_get memory.segments p.segment ≡ Some (Some (new_segment number)) → Describes memory.types p.type_number (type.Ordinal low high) → 3 ≤ d
+      → IsSpot injection memory.types (whole (length injection)) p → slice_get memory.segments p.segment ≡ Some (Some (new_segment number)) → Describes memory.types p.type_number (type.Ordinal low high) → 3 ≤ d
       → Fragment declared G Here n (point injection memory (place - 1) below) (initialized unit line (type.Ordinal low high) z) (place + 1 + 1) (λ a. Taken untouched injection memory left below) d (λ a. d - 3)
-  value_taken n d low high z number p has_slot later has_arg has_store there slot place_of stands described enough =
+  value_taken n d low high z number p has_slot later has_arg has_store there slot spot stands described enough =
       fragment_waits {d1 = d - 1} (λ s matches. slot_pushes G (place - 1) line k 0 below frame.slots memory s.trace has_slot (own_slots memory frame others frames) p (sym (ap (λ cs. slot_of_frame (slots_over cs None) k) frames) ∙ slot)) (omega (arith, enough))
       (fragment_from {place = place} (omega (arith, later)) (arg_moves {d1 = d - 2} (operand.Place p ∷ below) (Word z) has_arg there refl (omega (arith, enough)) (stored (is_within (type.Ordinal low high) z) refl)))
     where
       at_store : List Operand
       at_store = Word z ∷ operand.Place p ∷ below
 
-      newest_of : (s : meaning.State) → Matches declared G injection s lighter → IsPlaceOf injection lighter.segments (length s.allocations) p
-      newest_of s h = let injected = h.injected in subst (λ m. IsPlaceOf injection memory.segments m p) injected.made place_of
+      newest_of : (s : meaning.State) → Matches declared G injection s lighter → IsSpot injection lighter.types (whole (length s.allocations)) p
+      newest_of s h = let injected = h.injected in subst (λ m. IsSpot injection memory.types (whole m) p) injected.made spot
 
       living : (s : meaning.State) → Matches declared G injection s lighter → has_ended (length s.allocations) s ≡ false
       living s h = let q = newest_of s h in lives_where (length s.allocations) p.segment (new_segment number) h q.is_in stands
 
-      its_type : (s : meaning.State) → Matches declared G injection s lighter → type_at (length s.allocations) s ≡ type.Ordinal low high
-      its_type s h = type_is declared G (place + 1) line below low high z (length s.allocations) p has_store injection lighter (newest_of s h) described s h (living s h)
+      its_type : (s : meaning.State) → Matches declared G injection s lighter → type_at (whole (length s.allocations)) s ≡ Some (type.Ordinal low high)
+      its_type s h = type_is declared G (place + 1) line below low high z (whole (length s.allocations)) p has_store injection lighter (newest_of s h) described s h (living s h)
 
       given : (s : meaning.State) → Matches declared G injection s lighter → Here injection s lighter → is_within (type.Ordinal low high) z ≡ true
           → Follows (λ j. IsNotLeft lighter.frames j.frames) G n (at (place + 1) at_store lighter s.trace) s (change (newest_assigned (meaning.Word z))) (λ a. Lands declared G Here (place + 1 + 1) (Taken untouched injection memory left below)) (d - 2) (λ a. d - 3)
       given s h here e =
-          let does = store_does declared G (place + 1) line below low high z (length s.allocations) p has_store injection lighter (newest_of s h) described s h (living s h) lasts here (ap (λ t. is_within t z) (its_type s h) ∙ e) in
+          let does = store_does declared G (place + 1) line below low high z (whole (length s.allocations)) p has_store injection lighter (newest_of s h) described s h (living s h) lasts here (ap (λ t. is_among t z) (its_type s h) ∙ e) in
           let inside = does.post in
           let routine = inside.routine in
           follows_credit {d = 1 + (d - 3)} {e = λ a. d - 3} (omega (arith, enough)) (λ a. omega (arith, enough)) (follows_waits (not_left-here lighter.frames) does.does
@@ -307,7 +307,7 @@ module _ (declared : Declarations) (G : Image) (untouched : Slots) (first : Inje
       refused : (s : meaning.State) → Matches declared G injection s lighter → is_within (type.Ordinal low high) z ≡ false
           → Follows (λ j. IsNotLeft lighter.frames j.frames) G n (at (place + 1) at_store lighter s.trace) s (stop {A = Unit {0}} (meaning.Error run_error.OUTSIDE_TYPE unit line)) (λ a. Lands declared G Here (place + 1 + 1) (Taken untouched injection memory left below)) (d - 2) (λ a. d - 3)
       refused s h e =
-          let fails = store_fails declared G (place + 1) line below low high z (length s.allocations) p has_store injection lighter (newest_of s h) described s h (living s h) (ap (λ t. is_within t z) (its_type s h) ∙ e) in
+          let fails = store_fails declared G (place + 1) line below low high z (whole (length s.allocations)) p has_store injection lighter (newest_of s h) described s h (living s h) (ap (λ t. is_among t z) (its_type s h) ∙ e) in
           follows_stop (not_left-here lighter.frames) (subst (λ u. outcome G (at (place + 1) at_store lighter s.trace) ≡ in_one (Stopped (Error run_error.OUTSIDE_TYPE u line) s.trace)) lighter_home fails.fails) (omega (arith, enough))
 
       stored : (b : Bool) → is_within (type.Ordinal low high) z ≡ b

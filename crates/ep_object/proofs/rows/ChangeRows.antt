@@ -1,7 +1,7 @@
 -- What the rows lead to that change variables and that write, where the machine matches.
-use Rattle.std.proofs.Common.{◌≡◌, ℕ, ℤ, pos, ◌+◌, Bool, true, false, cond, List, ◌∷◌, ◌++◌, length, Some, slice_get, slice_set, refl, sym, ap, ◌∙◌, subst}
+use Rattle.std.proofs.Common.{◌≡◌, ℕ, ℤ, pos, ◌+◌, Bool, true, false, cond, List, ◌∷◌, ◌++◌, length, Some, slice_get, slice_set, refl, sym, ap, ◌∙◌}
 use Rattle.ep_object.specs.Follows.{Facts, Lasts, Bare, Inside}
-use Rattle.ep_object.specs.Matching.{Memory, at, Injection, IsPlaceOf, Describes, OrdinalAt, HasAt, Represents, Matches, Slots}
+use Rattle.ep_object.specs.Matching.{Memory, at, Injection, IsSpot, Describes, HasAt, Represents, Matches, Slots}
 use Rattle.ep_object.specs.Operands.{Operand, Word, Text}
 use Rattle.ep_object.specs.Operands as operand
 use Rattle.ep_object.specs.Runs.{outcome, unit_in}
@@ -16,23 +16,16 @@ use Rattle.ep_object.proofs.following.Fragments.{Does, FailsWith}
 use Rattle.ep_object.proofs.matching.Growing.{slice_get-prefix, grown_refl, same_routine-refl, inside_here}
 use Rattle.ep_object.proofs.rows.Rows.{instr, in_one, outcome_at}
 use Rattle.ep_object.proofs.matching.Standing.{StandsOrdinal, ordinal_stands, allocated, place_ended, represents_living}
-use Rattle.ep_object.proofs.matching.Words.{first_word, ordinal_word, ordinal-stored, ordinal-undefined}
+use Rattle.ep_object.proofs.matching.Words.{first_word, has_with, type_is-along, ordinal_word, ordinal-stored, ordinal-undefined}
 use Rattle.ep_object.proofs.rows.TextRows.{written-same}
 use Rattle.ep_typed.specs.Events.{Trace}
 use Rattle.ep_typed.specs.Printing.{piece_events}
-use Rattle.ep_typed.specs.Steps.{Value, Undefined, Allocation, type_in, type_at, ended_in, has_ended, is_within, assigned, with_events}
+use Rattle.ep_typed.specs.Steps.{Component, Value, Undefined, Allocation, value_along, value_with, type_along, is_among, type_in, type_at, ended_in, has_ended, is_within, assigned, with_events}
 use Rattle.ep_typed.specs.Steps as meaning
 use Rattle.ep_typed.specs.Valid.{Declarations}
-use Rattle.ep_typed.specs.declared.value.TypeValue.{TypeValue}
 use Rattle.ep_typed.specs.declared.value.TypeValue.TheVariants as type
 use Rattle.ep_object.specs.declared.op.TheConstants as op
 use Rattle.ep_typed.specs.declared.run_error.TheConstants as run_error
-
--- what the words hold from the offset of a whole variable on, they hold as a whole
-of_whole : (injection : Injection) {t : TypeValue} (low high : ℤ) (value : Value) (words : List ℤ) (offset : ℕ) → t ≡ type.Ordinal low high
-    → offset ≡ 0 → OrdinalAt low high value (slice_get words offset) → HasAt injection t value (slice_get words) 0
-of_whole injection low high value words offset its_type first h =
-    subst (λ u. HasAt injection u value (slice_get words) 0) (sym its_type) (subst (λ o. OrdinalAt low high value (slice_get words o)) first h)
 
 module _ (declared : Declarations) (G : Image) (place line : ℕ) (below : List Operand) where
   -- `Put` of a text to `output`
@@ -78,48 +71,48 @@ module _ (declared : Declarations) (G : Image) (place line : ℕ) (below : List 
       outcome_at G (instr op.STORE (pos 0) 0 line) place (Word z ∷ operand.Place p ∷ below) memory trace has ∙ rw (typed, stands, there, within) refl
 
   -- `Store` of a word in a variable that has ended
-  pub store_fails_ended : (low high z : ℤ) (n : ℕ) (p : Place)
+  pub store_fails_ended : (low high z : ℤ) (v : Component) (p : Place)
       → slice_get G.instructions place ≡ Some (instr op.STORE (pos 0) 0 line)
-      → (injection : Injection) (memory : Memory) → IsPlaceOf injection memory.segments n p
+      → (injection : Injection) (memory : Memory) → IsSpot injection memory.types v p
       → Describes memory.types p.type_number (type.Ordinal low high) → (s : meaning.State)
-      → Matches declared G injection s memory → has_ended n s ≡ true
+      → Matches declared G injection s memory → has_ended v.allocation s ≡ true
       → FailsWith G (at place (Word z ∷ operand.Place p ∷ below) memory s.trace) 0 11 (unit_in G memory.frames) line s
-  store_fails_ended low high z n p has injection memory place_of described s matches ended =
-      record { fails = outcome_at G (instr op.STORE (pos 0) 0 line) place (Word z ∷ operand.Place p ∷ below) memory s.trace has ∙ rw (described, place_ended matches place_of ended) refl }
+  store_fails_ended low high z v p has injection memory spot described s matches ended =
+      record { fails = outcome_at G (instr op.STORE (pos 0) 0 line) place (Word z ∷ operand.Place p ∷ below) memory s.trace has ∙ rw (described, place_ended matches spot ended) refl }
 
-  module _ (low high z : ℤ) (n : ℕ) (p : Place) (has : slice_get G.instructions place ≡ Some (instr op.STORE (pos 0) 0 line)) (injection : Injection) (memory : Memory) (place_of : IsPlaceOf injection memory.segments n p) (described : Describes memory.types p.type_number (type.Ordinal low high)) (s : meaning.State) (matches : Matches declared G injection s memory) (living : has_ended n s ≡ false) where
-    here : StandsOrdinal injection s memory n p low high
-    here = ordinal_stands low high matches place_of described living
+  module _ (low high z : ℤ) (v : Component) (p : Place) (has : slice_get G.instructions place ≡ Some (instr op.STORE (pos 0) 0 line)) (injection : Injection) (memory : Memory) (spot : IsSpot injection memory.types v p) (described : Describes memory.types p.type_number (type.Ordinal low high)) (s : meaning.State) (matches : Matches declared G injection s memory) (living : has_ended v.allocation s ≡ false) where
+    here : StandsOrdinal injection s memory v p low high
+    here = ordinal_stands low high matches spot described living
 
-    pub type_is : type_at n s ≡ type.Ordinal low high
-    type_is = ap type_in here.is ∙ here.type_is
+    pub type_is : type_at v s ≡ Some (type.Ordinal low high)
+    type_is = ap (λ o. type_along (type_in o) v.path) here.is ∙ type_is-along (here.allocation).type_value v.path (record { offset = p.offset; type_value = type.Ordinal low high }) here.leads
 
     pub store_does : {untouched : Slots} {Here : Facts} → Lasts untouched Here → Here injection s memory
-        → is_within (type_at n s) z ≡ true
-        → Does declared G Here (at place (Word z ∷ operand.Place p ∷ below) memory s.trace) 0 (place + 1) (Inside untouched injection memory (Bare below tt)) (assigned n (meaning.Word z) s)
+        → is_among (type_at v s) z ≡ true
+        → Does declared G Here (at place (Word z ∷ operand.Place p ∷ below) memory s.trace) 0 (place + 1) (Inside untouched injection memory (Bare below tt)) (assigned v (meaning.Word z) s)
     store_does {untouched = untouched} lasts known within =
         let a : Allocation = here.allocation in
         let r : Represents injection memory.segments memory.types p.segment a = here.represents in
-        let inside : is_within (type.Ordinal low high) z ≡ true = ap (λ t. is_within t z) (sym type_is) ∙ within in
+        let inside : is_within (type.Ordinal low high) z ≡ true = ap (λ t. is_among t z) (sym type_is) ∙ within in
         let words : List ℤ = slice_set r.words p.offset z in
-        let old = ordinal_word a.value here.word in
-        let holds : HasAt injection a.type_value (meaning.Word z) (slice_get words) 0 = of_whole injection low high (meaning.Word z) words p.offset here.type_is place_of.offset (ordinal-stored z a.value r.words p.offset here.word inside) in
+        let old = ordinal_word (value_along a.value v.path) here.word in
+        let holds : HasAt injection a.type_value (value_with a.value v.path (meaning.Word z)) (slice_get words) 0 = has_with injection a.type_value v.path a.value (meaning.Word z) (slice_get r.words) (slice_get words) (record { offset = p.offset; type_value = type.Ordinal low high }) here.leads r.holds (ordinal-stored z (value_along a.value v.path) r.words p.offset here.word inside) in
         record {
           injection = injection;
           memory = storing memory p.segment r.type_number words;
           operands = below;
           does = store_outcome memory s.trace p low high z r.type_number r.words old.0 true has described r.stands old.1 inside;
-          matches = matches_assigned matches n p.segment a place_of.is_in here.is here.lives r words (meaning.Word z) (length-set r.words p.offset z) holds;
-          here = lasts.by injection injection s (assigned n (meaning.Word z) s) memory (storing memory p.segment r.type_number words) (record { grown = grown_storing matches n p.segment a place_of.is_in here.is here.lives r words; routine = same_routine-refl memory.frames; calls = refl }) known;
-          post = record { grown = grown_storing matches n p.segment a place_of.is_in here.is here.lives r words; routine = same_routine-refl memory.frames; operands_are = refl };
+          matches = matches_assigned matches v.allocation p.segment a spot.is_in here.is here.lives r words v.path (meaning.Word z) (length-set r.words p.offset z) holds;
+          here = lasts.by injection injection s (assigned v (meaning.Word z) s) memory (storing memory p.segment r.type_number words) (record { grown = grown_storing matches v.allocation p.segment a spot.is_in here.is here.lives r words; routine = same_routine-refl memory.frames; calls = refl }) known;
+          post = record { grown = grown_storing matches v.allocation p.segment a spot.is_in here.is here.lives r words; routine = same_routine-refl memory.frames; operands_are = refl };
         }
 
-    pub store_fails : is_within (type_at n s) z ≡ false
+    pub store_fails : is_among (type_at v s) z ≡ false
         → FailsWith G (at place (Word z ∷ operand.Place p ∷ below) memory s.trace) 0 2 (unit_in G memory.frames) line s
     store_fails within =
         let r : Represents injection memory.segments memory.types p.segment here.allocation = here.represents in
-        let outside : is_within (type.Ordinal low high) z ≡ false = ap (λ t. is_within t z) (sym type_is) ∙ within in
-        let old = ordinal_word here.allocation.value here.word in
+        let outside : is_within (type.Ordinal low high) z ≡ false = ap (λ t. is_among t z) (sym type_is) ∙ within in
+        let old = ordinal_word (value_along (here.allocation).value v.path) here.word in
         record { fails = store_outcome memory s.trace p low high z r.type_number r.words old.0 false has described r.stands old.1 outside }
 
   -- `Undefine` of a variable of an ordinal type
@@ -133,36 +126,36 @@ module _ (declared : Declarations) (G : Image) (place line : ℕ) (below : List 
       outcome_at G (instr op.UNDEFINE (pos 0) 0 line) place (operand.Place p ∷ below) memory trace has ∙ rw (typed, stands, there) refl
 
   -- `Undefine` of a variable that has ended
-  pub undefine_fails_ended : (low high : ℤ) (n : ℕ) (p : Place)
+  pub undefine_fails_ended : (low high : ℤ) (v : Component) (p : Place)
       → slice_get G.instructions place ≡ Some (instr op.UNDEFINE (pos 0) 0 line)
-      → (injection : Injection) (memory : Memory) → IsPlaceOf injection memory.segments n p
+      → (injection : Injection) (memory : Memory) → IsSpot injection memory.types v p
       → Describes memory.types p.type_number (type.Ordinal low high) → (s : meaning.State)
-      → Matches declared G injection s memory → has_ended n s ≡ true
+      → Matches declared G injection s memory → has_ended v.allocation s ≡ true
       → FailsWith G (at place (operand.Place p ∷ below) memory s.trace) 1 11 (unit_in G memory.frames) line s
-  undefine_fails_ended low high n p has injection memory place_of described s matches ended =
-      record { fails = outcome_at G (instr op.UNDEFINE (pos 0) 0 line) place (operand.Place p ∷ below) memory s.trace has ∙ rw (described, place_ended matches place_of ended) refl }
+  undefine_fails_ended low high v p has injection memory spot described s matches ended =
+      record { fails = outcome_at G (instr op.UNDEFINE (pos 0) 0 line) place (operand.Place p ∷ below) memory s.trace has ∙ rw (described, place_ended matches spot ended) refl }
 
   -- it is undefined then on both sides
-  pub undefine_does : {untouched : Slots} {Here : Facts} (low high : ℤ) (n : ℕ) (p : Place)
+  pub undefine_does : {untouched : Slots} {Here : Facts} (low high : ℤ) (v : Component) (p : Place)
       → slice_get G.instructions place ≡ Some (instr op.UNDEFINE (pos 0) 0 line)
-      → (injection : Injection) (memory : Memory) → IsPlaceOf injection memory.segments n p
+      → (injection : Injection) (memory : Memory) → IsSpot injection memory.types v p
       → Describes memory.types p.type_number (type.Ordinal low high) → (s : meaning.State)
-      → Matches declared G injection s memory → has_ended n s ≡ false
+      → Matches declared G injection s memory → has_ended v.allocation s ≡ false
       → Lasts untouched Here → Here injection s memory
-      → Does declared G Here (at place (operand.Place p ∷ below) memory s.trace) 1 (place + 1) (Inside untouched injection memory (Bare below tt)) (assigned n Undefined s)
-  undefine_does low high n p has injection memory place_of described s matches living lasts known =
-      let x : StandsOrdinal injection s memory n p low high = ordinal_stands low high matches place_of described living in
+      → Does declared G Here (at place (operand.Place p ∷ below) memory s.trace) 1 (place + 1) (Inside untouched injection memory (Bare below tt)) (assigned v Undefined s)
+  undefine_does low high v p has injection memory spot described s matches living lasts known =
+      let x : StandsOrdinal injection s memory v p low high = ordinal_stands low high matches spot described living in
       let a : Allocation = x.allocation in
       let r : Represents injection memory.segments memory.types p.segment a = x.represents in
       let words : List ℤ = slice_set r.words p.offset undefined in
-      let old = ordinal_word a.value x.word in
-      let holds : HasAt injection a.type_value Undefined (slice_get words) 0 = of_whole injection low high Undefined words p.offset x.type_is place_of.offset (ordinal-undefined a.value r.words p.offset x.word) in
+      let old = ordinal_word (value_along a.value v.path) x.word in
+      let holds : HasAt injection a.type_value (value_with a.value v.path Undefined) (slice_get words) 0 = has_with injection a.type_value v.path a.value Undefined (slice_get r.words) (slice_get words) (record { offset = p.offset; type_value = type.Ordinal low high }) x.leads r.holds (ordinal-undefined (value_along a.value v.path) r.words p.offset x.word) in
       record {
         injection = injection;
         memory = storing memory p.segment r.type_number words;
         operands = below;
         does = undefine_outcome memory s.trace p low high r.type_number r.words old.0 has described r.stands old.1;
-        matches = matches_assigned matches n p.segment a place_of.is_in x.is x.lives r words Undefined (length-set r.words p.offset undefined) holds;
-        here = lasts.by injection injection s (assigned n Undefined s) memory (storing memory p.segment r.type_number words) (record { grown = grown_storing matches n p.segment a place_of.is_in x.is x.lives r words; routine = same_routine-refl memory.frames; calls = refl }) known;
-        post = record { grown = grown_storing matches n p.segment a place_of.is_in x.is x.lives r words; routine = same_routine-refl memory.frames; operands_are = refl };
+        matches = matches_assigned matches v.allocation p.segment a spot.is_in x.is x.lives r words v.path Undefined (length-set r.words p.offset undefined) holds;
+        here = lasts.by injection injection s (assigned v Undefined s) memory (storing memory p.segment r.type_number words) (record { grown = grown_storing matches v.allocation p.segment a spot.is_in x.is x.lives r words; routine = same_routine-refl memory.frames; calls = refl }) known;
+        post = record { grown = grown_storing matches v.allocation p.segment a spot.is_in x.is x.lives r words; routine = same_routine-refl memory.frames; operands_are = refl };
       }

@@ -1,5 +1,5 @@
 -- What `Make` leads to: the machine goes on matching, or ends for want of storage where room was lost.
-use Rattle.std.proofs.Common.{leb, cond, ◌≡◌, ℕ, ℤ, pos, ◌+◌, ◌<◌, ◌⊎◌, inl, inr, Bool, true, false, IsTrue, List, [], ◌∷◌, ◌++◌, length, Option, Some, slice_get, slice_set, refl, sym, ap, ◌∙◌, subst, arith}
+use Rattle.std.proofs.Common.{leb, cond, ◌≡◌, ℕ, ℤ, pos, ◌+◌, ◌<◌, ◌⊎◌, inl, inr, Bool, true, false, IsTrue, List, [], ◌∷◌, length, Option, Some, slice_get, slice_set, refl, sym, ap, ◌∙◌, subst, arith}
 use Rattle.std.proofs.lemmas.Bool.Decides.{nat_tests}
 use Rattle.std.proofs.lemmas.Bool.{lt-ltb}
 use Rattle.std.proofs.lemmas.Option.{slice_get_within}
@@ -9,7 +9,6 @@ use Rattle.ep_object.specs.Matching.{Memory, at, Injection, Describes, Slots, sl
 use Rattle.ep_object.specs.Operands.{Operand, Word}
 use Rattle.ep_object.specs.Placing.{HasDistinctNames}
 use Rattle.ep_object.specs.Runs.{outcome, unit_in}
-use Rattle.ep_object.specs.Scene.{HaveValidTypes}
 use Rattle.ep_object.specs.State.{Frames, Running, Stopped, Error, live_limit}
 use Rattle.ep_object.specs.Types.{ordinal_entry}
 use Rattle.ep_object.specs.declared.code.Image.{Image}
@@ -31,7 +30,7 @@ use Rattle.ep_typed.specs.declared.value.TypeValue.TheVariants as type
 use Rattle.ep_typed.specs.declared.unit.UnitVariable.{UnitVariable}
 use Rattle.ep_object.specs.declared.op.TheConstants as op
 use Rattle.ep_typed.specs.declared.run_error.TheConstants as run_error
-use Rattle.ep_object.proofs.matching.NewVariables.{new_segment, new_place, with_variable, with_place, with_segment, grown_making, frame_here, matches_making}
+use Rattle.ep_object.proofs.matching.NewVariables.{new_place, with_variable, with_place, with_segment, grown_making, frame_here, matches_making}
 
 -- ---- the row
 
@@ -56,7 +55,6 @@ make_outcome G place line below low high number k slots memory trace false has a
 pub make_does : {untouched : Slots} {Here : Facts} (declared : Declarations) (G : Image) (place line : ℕ) (below : List Operand) (low high : ℤ) (number k : ℕ) (x : ImageUnit)
     → slice_get G.instructions place ≡ Some (instr op.MAKE (pos k) 0 line)
     → HasDistinctNames G → IsTrue (is_integer low) → IsTrue (is_integer high)
-    → HaveValidTypes declared
     → ((v : UnitVariable) → declared.variables x.name k ≡ Some v → HasType declared x.name v (type.Ordinal low high))
     → (injection : Injection) (memory : Memory) (s : meaning.State)
     → RunsInUnit G memory.frames x → k < x.slots
@@ -64,9 +62,9 @@ pub make_does : {untouched : Slots} {Here : Facts} (declared : Declarations) (G 
     → Describes memory.types number (type.Ordinal low high) → Lasts untouched Here
     → Matches declared G injection s memory → Here injection s memory
     → Does declared G Here (at place (Word (pos number) ∷ below) memory s.trace) 1 (place + 1) (Inside untouched injection memory (Bare below tt)) (made x.name k (type.Ordinal low high) (counted (type.Ordinal low high) s)) ⊎ GivesUp G (at place (Word (pos number) ∷ below) memory s.trace) 0 1 (counted (type.Ordinal low high) s)
-make_does {untouched = untouched} {Here = Here} declared G place line below low high number k x has distinct low_fits high_fits types_valid declared_so injection memory s home within free described lasts matches known = go (leb (memory.live + 2) live_limit) refl
+make_does {untouched = untouched} {Here = Here} declared G place line below low high number k x has distinct low_fits high_fits declared_so injection memory s home within free described lasts matches known = go (leb (memory.live + 2) live_limit) refl
   where
-    frame : MatchesFrame declared (with_segment injection memory) s.variables memory.frames.units (memory.segments ++ Some (new_segment number) ∷ []) memory.types memory.frames.unit x
+    frame : MatchesFrame declared (with_segment (type.Ordinal low high) injection memory) s.variables memory.frames.units memory.types memory.frames.unit x
     frame = frame_here matches low high number described low_fits high_fits x k home.unit
 
     -- the slots that are kept are what they were
@@ -96,13 +94,13 @@ make_does {untouched = untouched} {Here = Here} declared G place line below low 
         → Does declared G Here (at place (Word (pos number) ∷ below) memory s.trace) 1 (place + 1) (Inside untouched injection memory (Bare below tt)) (made x.name k (type.Ordinal low high) (counted (type.Ordinal low high) s)) ⊎ GivesUp G (at place (Word (pos number) ∷ below) memory s.trace) 0 1 (counted (type.Ordinal low high) s)
     go true e =
         inl (record {
-          injection = with_segment injection memory;
+          injection = with_segment (type.Ordinal low high) injection memory;
           memory = with_variable number (with_place number k frame.slots memory) memory;
           operands = below;
           does = leads true e;
-          matches = matches_making matches low high number described low_fits high_fits x k home.unit within declared_so distinct types_valid;
-          here = lasts.by injection (with_segment injection memory) s (made x.name k (type.Ordinal low high) (counted (type.Ordinal low high) s)) memory (with_variable number (with_place number k frame.slots memory) memory) (record { grown = grown_making injection memory number (with_place number k frame.slots memory) kept; routine = record { turn = refl; routine = refl; unit = refl; calls = same_call-refl memory.frames.calls; slots = λ j kept. refl }; calls = refl }) known;
-          post = record { grown = grown_making injection memory number (with_place number k frame.slots memory) kept; routine = record { turn = refl; routine = refl; unit = refl; calls = same_call-refl memory.frames.calls; slots = λ j kept. refl }; operands_are = refl };
+          matches = matches_making matches low high number described low_fits high_fits x k home.unit within declared_so distinct;
+          here = lasts.by injection (with_segment (type.Ordinal low high) injection memory) s (made x.name k (type.Ordinal low high) (counted (type.Ordinal low high) s)) memory (with_variable number (with_place number k frame.slots memory) memory) (record { grown = grown_making (type.Ordinal low high) injection memory number (with_place number k frame.slots memory) kept; routine = record { turn = refl; routine = refl; unit = refl; calls = same_call-refl memory.frames.calls; slots = λ j kept. refl }; calls = refl }) known;
+          post = record { grown = grown_making (type.Ordinal low high) injection memory number (with_place number k frame.slots memory) kept; routine = record { turn = refl; routine = refl; unit = refl; calls = same_call-refl memory.frames.calls; slots = λ j kept. refl }; operands_are = refl };
         })
     go false e =
         let many : live_limit < memory.live + 2 = grind (arith, nat_tests) in

@@ -5,12 +5,11 @@ use Rattle.std.proofs.lemmas.Bool.{lt-ltb}
 use Rattle.std.proofs.lemmas.Option.{slice_get_within}
 use Rattle.ep_object.specs.Activations.{OwnSlot, LevelMatches, InActivation}
 use Rattle.ep_object.specs.Follows.{GivesUp, Facts, IsStillCall, StillRuns, Inside, PlaceOnTop}
-use Rattle.ep_object.specs.Matching.{Memory, at, Injection, IsPlaceOf, Grown, Describes, Slots, own_slot, slot_of_frame, MatchesSlot, HasOwnType, Matches}
+use Rattle.ep_object.specs.Matching.{Memory, at, Injection, IsSpot, Grown, Describes, Slots, own_slot, slot_of_frame, MatchesSlot, HasOwnType, Matches}
 use Rattle.ep_object.specs.Operands.{Operand, Word}
 use Rattle.ep_object.specs.Operands as operand
 use Rattle.ep_object.specs.Frames.{slots_over, slots_up}
 use Rattle.ep_object.specs.Runs.{outcome, unit_in}
-use Rattle.ep_object.specs.Scene.{HaveValidTypes}
 use Rattle.ep_object.specs.State.{Frame, Running, Stopped, Error, live_limit}
 use Rattle.ep_object.specs.Types.{ordinal_entry}
 use Rattle.ep_object.specs.declared.code.Image.{Image}
@@ -25,13 +24,13 @@ use Rattle.ep_object.proofs.matching.Elements.{slice_get-set-same, slice_get-pus
 use Rattle.ep_object.proofs.matching.Growing.{inside_here}
 use Rattle.ep_object.proofs.matching.Levels.{level_up}
 use Rattle.ep_object.proofs.matching.Standing.{slice_get-some}
-use Rattle.ep_object.proofs.matching.NewVariables.{new_place, new_segment, new_place_of, with_variable, with_segment}
+use Rattle.ep_object.proofs.matching.NewVariables.{next_item, new_place, new_segment, new_spot, with_variable, with_segment}
 use Rattle.ep_object.proofs.matching.OwnVariables.{with_own_place, grown_making_own, matches_making_own, own_making, in_activation_making}
 use Rattle.ep_object.proofs.rows.FrameRows.{own_slots, slot_pushes, slot_misses}
 use Rattle.ep_object.proofs.rows.Rows.{instr, in_one, outcome_at}
 use Rattle.ep_typed.specs.Events.{Trace}
 use Rattle.ep_typed.specs.Operations.{is_integer}
-use Rattle.ep_typed.specs.Steps.{Resources, variable_in, own_variable, counted, made_own}
+use Rattle.ep_typed.specs.Steps.{Component, whole, Resources, variable_in, own_variable, counted, made_own}
 use Rattle.ep_typed.specs.Steps as meaning
 use Rattle.ep_typed.specs.Valid.{Declarations, Level, variables_up}
 use Rattle.ep_typed.specs.declared.unit.UnitVariable.{UnitVariable}
@@ -68,7 +67,7 @@ own_reads {untouched = untouched} {Here = Here} declared G place line below k v 
   where
     go : (frame : Frame) (others : List Frame) → memory.frames.calls ≡ frame ∷ others → (slot : Option Place) → slice_get frame.slots k ≡ Some slot
         → ((p : Place) → slot ≡ Some p → Describes memory.types p.type_number t)
-        → (o : Option ℕ) → own_variable 0 k s ≡ o → MatchesSlot injection memory.segments o slot
+        → (o : Option Component) → own_variable 0 k s ≡ o → MatchesSlot injection memory.types o slot
         → Reads declared G Here (at place below memory s.trace) 1 (unit_in G memory.frames) line (place + 1) (λ n. Inside untouched injection memory (PlaceOnTop t below n)) s (own_variable 0 k s)
     go frame others frames None holds described None is h =
         Misses is (record { fails = slot_misses G place line k 0 below frame.slots memory s.trace has (own_slots memory frame others frames) holds })
@@ -82,7 +81,7 @@ own_reads {untouched = untouched} {Here = Here} declared G place line below k v 
           does = slot_pushes G place line k 0 below frame.slots memory s.trace has (own_slots memory frame others frames) p holds;
           matches = matches;
           here = known;
-          post = inside_here (record { place = p; is = refl; place_of = h; described = described p refl });
+          post = inside_here (record { place = p; is = refl; spot = h; described = described p refl });
         })
 
 -- `Slot` of a variable of a routine around
@@ -99,7 +98,7 @@ level_reads {untouched = untouched} {Here = Here} declared G place line below up
     frame = level_up memory.frames up l.slots l.are
 
     go : (slot : Option Place) → slice_get l.slots k ≡ Some slot → ((p : Place) → slot ≡ Some p → Describes memory.types p.type_number t)
-        → (o : Option ℕ) → own_variable up k s ≡ o → MatchesSlot injection memory.segments o slot
+        → (o : Option Component) → own_variable up k s ≡ o → MatchesSlot injection memory.types o slot
         → Reads declared G Here (at place below memory s.trace) 1 (unit_in G memory.frames) line (place + 1) (λ n. Inside untouched injection memory (PlaceOnTop t below n)) s (own_variable up k s)
     go None holds described None is h = Misses is (record { fails = slot_misses G place line k up below l.slots memory s.trace has frame holds })
     go (Some p) holds described None is h = absurd h
@@ -112,7 +111,7 @@ level_reads {untouched = untouched} {Here = Here} declared G place line below up
           does = slot_pushes G place line k up below l.slots memory s.trace has frame p holds;
           matches = matches;
           here = known;
-          post = inside_here (record { place = p; is = refl; place_of = h; described = described p refl });
+          post = inside_here (record { place = p; is = refl; spot = h; described = described p refl });
         })
 
 -- ---- `Make`
@@ -131,7 +130,7 @@ pub record MadeOwn (untouched : Slots) (k : ℕ) (t : TypeValue) (injection : In
   pub number : ℕ
   pub place : Place
   pub slot : own_slot after.frames k ≡ Some (Some place)
-  pub place_of : IsPlaceOf longer after.segments (length longer) place
+  pub spot : IsSpot longer after.types (whole (length longer)) place
   pub stands : slice_get after.segments place.segment ≡ Some (Some (new_segment number))
   pub described : Describes after.types place.type_number t
   pub operands_are : operands ≡ below
@@ -151,14 +150,14 @@ make_own_outcome G place line below low high number k frame others memory trace 
 -- `Make` of an ordinal type in a slot of the routine's activation, over the number of the type
 pub make_own_does : {untouched : Slots} {first : Injection} {start : Memory} (declared : Declarations) (G : Image) (place line : ℕ) (below : List Operand) (low high : ℤ) (number k : ℕ) (v : UnitVariable)
     → slice_get G.instructions place ≡ Some (instr op.MAKE (pos k) 0 line)
-    → IsTrue (is_integer low) → IsTrue (is_integer high) → HaveValidTypes declared
+    → IsTrue (is_integer low) → IsTrue (is_integer high)
     → slice_get (variables_up declared 0) k ≡ Some v
     → ((w : UnitVariable) → slice_get (variables_up declared 0) k ≡ Some w → HasOwnType declared w (type.Ordinal low high))
     → (injection : Injection) (memory : Memory) (s : meaning.State)
     → Describes memory.types number (type.Ordinal low high)
     → Matches declared G injection s memory → InActivation declared untouched first start injection s memory
     → Does declared G (InActivation declared untouched first start) (at place (Word (pos number) ∷ below) memory s.trace) 1 (place + 1) (MadeOwn untouched k (type.Ordinal low high) injection memory below) (made_own k (type.Ordinal low high) (counted (type.Ordinal low high) s)) ⊎ GivesUp G (at place (Word (pos number) ∷ below) memory s.trace) 0 1 (counted (type.Ordinal low high) s)
-make_own_does {untouched = untouched} {first = first} {start = start} declared G place line below low high number k v has low_fits high_fits types_valid is_declared declared_so injection memory s described matches known = go (leb (memory.live + 2) live_limit) refl
+make_own_does {untouched = untouched} {first = first} {start = start} declared G place line below low high number k v has low_fits high_fits is_declared declared_so injection memory s described matches known = go (leb (memory.live + 2) live_limit) refl
   where
     frame : Frame
     frame = known.frame
@@ -175,13 +174,13 @@ make_own_does {untouched = untouched} {first = first} {start = start} declared G
     old : (x : Option Place) × (slice_get frame.slots k ≡ Some x)
     old = slice_get-some frame.slots k within
 
-    newest : suc (length s.allocations) ≡ length (with_segment injection memory)
-    newest = let injected = matches.injected in omega (arith, injected.made, length-append injection (length memory.segments ∷ []))
+    newest : suc (length s.allocations) ≡ length (with_segment (type.Ordinal low high) injection memory)
+    newest = let injected = matches.injected in omega (arith, injected.made, length-append injection (next_item (type.Ordinal low high) memory ∷ []))
 
     later : Memory
     later = with_variable number (with_own_place number k frame others memory) memory
 
-    again : InActivation declared untouched first start (with_segment injection memory) (made_own k (type.Ordinal low high) (counted (type.Ordinal low high) s)) later
+    again : InActivation declared untouched first start (with_segment (type.Ordinal low high) injection memory) (made_own k (type.Ordinal low high) (counted (type.Ordinal low high) s)) later
     again =
         in_activation_making matches low high number described low_fits high_fits k frame others known.frames known.call known.others known.calls
         (own_making matches low high number described low_fits high_fits k frame others known.frames known.call known.others known.calls known.own within declared_so) known.around known.grown known.runs known.made
@@ -197,11 +196,11 @@ make_own_does {untouched = untouched} {first = first} {start = start} declared G
         → Does declared G (InActivation declared untouched first start) (at place (Word (pos number) ∷ below) memory s.trace) 1 (place + 1) (MadeOwn untouched k (type.Ordinal low high) injection memory below) (made_own k (type.Ordinal low high) (counted (type.Ordinal low high) s)) ⊎ GivesUp G (at place (Word (pos number) ∷ below) memory s.trace) 0 1 (counted (type.Ordinal low high) s)
     go true e =
         inl (record {
-          injection = with_segment injection memory;
+          injection = with_segment (type.Ordinal low high) injection memory;
           memory = later;
           operands = below;
           does = leads true e;
-          matches = matches_making_own matches low high number described low_fits high_fits k frame others known.frames known.call known.others known.calls types_valid;
+          matches = matches_making_own matches low high number described low_fits high_fits k frame others known.frames known.call known.others known.calls;
           here = again;
           post = record {
             grown = grown_making_own matches low high number described low_fits high_fits k frame others known.frames known.call known.others known.calls;
@@ -210,7 +209,7 @@ make_own_does {untouched = untouched} {first = first} {start = start} declared G
             number = number;
             place = new_place memory number;
             slot = slice_get-set-same frame.slots k (Some (new_place memory number)) old.0 old.1;
-            place_of = subst (λ j. IsPlaceOf (with_segment injection memory) later.segments j (new_place memory number)) newest (new_place_of matches low high number described low_fits high_fits);
+            spot = subst (λ j. IsSpot (with_segment (type.Ordinal low high) injection memory) later.types (whole j) (new_place memory number)) newest (new_spot matches low high number described low_fits high_fits);
             stands = slice_get-pushed memory.segments (Some (new_segment number));
             described = described;
             operands_are = refl;
