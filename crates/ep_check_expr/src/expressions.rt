@@ -126,7 +126,8 @@ fn multipliers(
 ) -> Result<Typed, Refusal>
     requires operators { all_are_built (map multiplier_belonging all.now) ≡ true }
     requires operands { lines_in (map multiplier_belonging all.now) ≡ None }
-    ensures { AnswersTyped result (chained multiplied (Accepts (typed_of first)) (map (multiplier_judged scopes.now) all.now)) }
+    ensures { AnswersTyped result (chained multiplied (Accepts (typed_of first))
+        (map (multiplier_judged scopes.now) all.now)) }
 {
     let mut product = first;
     for multiplier in all {
@@ -212,7 +213,8 @@ fn call(
     scopes: &[Scope],
 ) -> Result<Typed, Refusal>
     requires built { first_in (map argument_unbuilt arguments.now) ≡ None }
-    ensures { AnswersTyped result (call_named (depth_in scopes.now) name.now (meant scopes.now name.now) (map (given scopes.now) arguments.now)) }
+    ensures { AnswersTyped result (call_named (depth_in scopes.now) name.now
+        (meant scopes.now name.now) (map (given scopes.now) arguments.now)) }
 {
     match meaning_of(scopes, name) {
         Meaning::Required(Required::Function(function)) => {

@@ -4,9 +4,9 @@
 //! rule, by what `Context` says that the block knows. specs/Statements.antt says which rules fail where, in the order of
 //! the text, and specs/Cases.antt for the labels of `case`; names are those of ep_scope, and expressions those of
 //! ep_check_expr, as are the rules of what is given to variables and procedures. By `laws_of_statements` what the rules
-//! accept is valid. `threatens`, `inner_threatens` and `assigns` tell whether statements threaten a variable
-//! and whether they give a function its result, as specs/Threats.antt says. `CheckRefusal` and `Outcome` are what items come to, declarations too. proofs/judged is a library of lemmas on
-//! what rules judge, for the crates above as well.
+//! accept is valid. `threatens`, `inner_threatens` and `assigns` tell whether statements threaten a variable and whether
+//! they give a function its result, as specs/Threats.antt says. `CheckRefusal` and `Outcome` are what items come to,
+//! declarations too. proofs/judged is a library of lemmas on what rules judge, for the crates above as well.
 #![tactic(auto)]
 
 mod cases;

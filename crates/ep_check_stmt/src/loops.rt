@@ -375,7 +375,8 @@ impl Context<'_> {
     /// A name as a variable that the block declares.
     fn control_named(&self, name: &Name) -> Result<Target, Refusal>
         ensures { AnswersForm target_of result
-            (control_named (context_of self.now).locals (depth_in self.now.scopes.now) name.now (meant self.now.scopes.now name.now)) }
+            (control_named (context_of self.now).locals (depth_in self.now.scopes.now) name.now
+            (meant self.now.scopes.now name.now)) }
     {
         match &meaning_of(self.scopes, name) {
             Meaning::Declared(declared) => {

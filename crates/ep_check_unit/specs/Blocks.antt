@@ -1,5 +1,6 @@
 -- What has been declared in a block, as plain data.
-use Rattle.std.specs.Prelude.{ℕ, ◌+◌, Bool, List, map, length, Option, Some, None}
+use Rattle.std.specs.Prelude.{ℕ, ◌+◌, nat_eq, Bool, List, map, length, Option, Some, None}
+use Rattle.std.specs.List.{list_any}
 use Rattle.ep_typed.specs.declared.interface.ConstantEntry.{ConstantEntry}
 use Rattle.ep_typed.specs.declared.unit.UnitType.{UnitType}
 use Rattle.ep_typed.specs.declared.unit.UnitVariable.{UnitVariable}
@@ -27,6 +28,10 @@ own_count own = first_own own + length own.variables
 -- the numbers of the routines whose blocks are under way, the innermost first
 abbrev pub around_of : List Enclosing → List ℕ
 around_of enclosing = map (λ e. e.number) enclosing
+
+-- whether a list has a number
+abbrev pub has_number : ℕ → List ℕ → Bool
+has_number number numbers = list_any (λ n. nat_eq n number) numbers
 
 -- what has been declared so far in the block of a unit
 pub record Block : Type 0 where

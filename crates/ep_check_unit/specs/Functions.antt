@@ -1,9 +1,10 @@
 -- Functions: their results, and what gives these a value.
 use Rattle.std.specs.Prelude.{ℕ, suc, ◌==◌, Bool, true, false, ◌&&◌, ◌||◌, List, [], ◌∷◌, length, Option, Some, None, is_some, if◌then◌else◌}
+use Rattle.std.specs.List.{list_any}
 use Rattle.std.specs.Str.{bytes_eq}
 use Rattle.ep_tree.specs.declared.statement.Compound.{Compound}
 use Rattle.ep_typed.specs.Trees as tree
-use Rattle.ep_typed.specs.Trees.{Stmts}
+use Rattle.ep_typed.specs.Trees.{Stmt, Stmts}
 use Rattle.ep_typed.specs.declared.interface.RoutineResult.{RoutineResult}
 use Rattle.ep_scope.specs.Parameters.{same_type}
 use Rattle.ep_scope.specs.Scopes.{Meant, Declares, meant}
@@ -17,7 +18,7 @@ use Rattle.ep_check_expr.specs.Judgements.{Judged, Accepts}
 use Rattle.ep_check_stmt.specs.RoutineForms.{formals_at}
 use Rattle.ep_check_stmt.specs.Statements.{FunctionResult, Judgement, Passes, Waits, Fails}
 use Rattle.ep_check_stmt.specs.Threats.{assigns, inner_threatens, stmts_threaten}
-use Rattle.ep_check_unit.specs.Blocks.{Block, RoutineForm}
+use Rattle.ep_check_unit.specs.Blocks.{Block, RoutineForm, has_number}
 use Rattle.ep_check_unit.specs.Declarations.{Standing, Falls, entered, own_thing, scopes_of, type_denoter}
 use Rattle.ep_check_unit.specs.declared.block.Enclosing.{Enclosing}
 use Rattle.ep_check_unit.specs.declared.block.OwnResult.{OwnResult}
@@ -117,9 +118,23 @@ abbrev pub is_threatened : Option OwnResult → List RoutineForm → Stmts → B
 is_threatened None routines ss = true
 is_threatened (Some r) routines ss = stmts_threaten (formals_at routines) (tree.Own 0 r.variable) ss || inner_threatens r.function routines r.variable
 
--- Statements that break a rule, or wait for what is not built, count as those that do; and so do all behind an item that waits, since the statements of a routine may not be known there.
+-- the statement that a routine has until its block is known
+abbrev pub is_empty : Stmt → Bool
+is_empty tree.Empty = true
+is_empty _ = false
+
+-- a routine in the one of this number, however deep, has no block that is known
+abbrev pub has_unknown : ℕ → List RoutineForm → Bool
+has_unknown number routines = list_any (λ r. has_number number r.around && is_empty r.block) routines
+
+-- A routine in the function waits: its statements, which may give the result, are not known.
+abbrev pub is_open : Option OwnResult → List RoutineForm → Option ℕ → Bool
+is_open None routines waits = false
+is_open (Some r) routines waits = is_some waits && has_unknown r.function routines
+
+-- Statements that break a rule, or wait for what is not built, count as those that do. So do all where a routine in the function itself waits, since its statements may not be known; what waits elsewhere says nothing of the function.
 abbrev pub row_gives : Block → Judgement Stmts → Bool
-row_gives b (Passes ss) = is_some b.waits || is_threatened b.own.result b.routines ss
+row_gives b (Passes ss) = is_open b.own.result b.routines b.waits || is_threatened b.own.result b.routines ss
 row_gives b (Waits line) = true
 row_gives b (Fails line rules) = true
 

@@ -1,6 +1,6 @@
 -- What the static rules say of routines, and of all parts of a block (ISO 10206, 6.2.1 and 6.7). The declaration of a routine without its block is an item, on the line of the word `procedure` or `function`.
 use Rattle.std.specs.List.{list_any}
-use Rattle.std.specs.Prelude.{ℕ, nat_eq, suc, Bool, true, false, not, ◌||◌, List, [], ◌∷◌, ◌++◌, map, length, slice_get, slice_set, Option, Some, None, is_none, if◌then◌else◌}
+use Rattle.std.specs.Prelude.{ℕ, suc, Bool, true, false, not, ◌||◌, List, [], ◌∷◌, ◌++◌, map, length, slice_get, slice_set, Option, Some, None, is_none, if◌then◌else◌}
 use Rattle.std.specs.Str.{bytes_eq}
 use Rattle.ep_tree.specs.declared.declaration.FormalSection.{FormalSection}
 use Rattle.ep_tree.specs.declared.declaration.FormalType.{FormalType}
@@ -36,6 +36,7 @@ use Rattle.ep_check_expr.specs.Judgements.{Judged, Accepts, Breaks, unbuilt, whe
 use Rattle.ep_check_stmt.specs.Statements.{Context, Locals, OfUnit, OfRoutine, Judgement, Passes, Waits, Fails, compound_judged}
 use Rattle.ep_check_stmt.specs.Threats.{assigns}
 use Rattle.ep_check_unit.specs.Blocks.{Block, RoutineForm, around_of, first_own, own_count}
+pub use Rattle.ep_check_unit.specs.Blocks.{has_number}
 use Rattle.ep_check_unit.specs.declared.block.Enclosing.{Enclosing}
 use Rattle.ep_check_unit.specs.declared.block.OwnVariables.{OwnVariables}
 use Rattle.ep_tree.specs.declared.operator.QualifiedName.{QualifiedName}
@@ -128,10 +129,6 @@ declared_routine number (declaration.Own of k guarded) b = Breaks (rule.TWICE �
 abbrev pub routine_there : Thing → Block → Judged Headed
 routine_there (thing.Declared d) b = declared_routine d.number d.what b
 routine_there (thing.Standard file) b = Breaks (rule.TWICE ∷ [])
-
--- whether a list has a number
-abbrev pub has_number : ℕ → List ℕ → Bool
-has_number number numbers = list_any (λ n. nat_eq n number) numbers
 
 -- whether the routine of this number has a body
 abbrev pub has_body : ℕ → Block → Bool

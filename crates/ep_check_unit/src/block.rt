@@ -3,9 +3,8 @@
 ghost use Rattle.std.specs.Prelude.{◌≡◌, [], length, IfOk, OnOk};
 ghost use Rattle.std.specs.Option.{option_map};
 ghost use Rattle.ep_check_unit.specs.Answers.{AnswersBlock, AnswersNumber, AnswersType, with_constant_entry};
-ghost use Rattle.ep_check_unit.specs.Blocks.{block_of, first_own, own_count, result_count};
+ghost use Rattle.ep_check_unit.specs.Blocks.{block_of, first_own, has_number, own_count, result_count};
 ghost use Rattle.ep_check_unit.specs.Declarations.{constant_entered, entered, noted, own_thing, with_type};
-ghost use Rattle.ep_check_unit.specs.Routines.{has_number};
 ghost use Rattle.ep_check_unit.specs.Checks.{IsUnitWith};
 ghost use Rattle.ep_check_unit.specs.Units.{first_block};
 

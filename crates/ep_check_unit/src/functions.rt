@@ -2,15 +2,16 @@
 
 ghost use Rattle.std.specs.Option.{option_map};
 ghost use Rattle.std.specs.Prelude.{◌≡◌, Some, IfOk, map};
+ghost use Rattle.ep_typed.specs.Viewed.{stmt_of};
 ghost use Rattle.ep_check_stmt.specs.Answers.{AnswersForm, passed, result_of, stmts_of};
 ghost use Rattle.ep_check_unit.specs.Answers.{AnswersBlock, AnswersGiven};
-ghost use Rattle.ep_check_unit.specs.Blocks.{block_of};
+ghost use Rattle.ep_check_unit.specs.Blocks.{block_of, routine_form};
 ghost use Rattle.ep_check_unit.specs.Functions as spec;
-ghost use Rattle.ep_check_unit.specs.Functions.{assigned_function, in_block, is_function, is_that_function, own_name_entered, own_result, routine_declaration, row_gives, same_own_name, same_result, typed_result};
+ghost use Rattle.ep_check_unit.specs.Functions.{assigned_function, has_unknown, in_block, is_empty, is_function, is_that_function, own_name_entered, own_result, routine_declaration, row_gives, same_own_name, same_result, typed_result};
 ghost use Rattle.ep_check_unit.specs.Routines.{assigns_among, part_judged, result_judged, routine_judged};
 ghost use Rattle.ep_scope.specs.Meanings.{meant_by};
 
-use crate::block::{Block, OwnResult};
+use crate::block::{Block, OwnResult, has_number};
 use crate::types::type_denoter;
 use ep_base::{Line, List, Name, NoMemory};
 use ep_check_expr::Refusal;
@@ -22,7 +23,7 @@ use ep_scope::{
     same_type,
 };
 use ep_tree::{Compound, Part, QualifiedName, Routine, RoutineBody};
-use ep_typed::{RoutineResult, TypedPlace, TypedStmt, TypedStmts};
+use ep_typed::{RoutineResult, TypedPlace, TypedStmt, TypedStmts, UnitRoutine};
 use std::alloc::{AllocError, Global};
 
 /// The result of a function, as its heading gives it.
@@ -169,6 +170,28 @@ fn is_that_function(unit: &Name, number: u32, meaning: &Meaning<'_>) -> bool
     }
 }
 
+/// Whether a statement is the one that a routine has until its block is known.
+fn is_empty(s: &TypedStmt) -> bool
+    ensures { result ≡ is_empty (stmt_of s.now) }
+{
+    match s {
+        TypedStmt::Empty => true,
+        _ => false,
+    }
+}
+
+/// Whether a routine in the one of this number, however deep, has no block that is known.
+fn has_unknown(number: u32, routines: &[UnitRoutine]) -> bool
+    ensures { result ≡ has_unknown number (map routine_form routines.now) }
+{
+    for routine in routines {
+        if has_number(number, routine.around.items()) && is_empty(&routine.block) {
+            return true;
+        }
+    }
+    false
+}
+
 impl Block {
     /// `[ "=" id ] ":" name`, behind the name of a function and its formal parameters.
     pub(crate) fn result(
@@ -236,13 +259,16 @@ impl Block {
         }
     }
 
-    /// Whether its statements, or those of a routine in it, threaten the variable that has the result. Behind an item that
-    /// waits this is not known, and they count as those that do.
+    /// Whether its statements, or those of a routine in it, threaten the variable that has the result. Where a routine in
+    /// it waits this is not known, and they count as those that do.
     pub(crate) fn gives_result(&self, found: &Outcome<TypedStmts>) -> Result<bool, NoMemory>
         ensures { IfOk result (λ gives. gives ≡ row_gives (block_of self.now) (passed stmts_of found.now)) }
     {
         match (self.own.result, found) {
-            (Some(own), Outcome::Passes(statements)) if self.waits.is_none() => {
+            (Some(own), Outcome::Passes(statements)) => {
+                if self.waits.is_some() && has_unknown(own.function, &self.routines) {
+                    return Ok(true);
+                }
                 self.is_threatened(own, statements.items())
             }
             _ => Ok(true),

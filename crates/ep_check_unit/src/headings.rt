@@ -2,12 +2,11 @@
 
 ghost use Rattle.std.specs.Prelude.{◌≡◌, ◌∷◌, ◌++◌, [], None, IfOk, OnOk, map, slice_get};
 ghost use Rattle.ep_built.specs.Built.{first_in, section_unbuilt, start_unbuilt};
-ghost use Rattle.ep_typed.specs.Viewed.{stmt_of};
 ghost use Rattle.ep_check_stmt.specs.Answers.{AnswersForm};
 ghost use Rattle.ep_check_unit.specs.Answers.{AnswersBlock, headed_in};
 ghost use Rattle.ep_check_unit.specs.Blocks.{around_of, block_of, routine_form};
 ghost use Rattle.ep_check_unit.specs.Functions.{own_name_at};
-ghost use Rattle.ep_check_unit.specs.Routines.{function_headed, function_identified, has_body, headed_first, headed_over, heading_entered, own_variables, procedure_headed, routine_there, start_headed, start_name};
+ghost use Rattle.ep_check_unit.specs.Routines.{function_headed, function_identified, has_body, headed_first, headed_form, headed_over, heading_entered, own_variables, procedure_headed, routine_there, start_headed, start_name};
 ghost use Rattle.ep_scope.specs.Required.{look_up};
 ghost use Rattle.ep_check_expr.specs.Judgements.{Accepts};
 
@@ -19,9 +18,9 @@ use crate::functions::{
 };
 use ep_base::{Line, List, Name, NoMemory};
 use ep_check_expr::Refusal;
-use ep_scope::{Declaration, FormalParameters, Thing, copied_parameters, rule};
+use ep_scope::{Declaration, FormalParameter, FormalParameters, Thing, copied_parameters, rule};
 use ep_tree::{FormalSection, QualifiedName, RoutineHeading, RoutineStart};
-use ep_typed::{Formals, RoutineNumbers, RoutineResult, TypedStmt, UnitRoutine};
+use ep_typed::{RoutineNumbers, TypedStmt, UnitRoutine};
 use std::alloc::{AllocError, Global};
 
 /// A routine that is declared.
@@ -96,32 +95,28 @@ fn numbers(alloc: Global, enclosing: &[Enclosing]) -> Result<RoutineNumbers, NoM
 /// A routine that does nothing, without variables, in the blocks of those around.
 fn routine(
     alloc: Global,
-    name: Name,
+    name: &Name,
     line: Line,
-    formals: Formals,
-    given: Option<RoutineResult>,
-    around: RoutineNumbers,
-    block: TypedStmt,
-) -> UnitRoutine
-    ensures { routine_form result ≡ record {
-      name = name;
-      line = line;
-      formals = formals;
-      result = given;
-      variables = [];
-      around = around;
-      block = stmt_of block;
-    } }
+    parameters: &[FormalParameter],
+    given: &Option<HeadingResult>,
+    around: &[Enclosing],
+) -> Result<UnitRoutine, NoMemory>
+    ensures { IfOk result (λ r. routine_form r
+        ≡ headed_form name.now line parameters.now given.now around.now) }
 {
-    UnitRoutine {
+    let name = name.copy(alloc)?;
+    let formals = formals(alloc, parameters)?;
+    let result = typed_result(alloc, given)?;
+    let around = numbers(alloc, around)?;
+    Ok(UnitRoutine {
         name,
         line,
         formals,
-        result: given,
+        result,
         variables: List::new(alloc),
         around,
-        block,
-    }
+        block: TypedStmt::Empty,
+    })
 }
 
 /// The name of a routine.
@@ -160,18 +155,8 @@ impl Block {
             (headed_first name.now line parameters given (block_of self.old)) }
     {
         let number = number(self.routines.len())?;
-        let formals = formals(alloc, parameters.items())?;
-        let typed = typed_result(alloc, &given)?;
-        let around = numbers(alloc, self.own.enclosing.items())?;
-        let routine = routine(
-            alloc,
-            name.copy(alloc)?,
-            line,
-            formals,
-            typed,
-            around,
-            TypedStmt::Empty,
-        );
+        let around = self.own.enclosing.items();
+        let routine = routine(alloc, name, line, parameters.items(), &given, around)?;
         self.add_routine(routine)?;
         let copy = copied_parameters(alloc, parameters.items())?;
         let thing = self.own_thing(alloc, number, routine_declaration(copy, &given))?;

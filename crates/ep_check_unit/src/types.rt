@@ -227,7 +227,8 @@ impl Block {
         requires high { expression_unbuilt high.now ≡ None }
         ensures { AnswersForm (written_in (block_of self.new)) result
             (both (range line (block_of self.old))
-            (bound_judged (scopes_of (block_of self.old)) low.now) (bound_judged (scopes_of (block_of self.old)) high.now)) }
+            (bound_judged (scopes_of (block_of self.old)) low.now)
+            (bound_judged (scopes_of (block_of self.old)) high.now)) }
     {
         let least = bound_value(alloc, low, self.scopes.in_view())?;
         let greatest = bound_value(alloc, high, self.scopes.in_view())?;
