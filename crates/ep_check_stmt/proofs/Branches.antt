@@ -10,33 +10,33 @@ use Rattle.ep_tree.specs.declared.statement.Statement.{Statement, fold-roll-Stat
 use Rattle.ep_tree.specs.declared.statement.Statement.TheOpen.{Statement-F}
 use Rattle.ep_tree.specs.declared.statement.Statement.TheVariants as statement
 use Rattle.ep_typed.specs.Trees as tree
-use Rattle.ep_typed.specs.Trees.{Place, Stmt, Stmts}
+use Rattle.ep_typed.specs.Trees.{Entire, Stmt, Stmts}
 use Rattle.ep_check_stmt.specs.Statements.{ArmJudged, Context, Under, after, at_arm, at_compound, at_otherwise, at_statement, call_arguments, condition_judged, control_judged, falls_by, for_judged, in_order, name_called, repeat_judged, statement_judged, stmt_item}
 use Rattle.ep_check_stmt.proofs.judged.Rounds.{first_built, rest_of}
 
 -- a call is judged by its name and its arguments
-pub call_is : (context : Context) (line : ℕ) (access : Access) (controls : List Place)
+pub call_is : (context : Context) (line : ℕ) (access : Access) (controls : List Entire)
     → statement_judged context (statement.Call line access) controls ≡ stmt_item context controls line (name_called context line (out-Access access).name (call_arguments (out-Access access).selectors))
 call_is context line access controls =
     ap (λ s. statement_judged context s controls) (sym (statement.rolls-Call line access))
     ∙ ap (λ (judge : Under Stmt). judge controls) (fold-roll-Statement (Under Stmt) ArmJudged (Under Stmts) (Under Stmts) (at_statement context) (at_arm context) (at_compound context) (at_otherwise context) (Statement-F.Call line access))
 
 -- a `while` statement is judged by its parts
-pub while_is : (context : Context) (line : ℕ) (e : Expression) (body : Statement) (controls : List Place)
+pub while_is : (context : Context) (line : ℕ) (e : Expression) (body : Statement) (controls : List Entire)
     → statement_judged context (statement.While line e body) controls ≡ after (tree.While line) (condition_judged context controls line e) (statement_judged context body controls)
 while_is context line e body controls =
     ap (λ s. statement_judged context s controls) (sym (statement.rolls-While line e body))
     ∙ ap (λ (judge : Under Stmt). judge controls) (fold-roll-Statement (Under Stmt) ArmJudged (Under Stmts) (Under Stmts) (at_statement context) (at_arm context) (at_compound context) (at_otherwise context) (Statement-F.While line e body))
 
 -- and a `repeat` statement
-pub repeat_is : (context : Context) (line : ℕ) (all : List Statement) (e : Expression) (controls : List Place)
+pub repeat_is : (context : Context) (line : ℕ) (all : List Statement) (e : Expression) (controls : List Entire)
     → statement_judged context (statement.Repeat line all e) controls ≡ repeat_judged line (condition_judged context controls line e) (in_order (map (λ s. s controls) (map (statement_judged context) all)))
 repeat_is context line all e controls =
     ap (λ s. statement_judged context s controls) (sym (statement.rolls-Repeat line all e))
     ∙ ap (λ (judge : Under Stmt). judge controls) (fold-roll-Statement (Under Stmt) ArmJudged (Under Stmts) (Under Stmts) (at_statement context) (at_arm context) (at_compound context) (at_otherwise context) (Statement-F.Repeat line all e))
 
 -- and a `for` statement, by its control variable
-pub for_is : (context : Context) (line : ℕ) (variable : List ℕ) (start : Expression) (toward : Direction) (end : Expression) (body : Statement) (controls : List Place)
+pub for_is : (context : Context) (line : ℕ) (variable : List ℕ) (start : Expression) (toward : Direction) (end : Expression) (body : Statement) (controls : List Entire)
     → statement_judged context (statement.For line variable start toward end body) controls ≡ for_judged context controls line (control_judged context variable) (falls_by toward) start end (statement_judged context body)
 for_is context line variable start toward end body controls =
     ap (λ s. statement_judged context s controls) (sym (statement.rolls-For line variable start toward end body))

@@ -13,7 +13,7 @@ use Rattle.ep_tree.specs.declared.statement.Statement.TheFolds.{fold_out-Arm, fo
 use Rattle.ep_tree.specs.declared.statement.Statement.TheOpen.{Statement-F}
 use Rattle.ep_tree.specs.declared.statement.Statement.TheVariants as statement
 use Rattle.ep_typed.specs.Trees as tree
-use Rattle.ep_typed.specs.Trees.{Expr, Place, Stmt, Stmts, Arms, Other, next_arm, no_arm, arms}
+use Rattle.ep_typed.specs.Trees.{Entire, Expr, Stmt, Stmts, Arms, Other, next_arm, no_arm, arms}
 use Rattle.ep_typed.specs.Viewed.{arm_of}
 use Rattle.ep_typed.specs.declared.tree.CaseArm.{CaseArm}
 use Rattle.ep_check_expr.specs.Judgements.{Judged, Accepts, Breaks, when_accepted}
@@ -147,15 +147,15 @@ arms_labels context [] = refl
 arms_labels context (a ∷ all) = ap (λ (p : ArmJudged). p.0 ∷ map (λ (b : ArmJudged). b.0) (map (arm_judged context) all)) (arm_is context a) ∙ ap (λ ls. labels_of a ∷ ls) (arms_labels context all)
 
 -- the statements behind `otherwise` are judged one after another
-otherwise_is : (context : Context) (o : Otherwise) (controls : List Place) → otherwise_judged context o controls ≡ in_order (map (λ s. s controls) (map (statement_judged context) (out-Otherwise o).statements))
+otherwise_is : (context : Context) (o : Otherwise) (controls : List Entire) → otherwise_judged context o controls ≡ in_order (map (λ s. s controls) (map (statement_judged context) (out-Otherwise o).statements))
 otherwise_is context o controls = ap (λ (judge : Under Stmts). judge controls) (fold_out-Otherwise (Under Stmt) ArmJudged (Under Stmts) (Under Stmts) (at_statement context) (at_arm context) (at_compound context) (at_otherwise context) o)
 
 -- what the `otherwise` part is judged to be
-abbrev pub rest_judged : Context → List Place → Option Otherwise → Option (Judgement Stmts)
+abbrev pub rest_judged : Context → List Entire → Option Otherwise → Option (Judgement Stmts)
 rest_judged context controls None = None
 rest_judged context controls (Some o) = Some (in_order (map (λ s. s controls) (map (statement_judged context) (out-Otherwise o).statements)))
 
-module _ (context : Context) (line : ℕ) (e : Expression) (all : List Arm) (controls : List Place) where
+module _ (context : Context) (line : ℕ) (e : Expression) (all : List Arm) (controls : List Entire) where
   -- by the labels of the arms, and the `otherwise` part
   abbrev by_labels : List (List Label) → Option (Judgement Stmts) → Judgement Stmt
   by_labels labels other =

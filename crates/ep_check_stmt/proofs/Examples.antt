@@ -4,6 +4,7 @@ use Rattle.ep_tree.specs.Nodes.{expression_node, simple_node, term_node, access_
 use Rattle.ep_tree.specs.declared.expression.Argument.{Argument}
 use Rattle.ep_tree.specs.declared.expression.Factor.{Factor}
 use Rattle.ep_tree.specs.declared.expression.Factor.TheVariants as factor
+use Rattle.ep_typed.specs.Trees as tree
 use Rattle.ep_typed.specs.Trees.{Stmt, Accessed, Assign, Constant, Empty, Evaluated, Own, Procedure, Variable, actuals}
 use Rattle.ep_typed.specs.declared.denoter.RequiredType.{RequiredType}
 use Rattle.ep_typed.specs.declared.denoter.RequiredType.TheVariants as simple
@@ -93,14 +94,14 @@ abbrev own : Declaration
 own = declaration.Own (type_name.Required simple.Integer) (kind.Ordinal host.Integer) protection.Unprotected
 
 -- x counts in the block of the unit, and in no routine of it
-counts : declared_control (OfUnit (codes "u") 2) 0 (declares 0 x) x ≡ Accepts (record { place = Variable (codes "u") 0; kind = kind.Ordinal host.Integer })
+counts : declared_control (OfUnit (codes "u") 2) 0 (declares 0 x) x ≡ Accepts (record { variable = tree.OfUnit (codes "u") 0; kind = kind.Ordinal host.Integer })
 counts = refl
 
 counts_in_no_routine : declared_control (OfRoutine 0 1 3) 1 (declares 0 x) x ≡ Breaks (rule.CONTROL_VARIABLE ∷ [])
 counts_in_no_routine = refl
 
 -- in a routine of one parameter the first variable that it declares counts, and the parameter does not
-own_counts : declared_control (OfRoutine 0 1 3) 1 (declares_at 1 1 own) own ≡ Accepts (record { place = Own 0 1; kind = kind.Ordinal host.Integer })
+own_counts : declared_control (OfRoutine 0 1 3) 1 (declares_at 1 1 own) own ≡ Accepts (record { variable = tree.OfRoutine 0 1; kind = kind.Ordinal host.Integer })
 own_counts = refl
 
 parameter_does_not : declared_control (OfRoutine 0 1 3) 1 (declares_at 1 0 own) own ≡ Breaks (rule.CONTROL_VARIABLE ∷ [])
@@ -121,16 +122,16 @@ abbrev nested : ℕ → List RoutineForm
 nested up = form (codes "a") [] Empty ∷ form (codes "b") (0 ∷ []) Empty ∷ form (codes "c") (1 ∷ 0 ∷ []) (Assign 1 (Own up 5) (Constant (pos 1))) ∷ []
 
 -- it threatens the one of routine 0 two levels up, and that of routine 1 one level up, and its own in no other one
-two_levels_up : is_threatened_in (OfRoutine 0 0 9) (nested 2) (Own 0 5) ≡ true
+two_levels_up : is_threatened_in (OfRoutine 0 0 9) (nested 2) (tree.OfRoutine 0 5) ≡ true
 two_levels_up = refl
 
-one_level_up : is_threatened_in (OfRoutine 0 0 9) (nested 1) (Own 0 5) ≡ false
+one_level_up : is_threatened_in (OfRoutine 0 0 9) (nested 1) (tree.OfRoutine 0 5) ≡ false
 one_level_up = refl
 
-one_level_up_of_inner : is_threatened_in (OfRoutine 1 0 9) (nested 1) (Own 0 5) ≡ true
+one_level_up_of_inner : is_threatened_in (OfRoutine 1 0 9) (nested 1) (tree.OfRoutine 0 5) ≡ true
 one_level_up_of_inner = refl
 
-by_itself : is_threatened_in (OfRoutine 2 0 9) (nested 0) (Own 0 5) ≡ false
+by_itself : is_threatened_in (OfRoutine 2 0 9) (nested 0) (tree.OfRoutine 0 5) ≡ false
 by_itself = refl
 
 -- ---- the names of functions
@@ -147,7 +148,7 @@ other_function = refl
 
 -- inside of `for x`, x := 3 and c := 3
 abbrev inside : ℕ → Judged (Option Stmt)
-inside number = unless_threatening (stmt_threat []) (Variable (codes "u") 0 ∷ []) (Accepts (Some (Assign 1 (Variable (codes "u") number) (Constant (pos 3)))))
+inside number = unless_threatening (stmt_threat []) (tree.OfUnit (codes "u") 0 ∷ []) (Accepts (Some (Assign 1 (Variable (codes "u") number) (Constant (pos 3)))))
 
 assigned_inside : inside 0 ≡ Breaks (rule.CONTROL_THREATENED ∷ [])
 assigned_inside = refl

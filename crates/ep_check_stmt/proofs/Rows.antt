@@ -8,7 +8,7 @@ use Rattle.ep_tree.specs.declared.expression.ComponentValue.{ComponentValue}
 use Rattle.ep_tree.specs.declared.statement.Statement.TheOpen.{Statement-F}
 use Rattle.ep_tree.specs.declared.statement.Statement.TheVariants as statement
 use Rattle.ep_tree.specs.declared.statement.Statement.{fold-roll-Statement}
-use Rattle.ep_typed.specs.Trees.{Place, Stmt, Stmts, none, next, stmts}
+use Rattle.ep_typed.specs.Trees.{Entire, Stmt, Stmts, none, next, stmts}
 use Rattle.ep_typed.specs.Viewed.{stmt_of}
 use Rattle.ep_typed.specs.declared.tree.TypedStmt.{TypedStmt}
 use Rattle.ep_check_expr.specs.Judgements.{Judged, Accepts, Breaks}
@@ -143,7 +143,7 @@ all_together view judge all n found waits h none_waits same =
     sym same ∙ (ap (λ xs. together found waits (in_order (map judge (map view xs)))) (drop_all n all h) ∙ (ap (λ w. together found w (Passes none)) none_waits ∙ ap Passes (joined_all found)))
 
 -- what an assignment statement is judged to be
-pub assignment_is : (context : Context) (line : ℕ) (access : Access) (v : ComponentValue) (controls : List Place) → statement_judged context (statement.Assignment line access v) controls ≡ at_statement context (Statement-F.Assignment line access v) controls
+pub assignment_is : (context : Context) (line : ℕ) (access : Access) (v : ComponentValue) (controls : List Entire) → statement_judged context (statement.Assignment line access v) controls ≡ at_statement context (Statement-F.Assignment line access v) controls
 assignment_is context line access v controls =
     ap (λ s. statement_judged context s controls) (sym (statement.rolls-Assignment line access v))
     ∙ ap (λ (judge : Under Stmt). judge controls) (fold-roll-Statement (Under Stmt) ArmJudged (Under Stmts) (Under Stmts) (at_statement context) (at_arm context) (at_compound context) (at_otherwise context) (Statement-F.Assignment line access v))

@@ -2,12 +2,12 @@
 use Rattle.std.proofs.Common.{◌≡◌, Bool, false, List, [], ◌∷◌, Option, Some, ap, ◌∙◌}
 use Rattle.std.specs.Prelude.{if◌then◌else◌}
 use Rattle.std.specs.List.{list_any}
-use Rattle.ep_typed.specs.Trees.{Place}
+use Rattle.ep_typed.specs.Trees.{Entire}
 use Rattle.ep_scope.specs.declared.rule.TheConstants as rule
 use Rattle.ep_check_expr.specs.Judgements.{Judged, Accepts, Breaks}
 use Rattle.ep_check_stmt.specs.Statements.{unless_threatening}
 
-module _ {A : Type 0} (threat : Place → A → Bool) (controls : List Place) where
+module _ {A : Type 0} (threat : Entire → A → Bool) (controls : List Entire) where
   abbrev one_is_threatened : A → Bool
   one_is_threatened form = list_any (λ v. threat v form) controls
 

@@ -12,6 +12,7 @@ use Rattle.ep_typed.specs.declared.operations.Print.{Print}
 use Rattle.ep_typed.specs.declared.tree.TypedExpr.{TypedExpr}
 use Rattle.ep_typed.specs.declared.tree.TypedStmt.{TypedStmt}
 use Rattle.ep_typed.specs.declared.tree.WriteItem.{WriteItem}
+use Rattle.ep_scope.specs.declared.kind.Kind.{Kind}
 use Rattle.ep_check_expr.specs.Judgements.{Judged, Accepts, breaks}
 use Rattle.ep_check_expr.specs.declared.forms.Refusal.{Refusal}
 use Rattle.ep_check_expr.specs.declared.forms.Refusal.TheVariants.{Rule, NoMemory}
@@ -32,6 +33,8 @@ use Rattle.ep_check_stmt.specs.declared.statements.FunctionResult.{FunctionResul
 use Rattle.ep_check_stmt.specs.declared.statements.Locals.{Locals}
 use Rattle.ep_check_stmt.specs.declared.statements.Locals.TheVariants as locals
 use Rattle.ep_check_stmt.specs.declared.targets.Target.{Target}
+use Rattle.ep_check_stmt.specs.declared.threats.Entire.{Entire}
+use Rattle.ep_check_stmt.specs.declared.threats.Entire.TheVariants as entire
 
 -- whether the rule is one of these
 abbrev pub fails_among : ℕ → List ℕ → Bool
@@ -85,9 +88,17 @@ context_of c = record { unit = c.unit.now; scopes = c.scopes.now; output = c.out
 abbrev pub target_of : Target → rows.Target
 target_of t = record { place = place_of t.place; kind = t.kind }
 
--- a control variable, and a `for` without its body
+-- an entire variable, of which threats are asked
+abbrev pub entire_of : Entire → tree.Entire
+entire_of (entire.Variable unit number) = tree.OfUnit unit.now number
+entire_of (entire.Own up number) = tree.OfRoutine up number
+
+-- a control variable with the kind of its type, or with its host where that is ordinal, and a `for` without its body
+abbrev pub named_of : Entire × Kind → rows.Named
+named_of p = record { variable = entire_of p.0; kind = p.1 }
+
 abbrev pub counted_of : Counted → rows.Counted
-counted_of c = record { place = place_of c.place; host = c.host }
+counted_of c = record { variable = entire_of c.variable; host = c.host }
 
 abbrev pub head_of : ForHead → rows.ForHead
 head_of h = record { control = control_of h.control; initial = expr_of h.initial; last = expr_of h.last }

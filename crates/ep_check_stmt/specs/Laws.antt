@@ -3,12 +3,12 @@ use Rattle.std.specs.Prelude.{◌≡◌, ℕ, ◌-◌, List, [], ◌∷◌, Some
 use Rattle.ep_tree.specs.declared.statement.Compound.{Compound}
 use Rattle.ep_typed.specs.Auxiliaries.{first_for_of}
 use Rattle.ep_typed.specs.Hosts as host
-use Rattle.ep_typed.specs.Trees.{Stmts, Own}
+use Rattle.ep_typed.specs.Trees.{Stmts, Own, entire}
 use Rattle.ep_typed.specs.Valid.{AreStmts, Declarations, IsPlace}
 use Rattle.ep_scope.specs.Scopes.{depth_in}
 use Rattle.ep_check_expr.specs.Agreement.{Agrees, IsHost}
 use Rattle.ep_check_expr.specs.Hosts.{typed_host}
-use Rattle.ep_check_stmt.specs.Statements.{Context, FunctionResult, Locals, Passes, compound_judged, initial_place, last_place}
+use Rattle.ep_check_stmt.specs.Statements.{Context, FunctionResult, Locals, Passes, compound_judged, initial_variable, last_variable}
 
 -- the variable that has a result is there from code of a depth, and of its host
 abbrev pub ResultIsThere : Declarations → ℕ → FunctionResult → Type 0
@@ -20,7 +20,7 @@ ResultsAreThere declared depth (r ∷ rs) = ResultIsThere declared depth r × Re
 
 -- the auxiliary variables are there and are integers
 abbrev pub AuxiliariesAreThere : Declarations → Locals → Type 0
-AuxiliariesAreThere declared locals = IsPlace declared host.Integer (initial_place locals) × IsPlace declared host.Integer (last_place locals)
+AuxiliariesAreThere declared locals = IsPlace declared host.Integer (entire (initial_variable locals)) × IsPlace declared host.Integer (entire (last_variable locals))
 
 -- the statements of a compound statement that pass are valid, where the auxiliary variables are there if there is a `for` among them
 abbrev pub StatementsAreSound : Type 0

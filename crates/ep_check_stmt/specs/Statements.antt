@@ -21,7 +21,7 @@ use Rattle.ep_tree.specs.declared.expression.Label.{Label}
 use Rattle.ep_tree.specs.declared.statement.Compound.{Compound, fold-Compound}
 use Rattle.ep_typed.specs.Hosts.{greatest, least}
 use Rattle.ep_typed.specs.Trees as tree
-use Rattle.ep_typed.specs.Trees.{Control, Place, Expr, Item, Stmt, Stmts, Arm, Arms, Other}
+use Rattle.ep_typed.specs.Trees.{Control, Entire, Place, Expr, Item, Stmt, Stmts, Arm, Arms, Other}
 use Rattle.ep_typed.specs.declared.operations.Print.{Print}
 use Rattle.ep_typed.specs.declared.operations.Print.TheVariants as print
 use Rattle.ep_typed.specs.declared.tree.StandardFile.{StandardFile}
@@ -254,14 +254,14 @@ arms_in_order (a ∷ arms) = after (λ x more. tree.next_arm x.0 x.1 more) a (ar
 
 -- What a row comes to inside of the `for` statements that have these control variables, the innermost first.
 abbrev pub Under : Type 0 → Type 0
-Under A = List Place → Judgement A
+Under A = List Entire → Judgement A
 
 -- an arm of a `case`: its labels, which belong to the statement itself, and its statement
 abbrev pub ArmJudged : Type 0
 ArmJudged = List Label × Under Stmt
 
 -- an arm of a `case` on a line, whose selector has a host
-abbrev pub arm_row : List Region → ℕ → Host → List Place → ArmJudged → Judgement Arm
+abbrev pub arm_row : List Region → ℕ → Host → List Entire → ArmJudged → Judgement Arm
 arm_row scopes line h controls a = after (λ ranges s. (ranges, s)) (at_item line (own_ranges scopes h a.0)) (a.1 controls)
 
 -- a missing `otherwise`
@@ -287,13 +287,13 @@ pub data Locals : Type 0 where
   OfRoutine : (routine first auxiliary : ℕ) → Locals
 
 -- the auxiliary variables, which have the initial and the final value
-abbrev pub initial_place : Locals → Place
-initial_place (OfUnit unit auxiliary) = tree.Variable unit auxiliary
-initial_place (OfRoutine routine first auxiliary) = tree.Own 0 auxiliary
+abbrev pub initial_variable : Locals → Entire
+initial_variable (OfUnit unit auxiliary) = tree.OfUnit unit auxiliary
+initial_variable (OfRoutine routine first auxiliary) = tree.OfRoutine 0 auxiliary
 
-abbrev pub last_place : Locals → Place
-last_place (OfUnit unit auxiliary) = tree.Variable unit (auxiliary + 1)
-last_place (OfRoutine routine first auxiliary) = tree.Own 0 (auxiliary + 1)
+abbrev pub last_variable : Locals → Entire
+last_variable (OfUnit unit auxiliary) = tree.OfUnit unit (auxiliary + 1)
+last_variable (OfRoutine routine first auxiliary) = tree.OfRoutine 0 (auxiliary + 1)
 
 -- whether a variable of a unit, or one of a routine, is declared in the block, whose code has a depth
 abbrev pub declares_variable : Locals → List ℕ → Bool
@@ -308,43 +308,48 @@ declares_own (OfRoutine routine first auxiliary) depth d = d.level == depth && n
 abbrev pub no_control : {A : Type 0} → List ℕ → Judged A
 no_control rules = Breaks (rule.CONTROL_VARIABLE ∷ rules)
 
-abbrev pub control_if : Bool → Target → Judged Target
-control_if true t = Accepts t
-control_if false t = no_control []
+-- a variable that the block declares, and the kind of its type
+pub record Named : Type 0 where
+  pub variable : Entire
+  pub kind : Kind
+
+abbrev pub control_if : Bool → Named → Judged Named
+control_if true v = Accepts v
+control_if false v = no_control []
 
 -- a declared name as a control variable
-abbrev pub declared_control : Locals → ℕ → Declared → Declaration → Judged Target
-declared_control locals depth d (declaration.Variable of k) = control_if (declares_variable locals d.unit) (record { place = tree.Variable d.unit d.number; kind = k })
-declared_control locals depth d (declaration.Own of k guarded) = control_if (declares_own locals depth d) (record { place = own_place depth d; kind = k })
+abbrev pub declared_control : Locals → ℕ → Declared → Declaration → Judged Named
+declared_control locals depth d (declaration.Variable of k) = control_if (declares_variable locals d.unit) (record { variable = tree.OfUnit d.unit d.number; kind = k })
+declared_control locals depth d (declaration.Own of k guarded) = control_if (declares_own locals depth d) (record { variable = tree.OfRoutine (depth - d.level) d.number; kind = k })
 declared_control locals depth d (declaration.Constant k value) = no_control (rule.CONSTANT_THREATENED ∷ rule.VARIABLE_NEEDED ∷ [])
 declared_control locals depth d (declaration.«Type» of h) = no_control (rule.OTHER_THING ∷ rule.VARIABLE_NEEDED ∷ [])
 declared_control locals depth d (declaration.Procedure parameters) = no_control (rule.OTHER_THING ∷ rule.VARIABLE_NEEDED ∷ [])
 declared_control locals depth d (declaration.Function parameters of h) = no_control (rule.OTHER_THING ∷ rule.VARIABLE_NEEDED ∷ [])
 
 -- a name that means this
-abbrev pub control_named : Locals → ℕ → List ℕ → Meant → Judged Target
+abbrev pub control_named : Locals → ℕ → List ℕ → Meant → Judged Named
 control_named locals depth name (Declares d) = declared_control locals depth d d.what
 control_named locals depth name (Standard f) = no_control (rule.ORDINAL ∷ [])
 control_named locals depth name (Requires r) = no_control (target_rules r)
 control_named locals depth name Nothing = Breaks (undeclared name)
 
--- the place of a control variable and the host of its type, which is ordinal
+-- a control variable and the host of its type, which is ordinal
 pub record Counted : Type 0 where
-  pub place : Place
+  pub variable : Entire
   pub host : Host
 
-abbrev pub counted_by : Place → Kind → Judged Counted
-counted_by place (kind.Ordinal h) = Accepts (record { place = place; host = h })
-counted_by place _ = Breaks (rule.ORDINAL ∷ [])
+abbrev pub counted_by : Entire → Kind → Judged Counted
+counted_by variable (kind.Ordinal h) = Accepts (record { variable = variable; host = h })
+counted_by variable _ = Breaks (rule.ORDINAL ∷ [])
 
 -- One that a routine of the block threatens is none, however deep it is (ISO 10206, 6.9.3.9.1). Variables of a unit are the same from everywhere; in the block of a routine no variable of a unit counts.
-abbrev pub is_threatened_in : Locals → List RoutineForm → Place → Bool
-is_threatened_in (OfUnit unit auxiliary) routines place = list_any (λ r. threatens (formals_at routines) place r.block) routines
-is_threatened_in (OfRoutine routine first auxiliary) routines (tree.Own up number) = inner_threatens routine routines number
-is_threatened_in (OfRoutine routine first auxiliary) routines place = false
+abbrev pub is_threatened_in : Locals → List RoutineForm → Entire → Bool
+is_threatened_in (OfUnit unit auxiliary) routines variable = list_any (λ r. threatens (formals_at routines) variable r.block) routines
+is_threatened_in (OfRoutine routine first auxiliary) routines (tree.OfRoutine up number) = inner_threatens routine routines number
+is_threatened_in (OfRoutine routine first auxiliary) routines variable = false
 
 abbrev pub unless_threatened_in : Locals → List RoutineForm → Counted → Judged Counted
-unless_threatened_in locals routines c = if is_threatened_in locals routines c.place then Breaks (rule.CONTROL_THREATENED ∷ []) else Accepts c
+unless_threatened_in locals routines c = if is_threatened_in locals routines c.variable then Breaks (rule.CONTROL_THREATENED ∷ []) else Accepts c
 
 abbrev pub falls_by : Direction → Bool
 falls_by direction.To = false
@@ -353,7 +358,7 @@ falls_by direction.Downto = true
 -- what a `for` with this control variable counts with
 abbrev pub for_control : Locals → Bool → Counted → Control
 for_control locals falls c =
-    record { variable = c.place; initial = initial_place locals; last = last_place locals; falls = falls; low = least (typed_host c.host); high = greatest (typed_host c.host) }
+    record { variable = c.variable; initial = initial_variable locals; last = last_variable locals; falls = falls; low = least (typed_host c.host); high = greatest (typed_host c.host) }
 
 -- a `for` statement without its body
 pub record ForHead : Type 0 where
@@ -376,20 +381,20 @@ bounds_judged locals falls c x y =
 -- ---- threats in the body of a `for` (ISO 10206, 6.9.3.9.1)
 
 -- what threatens one of these control variables is no item of the body
-abbrev pub unless_threatening : {A : Type 0} → (Place → A → Bool) → List Place → Judged (Option A) → Judged (Option A)
+abbrev pub unless_threatening : {A : Type 0} → (Entire → A → Bool) → List Entire → Judged (Option A) → Judged (Option A)
 unless_threatening threat controls (Accepts None) = Accepts None
 unless_threatening threat controls (Accepts (Some form)) = if list_any (λ v. threat v form) controls then Breaks (rule.CONTROL_THREATENED ∷ []) else Accepts (Some form)
 unless_threatening threat controls (Breaks rules) = Breaks rules
 
 -- the items that are one: a statement without statements inside, an expression of a statement, or a `for` without its body
-abbrev pub stmt_threat : List RoutineForm → Place → Stmt → Bool
+abbrev pub stmt_threat : List RoutineForm → Entire → Stmt → Bool
 stmt_threat routines v s = threatens (formals_at routines) v s
 
-abbrev pub expr_threat : List RoutineForm → Place → Expr → Bool
+abbrev pub expr_threat : List RoutineForm → Entire → Expr → Bool
 expr_threat routines v x = expr_threatens (formals_at routines) v x
 
-abbrev pub head_threat : List RoutineForm → Place → ForHead → Bool
-head_threat routines v h = is_variable v h.control.variable || (expr_threat routines v h.initial || expr_threat routines v h.last)
+abbrev pub head_threat : List RoutineForm → Entire → ForHead → Bool
+head_threat routines v h = is_variable v (tree.entire h.control.variable) || (expr_threat routines v h.initial || expr_threat routines v h.last)
 
 -- a `for` by its head and its body
 abbrev pub for_row : ℕ → Judgement ForHead → Judgement Stmt → Judgement Stmt
@@ -487,27 +492,27 @@ module _ (context : Context) where
   target_judged name _ = unbuilt
 
   -- an item of a statement inside of `for` statements with these control variables
-  abbrev pub stmt_item : List Place → ℕ → Judged (Option Stmt) → Judgement Stmt
+  abbrev pub stmt_item : List Entire → ℕ → Judged (Option Stmt) → Judgement Stmt
   stmt_item controls line s = at_item line (unless_threatening (stmt_threat context.routines) controls s)
 
   -- an expression of a statement there
-  abbrev pub expr_item : List Place → Judged (Option Expr) → Judged (Option Expr)
+  abbrev pub expr_item : List Entire → Judged (Option Expr) → Judged (Option Expr)
   expr_item controls x = unless_threatening (expr_threat context.routines) controls x
 
   -- a statement with this condition
-  abbrev pub condition_judged : List Place → ℕ → Expression → Judgement Expr
+  abbrev pub condition_judged : List Entire → ℕ → Expression → Judgement Expr
   condition_judged controls line e = at_item line (expr_item controls (condition (judged context.scopes e)))
 
   -- a name as the control variable of a `for`
   abbrev pub control_judged : List ℕ → Judged Counted
   control_judged name =
-      when_accepted (unless_threatened_in context.locals context.routines) (when_accepted (λ t. counted_by t.place t.kind) (control_named context.locals (depth_in context.scopes) name (meant context.scopes name)))
+      when_accepted (unless_threatened_in context.locals context.routines) (when_accepted (λ v. counted_by v.variable v.kind) (control_named context.locals (depth_in context.scopes) name (meant context.scopes name)))
 
   -- a `for` statement, by its control variable
-  abbrev pub for_judged : List Place → ℕ → Judged Counted → Bool → Expression → Expression → Under Stmt → Judgement Stmt
+  abbrev pub for_judged : List Entire → ℕ → Judged Counted → Bool → Expression → Expression → Under Stmt → Judgement Stmt
   for_judged controls line (Breaks rules) falls start end body = Fails line rules
   for_judged controls line (Accepts c) falls start end body =
-      for_row line (at_item line (unless_threatening (head_threat context.routines) controls (bounds_judged context.locals falls c (judged context.scopes start) (judged context.scopes end)))) (body (c.place ∷ controls))
+      for_row line (at_item line (unless_threatening (head_threat context.routines) controls (bounds_judged context.locals falls c (judged context.scopes start) (judged context.scopes end)))) (body (c.variable ∷ controls))
 
   abbrev pub at_statement : Statement-F (Under Stmt) ArmJudged (Under Stmts) (Under Stmts) → Under Stmt
   at_statement (Statement-F.Empty line) controls = Passes tree.Empty

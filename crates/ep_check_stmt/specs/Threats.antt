@@ -8,7 +8,7 @@ use Rattle.ep_tree.specs.declared.statement.Statement.TheOpen.{Statement-F, Arm-
 use Rattle.ep_tree.specs.declared.statement.Statement.{Statement, fold-Statement}
 use Rattle.ep_tree.specs.declared.statement.Arm.{Arm, fold-Arm}
 use Rattle.ep_tree.specs.declared.statement.Compound.{Compound, fold-Compound}
-use Rattle.ep_typed.specs.Trees.{Place, Variable, Own, Standard, Expr, Constant, Text, Read, One, Two, Short, Step, Function, Actual, Evaluated, Accessed, Actuals, no_actual, next_actual, Item, Plain, Wide, Stmt, Stmts, Empty, Assign, If, While, Repeat, For, Procedure, Case, Halt, Write, none, next, Arms, no_arm, next_arm, Other, no_other, otherwise_do}
+use Rattle.ep_typed.specs.Trees.{Entire, OfUnit, OfRoutine, entire, Place, Variable, Own, Standard, Indexed, Expr, Constant, Text, Read, One, Two, Short, Step, Function, Actual, Evaluated, Accessed, Actuals, no_actual, next_actual, Item, Plain, Wide, Stmt, Stmts, Empty, Assign, If, While, Repeat, For, Procedure, Case, Halt, Write, none, next, Arms, no_arm, next_arm, Other, no_other, otherwise_do}
 use Rattle.ep_typed.specs.Trees as tree
 use Rattle.ep_typed.specs.declared.interface.Formal.{Formal}
 use Rattle.ep_typed.specs.declared.interface.FormalMode.{FormalMode}
@@ -24,30 +24,38 @@ mode_threatens mode.Variable = true
 mode_threatens mode.ProtectedValue = false
 mode_threatens mode.ProtectedVariable = false
 
--- whether a place is that of the variable
-abbrev pub is_variable : Place → Place → Bool
-is_variable (Variable unit number) (Variable other place) = bytes_eq unit other && number == place
-is_variable (Own up number) (Own other place) = up == other && number == place
-is_variable variable place = false
+-- whether a place is that of an entire variable, or of a component of it, however deep (ISO 10206, 6.5.2)
+abbrev pub is_variable : Entire → Place → Bool
+is_variable v (Indexed array index) = is_variable v array
+is_variable (OfUnit unit number) (Variable other place) = bytes_eq unit other && number == place
+is_variable (OfRoutine up number) (Own other place) = up == other && number == place
+is_variable v place = false
 
--- by the formal parameters of each routine, for the variable at a place
-module _ (formals_of : List ℕ → ℕ → List Formal) (variable : Place) where
+-- by the formal parameters of each routine, for an entire variable
+module _ (formals_of : List ℕ → ℕ → List Formal) (variable : Entire) where
   abbrev mutual
     -- whether an expression has a function designator that threatens the variable
     pub expr_threatens : Expr → Bool
     expr_threatens (Constant value) = false
     expr_threatens (Text bytes) = false
-    expr_threatens (Read place) = false
+    expr_threatens (Read place) = place_threatens place
     expr_threatens (One operation x) = expr_threatens x
     expr_threatens (Two operation x y) = expr_threatens x || expr_threatens y
     expr_threatens (Short operation x y) = expr_threatens x || expr_threatens y
     expr_threatens (Step down low high x y) = expr_threatens x || expr_threatens y
     expr_threatens (Function callee given) = actuals_threaten (formals_of callee.unit callee.number) given
 
-    -- whether what is given for a parameter of this mode threatens the variable: it is the variable itself, or an expression that threatens it
+    -- whether an index in a place does
+    pub place_threatens : Place → Bool
+    place_threatens (Variable unit number) = false
+    place_threatens (Own up number) = false
+    place_threatens (Standard file) = false
+    place_threatens (Indexed array index) = place_threatens array || expr_threatens index
+
+    -- whether what is given for a parameter of this mode threatens the variable: it is the variable itself or a component of it, a place with an index that threatens it, or an expression that does
     pub actual_threatens : FormalMode → Actual → Bool
     actual_threatens m (Evaluated x) = expr_threatens x
-    actual_threatens m (Accessed place) = mode_threatens m && is_variable variable place
+    actual_threatens m (Accessed place) = mode_threatens m && is_variable variable place || place_threatens place
 
     -- whether what is given for these formal parameters does, one for one
     pub actuals_threaten : List Formal → Actuals → Bool
@@ -66,16 +74,16 @@ module _ (formals_of : List ℕ → ℕ → List Formal) (variable : Place) wher
   items_threaten (i ∷ is) = item_threatens i || items_threaten is
 
   abbrev mutual
-    -- whether a statement, or one inside of it, assigns to the variable or gives it for a variable parameter that is not protected
+    -- whether a statement, or one inside of it, assigns to the variable or a component of it, or gives it for a variable parameter that is not protected
     pub threatens : Stmt → Bool
     threatens Empty = false
     threatens (tree.Compound ss) = stmts_threaten ss
-    threatens (Assign line place x) = is_variable variable place || expr_threatens x
+    threatens (Assign line place x) = is_variable variable place || (place_threatens place || expr_threatens x)
     threatens (If line x a b) = expr_threatens x || (threatens a || threatens b)
     threatens (While line x s) = expr_threatens x || threatens s
     threatens (Repeat line ss x) = stmts_threaten ss || expr_threatens x
     -- the control variable of a `for` is threatened by it
-    threatens (For line c x y s) = is_variable variable c.variable || (expr_threatens x || (expr_threatens y || threatens s))
+    threatens (For line c x y s) = is_variable variable (entire c.variable) || (expr_threatens x || (expr_threatens y || threatens s))
     threatens (Procedure line callee given) = actuals_threaten (formals_of callee.unit callee.number) given
     threatens (Case line x arms other) = expr_threatens x || (arms_threaten arms || other_threatens other)
     threatens (Halt line) = false
@@ -101,7 +109,7 @@ module _ (formals_of : List ℕ → ℕ → List Formal) (variable : Place) wher
 -- Whether this routine threatens a variable, by its number, of a routine around it, where so many stand between.
 abbrev pub threatens_from : List RoutineForm → ℕ → Stmt → Option ℕ → Bool
 threatens_from routines number s None = false
-threatens_from routines number s (Some between) = threatens (formals_at routines) (Own (suc between) number) s
+threatens_from routines number s (Some between) = threatens (formals_at routines) (OfRoutine (suc between) number) s
 
 -- whether a routine in the one of this number does
 abbrev pub inner_threatens : ℕ → List RoutineForm → ℕ → Bool

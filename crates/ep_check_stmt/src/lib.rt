@@ -21,4 +21,4 @@ mod writing;
 pub use laws::laws_of_statements;
 pub use outcome::{CheckRefusal, Outcome, refused_at};
 pub use statements::{Context, FunctionResult, Locals, Row};
-pub use threats::{assigns, inner_threatens, threatens};
+pub use threats::{Entire, assigns, inner_threatens, threatens};

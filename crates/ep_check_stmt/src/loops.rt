@@ -7,50 +7,33 @@ ghost use Rattle.ep_built.specs.Built.{expression_unbuilt};
 ghost use Rattle.ep_scope.specs.Scopes.{depth_in, meant};
 ghost use Rattle.ep_typed.specs.Trees as tree;
 ghost use Rattle.ep_typed.specs.Trees.{Expr, Stmt};
-ghost use Rattle.ep_typed.specs.Viewed.{control_of, expr_of, place_of, stmt_of};
+ghost use Rattle.ep_typed.specs.Viewed as viewed;
+ghost use Rattle.ep_typed.specs.Viewed.{control_of, expr_of, stmt_of};
 ghost use Rattle.ep_check_expr.specs.Expressions.{judged};
 ghost use Rattle.ep_check_expr.specs.Judgements.{Judged, Accepts, both, when_accepted};
 ghost use Rattle.ep_check_expr.specs.Operators.{map_both};
-ghost use Rattle.ep_check_stmt.specs.Answers.{AnswersForm, AnswersRow, context_of, counted_of, head_of, locals_of, target_of};
+ghost use Rattle.ep_check_stmt.specs.Answers.{AnswersForm, AnswersRow, context_of, counted_of, entire_of, head_of, locals_of, named_of};
 ghost use Rattle.ep_check_stmt.specs.RoutineForms.{routine_form};
 ghost use Rattle.ep_check_stmt.specs.Statements as spec;
-ghost use Rattle.ep_check_stmt.specs.Statements.{Judgement, bound_judged, bounds_judged, control_judged, control_named, declared_control, declares_own, declares_variable, expr_threat, for_control, for_head, for_row, head_threat, initial_place, last_place, stmt_threat, unless_threatening};
+ghost use Rattle.ep_check_stmt.specs.Statements.{Judgement, bound_judged, bounds_judged, control_judged, control_named, declared_control, declares_own, declares_variable, expr_threat, for_control, for_head, for_row, head_threat, initial_variable, last_variable, stmt_threat, unless_threatening};
 
 use crate::outcome::Outcome;
 use crate::statements::{Context, Locals, Row};
-use crate::targets::Target;
-use crate::threats::{expr_threatens, inner_threatens, is_variable, statement_threatens};
+use crate::threats::{Entire, expr_threatens, inner_threatens, is_same, statement_threatens};
 use ep_base::{Boxed, Line, List, Name, NoMemory};
-use ep_check_expr::{
-    Refusal, given_value, greatest, least, own_place, typed_expression, undeclared,
-};
+use ep_check_expr::{Refusal, given_value, greatest, least, typed_expression, undeclared};
 use ep_scope::{Declaration, Declared, Host, Kind, Meaning, depth_in, meaning_of, rule};
 use ep_tree::{Direction, Expression};
-use ep_typed::{ForControl, TypedExpr, TypedPlace, TypedStmt, UnitRoutine};
+use ep_typed::{EntireVariable, ForControl, TypedExpr, TypedStmt, UnitRoutine};
 use std::alloc::{AllocError, Global};
 
 /// A control variable, and the host of its type.
-pub(crate) struct Counted {
-    /// Its place.
-    pub(crate) place: TypedPlace,
+#[derive(Clone, Copy)]
+pub(crate) struct Counted<'a> {
+    /// The variable.
+    pub(crate) variable: Entire<'a>,
     /// The host.
     host: Host,
-}
-
-impl Drop for Counted {
-    fn drop(self) {
-        let Counted { place: _, host: _ } = self;
-    }
-}
-
-impl Counted {
-    /// The place alone.
-    fn into_place(self) -> TypedPlace
-        ensures { result ≡ self.place }
-    {
-        let Counted { place, host: _ } = self;
-        place
-    }
 }
 
 /// A `for` statement without its body: what it counts with, and the initial and the final value.
@@ -83,32 +66,18 @@ pub(crate) fn falls_by(direction: Direction) -> bool
     }
 }
 
-/// The same place once more.
-fn copied(alloc: Global, place: &TypedPlace) -> Result<TypedPlace, NoMemory>
-    ensures { IfOk result (λ copy. copy ≡ place.now) }
-{
-    match place {
-        TypedPlace::Variable(unit, number) => {
-            let unit = unit.copy(alloc)?;
-            Ok(TypedPlace::Variable(unit, *number))
-        }
-        TypedPlace::Own(up, number) => Ok(TypedPlace::Own(*up, *number)),
-        TypedPlace::Standard(file) => Ok(TypedPlace::Standard(*file)),
-    }
-}
-
 /// A control variable before those of the `for` statements around.
-pub(crate) fn one_more(
+pub(crate) fn one_more<'a>(
     alloc: Global,
-    control: &TypedPlace,
-    controls: &[TypedPlace],
-) -> Result<List<TypedPlace>, NoMemory>
-    ensures { IfOk result (λ all. all ≡ control.now ∷ controls.now) }
+    control: Entire<'a>,
+    controls: &[Entire<'a>],
+) -> Result<List<Entire<'a>>, NoMemory>
+    ensures { IfOk result (λ all. all ≡ control.entry ∷ controls.now) }
 {
     let mut all = List::new(alloc);
-    all.push(copied(alloc, control)?)?;
+    all.push(control)?;
     for other in controls {
-        all.push(copied(alloc, other)?)?;
+        all.push(*other)?;
     }
     Ok(all)
 }
@@ -135,69 +104,65 @@ fn declares_own(locals: Locals<'_>, depth: u32, declared: &Declared) -> bool
     }
 }
 
-/// A declared name as a control variable, which is a variable that the block declares (ISO 10206, 6.9.3.9.1).
-fn declared_control(
-    alloc: Global,
+/// A declared name as a control variable, which is a variable that the block declares (ISO 10206, 6.9.3.9.1), and the kind
+/// of its type.
+fn declared_control<'a>(
     locals: Locals<'_>,
     depth: u32,
-    declared: &Declared,
-) -> Result<Target, Refusal>
-    ensures { AnswersForm target_of result
+    declared: &'a Declared,
+) -> Result<(Entire<'a>, Kind), Refusal>
+    ensures { AnswersForm named_of result
         (declared_control (locals_of locals.entry) depth declared.now declared.now.what) }
 {
     match &declared.what {
         Declaration::Variable(_, kind) if declares_variable(locals, &declared.unit) => {
-            let unit = declared.unit.copy(alloc)?;
-            let place = TypedPlace::Variable(unit, declared.number);
-            Ok(Target { place, kind: *kind })
+            Ok((Entire::Variable(&declared.unit, declared.number), *kind))
         }
         Declaration::Own(_, kind, _) if declares_own(locals, depth, declared) => {
-            let place = own_place(depth, declared);
-            Ok(Target { place, kind: *kind })
+            let up = depth.saturating_sub(declared.level);
+            Ok((Entire::Own(up, declared.number), *kind))
         }
         _ => Err(Refusal::Rule(rule::CONTROL_VARIABLE)),
     }
 }
 
-/// A control variable by its place and its kind, which is ordinal.
-fn counted_by(target: Target) -> Result<Counted, Refusal>
-    ensures { AnswersForm counted_of result (spec.counted_by (target_of target).place target.kind) }
+/// A control variable with the kind of its type, which is ordinal.
+fn counted_by<'a>(named: (Entire<'a>, Kind)) -> Result<Counted<'a>, Refusal>
+    ensures { AnswersForm counted_of result (spec.counted_by (named_of named.entry).variable (named_of named.entry).kind) }
 {
-    match target.kind {
-        Kind::Ordinal(host) => Ok(Counted {
-            place: target.into_place(),
-            host,
-        }),
+    let (variable, kind) = named;
+    match kind {
+        Kind::Ordinal(host) => Ok(Counted { variable, host }),
         _ => Err(Refusal::Rule(rule::ORDINAL)),
     }
 }
 
-/// Whether the block of one of these routines of the unit threatens the variable at a place.
-fn routines_threaten(routines: &[UnitRoutine], place: &TypedPlace) -> bool
-    ensures { result ≡ list_any (λ r. stmt_threat (map routine_form routines.now) (place_of place.now) r.block)
+/// Whether the block of one of these routines of the unit threatens a variable.
+fn routines_threaten(routines: &[UnitRoutine], variable: Entire<'_>) -> bool
+    ensures { result ≡ list_any (λ r. stmt_threat (map routine_form routines.now) (entire_of variable.entry) r.block)
         (map routine_form routines.now) }
 {
     for routine in routines {
-        if statement_threatens(&routine.block, routines, place) {
+        if statement_threatens(&routine.block, routines, variable) {
             return true;
         }
     }
     false
 }
 
-/// Whether a routine of the block, however deep, threatens its variable at a place.
+/// Whether a routine of the block, however deep, threatens this variable of the block.
 fn is_threatened_in(
     locals: Locals<'_>,
     routines: &[UnitRoutine],
-    place: &TypedPlace,
+    variable: Entire<'_>,
 ) -> Result<bool, NoMemory>
     ensures { IfOk result (λ threatened. threatened ≡ spec.is_threatened_in (locals_of locals.entry)
-        (map routine_form routines.now) (place_of place.now)) }
+        (map routine_form routines.now) (entire_of variable.entry)) }
 {
-    match (locals, place) {
-        (Locals::Unit(_, _), _) => Ok(routines_threaten(routines, place)),
-        (Locals::Routine(routine, _, _), TypedPlace::Own(_, number)) => {
-            inner_threatens(routine, routines, *number)
+    match (locals, variable) {
+        (Locals::Unit(_, _), _) => Ok(routines_threaten(routines, variable)),
+        (Locals::Routine(routine, _, _), Entire::Own(_, number)) => {
+            inner_threatens(routine, routines, number)
         }
         _ => Ok(false),
     }
@@ -206,21 +171,27 @@ fn is_threatened_in(
 // ---- the head
 
 /// The auxiliary variables, for the initial and for the final value.
-fn auxiliaries(alloc: Global, locals: Locals<'_>) -> Result<(TypedPlace, TypedPlace), NoMemory>
-    ensures { IfOk result (λ both. (place_of both.0 ≡ initial_place (locals_of locals.entry))
-        × (place_of both.1 ≡ last_place (locals_of locals.entry))) }
+fn auxiliaries(
+    alloc: Global,
+    locals: Locals<'_>,
+) -> Result<(EntireVariable, EntireVariable), NoMemory>
+    ensures { IfOk result (λ both. (viewed.entire_of both.0 ≡ initial_variable (locals_of locals.entry))
+        × (viewed.entire_of both.1 ≡ last_variable (locals_of locals.entry))) }
 {
     match locals {
         Locals::Unit(unit, number) => {
             let Some(next) = number.checked_add(1) else {
                 return Err(AllocError);
             };
-            let initial = TypedPlace::Variable(unit.copy(alloc)?, number);
-            Ok((initial, TypedPlace::Variable(unit.copy(alloc)?, next)))
+            let (first, second) = (unit.copy(alloc)?, unit.copy(alloc)?);
+            Ok((
+                EntireVariable::Unit(first, number),
+                EntireVariable::Unit(second, next),
+            ))
         }
         Locals::Routine(_, _, number) => match number.checked_add(1) {
             None => Err(AllocError),
-            Some(next) => Ok((TypedPlace::Own(0, number), TypedPlace::Own(0, next))),
+            Some(next) => Ok((EntireVariable::Own(0, number), EntireVariable::Own(0, next))),
         },
     }
 }
@@ -229,22 +200,21 @@ fn auxiliaries(alloc: Global, locals: Locals<'_>) -> Result<(TypedPlace, TypedPl
 fn for_control(
     alloc: Global,
     locals: Locals<'_>,
-    counted: Counted,
+    counted: Counted<'_>,
     falls: bool,
 ) -> Result<ForControl, NoMemory>
     ensures { IfOk result (λ control.
-        control_of control ≡ for_control (locals_of locals.entry) falls (counted_of counted)) }
+        control_of control ≡ for_control (locals_of locals.entry) falls (counted_of counted.entry)) }
 {
+    let variable = counted.variable.to_owned(alloc)?;
     let (initial, last) = auxiliaries(alloc, locals)?;
-    let low = least(counted.host);
-    let high = greatest(counted.host);
     Ok(ForControl {
-        variable: counted.into_place(),
+        variable,
         initial,
         last,
         falls,
-        low,
-        high,
+        low: least(counted.host),
+        high: greatest(counted.host),
     })
 }
 
@@ -252,14 +222,14 @@ fn for_control(
 fn for_head(
     alloc: Global,
     locals: Locals<'_>,
-    counted: Counted,
+    counted: Counted<'_>,
     falls: bool,
     start: Result<Option<Boxed<TypedExpr>>, Refusal>,
     end: Result<Option<Boxed<TypedExpr>>, Refusal>,
 ) -> Result<Option<ForHead>, Refusal>
     ensures { (x y : Judged (Option Expr)) → AnswersForm (option_map expr_of) start x
         → AnswersForm (option_map expr_of) end y → AnswersForm (option_map head_of) result
-        (both (λ a b. Accepts (map_both (for_head (locals_of locals.entry) falls (counted_of counted)) a b)) x y) }
+        (both (λ a b. Accepts (map_both (for_head (locals_of locals.entry) falls (counted_of counted.entry)) a b)) x y) }
 {
     match (start?, end?) {
         (Some(initial), Some(last)) => {
@@ -312,12 +282,12 @@ impl ForHead {
 // ---- threats
 
 /// Whether a statement threatens one of these control variables.
-fn statement_threatens_one(s: &TypedStmt, routines: &[UnitRoutine], controls: &[TypedPlace]) -> bool
+fn statement_threatens_one(s: &TypedStmt, routines: &[UnitRoutine], controls: &[Entire<'_>]) -> bool
     ensures { result ≡ list_any (λ v. stmt_threat (map routine_form routines.now) v (stmt_of s.now))
-        (map place_of controls.now) }
+        (map entire_of controls.now) }
 {
     for control in controls {
-        if statement_threatens(s, routines, control) {
+        if statement_threatens(s, routines, *control) {
             return true;
         }
     }
@@ -325,12 +295,12 @@ fn statement_threatens_one(s: &TypedStmt, routines: &[UnitRoutine], controls: &[
 }
 
 /// Whether an expression threatens one of these control variables.
-fn value_threatens_one(x: &TypedExpr, routines: &[UnitRoutine], controls: &[TypedPlace]) -> bool
+fn value_threatens_one(x: &TypedExpr, routines: &[UnitRoutine], controls: &[Entire<'_>]) -> bool
     ensures { result ≡ list_any (λ v. expr_threat (map routine_form routines.now) v (expr_of x.now))
-        (map place_of controls.now) }
+        (map entire_of controls.now) }
 {
     for control in controls {
-        if expr_threatens(x, routines, control) {
+        if expr_threatens(x, routines, *control) {
             return true;
         }
     }
@@ -338,49 +308,49 @@ fn value_threatens_one(x: &TypedExpr, routines: &[UnitRoutine], controls: &[Type
 }
 
 /// Whether the head of a `for` threatens a control variable.
-fn head_threatens(head: &ForHead, routines: &[UnitRoutine], control: &TypedPlace) -> bool
-    ensures { result ≡ head_threat (map routine_form routines.now) (place_of control.now) (head_of head.now) }
+fn head_threatens(head: &ForHead, routines: &[UnitRoutine], control: Entire<'_>) -> bool
+    ensures { result ≡ head_threat (map routine_form routines.now) (entire_of control.entry) (head_of head.now) }
 {
-    is_variable(control, &head.control.variable)
+    is_same(control, &head.control.variable)
         || expr_threatens(head.initial.get(), routines, control)
         || expr_threatens(head.last.get(), routines, control)
 }
 
 /// Whether it threatens one of these.
-fn head_threatens_one(head: &ForHead, routines: &[UnitRoutine], controls: &[TypedPlace]) -> bool
+fn head_threatens_one(head: &ForHead, routines: &[UnitRoutine], controls: &[Entire<'_>]) -> bool
     ensures { result ≡ list_any (λ v. head_threat (map routine_form routines.now) v (head_of head.now))
-        (map place_of controls.now) }
+        (map entire_of controls.now) }
 {
     for control in controls {
-        if head_threatens(head, routines, control) {
+        if head_threatens(head, routines, *control) {
             return true;
         }
     }
     false
 }
 
-impl Context<'_> {
+impl<'a> Context<'a> {
     /// A name as the control variable of a `for`. It is a variable that the block declares, of an ordinal type, and no
     /// routine of the block threatens it (ISO 10206, 6.9.3.9.1).
-    pub(crate) fn control(&self, name: &Name) -> Result<Counted, Refusal>
+    pub(crate) fn control(&self, name: &Name) -> Result<Counted<'a>, Refusal>
         ensures { AnswersForm counted_of result (control_judged (context_of self.now) name.now) }
     {
         let counted = counted_by(self.control_named(name)?)?;
-        if is_threatened_in(self.locals, self.routines, &counted.place)? {
+        if is_threatened_in(self.locals, self.routines, counted.variable)? {
             return Err(Refusal::Rule(rule::CONTROL_THREATENED));
         }
         Ok(counted)
     }
 
     /// A name as a variable that the block declares.
-    fn control_named(&self, name: &Name) -> Result<Target, Refusal>
-        ensures { AnswersForm target_of result
+    fn control_named(&self, name: &Name) -> Result<(Entire<'a>, Kind), Refusal>
+        ensures { AnswersForm named_of result
             (control_named (context_of self.now).locals (depth_in self.now.scopes.now) name.now
             (meant self.now.scopes.now name.now)) }
     {
-        match &meaning_of(self.scopes, name) {
+        match meaning_of(self.scopes, name) {
             Meaning::Declared(declared) => {
-                declared_control(self.alloc, self.locals, depth_in(self.scopes)?, declared)
+                declared_control(self.locals, depth_in(self.scopes)?, declared)
             }
             Meaning::Standard(_) => Err(Refusal::Rule(rule::CONTROL_VARIABLE)),
             Meaning::Required(_) => Err(Refusal::Rule(rule::CONTROL_VARIABLE)),
@@ -391,7 +361,7 @@ impl Context<'_> {
     /// The head of a `for` with this control variable, to whose host the bounds can be given.
     pub(crate) fn head(
         &self,
-        counted: Counted,
+        counted: Counted<'_>,
         falls: bool,
         start: &Expression,
         end: &Expression,
@@ -399,7 +369,7 @@ impl Context<'_> {
         requires start { expression_unbuilt start.now ≡ None }
         requires end { expression_unbuilt end.now ≡ None }
         ensures { AnswersForm (option_map head_of) result
-            (bounds_judged (context_of self.now).locals falls (counted_of counted)
+            (bounds_judged (context_of self.now).locals falls (counted_of counted.entry)
             (judged self.now.scopes.now start.now) (judged self.now.scopes.now end.now)) }
     {
         let initial = self.bound(counted.host, start);
@@ -420,12 +390,12 @@ impl Context<'_> {
     /// The form of a statement without statements inside, unless it threatens one of these control variables.
     pub(crate) fn unless_statement_threatens(
         &self,
-        controls: &[TypedPlace],
+        controls: &[Entire<'_>],
         form: Result<Option<Boxed<TypedStmt>>, Refusal>,
     ) -> Result<Option<Boxed<TypedStmt>>, Refusal>
         ensures { (j : Judged (Option Stmt)) → AnswersForm (option_map stmt_of) form j
             → AnswersForm (option_map stmt_of) result
-            (unless_threatening (stmt_threat (context_of self.now).routines) (map place_of controls.now) j) }
+            (unless_threatening (stmt_threat (context_of self.now).routines) (map entire_of controls.now) j) }
     {
         let Some(s) = form? else {
             return Ok(None);
@@ -439,12 +409,12 @@ impl Context<'_> {
     /// The form of an expression of a statement, unless it threatens one of these.
     pub(crate) fn unless_value_threatens(
         &self,
-        controls: &[TypedPlace],
+        controls: &[Entire<'_>],
         form: Result<Option<Boxed<TypedExpr>>, Refusal>,
     ) -> Result<Option<Boxed<TypedExpr>>, Refusal>
         ensures { (j : Judged (Option Expr)) → AnswersForm (option_map expr_of) form j
             → AnswersForm (option_map expr_of) result
-            (unless_threatening (expr_threat (context_of self.now).routines) (map place_of controls.now) j) }
+            (unless_threatening (expr_threat (context_of self.now).routines) (map entire_of controls.now) j) }
     {
         let Some(x) = form? else {
             return Ok(None);
@@ -458,12 +428,12 @@ impl Context<'_> {
     /// The head of a `for`, unless it threatens one of these.
     pub(crate) fn unless_head_threatens(
         &self,
-        controls: &[TypedPlace],
+        controls: &[Entire<'_>],
         head: Result<Option<ForHead>, Refusal>,
     ) -> Result<Option<ForHead>, Refusal>
         ensures { (j : Judged (Option spec.ForHead)) → AnswersForm (option_map head_of) head j
             → AnswersForm (option_map head_of) result
-            (unless_threatening (head_threat (context_of self.now).routines) (map place_of controls.now) j) }
+            (unless_threatening (head_threat (context_of self.now).routines) (map entire_of controls.now) j) }
     {
         let Some(h) = head? else {
             return Ok(None);

@@ -7,11 +7,11 @@ ghost use Rattle.ep_scope.specs.Scopes.{meant};
 ghost use Rattle.ep_tree.specs.declared.expression.Access.{out-Access};
 ghost use Rattle.ep_typed.specs.Trees as tree;
 ghost use Rattle.ep_typed.specs.Trees.{Expr, Stmt, Stmts};
-ghost use Rattle.ep_typed.specs.Viewed.{arm_of, expr_of, place_of, stmt_of};
+ghost use Rattle.ep_typed.specs.Viewed.{arm_of, expr_of, stmt_of};
 ghost use Rattle.ep_check_expr.specs.Answers.{typed_of};
 ghost use Rattle.ep_check_expr.specs.Expressions.{judged, judged_value};
 ghost use Rattle.ep_check_expr.specs.Judgements.{both};
-ghost use Rattle.ep_check_stmt.specs.Answers.{AnswersForm, AnswersRow, arms_of, context_of, stmts_of, target_of};
+ghost use Rattle.ep_check_stmt.specs.Answers.{AnswersForm, AnswersRow, arms_of, context_of, entire_of, stmts_of, target_of};
 ghost use Rattle.ep_check_stmt.specs.Statements as spec;
 ghost use Rattle.ep_check_stmt.specs.Statements.{Judgement, after, arm_judged, arm_row, arms_in_order, assigned, compound_judged, compound_under, condition_judged, control_judged, declared_called, for_judged, formed, if_judged, in_order, name_called, own_called, repeat_judged, required_called, statement_judged, target_judged, tested};
 
@@ -19,6 +19,7 @@ use crate::cases::{arm_form, case_form, no_otherwise, otherwise_form};
 use crate::loops::{falls_by, for_form, one_more};
 use crate::outcome::{CheckRefusal, Outcome, item_at, refused_at};
 use crate::targets::Target;
+use crate::threats::Entire;
 use ep_base::{Boxed, Line, List, Name};
 use ep_check_expr::{
     Refusal, Typed, callee_at, given_value, typed_arguments, typed_expression, typed_value,
@@ -31,7 +32,7 @@ use ep_scope::{
 use ep_tree::{
     Access, Argument, Arm, ComponentValue, Compound, Direction, Expression, Selector, Statement,
 };
-use ep_typed::{CaseArm, CaseArms, TypedExpr, TypedPlace, TypedStmt, TypedStmts, UnitRoutine};
+use ep_typed::{CaseArm, CaseArms, TypedExpr, TypedStmt, TypedStmts, UnitRoutine};
 use std::alloc::{AllocError, Global};
 
 /// A function in whose block the statements are, maybe deeper, where its name is assigned to for the result (ISO 10206,
@@ -195,7 +196,7 @@ fn call_arguments(access: &Access) -> &[Argument]
     }
 }
 
-impl Context<'_> {
+impl<'a> Context<'a> {
     /// The statements of a block, which stand in no `for`.
     pub fn compound(&self, c: &Compound) -> Row<TypedStmts>
         requires { compound_unbuilt c.now ≡ None }
@@ -206,19 +207,19 @@ impl Context<'_> {
 
     /// The statements of a compound statement, inside of the `for` statements that have these control variables.
     #[cycle(statements)]
-    fn compound_within(&self, c: &Compound, controls: &[TypedPlace]) -> Row<TypedStmts>
+    fn compound_within(&self, c: &Compound, controls: &[Entire<'a>]) -> Row<TypedStmts>
         requires { compound_unbuilt c.now ≡ None }
         ensures { AnswersRow stmts_of result
-            (compound_under (context_of self.now) c.now (map place_of controls.now)) }
+            (compound_under (context_of self.now) c.now (map entire_of controls.now)) }
     {
         self.statements(c.statements.items(), controls)
     }
 
     /// Statements in order.
     #[cycle(statements)]
-    fn statements(&self, all: &[Statement], controls: &[TypedPlace]) -> Row<TypedStmts>
+    fn statements(&self, all: &[Statement], controls: &[Entire<'a>]) -> Row<TypedStmts>
         requires { first_in (map statement_unbuilt all.now) ≡ None }
-        ensures { AnswersRow stmts_of result (in_order (map (λ s. s (map place_of controls.now))
+        ensures { AnswersRow stmts_of result (in_order (map (λ s. s (map entire_of controls.now))
             (map (statement_judged (context_of self.now)) all.now))) }
     {
         let mut found = List::new(self.alloc);
@@ -237,10 +238,10 @@ impl Context<'_> {
 
     #[cycle(statements)]
     #[tactic(auto, using(crate::proofs::judged::Rounds::rest_of))]
-    fn statement(&self, s: &Statement, controls: &[TypedPlace]) -> Row<Boxed<TypedStmt>>
+    fn statement(&self, s: &Statement, controls: &[Entire<'a>]) -> Row<Boxed<TypedStmt>>
         requires { statement_unbuilt s.now ≡ None }
         ensures { AnswersRow stmt_of result
-            (statement_judged (context_of self.now) s.now (map place_of controls.now)) }
+            (statement_judged (context_of self.now) s.now (map entire_of controls.now)) }
     {
         match s {
             Statement::Empty(_) => self.empty(),
@@ -325,12 +326,12 @@ impl Context<'_> {
         start: &Expression,
         direction: Direction,
         end: &Expression,
-        controls: &[TypedPlace],
+        controls: &[Entire<'a>],
     ) -> Row<Boxed<TypedStmt>>
         requires body { statement_unbuilt body.now ≡ None }
         requires start { expression_unbuilt start.now ≡ None }
         requires end { expression_unbuilt end.now ≡ None }
-        ensures { AnswersRow stmt_of result (for_judged (context_of self.now) (map place_of controls.now) line
+        ensures { AnswersRow stmt_of result (for_judged (context_of self.now) (map entire_of controls.now) line
             (control_judged (context_of self.now) name.now) (spec.falls_by direction) start.now end.now
             (statement_judged (context_of self.now) body.now)) }
     {
@@ -338,7 +339,7 @@ impl Context<'_> {
             Ok(control) => control,
             Err(refusal) => return Err(refused_at(line, refusal)),
         };
-        let inner = self.statement_under(body, &control.place, controls);
+        let inner = self.statement_under(body, control.variable, controls);
         let head = self.head(control, falls_by(direction), start, end);
         let form = self.unless_head_threatens(controls, head);
         for_form(self.alloc, line, item_at(line, form), inner)
@@ -349,12 +350,12 @@ impl Context<'_> {
     fn statement_under(
         &self,
         body: &Statement,
-        control: &TypedPlace,
-        controls: &[TypedPlace],
+        control: Entire<'a>,
+        controls: &[Entire<'a>],
     ) -> Row<Boxed<TypedStmt>>
         requires { statement_unbuilt body.now ≡ None }
         ensures { AnswersRow stmt_of result (statement_judged (context_of self.now) body.now
-            (place_of control.now ∷ map place_of controls.now)) }
+            (entire_of control.entry ∷ map entire_of controls.now)) }
     {
         let all = one_more(self.alloc, control, controls)?;
         self.statement(body, all.items())
@@ -362,10 +363,10 @@ impl Context<'_> {
 
     /// The arms of a `case` on this line, whose selector has this host, in order.
     #[cycle(statements)]
-    fn arms(&self, line: Line, host: Host, all: &[Arm], controls: &[TypedPlace]) -> Row<CaseArms>
+    fn arms(&self, line: Line, host: Host, all: &[Arm], controls: &[Entire<'a>]) -> Row<CaseArms>
         requires { first_in (map arm_unbuilt all.now) ≡ None }
         ensures { AnswersRow arms_of result (arms_in_order (map
-            (arm_row self.now.scopes.now line host (map place_of controls.now))
+            (arm_row self.now.scopes.now line host (map entire_of controls.now))
             (map (arm_judged (context_of self.now)) all.now))) }
     {
         let mut found = List::new(self.alloc);
@@ -383,10 +384,10 @@ impl Context<'_> {
     }
 
     #[cycle(statements)]
-    fn arm(&self, line: Line, host: Host, a: &Arm, controls: &[TypedPlace]) -> Row<Boxed<CaseArm>>
+    fn arm(&self, line: Line, host: Host, a: &Arm, controls: &[Entire<'a>]) -> Row<Boxed<CaseArm>>
         requires { arm_unbuilt a.now ≡ None }
         ensures { AnswersRow arm_of result (arm_row self.now.scopes.now line host
-            (map place_of controls.now) (arm_judged (context_of self.now) a.now)) }
+            (map entire_of controls.now) (arm_judged (context_of self.now) a.now)) }
     {
         let body = self.statement(a.body.get(), controls);
         let ranges = item_at(line, self.own_ranges(host, a.labels.items()));
@@ -406,11 +407,11 @@ impl Context<'_> {
         &self,
         line: Line,
         e: &Expression,
-        controls: &[TypedPlace],
+        controls: &[Entire<'a>],
     ) -> Row<Boxed<TypedExpr>>
         requires { expression_unbuilt e.now ≡ None }
         ensures { AnswersRow expr_of result
-            (condition_judged (context_of self.now) (map place_of controls.now) line e.now) }
+            (condition_judged (context_of self.now) (map entire_of controls.now) line e.now) }
     {
         item_at(line, self.unless_value_threatens(controls, self.tested(e)))
     }

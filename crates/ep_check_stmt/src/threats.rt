@@ -3,8 +3,10 @@
 
 ghost use Rattle.std.specs.Prelude.{◌≡◌, IfOk, nat_eq, map, position, slice_get};
 ghost use Rattle.ep_typed.specs.Trees as tree;
-ghost use Rattle.ep_typed.specs.Trees.{stmts};
+ghost use Rattle.ep_typed.specs.Trees.{entire, stmts};
+ghost use Rattle.ep_typed.specs.Viewed as viewed;
 ghost use Rattle.ep_typed.specs.Viewed.{actual_of, arm_of, expr_of, item_of, place_of, stmt_of};
+ghost use Rattle.ep_check_stmt.specs.Answers.{entire_of};
 ghost use Rattle.ep_check_stmt.specs.RoutineForms.{formals_at, formals_if, routine_form};
 ghost use Rattle.ep_check_stmt.specs.Threats as spec;
 ghost use Rattle.ep_check_stmt.specs.Threats.{any_assigns, arm_assigns, statement_assigns, stmts_threaten};
@@ -12,15 +14,37 @@ ghost use Rattle.ep_check_stmt.specs.Threats.{any_assigns, arm_assigns, statemen
 use ep_base::{Name, NoMemory};
 use ep_tree::{Access, Arm, Compound, Statement};
 use ep_typed::{
-    Actual, CaseArm, Formal, FormalMode, TypedExpr, TypedPlace, TypedStmt, UnitRoutine, WriteItem,
+    Actual, CaseArm, EntireVariable, Formal, FormalMode, TypedExpr, TypedPlace, TypedStmt,
+    UnitRoutine, WriteItem,
 };
-use std::alloc::AllocError;
+use std::alloc::{AllocError, Global};
 
-/// Whether statements threaten the variable at a place: it is assigned to, given for a variable parameter that is not
-/// protected, or the control variable of a `for` (ISO 10206, 6.9.4). The routines are those of the unit, of which there
-/// is one so far, so that a call is looked up by its number alone.
-pub fn threatens(routines: &[UnitRoutine], variable: &TypedPlace, statements: &[TypedStmt]) -> bool
-    ensures { result ≡ stmts_threaten (formals_at (map routine_form routines.now)) (place_of variable.now)
+/// An entire variable (ISO 10206, 6.5.2) whose name is borrowed, of which threats are asked.
+#[derive(Clone, Copy)]
+pub enum Entire<'a> {
+    /// The variable of this number of the unit of this name.
+    Variable(&'a Name, u32),
+    /// A variable of the routine so many levels up, by its number there.
+    Own(u32, u32),
+}
+
+impl Entire<'_> {
+    /// The variable with a name of its own.
+    pub(crate) fn to_owned(self, alloc: Global) -> Result<EntireVariable, NoMemory>
+        ensures { IfOk result (λ variable. viewed.entire_of variable ≡ entire_of self.entry) }
+    {
+        match self {
+            Entire::Variable(unit, number) => Ok(EntireVariable::Unit(unit.copy(alloc)?, number)),
+            Entire::Own(up, number) => Ok(EntireVariable::Own(up, number)),
+        }
+    }
+}
+
+/// Whether statements threaten a variable: it or a component of it is assigned to, given for a variable parameter that is
+/// not protected, or the control variable of a `for` (ISO 10206, 6.9.4). The routines are those of the unit, of which
+/// there is one so far, so that a call is looked up by its number alone.
+pub fn threatens(routines: &[UnitRoutine], variable: Entire<'_>, statements: &[TypedStmt]) -> bool
+    ensures { result ≡ stmts_threaten (formals_at (map routine_form routines.now)) (entire_of variable.entry)
         (stmts (map stmt_of statements.now)) }
 {
     stmts_threaten(statements, routines, variable)
@@ -67,8 +91,7 @@ fn threatens_from(
     let Ok(up) = u32::try_from(between + 1) else {
         return Err(AllocError);
     };
-    let place = TypedPlace::Own(up, number);
-    Ok(statement_threatens(&inner.block, routines, &place))
+    Ok(statement_threatens(&inner.block, routines, Entire::Own(up, number)))
 }
 
 // Below, the tree stands before the routines, since a walk is shown to end by its first parameter whose type contains
@@ -76,8 +99,8 @@ fn threatens_from(
 
 /// Whether one of these statements threatens the variable.
 #[cycle(threats)]
-fn stmts_threaten(all: &[TypedStmt], routines: &[UnitRoutine], variable: &TypedPlace) -> bool
-    ensures { result ≡ stmts_threaten (formals_at (map routine_form routines.now)) (place_of variable.now)
+fn stmts_threaten(all: &[TypedStmt], routines: &[UnitRoutine], variable: Entire<'_>) -> bool
+    ensures { result ≡ stmts_threaten (formals_at (map routine_form routines.now)) (entire_of variable.entry)
         (stmts (map stmt_of all.now)) }
 {
     for s in all {
@@ -93,16 +116,18 @@ fn stmts_threaten(all: &[TypedStmt], routines: &[UnitRoutine], variable: &TypedP
 pub(crate) fn statement_threatens(
     s: &TypedStmt,
     routines: &[UnitRoutine],
-    variable: &TypedPlace,
+    variable: Entire<'_>,
 ) -> bool
-    ensures { result ≡ spec.threatens (formals_at (map routine_form routines.now)) (place_of variable.now)
+    ensures { result ≡ spec.threatens (formals_at (map routine_form routines.now)) (entire_of variable.entry)
         (stmt_of s.now) }
 {
     match s {
         TypedStmt::Empty | TypedStmt::Halt(_) => false,
         TypedStmt::Compound(all) => stmts_threaten(all.items(), routines, variable),
         TypedStmt::Assign(_, place, value) => {
-            is_variable(variable, place) || expr_threatens(value.get(), routines, variable)
+            is_variable(variable, place)
+                || place_threatens(place, routines, variable)
+                || expr_threatens(value.get(), routines, variable)
         }
         TypedStmt::If(_, condition, then_part, else_part) => {
             expr_threatens(condition.get(), routines, variable)
@@ -118,7 +143,7 @@ pub(crate) fn statement_threatens(
                 || expr_threatens(condition.get(), routines, variable)
         }
         TypedStmt::For(_, control, initial, last, body) => {
-            is_variable(variable, &control.variable)
+            is_same(variable, &control.variable)
                 || expr_threatens(initial.get(), routines, variable)
                 || expr_threatens(last.get(), routines, variable)
                 || statement_threatens(body.get(), routines, variable)
@@ -142,8 +167,8 @@ pub(crate) fn statement_threatens(
 
 /// Whether the statement of one of these arms does.
 #[cycle(threats)]
-fn arms_threaten(all: &[CaseArm], routines: &[UnitRoutine], variable: &TypedPlace) -> bool
-    ensures { result ≡ spec.arms_threaten (formals_at (map routine_form routines.now)) (place_of variable.now)
+fn arms_threaten(all: &[CaseArm], routines: &[UnitRoutine], variable: Entire<'_>) -> bool
+    ensures { result ≡ spec.arms_threaten (formals_at (map routine_form routines.now)) (entire_of variable.entry)
         (tree.arms (map arm_of all.now)) }
 {
     for a in all {
@@ -156,16 +181,16 @@ fn arms_threaten(all: &[CaseArm], routines: &[UnitRoutine], variable: &TypedPlac
 
 /// Whether the statement of an arm does.
 #[cycle(threats)]
-fn arm_threatens(a: &CaseArm, routines: &[UnitRoutine], variable: &TypedPlace) -> bool
-    ensures { result ≡ spec.threatens (formals_at (map routine_form routines.now)) (place_of variable.now)
+fn arm_threatens(a: &CaseArm, routines: &[UnitRoutine], variable: Entire<'_>) -> bool
+    ensures { result ≡ spec.threatens (formals_at (map routine_form routines.now)) (entire_of variable.entry)
         (arm_of a.now).1 }
 {
     statement_threatens(a.body.get(), routines, variable)
 }
 
 /// Whether one of these expressions that are written does.
-fn items_threaten(all: &[WriteItem], routines: &[UnitRoutine], variable: &TypedPlace) -> bool
-    ensures { result ≡ spec.items_threaten (formals_at (map routine_form routines.now)) (place_of variable.now)
+fn items_threaten(all: &[WriteItem], routines: &[UnitRoutine], variable: Entire<'_>) -> bool
+    ensures { result ≡ spec.items_threaten (formals_at (map routine_form routines.now)) (entire_of variable.entry)
         (map item_of all.now) }
 {
     for i in all {
@@ -177,8 +202,8 @@ fn items_threaten(all: &[WriteItem], routines: &[UnitRoutine], variable: &TypedP
 }
 
 /// Whether an expression that is written, or its width, does.
-fn item_threatens(i: &WriteItem, routines: &[UnitRoutine], variable: &TypedPlace) -> bool
-    ensures { result ≡ spec.item_threatens (formals_at (map routine_form routines.now)) (place_of variable.now)
+fn item_threatens(i: &WriteItem, routines: &[UnitRoutine], variable: Entire<'_>) -> bool
+    ensures { result ≡ spec.item_threatens (formals_at (map routine_form routines.now)) (entire_of variable.entry)
         (item_of i.now) }
 {
     match &i.width {
@@ -192,12 +217,13 @@ fn item_threatens(i: &WriteItem, routines: &[UnitRoutine], variable: &TypedPlace
 
 /// Whether an expression has a function designator that does.
 #[cycle(threats_in_expressions)]
-pub(crate) fn expr_threatens(x: &TypedExpr, routines: &[UnitRoutine], variable: &TypedPlace) -> bool
-    ensures { result ≡ spec.expr_threatens (formals_at (map routine_form routines.now)) (place_of variable.now)
+pub(crate) fn expr_threatens(x: &TypedExpr, routines: &[UnitRoutine], variable: Entire<'_>) -> bool
+    ensures { result ≡ spec.expr_threatens (formals_at (map routine_form routines.now)) (entire_of variable.entry)
         (expr_of x.now) }
 {
     match x {
-        TypedExpr::Constant(_) | TypedExpr::Text(_) | TypedExpr::Read(_) => false,
+        TypedExpr::Constant(_) | TypedExpr::Text(_) => false,
+        TypedExpr::Read(place) => place_threatens(place, routines, variable),
         TypedExpr::Unary(_, operand) => expr_threatens(operand.get(), routines, variable),
         TypedExpr::Binary(_, left, right) => {
             expr_threatens(left.get(), routines, variable)
@@ -218,15 +244,30 @@ pub(crate) fn expr_threatens(x: &TypedExpr, routines: &[UnitRoutine], variable: 
     }
 }
 
+/// Whether an index in a place does.
+#[cycle(threats_in_expressions)]
+fn place_threatens(place: &TypedPlace, routines: &[UnitRoutine], variable: Entire<'_>) -> bool
+    ensures { result ≡ spec.place_threatens (formals_at (map routine_form routines.now)) (entire_of variable.entry)
+        (place_of place.now) }
+{
+    match place {
+        TypedPlace::Variable(_, _) | TypedPlace::Own(_, _) | TypedPlace::Standard(_) => false,
+        TypedPlace::Indexed(array, index) => {
+            place_threatens(array.get(), routines, variable)
+                || expr_threatens(index.get(), routines, variable)
+        }
+    }
+}
+
 /// Whether what is given for these formal parameters threatens the variable, one for one.
 #[cycle(threats_in_expressions)]
 fn actuals_threaten(
     formals: &[Formal],
     given: &[Actual],
     routines: &[UnitRoutine],
-    variable: &TypedPlace,
+    variable: Entire<'_>,
 ) -> bool
-    ensures { result ≡ spec.actuals_threaten (formals_at (map routine_form routines.now)) (place_of variable.now)
+    ensures { result ≡ spec.actuals_threaten (formals_at (map routine_form routines.now)) (entire_of variable.entry)
         formals.now (tree.actuals (map actual_of given.now)) }
 {
     for (place, a) in given.iter().enumerate() {
@@ -240,20 +281,24 @@ fn actuals_threaten(
     false
 }
 
-/// Whether what is given for a parameter of this mode does: the variable itself, or an expression.
+/// Whether what is given for a parameter of this mode does: the variable itself or a component of it, an index in a place,
+/// or an expression.
 #[cycle(threats_in_expressions)]
 fn actual_threatens(
     mode: FormalMode,
     a: &Actual,
     routines: &[UnitRoutine],
-    variable: &TypedPlace,
+    variable: Entire<'_>,
 ) -> bool
-    ensures { result ≡ spec.actual_threatens (formals_at (map routine_form routines.now)) (place_of variable.now)
+    ensures { result ≡ spec.actual_threatens (formals_at (map routine_form routines.now)) (entire_of variable.entry)
         mode (actual_of a.now) }
 {
     match a {
         Actual::Value(value) => expr_threatens(value.get(), routines, variable),
-        Actual::Variable(place) => mode_threatens(mode) && is_variable(variable, place),
+        Actual::Variable(place) => {
+            (mode_threatens(mode) && is_variable(variable, place))
+                || place_threatens(place, routines, variable)
+        }
     }
 }
 
@@ -267,16 +312,32 @@ fn mode_threatens(mode: FormalMode) -> bool
     }
 }
 
-/// Whether a place is that of the variable.
-pub(crate) fn is_variable(variable: &TypedPlace, place: &TypedPlace) -> bool
-    ensures { result ≡ spec.is_variable (place_of variable.now) (place_of place.now) }
+/// Whether it is this entire variable.
+pub(crate) fn is_same(variable: Entire<'_>, other: &EntireVariable) -> bool
+    ensures { result ≡ spec.is_variable (entire_of variable.entry) (entire (viewed.entire_of other.now)) }
+{
+    match (variable, other) {
+        (Entire::Variable(unit, number), EntireVariable::Unit(other, own)) => {
+            unit.bytes() == other.bytes() && number == *own
+        }
+        (Entire::Own(up, number), EntireVariable::Own(other, own)) => {
+            up == *other && number == *own
+        }
+        _ => false,
+    }
+}
+
+/// Whether a place is that of the variable, or of a component of it.
+#[cycle(places)]
+pub(crate) fn is_variable(variable: Entire<'_>, place: &TypedPlace) -> bool
+    ensures { result ≡ spec.is_variable (entire_of variable.entry) (place_of place.now) }
 {
     match (variable, place) {
-        (TypedPlace::Variable(unit, number), TypedPlace::Variable(other, own)) => {
-            unit.bytes() == other.bytes() && *number == *own
+        (Entire::Variable(unit, number), TypedPlace::Variable(other, own)) => {
+            unit.bytes() == other.bytes() && number == *own
         }
-        (TypedPlace::Own(up, number), TypedPlace::Own(other, own)) => *up == *other
-            && *number == *own,
+        (Entire::Own(up, number), TypedPlace::Own(other, own)) => up == *other && number == *own,
+        (_, TypedPlace::Indexed(array, _)) => is_variable(variable, array.get()),
         _ => false,
     }
 }

@@ -116,7 +116,7 @@ is_in_view (Some r) name b = r.named || is_that_function b.unit r.function (mean
 -- The statements of the function, or those of a routine in it, threaten the variable that has the result (ISO 10206, 6.9.4).
 abbrev pub is_threatened : Option OwnResult → List RoutineForm → Stmts → Bool
 is_threatened None routines ss = true
-is_threatened (Some r) routines ss = stmts_threaten (formals_at routines) (tree.Own 0 r.variable) ss || inner_threatens r.function routines r.variable
+is_threatened (Some r) routines ss = stmts_threaten (formals_at routines) (tree.OfRoutine 0 r.variable) ss || inner_threatens r.function routines r.variable
 
 -- the statement that a routine has until its block is known
 abbrev pub is_empty : Stmt → Bool

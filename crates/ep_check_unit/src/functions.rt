@@ -16,14 +16,14 @@ use crate::types::type_denoter;
 use ep_base::{Line, List, Name, NoMemory};
 use ep_check_expr::Refusal;
 use ep_check_stmt::{
-    CheckRefusal, FunctionResult, Outcome, assigns, inner_threatens, refused_at, threatens,
+    CheckRefusal, Entire, FunctionResult, Outcome, assigns, inner_threatens, refused_at, threatens,
 };
 use ep_scope::{
     Declaration, FormalParameters, Host, Kind, Meaning, Protection, TypeName, meaning_of, rule,
     same_type,
 };
 use ep_tree::{Compound, Part, QualifiedName, Routine, RoutineBody};
-use ep_typed::{RoutineResult, TypedPlace, TypedStmt, TypedStmts, UnitRoutine};
+use ep_typed::{RoutineResult, TypedStmt, TypedStmts, UnitRoutine};
 use std::alloc::{AllocError, Global};
 
 /// The result of a function, as its heading gives it.
@@ -280,8 +280,7 @@ impl Block {
         ensures { IfOk result (λ threatened. threatened ≡ spec.is_threatened (Some own)
             (block_of self.now).routines (stmts_of statements.now)) }
     {
-        let variable = TypedPlace::Own(0, own.variable);
-        if threatens(&self.routines, &variable, statements) {
+        if threatens(&self.routines, Entire::Own(0, own.variable), statements) {
             return Ok(true);
         }
         inner_threatens(own.function, &self.routines, own.variable)

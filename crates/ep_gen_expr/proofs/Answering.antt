@@ -1,6 +1,6 @@
 -- The machine follows an operation, by the instruction that gives its answer.
 use Rattle.std.proofs.Common.{◌≡◌, ℕ, ℤ, suc, ◌+◌, ◌≤◌, IsTrue, List, length, refl, ap, ◌∙◌, arith}
-use Rattle.ep_object.specs.Follows.{point, Facts, Fragment, After, OnTop, Inside}
+use Rattle.ep_object.specs.Follows.{point, Facts, Fragment, After, OnTop, PlaceOnTop, Inside}
 use Rattle.ep_object.specs.Matching.{Slots, Memory, Injection}
 use Rattle.ep_object.specs.Runs.{unit_in}
 use Rattle.ep_object.specs.Operands.{Operand}
@@ -13,14 +13,15 @@ use Rattle.ep_object.proofs.matching.Growing.{inside_here}
 use Rattle.ep_object.proofs.rows.Rows.{RowAnswers, RowPushes}
 use Rattle.ep_typed.specs.Calls.{Handler}
 use Rattle.ep_gen_expr.specs.Following.{least_credit}
-use Rattle.ep_typed.specs.Meaning.{answered, eval, weight_of}
-use Rattle.ep_typed.specs.Trees.{Expr}
+use Rattle.ep_typed.specs.Meaning.{answered, eval, place, weight_of}
+use Rattle.ep_typed.specs.Trees.{Place, Expr}
 use Rattle.ep_typed.specs.Operations.{Answer, Number}
 use Rattle.ep_typed.specs.Printing.{Result}
 use Rattle.ep_typed.specs.Printing as result
 use Rattle.ep_typed.specs.Steps.{Computation, give, bind, spend}
 use Rattle.ep_typed.specs.Valid.{Declarations, Kind, Ordinal}
 use Rattle.ep_typed.specs.Hosts.{Host, is_of_host}
+use Rattle.ep_typed.specs.TypeValues.{TypeValue}
 
 -- The machine follows a computation of a result from one place of the code to another, where the result is on top of
 -- the operands; the credit is so many before, and after it so many and the weight of the result.
@@ -34,6 +35,13 @@ Evaluates declared G untouched Here n injection memory from operands c to kind b
 abbrev pub IsFollowed : Declarations → Image → Slots → Facts → Placement → Handler → ℕ → List ℕ → ℕ → Kind → Expr → ℕ → ℕ → List Instr → Type 0
 IsFollowed declared G untouched Here p call g unit n kind x line at code =
     (injection : Injection) (memory : Memory) (below : List Operand) (d : ℕ) → least_credit ≤ d → unit_in G memory.frames ≡ unit → Evaluates declared G untouched Here n injection memory (p.instructions.before + at) below (eval call g unit line x) (p.instructions.before + (at + length code)) kind below d (d + 8)
+
+-- From each memory of a routine of the unit, the machine follows the place through this code, which begins at this place of
+-- the object, and leaves it on top, of this type value, with a credit that rises by 8.
+abbrev pub IsPlaceFollowed : Declarations → Image → Slots → Facts → Placement → Handler → ℕ → List ℕ → ℕ → TypeValue → Place → ℕ → ℕ → List Instr → Type 0
+IsPlaceFollowed declared G untouched Here p call g unit n t q line at code =
+    (injection : Injection) (memory : Memory) (below : List Operand) (d : ℕ) → least_credit ≤ d → unit_in G memory.frames ≡ unit
+    → Fragment declared G Here n (point injection memory (p.instructions.before + at) below) (place call g unit line q) (p.instructions.before + (at + length code)) (λ a. Inside untouched injection memory (PlaceOnTop t below a)) d (λ a. d + 8)
 
 -- the computation that gives an answer, with the step of the form
 abbrev pub answering : Handler → ℕ → List ℕ → ℕ → Answer → Computation Result

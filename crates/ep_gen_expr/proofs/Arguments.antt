@@ -1,11 +1,11 @@
 -- The machine follows the actual parameters of a call, and leaves on the operands what the formal ones take.
 use Rattle.std.proofs.Common.{◌≡◌, ℕ, ◌+◌, ◌≤◌, List, [], ◌∷◌, ◌++◌, length, refl, sym, ap, ◌∙◌, subst, arith, length-append}
 use Rattle.std.proofs.lemmas.Option.{same_Some}
-use Rattle.ep_gen_expr.specs.Following.{least_credit, HasPlaceType}
-use Rattle.ep_gen_expr.proofs.Answering.{IsFollowed}
+use Rattle.ep_gen_expr.specs.Following.{least_credit}
+use Rattle.ep_gen_expr.proofs.Answering.{IsFollowed, IsPlaceFollowed}
 use Rattle.ep_object.proofs.following.Fragments.{fragment_to, fragment_give, inside_bind, fragment_bind_number, fragment_bind_place}
 use Rattle.ep_object.proofs.matching.Growing.{unit_in-same, is_spot-grown, describes-grown, inside_here}
-use Rattle.ep_object.specs.Follows.{Facts, Fragment, Inside, Operands, PlaceOnTop, point}
+use Rattle.ep_object.specs.Follows.{Facts, Fragment, Inside, Operands, point}
 use Rattle.ep_object.specs.Matching.{Memory, Injection, Slots, Grown}
 use Rattle.ep_object.specs.Operands.{Operand, Word}
 use Rattle.ep_object.specs.Operands as operand
@@ -14,23 +14,20 @@ use Rattle.ep_object.specs.Promises.{Passing, ByValue, ByReference, IsPassed, Is
 use Rattle.ep_object.specs.Runs.{unit_in}
 use Rattle.ep_object.specs.declared.code.Image.{Image}
 use Rattle.ep_object.specs.declared.code.Instr.{Instr}
-use Rattle.ep_typed.proofs.Denoters.{types_are_instances}
 use Rattle.ep_typed.proofs.Steady.{steady_bind, steady_give, steady_arguments}
 use Rattle.ep_typed.specs.Steady.{IsSteadyHandler}
 use Rattle.ep_typed.specs.Calls.{Argument, Value, Variable, Handler}
 use Rattle.ep_typed.specs.Hosts.{Host}
-use Rattle.ep_typed.specs.Meaning.{argument, arguments, place, weight_of}
+use Rattle.ep_typed.specs.Meaning.{argument, arguments, weight_of}
 use Rattle.ep_typed.specs.Steps.{give, bind}
 use Rattle.ep_typed.specs.Trees.{Place, Expr, Actual, Evaluated, Accessed, Actuals, no_actual, next_actual}
-use Rattle.ep_typed.specs.Trees as tree
 use Rattle.ep_typed.specs.Valid as kind
 use Rattle.ep_typed.specs.Valid.{Declarations, Kind, IsExpr, IsVariableOf, IsGiven}
-use Rattle.ep_typed.specs.Viewed.{denoter_of}
 use Rattle.ep_typed.specs.declared.interface.Formal.{Formal}
 use Rattle.ep_typed.specs.declared.interface.FormalMode.{FormalMode}
 use Rattle.ep_typed.specs.declared.interface.FormalMode.TheVariants as mode
 use Rattle.ep_typed.specs.declared.unit.UnitType.{UnitType}
-use Rattle.ep_typed.specs.declared.value.TypeValue.{TypeValue}
+use Rattle.ep_typed.specs.TypeValues.{TypeValue}
 
 -- an argument that lies on the operands goes on being one while memory grows
 argument_later : {untouched : Slots} {injection longer : Injection} {memory after : Memory} (k : Passing) (x : Argument) (o : Operand)
@@ -47,14 +44,8 @@ ArgumentOnTop k below x injection memory operands = (o : Operand) × IsArgument 
 -- an actual parameter gives what is passed so
 abbrev pub Fits : Declarations → Passing → Actual → Type 0
 Fits declared (ByValue k) (Evaluated x) = (h : Host) × (k ≡ kind.Ordinal h) × IsExpr declared (kind.Ordinal h) x
-Fits declared (ByReference t) (Accessed q) = HasPlaceType declared q t
+Fits declared (ByReference t) (Accessed q) = IsVariableOf declared t q
 Fits declared k a = ⊥
-
--- a variable of a type value is a place of it
-place_type : (declared : Declarations) (t : TypeValue) (q : Place) → IsVariableOf declared t q → HasPlaceType declared q t
-place_type declared t (tree.Variable unit k) h = (h.0, h.1, types_are_instances (declared.types unit) (denoter_of (h.0).denoter) t h.2)
-place_type declared t (tree.Own up k) h = (h.0, h.1, types_are_instances declared.routine_types (denoter_of (h.0).denoter) t h.2)
-place_type declared t (tree.Standard file) h = absurd h
 
 -- What is given for a formal parameter fits how that takes it.
 pub fits : (declared : Declarations) (types : List UnitType) (m : FormalMode) (f : Formal) (k : Passing) (a : Actual) → IsPassed types m f k → IsGiven declared types m f a → Fits declared k a
@@ -66,10 +57,10 @@ fits declared types mode.ProtectedValue f (ByValue k) (Accessed q) p g = absurd 
 fits declared types mode.ProtectedValue f (ByValue k) (Evaluated x) p g = (g.0, p.2 ∙ ap (λ h. kind.Ordinal h) (same_Some p.0 g.0 (sym p.1 ∙ g.1)), g.2)
 fits declared types mode.Variable f (ByValue k) a p g = absurd p
 fits declared types mode.Variable f (ByReference t) (Evaluated x) p g = absurd g
-fits declared types mode.Variable f (ByReference t) (Accessed q) p g = place_type declared t q (subst (λ u. IsVariableOf declared u q) (same_Some g.0 t (sym g.1 ∙ p)) g.2)
+fits declared types mode.Variable f (ByReference t) (Accessed q) p g = subst (λ u. IsVariableOf declared u q) (same_Some g.0 t (sym g.1 ∙ p)) g.2
 fits declared types mode.ProtectedVariable f (ByValue k) a p g = absurd p
 fits declared types mode.ProtectedVariable f (ByReference t) (Evaluated x) p g = absurd g
-fits declared types mode.ProtectedVariable f (ByReference t) (Accessed q) p g = place_type declared t q (subst (λ u. IsVariableOf declared u q) (same_Some g.0 t (sym g.1 ∙ p)) g.2)
+fits declared types mode.ProtectedVariable f (ByReference t) (Accessed q) p g = subst (λ u. IsVariableOf declared u q) (same_Some g.0 t (sym g.1 ∙ p)) g.2
 
 module _ (declared : Declarations) (G : Image) (untouched : Slots) (Here : Facts) (p : Placement) (call : Handler) (g : ℕ) (unit : List ℕ) (n : ℕ) where
   -- From each memory of a routine of the unit, the machine follows the actual parameter through this code, which begins at
@@ -95,8 +86,7 @@ module _ {declared : Declarations} {G : Image} {untouched : Slots} {Here : Facts
 
   -- a variable
   pub accessed_follows : (t : TypeValue) (q : Place) (line at : ℕ) (is : List Instr)
-      → ((injection : Injection) (memory : Memory) (below : List Operand) (d : ℕ) → least_credit ≤ d → unit_in G memory.frames ≡ unit
-      → Fragment declared G Here n (point injection memory (p.instructions.before + at) below) (place call g unit line q) (p.instructions.before + (at + length is)) (λ a. Inside untouched injection memory (PlaceOnTop t below a)) d (λ a. d + 8))
+      → IsPlaceFollowed declared G untouched Here p call g unit n t q line at is
       → IsArgumentFollowed declared G untouched Here p call g unit n (ByReference t) (Accessed q) line at is
   accessed_follows t q line at is follows injection memory below d enough home =
       fragment_bind_place {type = t} {e = λ m. d + 8} (λ m. steady_give (Variable m)) (follows injection memory below d enough home) (λ m place longer after grown routine spot described.

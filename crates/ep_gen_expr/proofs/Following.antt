@@ -1,5 +1,6 @@
 -- The machine follows the meaning of an expression through the code of the expression.
 use Rattle.std.proofs.Common.{◌≡◌, ℕ, ℤ, pos, zero, suc, Option, None, ◌+◌, ◌<◌, ◌≤◌, Bool, IsTrue, List, [], ◌∷◌, ◌++◌, length, Some, slice_get, refl, sym, ap, ◌∙◌, subst, arith, append_assoc, length-append, true, false}
+use Rattle.std.specs.Bool.{⊤}
 use Rattle.ep_object.specs.Activations.{KnowsNames}
 use Rattle.ep_object.specs.Follows.{point, Facts, Lasts, Fragment, SameRoutine, Operands, OnTop, PlaceOnTop, Inside}
 use Rattle.ep_object.specs.Matching.{Slots, AreAmong, Grown, kept_slots, Memory, at, Injection, IsSpot, Describes, HasType, HasOwnType, Matches}
@@ -8,7 +9,7 @@ use Rattle.ep_object.specs.Operands.{Operand}
 use Rattle.ep_object.specs.Operands as operand
 use Rattle.ep_object.specs.Placing.{Placement, CodeStands}
 use Rattle.ep_object.specs.Promises.{Passing, ByValue, ByReference, ArePassed, CallsAreKept, ResultsOnTop, RoutineKeeps}
-use Rattle.ep_object.specs.Scene.{Scene, TextStands, VariableStands, HaveValidTypes, HaveValidOwnTypes}
+use Rattle.ep_object.specs.Scene.{Scene, TextStands, VariableStands}
 use Rattle.ep_object.specs.Runs.{unit_in}
 use Rattle.ep_object.specs.declared.code.Image.{Image}
 use Rattle.ep_object.specs.declared.code.Instr.{Instr}
@@ -16,25 +17,24 @@ use Rattle.ep_object.specs.declared.code.Reference.{Reference}
 use Rattle.ep_object.specs.declared.state.Place.{Place as PlaceOf}
 use Rattle.ep_object.proofs.following.Choices.{Reads, fragment_fetch, follows_fetch, fragment_using}
 use Rattle.ep_object.proofs.following.Fragments.{FailsWith, fragment_less, fragment_to, fragment_one, fragment_paid, fragment_give, fragment_credit, fragment_bind_place, fragment_bind_number}
-use Rattle.ep_object.proofs.matching.Growing.{unit_in-same, inside_here}
+use Rattle.ep_object.proofs.matching.Growing.{unit_in-same, inside_here, is_spot-grown, describes-grown}
+use Rattle.ep_object.proofs.rows.IndexRow.{index_fails, index_reads}
 use Rattle.ep_object.proofs.rows.OwnRows.{own_reads, level_reads}
 use Rattle.ep_object.proofs.rows.PlaceRows.{unit_reads, load_fails, load_reads}
 use Rattle.ep_object.proofs.rows.Rows.{push_pushes}
 use Rattle.ep_object.proofs.rows.TextRows.{text_pushes}
-use Rattle.std.proofs.lemmas.Option.{same_Some}
 use Rattle.ep_typed.specs.Steady.{Steady, IsSteadyHandler}
 use Rattle.ep_typed.specs.Calls.{Handler}
-use Rattle.ep_typed.proofs.Denoters.{types_are_instances}
-use Rattle.ep_typed.proofs.Steady.{steady_bind, steady_if, steady_spend, steady_give, steady_answered, steady_eval, steady_read}
+use Rattle.ep_typed.proofs.Steady.{steady_bind, steady_if, steady_spend, steady_give, steady_answered, steady_eval, steady_read, steady_indexed}
 use Rattle.ep_typed.specs.Meaning.{eval, arguments, place, weight_of}
 use Rattle.ep_typed.specs.Operations.{decides}
 use Rattle.ep_typed.specs.Printing.{Result, number_of}
 use Rattle.ep_typed.specs.Printing as result
-use Rattle.ep_typed.specs.Steps.{Component, Computation, bind, word_at, own_variable, has_ended}
+use Rattle.ep_typed.specs.Denoters.{type_of}
+use Rattle.ep_typed.specs.Steps.{Component, Computation, bind, component, component_number, type_at, word_at, own_variable, has_ended}
 use Rattle.ep_typed.specs.Steps as meaning
-use Rattle.ep_typed.specs.Trees.{Callee, Place, Variable, Own, Standard, Expr, Constant, Text, Read, One, Two, Short, Step, Function, Actual, Evaluated, Accessed, Actuals, no_actual, next_actual}
-use Rattle.ep_typed.specs.Valid.{Declarations, Kind, Ordinal, Bytes, IsUnary, IsBinary, IsTypeOf, IsPlace, IsExpr, AreGiven, IsDeclaredUp, Level, variables_at, variables_up}
-use Rattle.ep_typed.specs.Viewed.{denoter_of}
+use Rattle.ep_typed.specs.Trees.{Callee, Place, Variable, Own, Standard, Indexed, Expr, Constant, Text, Read, One, Two, Short, Step, Function, Actual, Evaluated, Accessed, Actuals, no_actual, next_actual}
+use Rattle.ep_typed.specs.Valid.{Declarations, Kind, Ordinal, Bytes, IsUnary, IsBinary, IsTypeOf, IsExpr, AreGiven, IsDeclaredUp, Level, variables_at, variables_up}
 use Rattle.ep_typed.specs.declared.interface.Formal.{Formal}
 use Rattle.ep_typed.specs.declared.interface.RoutineEntry.{RoutineEntry}
 use Rattle.ep_typed.specs.declared.unit.UnitType.{UnitType}
@@ -43,44 +43,22 @@ use Rattle.ep_typed.specs.declared.operations.ShortOperation.{ShortOperation}
 use Rattle.ep_typed.specs.declared.operations.Unary.{Unary}
 use Rattle.ep_typed.specs.Hosts.{Host, least, greatest, is_of_host}
 use Rattle.ep_typed.specs.Hosts as host
-use Rattle.ep_typed.specs.declared.value.TypeValue.{TypeValue}
-use Rattle.ep_typed.specs.declared.value.TypeValue.TheVariants as type
+use Rattle.ep_typed.specs.TypeValues.{TypeValue}
+use Rattle.ep_typed.specs.TypeValues as type
 use Rattle.ep_typed.specs.declared.unit.UnitVariable.{UnitVariable}
-use Rattle.ep_gen_expr.specs.Following.{least_credit, HasPlaceType}
+use Rattle.ep_gen_expr.specs.Following.{least_credit, HasPlaceType, IsValidPlace}
 use Rattle.ep_gen_expr.specs.ExprCode.{IsPlaceCode, IsExprCode, IsActualCode, AreActualsCode, reference, instr, push, bare, one_code, two_code, keep_code, step_code}
-use Rattle.ep_gen_expr.proofs.Answering.{Evaluates, IsFollowed}
+use Rattle.ep_gen_expr.proofs.Answering.{Evaluates, IsFollowed, IsPlaceFollowed}
 use Rattle.ep_gen_expr.proofs.Arguments.{Fits, fits, IsArgumentFollowed, AreArgumentsFollowed, value_follows, accessed_follows, none_follows, next_follows}
 use Rattle.ep_gen_expr.proofs.Calls.{passed_then, function_follows}
 use Rattle.ep_gen_expr.proofs.ShortCircuit.{kept_follows}
 use Rattle.ep_gen_expr.proofs.OneOperand.{UnaryFollows, unary_follows}
 use Rattle.ep_gen_expr.proofs.Placed.{code_front, code_back, text_at, variable_at}
+use Rattle.ep_gen_expr.proofs.PlaceTypes.{IsArrayWhere, valid_place, typed_place, ordinal_place, variable_type}
 use Rattle.ep_gen_expr.proofs.Stepping.{step_follows}
 use Rattle.ep_gen_expr.proofs.TwoOperands.{BinaryFollows, binary_follows}
 use Rattle.ep_object.specs.declared.op.TheConstants as op
-
--- the type value of a place, which is of the host
-pub record IsTyped (declared : Declarations) (q : Place) (h : Host) : Type 0 where
-  pub type_value : TypeValue
-  pub has_type : HasPlaceType declared q type_value
-  pub of_host : IsTypeOf h type_value
-
--- a place of a host is that of a variable of a type of it
-pub typed_place : (declared : Declarations) → HaveValidTypes declared → HaveValidOwnTypes declared → (h : Host) (q : Place) → IsPlace declared h q → IsTyped declared q h
-typed_place declared types_valid own_valid h (Variable unit k) (v, is_declared, is_host) =
-    let valid = types_valid unit k v is_declared in
-    record {
-      type_value = valid.type_value;
-      has_type = (v, is_declared, types_are_instances (declared.types unit) (denoter_of v.denoter) valid.type_value valid.has_type);
-      of_host = subst (λ h. IsTypeOf h valid.type_value) (same_Some valid.host h (sym valid.has_host ∙ is_host)) valid.is_type;
-    }
-typed_place declared types_valid own_valid h (Own up k) (v, is_declared, is_host) =
-    let valid = own_valid up k v is_declared in
-    record {
-      type_value = valid.type_value;
-      has_type = (v, is_declared, types_are_instances declared.routine_types (denoter_of v.denoter) valid.type_value valid.has_type);
-      of_host = subst (λ h. IsTypeOf h valid.type_value) (same_Some valid.host h (sym valid.has_host ∙ is_host)) valid.is_type;
-    }
-typed_place declared types_valid own_valid h (Standard file) is = absurd is
+use Rattle.ep_typed.specs.declared.run_error.TheConstants as run_error
 
 -- `Load` of a variable that has ended, where the routine is one of the unit
 load_ends : (declared : Declarations) (G : Image) (unit : List ℕ) (at_place line : ℕ) (h : Host) (t : TypeValue) → IsTypeOf h t
@@ -93,6 +71,18 @@ load_ends : (declared : Declarations) (G : Image) (unit : List ℕ) (at_place li
 load_ends declared G unit at_place line h (type.Ordinal low high) of_host has injection memory below a q spot described unit_is s matches ended =
     subst (λ u. FailsWith G (at at_place (operand.Place q ∷ below) memory s.trace) 0 11 u line s) unit_is (load_fails declared G at_place line below low high a q has injection memory spot described s matches ended)
 load_ends declared G unit at_place line h type.Text of_host has injection memory below a q spot described unit_is s matches ended = absurd of_host
+load_ends declared G unit at_place line h (type.Array low high of) of_host has injection memory below a q spot described unit_is s matches ended = absurd of_host
+
+-- `Index` of one
+index_ends : (declared : Declarations) (G : Image) (unit : List ℕ) (at_place line : ℕ) (low high : ℤ) (of : TypeValue) (z : ℤ)
+    → slice_get G.instructions at_place ≡ Some (instr op.INDEX (pos 0) 0 line)
+    → (injection : Injection) (memory : Memory) (below : List Operand) (a : Component) (q : PlaceOf)
+    → IsSpot injection memory.types a q → Describes memory.types q.type_number (type.Array low high of)
+    → unit_in G memory.frames ≡ unit → (s : meaning.State) → Matches declared G injection s memory
+    → has_ended a.allocation s ≡ true
+    → FailsWith G (at at_place (operand.Word z ∷ operand.Place q ∷ below) memory s.trace) 0 run_error.DISPOSED unit line s
+index_ends declared G unit at_place line low high of z has injection memory below a q spot described unit_is s matches ended =
+    subst (λ u. FailsWith G (at at_place (operand.Word z ∷ operand.Place q ∷ below) memory s.trace) 0 run_error.DISPOSED u line s) unit_is (index_fails declared G at_place line below low high of z a q has injection memory spot described s matches ended)
 
 module _ {declared : Declarations} {G : Image} {untouched : Slots} {Here : Facts} (ps : List Placement) (p : Placement) (texts : List (List ℕ)) (references : List Reference) (scene : Scene declared G ps p texts) (knows : KnowsNames declared Here) (call : Handler) (steady_call : IsSteadyHandler call) (g : ℕ) (unit : List ℕ) where
   -- a constant, by `Push`
@@ -116,7 +106,7 @@ module _ {declared : Declarations} {G : Image} {untouched : Slots} {Here : Facts
       (unit_reads declared G place line below variable.number number variable.image_unit v t has variable.there variable.within (ap (λ u. declared.variables u number) variable.named ∙ is_declared) (subst (λ u. HasType declared u v t) (sym variable.named) has_type) injection memory s matches here))
 
   -- the place of a variable that is declared, by `Unit`
-  variable_follows : (n : ℕ) (of_unit : List ℕ) (k : ℕ) (v : UnitVariable) (t : TypeValue) → declared.variables of_unit k ≡ Some v → HasType declared of_unit v t → (line at : ℕ) (code : List Instr) → IsPlaceCode references line (Variable of_unit k) code → CodeStands G ps p references at code → (injection : Injection) (memory : Memory) (below : List Operand) (d : ℕ) → least_credit ≤ d → unit_in G memory.frames ≡ unit → Fragment declared G Here n (point injection memory (p.instructions.before + at) below) (place call g unit line (Variable of_unit k)) (p.instructions.before + (at + length code)) (λ a. Inside untouched injection memory (PlaceOnTop t below a)) d (λ a. d + 8)
+  variable_follows : (n : ℕ) (of_unit : List ℕ) (k : ℕ) (v : UnitVariable) (t : TypeValue) → declared.variables of_unit k ≡ Some v → HasType declared of_unit v t → (line at : ℕ) (code : List Instr) → IsPlaceCode texts references line at (Variable of_unit k) code → CodeStands G ps p references at code → IsPlaceFollowed declared G untouched Here p call g unit n t (Variable of_unit k) line at code
   variable_follows n of_unit k v t is_declared has_type line at code (r, there, is) stands injection memory below d le unit_is =
       let variable : VariableStands G ps of_unit k = scene.variables_stand of_unit k v is_declared in
       let has : CodeStands G ps p references at (instr op.UNIT (pos r) 0 line ∷ []) = subst (λ c. CodeStands G ps p references at c) is stands in
@@ -139,18 +129,39 @@ module _ {declared : Declarations} {G : Image} {untouched : Slots} {Here : Facts
           level_reads declared G at_place line below (suc up) k level v t has has_type is injection memory s matches (names.around up level e) here
 
   -- the place of a variable of the routine or of one around it, by `Slot`
-  own_follows : (n up k : ℕ) (v : UnitVariable) (t : TypeValue) → slice_get (variables_up declared up) k ≡ Some v → HasOwnType declared v t → (line at : ℕ) (code : List Instr) → IsPlaceCode references line (Own up k) code → CodeStands G ps p references at code → (injection : Injection) (memory : Memory) (below : List Operand) (d : ℕ) → least_credit ≤ d → unit_in G memory.frames ≡ unit → Fragment declared G Here n (point injection memory (p.instructions.before + at) below) (place call g unit line (Own up k)) (p.instructions.before + (at + length code)) (λ a. Inside untouched injection memory (PlaceOnTop t below a)) d (λ a. d + 8)
+  own_follows : (n up k : ℕ) (v : UnitVariable) (t : TypeValue) → slice_get (variables_up declared up) k ≡ Some v → HasOwnType declared v t → (line at : ℕ) (code : List Instr) → IsPlaceCode texts references line at (Own up k) code → CodeStands G ps p references at code → IsPlaceFollowed declared G untouched Here p call g unit n t (Own up k) line at code
   own_follows n up k v t is_declared has_type line at code is stands injection memory below d le unit_is =
       let has : CodeStands G ps p references at (instr op.SLOT (pos k) up line ∷ []) = subst (λ c. CodeStands G ps p references at c) is stands in
       fragment_less {n = suc n} (omega arith) (fragment_to (omega (arith, ap length is)) (fragment_fetch {n = n} (own_variable up k) (λ m. m) (λ s matches here.
       subst (λ u. Reads declared G Here (standing (p.instructions.before + at) below memory s.trace) 1 u line (p.instructions.before + at + 1) (λ n. Inside untouched injection memory (PlaceOnTop t below n)) s (own_variable up k s)) unit_is
       (slot_finds (p.instructions.before + at) line up k v t is_declared has_type has.0 injection memory below s matches here)) (omega (arith, le)) (λ m. omega arith)))
 
-  -- the place of a variable
-  pub place_follows : (n : ℕ) (q : Place) (t : TypeValue) → HasPlaceType declared q t → (line at : ℕ) (code : List Instr) → IsPlaceCode references line q code → CodeStands G ps p references at code → (injection : Injection) (memory : Memory) (below : List Operand) (d : ℕ) → least_credit ≤ d → unit_in G memory.frames ≡ unit → Fragment declared G Here n (point injection memory (p.instructions.before + at) below) (place call g unit line q) (p.instructions.before + (at + length code)) (λ a. Inside untouched injection memory (PlaceOnTop t below a)) d (λ a. d + 8)
-  place_follows n (Variable of_unit k) t (v, is_declared, has_type) line at code is stands injection memory below d le unit_is = variable_follows n of_unit k v t is_declared has_type line at code is stands injection memory below d le unit_is
-  place_follows n (Own up k) t (v, is_declared, has_type) line at code is stands injection memory below d le unit_is = own_follows n up k v t is_declared has_type line at code is stands injection memory below d le unit_is
-  place_follows n (Standard file) t has_type line at code is stands injection memory below d le unit_is = absurd has_type
+  -- what `Index` finds of a variable of an array type
+  index_finds : (at_place line : ℕ) (low high : ℤ) (of : TypeValue) (z : ℤ) → slice_get G.instructions at_place ≡ Some (instr op.INDEX (pos 0) 0 line)
+      → (injection : Injection) (memory : Memory) (below : List Operand) (a : Component) (q : PlaceOf)
+      → IsSpot injection memory.types a q → Describes memory.types q.type_number (type.Array low high of)
+      → unit_in G memory.frames ≡ unit → (s : meaning.State) → Matches declared G injection s memory → Here injection s memory → has_ended a.allocation s ≡ false
+      → Reads declared G Here (standing at_place (operand.Word z ∷ operand.Place q ∷ below) memory s.trace) run_error.INDEX unit line (at_place + 1) (λ k. Inside untouched injection memory (PlaceOnTop of below (component a k))) s (component_number (type_at a s) z)
+  index_finds at_place line low high of z has injection memory below a q spot described unit_is s matches here living =
+      subst (λ u. Reads declared G Here (standing at_place (operand.Word z ∷ operand.Place q ∷ below) memory s.trace) run_error.INDEX u line (at_place + 1) (λ k. Inside untouched injection memory (PlaceOnTop of below (component a k))) s (component_number (type_at a s) z)) unit_is
+      (index_reads declared G at_place line below low high of z a q has injection memory spot described s matches here living)
+
+  -- the component of an array at an index, by the array, the index and `Index`
+  indexed_follows : (n : ℕ) (h : Host) (low high : ℤ) (t : TypeValue) (q : Place) (x : Expr) (line at : ℕ) (xs ys : List Instr)
+      → IsPlaceFollowed declared G untouched Here p call g unit n (type.Array low high t) q line at xs
+      → IsFollowed declared G untouched Here p call g unit n (Ordinal h) x line (at + length xs) ys
+      → CodeStands G ps p references (at + length xs + length ys) (bare line op.INDEX ∷ [])
+      → IsPlaceFollowed declared G untouched Here p call g unit n t (Indexed q x) line at (xs ++ (ys ++ bare line op.INDEX ∷ []))
+  indexed_follows n h low high t q x line at xs ys array index has injection memory below d le unit_is =
+      let last : ℕ = p.instructions.before + (at + length xs + length ys) in
+      fragment_bind_place (λ a. steady_bind (steady_eval call steady_call g unit line x) (λ r. steady_indexed call steady_call g unit line a (number_of r))) (array injection memory below d le unit_is) (λ a b v1 m1 grown1 routine1 spot described.
+      fragment_bind_number {host = h} {e = λ r. d + 8 + 8 + weight_of r} (λ r. steady_indexed call steady_call g unit line a (number_of r)) (index v1 m1 (operand.Place b ∷ below) (d + 8) (omega (arith, le)) (unit_in-same G routine1 ∙ unit_is)) (λ z v2 m2 of_z grown2 routine2.
+      let home : unit_in G m2.frames ≡ unit = unit_in-same G routine2 ∙ (unit_in-same G routine1 ∙ unit_is) in
+      let spot2 : IsSpot v2 m2.types a b = is_spot-grown grown2 spot in
+      let described2 : Describes m2.types b.type_number (type.Array low high t) = describes-grown b.type_number (type.Array low high t) grown2 described in
+      fragment_less {n = suc n} (omega arith) (fragment_to (omega (arith, length-append xs (ys ++ bare line op.INDEX ∷ []), length-append ys (bare line op.INDEX ∷ []))) (fragment_using {n = suc n} {e = λ c. d + 8} a.allocation
+      (λ s matches ended. index_ends declared G unit last line low high t z has.0 v2 m2 below a b spot2 described2 home s matches ended) (omega arith)
+      (λ s matches here living. follows_fetch {e = λ c. d + 8} (point v2 m2 last (operand.Word z ∷ operand.Place b ∷ below)) (λ s. component_number (type_at a s) z) (λ k. component a k) s (index_finds last line low high t z has.0 v2 m2 below a b spot2 described2 home s matches here living) (omega arith) (λ k. omega arith))))))
 
   -- what `Load` finds of a variable of a type of the host
   load_finds : (place line : ℕ) (h : Host) (t : TypeValue) → IsTypeOf h t
@@ -163,16 +174,16 @@ module _ {declared : Declarations} {G : Image} {untouched : Slots} {Here : Facts
   load_finds place line h (type.Ordinal low high) of_host has injection memory below a q spot described unit_is s matches here living =
       subst (λ u. Reads declared G Here (at place (operand.Place q ∷ below) memory s.trace) 1 u line (place + 1) (λ w. Inside untouched injection memory (OnTop (Ordinal h) below (result.Number w))) s (word_at a s)) unit_is (load_reads declared G place line below h low high a q of_host has injection memory spot described s matches here living)
   load_finds place line h type.Text of_host has injection memory below a q spot described unit_is s matches here living = absurd of_host
+  load_finds place line h (type.Array low high of) of_host has injection memory below a q spot described unit_is s matches here living = absurd of_host
 
   -- the value of a variable, by its place and `Load`
-  read_follows : (n : ℕ) (h : Host) (place : Place) → IsTyped declared place h → (line at : ℕ) (xs : List Instr) → IsPlaceCode references line place xs → CodeStands G ps p references at (xs ++ bare line op.LOAD ∷ []) → (injection : Injection) (memory : Memory) (below : List Operand) (d : ℕ) → least_credit ≤ d → unit_in G memory.frames ≡ unit → Evaluates declared G untouched Here n injection memory (p.instructions.before + at) below (eval call g unit line (Read place)) (p.instructions.before + (at + length (xs ++ bare line op.LOAD ∷ []))) (Ordinal h) below d (d + 8)
-  read_follows n h place v line at xs is_code stands injection memory below d le unit_is =
+  read_follows : (n : ℕ) (h : Host) (t : TypeValue) → IsTypeOf h t → (q : Place) (line at : ℕ) (xs : List Instr) → IsPlaceFollowed declared G untouched Here p call g unit n t q line at xs → CodeStands G ps p references (at + length xs) (bare line op.LOAD ∷ []) → IsFollowed declared G untouched Here p call g unit n (Ordinal h) (Read q) line at (xs ++ bare line op.LOAD ∷ [])
+  read_follows n h t of_host q line at xs follows has injection memory below d le unit_is =
       let middle : ℕ = p.instructions.before + (at + length xs) in
-      let has : CodeStands G ps p references (at + length xs) (bare line op.LOAD ∷ []) = code_back G ps p references at xs (bare line op.LOAD ∷ []) stands in
-      fragment_bind_place (steady_read call steady_call g unit line) (place_follows n place v.type_value v.has_type line at xs is_code (code_front G ps p references at xs (bare line op.LOAD ∷ []) stands) injection memory below d le unit_is) (λ a q longer after grown routine spot described.
+      fragment_bind_place (steady_read call steady_call g unit line) (follows injection memory below d le unit_is) (λ a q longer after grown routine spot described.
       fragment_less {n = suc n} (omega arith) (fragment_to (omega (arith, length-append xs (bare line op.LOAD ∷ []))) (fragment_using {n = suc n} {e = λ r. d + 8 + weight_of r} a.allocation
-      (λ s matches ended. load_ends declared G unit middle line h v.type_value v.of_host has.0 longer after below a q spot described (unit_in-same G routine ∙ unit_is) s matches ended) (omega arith)
-      (λ s matches here living. follows_fetch {e = λ r. d + 8 + weight_of r} (point longer after middle (operand.Place q ∷ below)) (word_at a) (λ w. result.Number w) s (load_finds middle line h v.type_value v.of_host has.0 longer after below a q spot described (unit_in-same G routine ∙ unit_is) s matches here living) (omega arith) (λ w. omega arith)))))
+      (λ s matches ended. load_ends declared G unit middle line h t of_host has.0 longer after below a q spot described (unit_in-same G routine ∙ unit_is) s matches ended) (omega arith)
+      (λ s matches here living. follows_fetch {e = λ r. d + 8 + weight_of r} (point longer after middle (operand.Place q ∷ below)) (word_at a) (λ w. result.Number w) s (load_finds middle line h t of_host has.0 longer after below a q spot described (unit_in-same G routine ∙ unit_is) s matches here living) (omega arith) (λ w. omega arith)))))
 
   -- an operation with one operand
   one_follows : (n : ℕ) (operation : Unary) (x : Expr) (k kind : Kind) → IsUnary operation k kind → (line at : ℕ) (xs : List Instr) → IsFollowed declared G untouched Here p call g unit n k x line at xs → CodeStands G ps p references at (xs ++ one_code line operation) → IsFollowed declared G untouched Here p call g unit n kind (One operation x) line at (xs ++ one_code line operation)
@@ -228,15 +239,39 @@ module _ {declared : Declarations} {G : Image} {untouched : Slots} {Here : Facts
 
     module _ (lasts : Lasts untouched Here) (among : AreAmong untouched (kept_slots declared G)) (n : ℕ) (kept : CallsAreKept declared G ps call n) where
       mutual
+        -- What the machine does from the code of a place follows the meaning of the place.
+        pub place_follows : (q : Place) → IsValidPlace declared q → (t : TypeValue) → HasPlaceType declared q t → (line at : ℕ) (code : List Instr) → IsPlaceCode texts references line at q code → CodeStands G ps p references at code → at + length code < p.instructions.own → IsPlaceFollowed declared G untouched Here p call g unit n t q line at code
+        place_follows (Variable of_unit k) valid t (v, is_declared, has_type) line at code is stands inside = variable_follows n of_unit k v t is_declared has_type line at code is stands
+        place_follows (Own up k) valid t (v, is_declared, has_type) line at code is stands inside = own_follows n up k v t is_declared has_type line at code is stands
+        place_follows (Standard file) valid t has_type line at code is stands inside = absurd has_type
+        place_follows (Indexed q x) valid t (low, high, has_type) line at code (xs, ys, q_code, x_code, is) stands inside =
+            let index : Instr = bare line op.INDEX in
+            let all : CodeStands G ps p references at (xs ++ (ys ++ index ∷ [])) = subst (λ c. CodeStands G ps p references at c) is stands in
+            let rest : CodeStands G ps p references (at + length xs) (ys ++ index ∷ []) = code_back G ps p references at xs (ys ++ index ∷ []) all in
+            let ends : length code ≡ length xs + length ys + 1 = omega (arith, ap length is, length-append xs (ys ++ index ∷ []), length-append ys (index ∷ [])) in
+            let v = typed_place declared scene.types_valid scene.own_types_valid (IsArrayWhere declared (λ types d. ⊤) x) q valid in
+            let element : IsArrayWhere declared (λ types d. ⊤) x v.types v.denoter = v.holds in
+            let h : Host = (element.3).0 in
+            subst (λ c. IsPlaceFollowed declared G untouched Here p call g unit n t (Indexed q x) line at c) (sym is)
+            (indexed_follows n h low high t q x line at xs ys
+            (place_follows q v.valid (type.Array low high t) has_type line at xs q_code (code_front G ps p references at xs (ys ++ index ∷ []) all) (omega (arith, ends, inside)))
+            (expression_follows (Ordinal h) x (element.3).2 line (at + length xs) ys x_code (code_front G ps p references (at + length xs) ys (index ∷ []) rest) (omega (arith, ends, inside)))
+            (code_back G ps p references (at + length xs) ys (index ∷ []) rest))
+
         -- What the machine does from the code of an expression follows the meaning of the expression.
         pub expression_follows : (kind : Kind) (x : Expr) → IsExpr declared kind x → (line at : ℕ) (code : List Instr) → IsExprCode texts references line at x code → CodeStands G ps p references at code → at + length code < p.instructions.own → (injection : Injection) (memory : Memory) (below : List Operand) (d : ℕ) → least_credit ≤ d → unit_in G memory.frames ≡ unit → Fragment declared G Here n (point injection memory (p.instructions.before + at) below) (eval call g unit line x) (p.instructions.before + (at + length code)) (λ r. Inside untouched injection memory (OnTop kind below r)) d (λ r. d + 8 + weight_of r)
         expression_follows kind (Constant z) (h, is_kind, of_host) line at code is stands inside =
             followed_as n kind (Ordinal h) (Constant z) line at code (push line z ∷ []) is_kind is (λ injection memory below d le unit_is. constant_follows n h z of_host line at (subst (λ c. CodeStands G ps p references at c) is stands) injection memory below d)
         expression_follows kind (Text bytes) is_kind line at code (k, there, is) stands inside =
             followed_as n kind Bytes (Text bytes) line at code (instr op.TEXT (pos k) 0 line ∷ []) is_kind is (λ injection memory below d le unit_is. text_follows n k bytes there line at (subst (λ c. CodeStands G ps p references at c) is stands) injection memory below d)
-        expression_follows kind (Read place) (h, is_kind, is_place) line at code (xs, is_code, is) stands inside =
-            let v = typed_place declared scene.types_valid scene.own_types_valid h place is_place in
-            followed_as n kind (Ordinal h) (Read place) line at code (xs ++ bare line op.LOAD ∷ []) is_kind is (read_follows n h place v line at xs is_code (subst (λ c. CodeStands G ps p references at c) is stands))
+        expression_follows kind (Read q) (h, is_kind, is_place) line at code (xs, q_code, is) stands inside =
+            let all : CodeStands G ps p references at (xs ++ bare line op.LOAD ∷ []) = subst (λ c. CodeStands G ps p references at c) is stands in
+            let ends : length code ≡ length xs + 1 = omega (arith, ap length is, length-append xs (bare line op.LOAD ∷ [])) in
+            let v = ordinal_place declared scene.types_valid scene.own_types_valid h q is_place in
+            followed_as n kind (Ordinal h) (Read q) line at code (xs ++ bare line op.LOAD ∷ []) is_kind is
+            (read_follows n h v.type_value v.of_host q line at xs
+            (place_follows q v.valid v.type_value v.has_type line at xs q_code (code_front G ps p references at xs (bare line op.LOAD ∷ []) all) (omega (arith, ends, inside)))
+            (code_back G ps p references at xs (bare line op.LOAD ∷ []) all))
         expression_follows kind (One operation x) (k, kinds, is_x) line at code (xs, x_code, is) stands inside =
             let all : CodeStands G ps p references at (xs ++ one_code line operation) = subst (λ c. CodeStands G ps p references at c) is stands in
             followed_as n kind kind (One operation x) line at code (xs ++ one_code line operation) refl is
@@ -291,7 +326,7 @@ module _ {declared : Declarations} {G : Image} {untouched : Slots} {Here : Facts
         argument_follows (ByValue k) (Evaluated x) fit line at is h stands inside =
             value_follows p call steady_call g unit n k fit.0 x line at is fit.1 (expression_follows (Ordinal fit.0) x fit.2 line at is h stands inside)
         argument_follows (ByReference t) (Accessed q) fit line at is h stands inside =
-            accessed_follows p call steady_call g unit n t q line at is (place_follows n q t fit line at is h stands)
+            accessed_follows p call steady_call g unit n t q line at is (place_follows q (valid_place declared (λ types d. type_of types d ≡ Some t) q fit) t (variable_type declared scene.types_valid scene.own_types_valid t q fit) line at is h stands inside)
 
         -- Actual parameters, from left to right: the machine leaves what the formal ones take on the operands below.
         pub arguments_follow : (types : List UnitType) (fs : List Formal) (formals : List Passing) (given : Actuals) → ArePassed types fs formals → AreGiven declared types fs given → (line at : ℕ) (is : List Instr) → AreActualsCode texts references line at given is → CodeStands G ps p references at is → at + length is < p.instructions.own

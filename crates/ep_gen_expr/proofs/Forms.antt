@@ -3,7 +3,7 @@ use Rattle.std.proofs.Common.{◌≡◌, ℕ, ℤ, pos, ◌+◌, ◌<◌, ◌-�
 use Rattle.ep_object.specs.declared.code.Instr.{Instr}
 use Rattle.ep_object.specs.declared.code.Reference.{Reference}
 use Rattle.ep_typed.specs.Operations.{last_char}
-use Rattle.ep_typed.specs.Trees.{Place, Variable, Own, Standard, Expr, Constant, Text, Read, One, Two, Short, Step}
+use Rattle.ep_typed.specs.Trees.{Place, Variable, Own, Standard, Indexed, Expr, Constant, Text, Read, One, Two, Short, Step}
 use Rattle.ep_typed.specs.declared.operations.Unary.{Unary}
 use Rattle.ep_typed.specs.declared.operations.Unary.TheVariants as unary
 use Rattle.ep_typed.specs.declared.operations.Binary.{Binary}
@@ -57,8 +57,8 @@ pub grows_step : {a b c d : Code} (down : Bool) (low high : ℤ) → Grows a b (
 grows_step down low high p q r = after_two (λ line. push line low ∷ push line high ∷ []) (λ line. bare line op.STEP ∷ []) p q r
 
 -- the code of a part under the tables of the whole
-place_part : {a b c : Code} {is : List Instr} (x : Place) (p : AppendsPlace a b x) → Grows b c is → IsPlaceCode c.references a.line x p.code
-place_part {a = a} {b = b} {c = c} x p q = place_code_stays b.references c.references a.line x p.code q.references.begins p.is_code
+place_part : {a b c : Code} {is : List Instr} (x : Place) (p : AppendsPlace a b x) → Grows b c is → IsPlaceCode c.texts c.references a.line (length a.instructions) x p.code
+place_part {a = a} {b = b} {c = c} x p q = place_code_stays b.texts c.texts b.references c.references a.line q.texts.begins q.references.begins (length a.instructions) x p.code p.is_code
 
 first_part : {a b c : Code} {is : List Instr} (x : Expr) (p : AppendsExpr a b x) → Grows b c is → IsExprCode c.texts c.references a.line (length a.instructions) x p.code
 first_part {a = a} {b = b} {c = c} x p q = expr_code_stays b.texts c.texts b.references c.references a.line q.texts.begins q.references.begins (length a.instructions) x p.code p.is_code
@@ -71,8 +71,8 @@ second_part {a = a} {b = b} {d = d} x g p q =
 pub whole_expr : {a b : Code} (x : Expr) (code : List Instr) → IsExprCode b.texts b.references a.line (length a.instructions) x code → Grows a b code → AppendsExpr a b x
 whole_expr {a = a} {b = b} x code h g = record { code = code; is_code = h; grows = g; short = omega (arith, expr_code_short b.texts b.references a.line (length a.instructions) x code h) }
 
-whole_place : {a b : Code} (x : Place) (code : List Instr) → IsPlaceCode b.references a.line x code → Grows a b code → AppendsPlace a b x
-whole_place {a = a} {b = b} x code h g = record { code = code; is_code = h; grows = g; short = place_code_short b.references a.line x code h }
+whole_place : {a b : Code} (x : Place) (code : List Instr) → IsPlaceCode b.texts b.references a.line (length a.instructions) x code → Grows a b code → AppendsPlace a b x
+whole_place {a = a} {b = b} x code h g = record { code = code; is_code = h; grows = g; short = place_code_short b.texts b.references a.line (length a.instructions) x code h }
 
 pub appends_variable : {a b c : Code} (unit : List ℕ) (number k : ℕ) → NumbersReference a b (reference unit number) k → Grows b c (instr op.UNIT (pos k) 0 b.line ∷ []) → AppendsPlace a c (Variable unit number)
 appends_variable {a = a} unit number k p q =
@@ -102,6 +102,10 @@ appends_one {a = a} operation x p q =
 -- what comes after two operands
 after_parts : (f : ℕ → List Instr) {a b c d : Code} {is js : List Instr} → Grows a b is → Grows b c js → Grows c d (f c.line) → Grows a d (is ++ (js ++ f a.line))
 after_parts f {a = a} {d = d} {is = is} {js = js} p q r = subst (λ l. Grows a d l) (append_assoc is js (f a.line)) (grows_at f (grows_then p q) r)
+
+pub appends_indexed : {a b c d : Code} (array : Place) (index : Expr) → AppendsPlace a b array → AppendsExpr b c index → Grows c d (bare c.line op.INDEX ∷ []) → AppendsPlace a d (Indexed array index)
+appends_indexed {a = a} array index p q r =
+    whole_place (Indexed array index) (p.code ++ (q.code ++ bare a.line op.INDEX ∷ [])) (p.code, q.code, place_part array p (grows_then q.grows r), second_part index p.grows q r, refl) (after_parts (λ line. bare line op.INDEX ∷ []) p.grows q.grows r)
 
 pub appends_two : {a b c d : Code} (operation : Binary) (x y : Expr) → AppendsExpr a b x → AppendsExpr b c y → Grows c d (two_code c.line operation ∷ []) → AppendsExpr a d (Two operation x y)
 appends_two {a = a} operation x y p q r =
@@ -205,4 +209,4 @@ on_ok (Err e) f h = tt
 
 pub ruleset numbers = (numbers_old_text, numbers_old_reference)
 
-pub ruleset forms = (appends_variable, appends_own, appends_standard, appends_constant, appends_text, appends_read, appends_one, appends_two, appends_step)
+pub ruleset forms = (appends_variable, appends_own, appends_standard, appends_indexed, appends_constant, appends_text, appends_read, appends_one, appends_two, appends_step)

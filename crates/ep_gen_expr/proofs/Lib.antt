@@ -6,6 +6,7 @@ pub mod Landing
 pub mod ShortCircuit
 pub mod Placed
 pub mod ActualForms
+pub mod PlaceTypes
 pub mod Arguments
 pub mod Calls
 pub mod Following

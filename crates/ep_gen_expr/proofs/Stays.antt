@@ -3,7 +3,7 @@ use Rattle.std.proofs.Common.{◌≡◌, ℕ, ℤ, ◌+◌, ◌*◌, ◌≤◌, 
 use Rattle.ep_outside.specs.Known.{IsPrefix}
 use Rattle.ep_object.specs.declared.code.Instr.{Instr}
 use Rattle.ep_object.specs.declared.code.Reference.{Reference}
-use Rattle.ep_typed.specs.Trees.{Place, Variable, Own, Standard, Expr, Constant, Text, Read, One, Two, Short, Step, Function, Actual, Evaluated, Accessed, Actuals, no_actual, next_actual}
+use Rattle.ep_typed.specs.Trees.{Place, Variable, Own, Standard, Indexed, Expr, Constant, Text, Read, One, Two, Short, Step, Function, Actual, Evaluated, Accessed, Actuals, no_actual, next_actual}
 use Rattle.ep_typed.specs.declared.operations.Unary.{Unary}
 use Rattle.ep_typed.specs.declared.operations.Unary.TheVariants as unary
 use Rattle.ep_typed.specs.declared.operations.ShortOperation.{ShortOperation}
@@ -13,17 +13,20 @@ use Rattle.ep_gen_expr.specs.ExprCode.{IsPlaceCode, IsExprCode, IsActualCode, Ar
 use Rattle.ep_gen_expr.proofs.Pushed.{get_later}
 use Rattle.ep_object.specs.declared.op.TheConstants as op
 
-pub place_code_stays : (rs ss : List Reference) (line : ℕ) (p : Place) (is : List Instr) → IsPrefix rs ss → IsPlaceCode rs line p is → IsPlaceCode ss line p is
-place_code_stays rs ss line (Variable unit number) is b h = (h.0, get_later h.0 (reference unit number) b h.1, h.2)
-place_code_stays rs ss line (Own levels number) is b h = h
-place_code_stays rs ss line (Standard file) is b h = h
-
 module _ (ts us : List (List ℕ)) (rs ss : List Reference) (line : ℕ) (a : IsPrefix ts us) (b : IsPrefix rs ss) where
   mutual
+    -- the code of a place
+    pub place_code_stays : (at : ℕ) (p : Place) (is : List Instr) → IsPlaceCode ts rs line at p is → IsPlaceCode us ss line at p is
+    place_code_stays at (Variable unit number) is h = (h.0, get_later h.0 (reference unit number) b h.1, h.2)
+    place_code_stays at (Own levels number) is h = h
+    place_code_stays at (Standard file) is h = h
+    place_code_stays at (Indexed p x) is h = (h.0, h.1, place_code_stays at p h.0 h.2, expr_code_stays (at + length h.0) x h.1 h.3, h.4)
+
+    -- that of an expression
     pub expr_code_stays : (at : ℕ) (x : Expr) (is : List Instr) → IsExprCode ts rs line at x is → IsExprCode us ss line at x is
     expr_code_stays at (Constant z) is h = h
     expr_code_stays at (Text bytes) is h = (h.0, get_later h.0 bytes a h.1, h.2)
-    expr_code_stays at (Read p) is h = (h.0, place_code_stays rs ss line p h.0 b h.1, h.2)
+    expr_code_stays at (Read p) is h = (h.0, place_code_stays at p h.0 h.1, h.2)
     expr_code_stays at (One operation x) is h = (h.0, expr_code_stays at x h.0 h.1, h.2)
     expr_code_stays at (Two operation x y) is h = (h.0, h.1, expr_code_stays at x h.0 h.2, expr_code_stays (at + length h.0) y h.1 h.3, h.4)
     expr_code_stays at (Short operation x y) is h =
@@ -31,12 +34,12 @@ module _ (ts us : List (List ℕ)) (rs ss : List Reference) (line : ℕ) (a : Is
     expr_code_stays at (Step down low high x n) is h = (h.0, h.1, expr_code_stays at x h.0 h.2, expr_code_stays (at + length h.0) n h.1 h.3, h.4)
     expr_code_stays at (Function callee given) is h = (h.0, h.1, actuals_code_stays at given h.0 h.2, get_later h.1 (reference callee.unit callee.number) b h.3, h.4)
 
-    -- the code of an actual parameter
+    -- that of an actual parameter
     pub actual_code_stays : (at : ℕ) (x : Actual) (is : List Instr) → IsActualCode ts rs line at x is → IsActualCode us ss line at x is
     actual_code_stays at (Evaluated x) is h = expr_code_stays at x is h
-    actual_code_stays at (Accessed p) is h = place_code_stays rs ss line p is b h
+    actual_code_stays at (Accessed p) is h = place_code_stays at p is h
 
-    -- that of actual parameters
+    -- and that of actual parameters
     pub actuals_code_stays : (at : ℕ) (given : Actuals) (is : List Instr) → AreActualsCode ts rs line at given is → AreActualsCode us ss line at given is
     actuals_code_stays at no_actual is h = h
     actuals_code_stays at (next_actual x more) is h = (h.0, h.1, actual_code_stays at x h.0 h.2, actuals_code_stays (at + length h.0) more h.1 h.3, h.4)
@@ -65,17 +68,25 @@ short_short xs ks ys i j is e k m few p q = omega (arith, ap length e, length-ap
 call_short : (xs : List Instr) (i j : Instr) (is : List Instr) → is ≡ xs ++ i ∷ j ∷ [] → (k : ℕ) → length xs ≤ 32 * k → length is + 8 ≤ 32 * (1 + k)
 call_short xs i j is e k p = omega (arith, ap length e, length-append xs (i ∷ j ∷ []), p)
 
-pub place_code_short : (rs : List Reference) (line : ℕ) (p : Place) (is : List Instr) → IsPlaceCode rs line p is → length is ≤ 32 * place_nodes p
-place_code_short rs line (Variable unit number) is h = omega (arith, ap length h.2)
-place_code_short rs line (Own levels number) is h = omega (arith, ap length h)
-place_code_short rs line (Standard file) is h = omega (arith, ap length h)
+-- one more instruction behind code of two parts that is short
+index_short : (xs ys : List Instr) (i : Instr) (is : List Instr) → is ≡ xs ++ (ys ++ i ∷ []) → (k m : ℕ) → length xs ≤ 32 * k → length ys + 8 ≤ 32 * m → length is ≤ 32 * (1 + k + m)
+index_short xs ys i is e k m p q = omega (arith, ap length e, length-append xs (ys ++ i ∷ []), length-append ys (i ∷ []), p, q)
 
 module _ (ts : List (List ℕ)) (rs : List Reference) (line : ℕ) where
   mutual
+    -- the code of a place is short
+    pub place_code_short : (at : ℕ) (p : Place) (is : List Instr) → IsPlaceCode ts rs line at p is → length is ≤ 32 * place_nodes p
+    place_code_short at (Variable unit number) is h = omega (arith, ap length h.2)
+    place_code_short at (Own levels number) is h = omega (arith, ap length h)
+    place_code_short at (Standard file) is h = omega (arith, ap length h)
+    place_code_short at (Indexed p x) is h =
+        index_short h.0 h.1 _ is h.4 (place_nodes p) (expr_nodes x) (place_code_short at p h.0 h.2) (expr_code_short (at + length h.0) x h.1 h.3)
+
+    -- so is that of an expression
     pub expr_code_short : (at : ℕ) (x : Expr) (is : List Instr) → IsExprCode ts rs line at x is → length is + 8 ≤ 32 * expr_nodes x
     expr_code_short at (Constant z) is h = omega (arith, ap length h)
     expr_code_short at (Text bytes) is h = omega (arith, ap length h.2)
-    expr_code_short at (Read p) is h = omega (arith, ap length h.2, length-append h.0 (bare line op.LOAD ∷ []), place_code_short rs line p h.0 h.1)
+    expr_code_short at (Read p) is h = omega (arith, ap length h.2, length-append h.0 (bare line op.LOAD ∷ []), place_code_short at p h.0 h.1)
     expr_code_short at (One operation x) is h = omega (arith, ap length h.2, length-append h.0 (one_code line operation), expr_code_short at x h.0 h.1, one_short line operation)
     expr_code_short at (Two operation x y) is h =
         omega (arith, ap length h.4, length-append h.0 (h.1 ++ two_code line operation ∷ []), length-append h.1 (two_code line operation ∷ []), expr_code_short at x h.0 h.2, expr_code_short (at + length h.0) y h.1 h.3)
@@ -85,12 +96,12 @@ module _ (ts : List (List ℕ)) (rs : List Reference) (line : ℕ) where
         omega (arith, ap length h.4, length-append h.0 (h.1 ++ step_code line down low high), length-append h.1 (step_code line down low high), expr_code_short at x h.0 h.2, expr_code_short (at + length h.0) n h.1 h.3, step_short line down low high)
     expr_code_short at (Function callee given) is h = call_short h.0 _ _ is h.4 (actuals_nodes given) (actuals_code_short at given h.0 h.2)
 
-    -- the code of an actual parameter is short
+    -- that of an actual parameter
     pub actual_code_short : (at : ℕ) (x : Actual) (is : List Instr) → IsActualCode ts rs line at x is → length is ≤ 32 * actual_nodes x
     actual_code_short at (Evaluated x) is h = omega (arith, expr_code_short at x is h)
-    actual_code_short at (Accessed p) is h = place_code_short rs line p is h
+    actual_code_short at (Accessed p) is h = place_code_short at p is h
 
-    -- and so is that of actual parameters
+    -- and that of actual parameters
     pub actuals_code_short : (at : ℕ) (given : Actuals) (is : List Instr) → AreActualsCode ts rs line at given is → length is ≤ 32 * actuals_nodes given
     actuals_code_short at no_actual is h = omega (arith, ap length h)
     actuals_code_short at (next_actual x more) is h = omega (arith, ap length h.4, length-append h.0 h.1, actual_code_short at x h.0 h.2, actuals_code_short (at + length h.0) more h.1 h.3)

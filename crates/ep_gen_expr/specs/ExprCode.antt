@@ -1,11 +1,12 @@
 -- Which instructions are the code of an expression or a place, under given tables of texts and references. Jumps name
--- places of the object, so the code of an expression depends on where it begins.
+-- places of the object, so the code of an expression depends on where it begins, and so does that of a place, since an index
+-- is an expression.
 use Rattle.std.specs.Prelude.{◌≡◌, ℕ, ℤ, pos, ◌+◌, Bool, true, false, List, [], ◌∷◌, ◌++◌, length, Some, slice_get}
 pub use Rattle.ep_object.specs.Table.{instr}
 use Rattle.ep_object.specs.declared.code.Instr.{Instr}
 use Rattle.ep_object.specs.declared.code.Reference.{Reference}
 use Rattle.ep_typed.specs.Operations.{last_char}
-use Rattle.ep_typed.specs.Trees.{Place, Variable, Own, Standard, Expr, Constant, Text, Read, One, Two, Short, Step, Function, Actual, Evaluated, Accessed, Actuals, no_actual, next_actual}
+use Rattle.ep_typed.specs.Trees.{Place, Variable, Own, Standard, Indexed, Expr, Constant, Text, Read, One, Two, Short, Step, Function, Actual, Evaluated, Accessed, Actuals, no_actual, next_actual}
 use Rattle.ep_typed.specs.declared.operations.Unary.{Unary}
 use Rattle.ep_typed.specs.declared.operations.Unary.TheVariants as unary
 use Rattle.ep_typed.specs.declared.operations.Binary.{Binary}
@@ -85,19 +86,21 @@ standard_number file.Output = constant.OUTPUT
 abbrev pub standard_code : ℕ → StandardFile → Instr
 standard_code line file = instr op.UNIT constant.STANDARD_UNIT (standard_number file) line
 
--- the code of a place, whose instructions have this line
-abbrev pub IsPlaceCode : List Reference → ℕ → Place → List Instr → Type 0
-IsPlaceCode references line (Variable unit number) is = (k : ℕ) × (slice_get references k ≡ Some (reference unit number)) × (is ≡ instr op.UNIT (pos k) 0 line ∷ [])
-IsPlaceCode references line (Own levels number) is = is ≡ instr op.SLOT (pos number) levels line ∷ []
-IsPlaceCode references line (Standard file) is = is ≡ standard_code line file ∷ []
-
 module _ (texts : List (List ℕ)) (references : List Reference) (line : ℕ) where
   abbrev mutual
+    -- The code of a place that begins at this place of the object, whose instructions have this line. An indexed variable (ISO
+    -- 10206, 6.5.3.2) is the array, the index, and `Index`.
+    pub IsPlaceCode : ℕ → Place → List Instr → Type 0
+    IsPlaceCode at (Variable unit number) is = (k : ℕ) × (slice_get references k ≡ Some (reference unit number)) × (is ≡ instr op.UNIT (pos k) 0 line ∷ [])
+    IsPlaceCode at (Own levels number) is = is ≡ instr op.SLOT (pos number) levels line ∷ []
+    IsPlaceCode at (Standard file) is = is ≡ standard_code line file ∷ []
+    IsPlaceCode at (Indexed p x) is = (xs ys : List Instr) × IsPlaceCode at p xs × IsExprCode (at + length xs) x ys × (is ≡ xs ++ (ys ++ bare line op.INDEX ∷ []))
+
     -- the code of an expression that begins at this place, whose instructions have this line
     pub IsExprCode : ℕ → Expr → List Instr → Type 0
     IsExprCode at (Constant z) is = is ≡ push line z ∷ []
     IsExprCode at (Text bytes) is = (k : ℕ) × (slice_get texts k ≡ Some bytes) × (is ≡ instr op.TEXT (pos k) 0 line ∷ [])
-    IsExprCode at (Read p) is = (xs : List Instr) × IsPlaceCode references line p xs × (is ≡ xs ++ bare line op.LOAD ∷ [])
+    IsExprCode at (Read p) is = (xs : List Instr) × IsPlaceCode at p xs × (is ≡ xs ++ bare line op.LOAD ∷ [])
     IsExprCode at (One operation x) is = (xs : List Instr) × IsExprCode at x xs × (is ≡ xs ++ one_code line operation)
     IsExprCode at (Two operation x y) is = (xs ys : List Instr) × IsExprCode at x xs × IsExprCode (at + length xs) y ys × (is ≡ xs ++ (ys ++ two_code line operation ∷ []))
     IsExprCode at (Short operation x y) is =
@@ -113,7 +116,7 @@ module _ (texts : List (List ℕ)) (references : List Reference) (line : ℕ) wh
     -- the code of an actual parameter: that of the value, or of the variable (ISO 10206, 6.7.3)
     pub IsActualCode : ℕ → Actual → List Instr → Type 0
     IsActualCode at (Evaluated x) is = IsExprCode at x is
-    IsActualCode at (Accessed p) is = IsPlaceCode references line p is
+    IsActualCode at (Accessed p) is = IsPlaceCode at p is
 
     -- actual parameters, from left to right
     pub AreActualsCode : ℕ → Actuals → List Instr → Type 0

@@ -1,5 +1,5 @@
 -- The machine follows expressions and places: wherever their code stands in an image, it does what they mean.
-use Rattle.std.specs.Prelude.{◌≡◌, ℕ, ◌+◌, ◌<◌, ◌≤◌, List, length, Some, slice_get}
+use Rattle.std.specs.Prelude.{◌≡◌, ℕ, ℤ, ◌+◌, ◌<◌, ◌≤◌, List, length, Some, slice_get, ⊤}
 use Rattle.ep_gen_expr.specs.ExprCode.{IsPlaceCode, IsExprCode}
 use Rattle.ep_object.specs.Activations.{MatchesNames, OwnAreKept}
 use Rattle.ep_object.specs.Follows.{point, Since, Fragment, Inside, Operands, OnTop, PlaceOnTop}
@@ -16,10 +16,10 @@ use Rattle.ep_typed.specs.Steady.{IsSteadyHandler}
 use Rattle.ep_typed.specs.Calls.{Handler}
 use Rattle.ep_typed.specs.Meaning.{eval, place, weight_of}
 use Rattle.ep_typed.specs.Steps.{State, Computation}
-use Rattle.ep_typed.specs.Trees.{Place, Variable, Own, Standard, Expr}
-use Rattle.ep_typed.specs.Valid.{Declarations, Kind, IsExpr, variables_up}
+use Rattle.ep_typed.specs.Trees.{Place, Variable, Own, Standard, Indexed, Expr}
+use Rattle.ep_typed.specs.Valid.{Declarations, Kind, IsExpr, IsPlaceWhere, variables_up}
 use Rattle.ep_typed.specs.declared.unit.UnitVariable.{UnitVariable}
-use Rattle.ep_typed.specs.declared.value.TypeValue.{TypeValue}
+use Rattle.ep_typed.specs.TypeValues.{TypeValue, Array}
 
 -- the credit that is there before each fragment of code: what instructions without a step may cost within it
 abbrev pub least_credit : ℕ
@@ -32,19 +32,29 @@ IsFollowedThrough declared G p unit untouched n at code c Then gain =
     → (below : List Operand) (credit : ℕ) → least_credit ≤ credit → unit_in G memory.frames ≡ unit
     → Fragment declared G (Since untouched injection begun memory) n (point injection memory (p.instructions.before + at) below) c (p.instructions.before + (at + length code)) (λ a. Inside untouched injection memory (Then below a)) credit (λ a. credit + gain a)
 
--- the type value of a place: that of a variable which is declared, or of one of the routine or of those around it
+-- the type value of a place: that of a variable which is declared, of one of the routine or of those around it, or of the
+-- components of an array
 abbrev pub HasPlaceType : Declarations → Place → TypeValue → Type 0
 HasPlaceType declared (Variable unit k) t = (v : UnitVariable) × (declared.variables unit k ≡ Some v) × HasType declared unit v t
 HasPlaceType declared (Own up k) t = (v : UnitVariable) × (slice_get (variables_up declared up) k ≡ Some v) × HasOwnType declared v t
 HasPlaceType declared (Standard file) t = ⊥
+HasPlaceType declared (Indexed p x) t = (low high : ℤ) × HasPlaceType declared p (Array low high t)
 
--- Wherever the code of the place of a variable stands in an image with a scene, the machine follows the place through the code with any number of steps, whatever slots are named, and leaves it on top, of a type that describes the variable's.
+-- the place is valid, whatever type it has
+abbrev pub IsValidPlace : Declarations → Place → Type 0
+IsValidPlace declared = IsPlaceWhere declared (λ types d. ⊤)
+
+-- Wherever the code of a place that is valid under the declarations stands in an image with a scene, with more code
+-- of the object behind it, the machine follows the place through the code and leaves it on top, of a type that describes the
+-- place's, with each number of steps up to which the routines that are declared keep their promises. The slots that are
+-- named are among those that calls leave as they are.
 abbrev pub PlacesAreFollowed : Type 0
 PlacesAreFollowed =
     (declared : Declarations) (G : Image) (ps : List Placement) (p : Placement) (texts : List (List ℕ)) (references : List Reference) → Scene declared G ps p texts
-    → (call : Handler) → IsSteadyHandler call → (turns : ℕ) (unit : List ℕ) (q : Place) (t : TypeValue) → HasPlaceType declared q t
-    → (line at : ℕ) (code : List Instr) → IsPlaceCode references line q code → CodeStands G ps p references at code
-    → (untouched : Slots) (n : ℕ) → IsFollowedThrough declared G p unit untouched n at code (place call turns unit line q) (PlaceOnTop t) (λ a. 8)
+    → (call : Handler) → IsSteadyHandler call → (turns : ℕ) (unit : List ℕ) (q : Place) → IsValidPlace declared q → (t : TypeValue) → HasPlaceType declared q t
+    → (line at : ℕ) (code : List Instr) → IsPlaceCode texts references line at q code → CodeStands G ps p references at code → at + length code < p.instructions.own → p.instructions.before + p.instructions.own ≤ length G.instructions
+    → (untouched : Slots) → AreAmong untouched (kept_slots declared G) → (n : ℕ) → CallsAreKept declared G ps call n
+    → IsFollowedThrough declared G p unit untouched n at code (place call turns unit line q) (PlaceOnTop t) (λ a. 8)
 
 -- Wherever the code of an expression that is valid under the declarations stands in an image with a scene, with more code
 -- of the object behind it, the machine follows its value through the code and leaves the value on top, with each number of

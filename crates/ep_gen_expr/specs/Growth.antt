@@ -61,7 +61,7 @@ pub record KeepsOperand (old new : Code) (operation : ShortOperation) (k : ℕ) 
 -- the code of the place is appended, at most 32 instructions for each typed node
 pub record AppendsPlace (old new : Code) (p : Place) : Type 0 where
   pub code : List Instr
-  pub is_code : IsPlaceCode new.references old.line p code
+  pub is_code : IsPlaceCode new.texts new.references old.line (length old.instructions) p code
   pub grows : Grows old new code
   pub short : length code ≤ 32 * place_nodes p
 

@@ -8,7 +8,7 @@ ghost use Rattle.ep_gen_expr.specs.ExprCode.{step_code};
 ghost use Rattle.ep_gen_expr.specs.Growth.{AppendsExpr, Grows};
 
 use crate::code::Code;
-use crate::expressions::{constant_code, read_code};
+use crate::expressions::{constant_code, entire_value_code};
 use crate::operations::{apply_binary, apply_step};
 use ep_base::NoMemory;
 use ep_typed::{Binary, ForControl};
@@ -30,8 +30,8 @@ fn order(falls: bool) -> Binary
 pub fn in_order_code(alloc: Global, control: &ForControl, code: &mut Code) -> Result<(), NoMemory>
     ensures { OnOk result (AppendsExpr code.old code.new (in_order (control_of control.now))) }
 {
-    read_code(alloc, &control.initial, code)?;
-    read_code(alloc, &control.last, code)?;
+    entire_value_code(alloc, &control.initial, code)?;
+    entire_value_code(alloc, &control.last, code)?;
     apply_binary(order(control.falls), code)
 }
 
@@ -40,7 +40,7 @@ pub fn in_order_code(alloc: Global, control: &ForControl, code: &mut Code) -> Re
 pub fn next_value_code(alloc: Global, control: &ForControl, code: &mut Code) -> Result<(), NoMemory>
     ensures { OnOk result (AppendsExpr code.old code.new (next_value (control_of control.now))) }
 {
-    read_code(alloc, &control.variable, code)?;
+    entire_value_code(alloc, &control.variable, code)?;
     constant_code(1, code)?;
     step_within(control.falls, &control.low, &control.high, code)
 }

@@ -2,8 +2,8 @@
 
 ghost use Rattle.std.specs.Prelude.{OnOk, map};
 ghost use Rattle.ep_typed.specs.Trees as tree;
-ghost use Rattle.ep_typed.specs.Trees.{Constant, Function, One, Own, Read, Short, Step, Text, Two, Variable};
-ghost use Rattle.ep_typed.specs.Viewed.{actual_of, callee_of, expr_of, place_of};
+ghost use Rattle.ep_typed.specs.Trees.{entire, Constant, Function, Indexed, One, Own, Read, Short, Step, Text, Two, Variable};
+ghost use Rattle.ep_typed.specs.Viewed.{actual_of, callee_of, entire_of, expr_of, place_of};
 ghost use Rattle.ep_gen_expr.specs.Growth.{AppendsActual, AppendsActuals, AppendsExpr, AppendsPlace};
 
 use crate::code::{Code, emit};
@@ -13,10 +13,13 @@ use crate::standard::standard_code;
 use crate::tables::{reference_number, text_number};
 use ep_base::{Name, NoMemory};
 use ep_object::op;
-use ep_typed::{Actual, Binary, Callee, ShortOperation, TypedExpr, TypedPlace, Unary};
+use ep_typed::{
+    Actual, Binary, Callee, EntireVariable, ShortOperation, TypedExpr, TypedPlace, Unary,
+};
 use std::alloc::Global;
 
 /// Appends the code of a place, which leaves the place.
+#[cycle(expression)]
 #[tactic(auto, using(crate::proofs::Forms::forms))]
 pub fn place_code(alloc: Global, p: &TypedPlace, code: &mut Code) -> Result<(), NoMemory>
     ensures { OnOk result (AppendsPlace code.old code.new (place_of p.now)) }
@@ -25,6 +28,17 @@ pub fn place_code(alloc: Global, p: &TypedPlace, code: &mut Code) -> Result<(), 
         TypedPlace::Variable(unit, number) => variable_code(alloc, unit, *number, code),
         TypedPlace::Own(levels, number) => own_code(*levels, *number, code),
         TypedPlace::Standard(file) => standard_code(*file, code),
+        TypedPlace::Indexed(array, index) => index_code(alloc, array.get(), index.get(), code),
+    }
+}
+
+/// Appends the code of an entire variable, which leaves its place.
+pub fn entire_code(alloc: Global, v: &EntireVariable, code: &mut Code) -> Result<(), NoMemory>
+    ensures { OnOk result (AppendsPlace code.old code.new (entire (entire_of v.now))) }
+{
+    match v {
+        EntireVariable::Unit(unit, number) => variable_code(alloc, unit, *number, code),
+        EntireVariable::Own(levels, number) => own_code(*levels, *number, code),
     }
 }
 
@@ -43,6 +57,22 @@ fn own_code(levels: u32, number: u32, code: &mut Code) -> Result<(), NoMemory>
     ensures { OnOk result (AppendsPlace code.old code.new (Own levels number)) }
 {
     emit(code, op::SLOT, number as i64, levels)
+}
+
+/// Appends the code of the component of an array at an index (ISO 10206, 6.5.3.2).
+#[cycle(expression)]
+#[tactic(auto, using(crate::proofs::Forms::forms))]
+fn index_code(
+    alloc: Global,
+    array: &TypedPlace,
+    index: &TypedExpr,
+    code: &mut Code,
+) -> Result<(), NoMemory>
+    ensures { OnOk result (AppendsPlace code.old code.new (Indexed (place_of array.now) (expr_of index.now))) }
+{
+    place_code(alloc, array, code)?;
+    expression_code(alloc, index, code)?;
+    emit(code, op::INDEX, 0, 0)
 }
 
 /// Appends the code of an expression, which leaves its value.
@@ -86,11 +116,21 @@ fn text_code(alloc: Global, bytes: &[u8], code: &mut Code) -> Result<(), NoMemor
 }
 
 /// Appends the code of a variable's value.
+#[cycle(expression)]
 #[tactic(auto, using(crate::proofs::Forms::forms))]
-pub fn read_code(alloc: Global, place: &TypedPlace, code: &mut Code) -> Result<(), NoMemory>
+fn read_code(alloc: Global, place: &TypedPlace, code: &mut Code) -> Result<(), NoMemory>
     ensures { OnOk result (AppendsExpr code.old code.new (Read (place_of place.now))) }
 {
     place_code(alloc, place, code)?;
+    emit(code, op::LOAD, 0, 0)
+}
+
+/// Appends the code of the value of an entire variable.
+#[tactic(auto, using(crate::proofs::Forms::forms))]
+pub fn entire_value_code(alloc: Global, v: &EntireVariable, code: &mut Code) -> Result<(), NoMemory>
+    ensures { OnOk result (AppendsExpr code.old code.new (Read (entire (entire_of v.now)))) }
+{
+    entire_code(alloc, v, code)?;
     emit(code, op::LOAD, 0, 0)
 }
 

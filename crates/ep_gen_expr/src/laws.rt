@@ -13,8 +13,8 @@ pub fn laws_of_code()
 {}
 
 /// Does nothing: its contract states that wherever the code of an expression or of a place stands in an image, the
-/// machine follows its meaning through the code and leaves the value or the place on top: a place at every number of
-/// steps, and an expression up to each number with which the routines that are declared keep their promises.
+/// machine follows its meaning through the code and leaves the value or the place on top, up to each number of steps
+/// with which the routines that are declared keep their promises.
 pub fn laws_of_following()
     ensures places { PlacesAreFollowed }
     ensures expressions { ExpressionsAreFollowed }

@@ -15,7 +15,7 @@ mod tables;
 
 pub use code::{Code, NO_LINE, emit};
 pub use controls::{in_order_code, next_value_code};
-pub use expressions::{call_code, expression_code, place_code, read_code};
+pub use expressions::{call_code, entire_code, entire_value_code, expression_code, place_code};
 pub use jumps::{field_number, land, leave_hole, next_place};
 pub use laws::{laws_of_code, laws_of_following};
 pub use operations::apply_binary;

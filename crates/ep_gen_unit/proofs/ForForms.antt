@@ -3,21 +3,21 @@ use Rattle.std.proofs.Common.{◌≡◌, ℕ, pos, ◌+◌, ◌<◌, List, [], �
 use Rattle.ep_object.specs.declared.code.Instr.{Instr}
 use Rattle.ep_typed.specs.declared.operations.Binary.TheVariants as binary
 use Rattle.ep_typed.specs.Controls.{in_order, next_value}
-use Rattle.ep_typed.specs.Trees.{Place, Expr, Read, Control, Stmt, Assign, For}
+use Rattle.ep_typed.specs.Trees.{Entire, entire, Expr, Read, Control, Stmt, Assign, For}
 use Rattle.ep_gen_expr.specs.ExprCode.{IsExprCode, bare, instr, two_code}
 use Rattle.ep_gen_expr.specs.Growth.{Grows, AppendsPlace, AppendsExpr}
 use Rattle.ep_gen_expr.specs.Jumps.{IsNextPlace, LeavesHole, landed}
 use Rattle.ep_gen_expr.specs.declared.code.Code.{Code}
 use Rattle.ep_gen_expr.proofs.Forms.{grows_at}
 use Rattle.ep_gen_expr.proofs.Stays.{place_code_stays}
-use Rattle.ep_gen_unit.specs.StmtCode.{IsStmtCode, IsFirstCode, IsTestCode, for_code}
+use Rattle.ep_gen_unit.specs.StmtCode.{IsStmtCode, IsFirstCode, IsTestCode, IsUndefineCode, for_code}
 use Rattle.ep_gen_unit.specs.StmtGrowth.{Follows, AppendsBounds, AppendsFirst, AppendsTest, AppendsUndefine, AppendsStmt}
 use Rattle.ep_gen_unit.proofs.StmtStays.{bounds_code_stays, first_code_stays, test_code_stays, stmt_code_short}
 use Rattle.ep_gen_unit.proofs.Following.{IsLater, later_then, later_grows, later_follows, later_landed, expr_later, stmt_later, follows_grows, follows_line, follows_then, follows_middle, follows_landed, grown_length, landed_length}
 use Rattle.ep_object.specs.declared.op.TheConstants as op
 
 -- both bounds, and whether there is a turn
-pub appends_bounds : {b c d : Code} (a : Code) (line : ℕ) (k : Control) (x y : Expr) → AppendsStmt a b (Assign line k.initial x) → AppendsStmt b c (Assign line k.last y) → AppendsExpr (record c { line = line }) d (in_order k) → AppendsBounds line a d k x y
+pub appends_bounds : {b c d : Code} (a : Code) (line : ℕ) (k : Control) (x y : Expr) → AppendsStmt a b (Assign line (entire k.initial) x) → AppendsStmt b c (Assign line (entire k.last) y) → AppendsExpr (record c { line = line }) d (in_order k) → AppendsBounds line a d k x y
 appends_bounds {b = b} {c = c} {d = d} a line k x y p q r =
     let at = length a.instructions in
     let last : Follows c d r.code = follows_line c line (follows_grows r.grows) in
@@ -29,8 +29,8 @@ appends_bounds {b = b} {c = c} {d = d} a line k x y p q r =
         p.code,
         q.code,
         r.code,
-        stmt_later at (Assign line k.initial x) p.code (later_follows both) p.is_code,
-        subst (λ n. IsStmtCode d.texts d.references n (Assign line k.last y) q.code) (grown_length p.follows) (stmt_later (length b.instructions) (Assign line k.last y) q.code (later_follows last) q.is_code),
+        stmt_later at (Assign line (entire k.initial) x) p.code (later_follows both) p.is_code,
+        subst (λ n. IsStmtCode d.texts d.references n (Assign line (entire k.last) y) q.code) (grown_length p.follows) (stmt_later (length b.instructions) (Assign line (entire k.last) y) q.code (later_follows last) q.is_code),
         subst (λ n. IsExprCode d.texts d.references line n (in_order k) r.code) at_c r.is_code,
         refl,
       );
@@ -38,7 +38,7 @@ appends_bounds {b = b} {c = c} {d = d} a line k x y p q r =
     }
 
 -- the final value, and the first one of the control variable
-pub appends_first : {b c d : Code} (a : Code) (line : ℕ) (k : Control) → AppendsExpr (record a { line = line }) b (Read k.last) → AppendsStmt b c (Assign line k.variable (Read k.last)) → AppendsStmt c d (Assign line k.variable (Read k.initial)) → AppendsFirst line a d k
+pub appends_first : {b c d : Code} (a : Code) (line : ℕ) (k : Control) → AppendsExpr (record a { line = line }) b (Read (entire k.last)) → AppendsStmt b c (Assign line (entire k.variable) (Read (entire k.last))) → AppendsStmt c d (Assign line (entire k.variable) (Read (entire k.initial))) → AppendsFirst line a d k
 appends_first {b = b} {c = c} {d = d} a line k p q r =
     let at = length a.instructions in
     let one : Follows a b p.code = follows_line a line (follows_grows p.grows) in
@@ -50,31 +50,31 @@ appends_first {b = b} {c = c} {d = d} a line k p q r =
         p.code,
         q.code,
         r.code,
-        expr_later line at (Read k.last) p.code (later_follows both) p.is_code,
-        subst (λ n. IsStmtCode d.texts d.references n (Assign line k.variable (Read k.last)) q.code) (grown_length one) (stmt_later (length b.instructions) (Assign line k.variable (Read k.last)) q.code (later_follows r.follows) q.is_code),
-        subst (λ n. IsStmtCode d.texts d.references n (Assign line k.variable (Read k.initial)) r.code) at_c r.is_code,
+        expr_later line at (Read (entire k.last)) p.code (later_follows both) p.is_code,
+        subst (λ n. IsStmtCode d.texts d.references n (Assign line (entire k.variable) (Read (entire k.last))) q.code) (grown_length one) (stmt_later (length b.instructions) (Assign line (entire k.variable) (Read (entire k.last))) q.code (later_follows r.follows) q.is_code),
+        subst (λ n. IsStmtCode d.texts d.references n (Assign line (entire k.variable) (Read (entire k.initial))) r.code) at_c r.is_code,
         refl,
       );
       follows = follows_then one both;
     }
 
 -- the test
-pub appends_test : {b c d : Code} (a : Code) (line : ℕ) (k : Control) → Grows (record a { line = line }) b (bare line op.DUP ∷ []) → AppendsExpr b c (Read k.variable) → Grows c d (two_code c.line binary.Unequal ∷ []) → AppendsTest line a d k
+pub appends_test : {b c d : Code} (a : Code) (line : ℕ) (k : Control) → Grows (record a { line = line }) b (bare line op.DUP ∷ []) → AppendsExpr b c (Read (entire k.variable)) → Grows c d (two_code c.line binary.Unequal ∷ []) → AppendsTest line a d k
 appends_test {b = b} {c = c} {d = d} a line k p q r =
     let after : Grows b d (q.code ++ two_code b.line binary.Unequal ∷ []) = grows_at (λ l. two_code l binary.Unequal ∷ []) q.grows r in
-    let read : IsExprCode d.texts d.references b.line (length b.instructions) (Read k.variable) q.code = expr_later b.line (length b.instructions) (Read k.variable) q.code (later_grows r) q.is_code in
+    let read : IsExprCode d.texts d.references b.line (length b.instructions) (Read (entire k.variable)) q.code = expr_later b.line (length b.instructions) (Read (entire k.variable)) q.code (later_grows r) q.is_code in
     record {
       code = bare line op.DUP ∷ (q.code ++ two_code line binary.Unequal ∷ []);
-      is_code = (q.code, subst (λ n. IsExprCode d.texts d.references line n (Read k.variable) q.code) (grown_length (follows_grows p)) (subst (λ l. IsExprCode d.texts d.references l (length b.instructions) (Read k.variable) q.code) p.line read), refl);
+      is_code = (q.code, subst (λ n. IsExprCode d.texts d.references line n (Read (entire k.variable)) q.code) (grown_length (follows_grows p)) (subst (λ l. IsExprCode d.texts d.references l (length b.instructions) (Read (entire k.variable)) q.code) p.line read), refl);
       follows = follows_line a line (follows_grows (grows_at (λ l. q.code ++ two_code l binary.Unequal ∷ []) p after));
     }
 
 -- the end
-pub appends_undefine : {b c : Code} (a : Code) (line : ℕ) (q : Place) → AppendsPlace (record a { line = line }) b q → Grows b c (bare b.line op.UNDEFINE ∷ []) → AppendsUndefine line a c q
+pub appends_undefine : {b c : Code} (a : Code) (line : ℕ) (q : Entire) → AppendsPlace (record a { line = line }) b (entire q) → Grows b c (bare b.line op.UNDEFINE ∷ []) → AppendsUndefine line a c q
 appends_undefine {b = b} {c = c} a line q p r =
     record {
       code = p.code ++ bare line op.UNDEFINE ∷ [];
-      is_code = (p.code, place_code_stays b.references c.references line q p.code r.references.begins p.is_code, refl);
+      is_code = (p.code, place_code_stays b.texts c.texts b.references c.references line r.texts.begins r.references.begins (length a.instructions) (entire q) p.code p.is_code, refl);
       follows = follows_line a line (follows_grows (grows_at (λ l. bare l op.UNDEFINE ∷ []) p.grows r));
     }
 
@@ -84,7 +84,7 @@ hole_in_turns e m line s i p q r = omega (arith, p.is_length, grown_length (foll
 
 module _ {b c d e f g h i j k l m : Code} (a : Code) (line leave done start : ℕ) (control : Control) (x y : Expr) (s : Stmt)
     (bounds : AppendsBounds line a b control x y) (hole : LeavesHole b c leave) (first : AppendsFirst line c d control) (begins : IsNextPlace d start) (body : AppendsStmt d e s) (test : AppendsTest line e f control) (other : LeavesHole f g done)
-    (next : AppendsStmt g h (Assign line control.variable (next_value control))) (back : Grows (record h { line = line }) i (instr op.JUMP (pos start) 0 line ∷ [])) (lands : j ≡ landed i done op.JUMP_FALSE line) (drop : Grows j k (bare j.line op.DROP ∷ [])) (lands_too : l ≡ landed k leave op.JUMP_FALSE line) (ends : AppendsUndefine line l m control.variable) where
+    (next : AppendsStmt g h (Assign line (entire control.variable) (next_value control))) (back : Grows (record h { line = line }) i (instr op.JUMP (pos start) 0 line ∷ [])) (lands : j ≡ landed i done op.JUMP_FALSE line) (drop : Grows j k (bare j.line op.DROP ∷ [])) (lands_too : l ≡ landed k leave op.JUMP_FALSE line) (ends : AppendsUndefine line l m control.variable) where
   abbrev at : ℕ
   at = length a.instructions
 
@@ -159,6 +159,9 @@ module _ {b c d e f g h i j k l m : Code} (a : Code) (line leave done start : �
   len_k : length k.instructions ≡ at + length bounds.code + 1 + length first.code + length body.code + length test.code + 1 + length next.code + 1 + 1
   len_k = omega (arith, len_i, landed_length i done op.JUMP_FALSE line lands, grown_length (follows_grows drop))
 
+  len_l : length l.instructions ≡ at + length bounds.code + 1 + length first.code + length body.code + length test.code + 1 + length next.code + 1 + 1
+  len_l = omega (arith, len_k, landed_length k leave op.JUMP_FALSE line lands_too)
+
   -- what comes later
   l_m : IsLater l m
   l_m = later_follows ends.follows
@@ -201,8 +204,8 @@ module _ {b c d e f g h i j k l m : Code} (a : Code) (line leave done start : �
         subst (λ n. IsFirstCode m.texts m.references line n control first.code) len_c (first_code_stays d.texts m.texts d.references m.references d_m.texts.begins d_m.references.begins line (length c.instructions) control first.code first.is_code),
         subst (λ n. IsStmtCode m.texts m.references n s body.code) len_d (stmt_later (length d.instructions) s body.code e_m body.is_code),
         subst (λ n. IsTestCode m.texts m.references line n control test.code) len_e (test_code_stays f.texts m.texts f.references m.references f_m.texts.begins f_m.references.begins line (length e.instructions) control test.code test.is_code),
-        subst (λ n. IsStmtCode m.texts m.references n (Assign line control.variable (next_value control)) next.code) len_g (stmt_later (length g.instructions) (Assign line control.variable (next_value control)) next.code h_m next.is_code),
-        ends.is_code,
+        subst (λ n. IsStmtCode m.texts m.references n (Assign line (entire control.variable) (next_value control)) next.code) len_g (stmt_later (length g.instructions) (Assign line (entire control.variable) (next_value control)) next.code h_m next.is_code),
+        subst (λ n. IsUndefineCode m.texts m.references line n control.variable ends.code) len_l ends.is_code,
         refl,
       ) in
       record { code = for_code line at bounds.code first.code body.code test.code next.code ends.code; is_code = code; follows = whole; short = stmt_code_short m.texts m.references at (For line control x y s) (for_code line at bounds.code first.code body.code test.code next.code ends.code) code }

@@ -2,7 +2,7 @@
 use Rattle.std.proofs.Common.{◌≡◌, ℕ, ℤ, pos, zero, suc, ◌+◌, ◌-◌, ◌≤◌, ◌<◌, Bool, true, false, not, List, [], ◌∷◌, ◌++◌, length, length-append, refl, sym, ap, ◌∙◌, subst, arith}
 use Rattle.std.specs.Prelude.{if◌then◌else◌}
 use Rattle.ep_gen_expr.specs.ExprCode.{instr, bare, two_code, IsExprCode}
-use Rattle.ep_gen_expr.proofs.Following.{typed_place}
+use Rattle.ep_gen_expr.proofs.PlaceTypes.{ordinal_place}
 use Rattle.ep_gen_expr.proofs.Placed.{jump_has, jump_false_has}
 use Rattle.ep_gen_unit.proofs.Parts.{code_stands-parts, Moves, ExpressionsFollow, PlacesFollow, statement_credit, ordinal_of_host}
 use Rattle.ep_object.specs.Follows.{point, Facts, Lasts, Fragment, Follows, Lands, Inside, Bare, IsNotLeft}
@@ -38,13 +38,13 @@ use Rattle.ep_typed.specs.Operations.{is_same, is_true, ordinal_of}
 use Rattle.ep_typed.specs.Printing.{number_of}
 use Rattle.ep_typed.specs.Steps.{Component, Computation, Undefined, assigned, bind, change, give, spend, using, has_ended}
 use Rattle.ep_typed.specs.Steps as meaning
-use Rattle.ep_typed.specs.Trees.{Place, Expr, Read, Two, Control, Stmt, For}
+use Rattle.ep_typed.specs.Trees.{Entire, entire, Expr, Read, Two, Control, Stmt, For}
 use Rattle.ep_typed.specs.Valid as kind
 use Rattle.ep_typed.specs.Valid.{Declarations, IsControl, IsExpr, IsPlace}
 use Rattle.ep_typed.specs.Hosts as host
 use Rattle.ep_typed.specs.Hosts.{Host}
 use Rattle.ep_typed.specs.declared.operations.Binary.TheVariants as binary
-use Rattle.ep_typed.specs.declared.value.TypeValue.TheVariants as type
+use Rattle.ep_typed.specs.TypeValues as type
 use Rattle.ep_object.specs.declared.op.TheConstants as op
 
 -- ---- what a control is made of is valid
@@ -52,7 +52,7 @@ use Rattle.ep_object.specs.declared.op.TheConstants as op
 pub in_order_valid : (declared : Declarations) (h : Host) (c : Control) → IsControl declared h c → IsExpr declared (kind.Ordinal host.Boolean) (in_order c)
 in_order_valid declared h c control = go c.falls
   where
-    go : (b : Bool) → IsExpr declared (kind.Ordinal host.Boolean) (Two (if b then binary.AtLeast else binary.AtMost) (Read c.initial) (Read c.last))
+    go : (b : Bool) → IsExpr declared (kind.Ordinal host.Boolean) (Two (if b then binary.AtLeast else binary.AtMost) (Read (entire c.initial)) (Read (entire c.last)))
     go true = (kind.Ordinal host.Integer, kind.Ordinal host.Integer, ((host.Integer, refl, refl), refl), (host.Integer, refl, control.initial), (host.Integer, refl, control.last))
     go false = (kind.Ordinal host.Integer, kind.Ordinal host.Integer, ((host.Integer, refl, refl), refl), (host.Integer, refl, control.initial), (host.Integer, refl, control.last))
 
@@ -83,8 +83,8 @@ module _ (G : Image) (ps : List Placement) (p : Placement) (texts : List (List �
     pub is_bounds : AreBoundsCode texts references line at c x y bounds
     pub is_first : IsFirstCode texts references line first_at c first
     pub is_test : IsTestCode texts references line test_at c test
-    pub is_next : IsAssignCode texts references line next_at c.variable (next_value c) next
-    pub is_end : IsUndefineCode texts references line c.variable ends
+    pub is_next : IsAssignCode texts references line next_at (entire c.variable) (next_value c) next
+    pub is_end : IsUndefineCode texts references line (back_at + 1 + 1) c.variable ends
     pub bounds_stand : CodeStands G ps p references at bounds
     pub skips : CodeStands G ps p references (at + length bounds) (instr op.JUMP_FALSE (pos (back_at + 1 + 1)) 0 line ∷ [])
     pub first_stands : CodeStands G ps p references first_at first
@@ -98,7 +98,7 @@ module _ (G : Image) (ps : List Placement) (p : Placement) (texts : List (List �
     pub room : back_at + 1 + 1 + length ends < p.instructions.own
     pub total : at + length (for_code line at bounds first body test next ends) ≡ back_at + 1 + 1 + length ends
 
-  pub for_stands : AreBoundsCode texts references line at c x y bounds → IsFirstCode texts references line first_at c first → IsTestCode texts references line test_at c test → IsAssignCode texts references line next_at c.variable (next_value c) next → IsUndefineCode texts references line c.variable ends
+  pub for_stands : AreBoundsCode texts references line at c x y bounds → IsFirstCode texts references line first_at c first → IsTestCode texts references line test_at c test → IsAssignCode texts references line next_at (entire c.variable) (next_value c) next → IsUndefineCode texts references line (back_at + 1 + 1) c.variable ends
       → CodeStands G ps p references at (for_code line at bounds first body test next ends) → at + length (for_code line at bounds first body test next ends) < p.instructions.own → ForStands
   for_stands is_bounds is_first is_test is_next is_end stands inside =
       let tail : List Instr = instr op.JUMP (pos body_at) 0 line ∷ bare line op.DROP ∷ ends in
@@ -152,15 +152,15 @@ module _ {declared : Declarations} {G : Image} {untouched : Slots} {Here : Facts
       lives s does = follows_paid {v = 1} {w = 0} {d1 = d} (not_left-here memory.frames) refl does.does (omega arith) (omega arith) (omega arith) (follows_changed {n = n} (assigned a Undefined) {P = λ b. Lands declared G Here (p.instructions.before + at + 1) (Inside untouched injection memory (Bare below b))} {d = d} {e = λ b. d} (omega arith) (landed does))
 
   -- the control variable becomes undefined, and the statement spends its step
-  pub end_moves : (line at : ℕ) (q : Place) (h : Host) (is : List Instr) → IsPlace declared h q → IsUndefineCode texts references line q is → CodeStands G ps p references at is
-      → Moves declared G untouched Here ps p texts references call n unit at (at + length is) (bind (undefines call n unit line q) (λ b. spend 1 (give tt)))
-  end_moves line at q h is is_place code stands injection memory below d enough home =
-      let v = typed_place declared scene.types_valid scene.own_types_valid h q is_place in
+  pub end_moves : (line at : ℕ) (q : Entire) (h : Host) (is : List Instr) → IsPlace declared h (entire q) → IsUndefineCode texts references line at q is → CodeStands G ps p references at is → at + length is < p.instructions.own
+      → Moves declared G untouched Here ps p texts references call n unit at (at + length is) (bind (undefines call n unit line (entire q)) (λ b. spend 1 (give tt)))
+  end_moves line at q h is is_place code stands inside injection memory below d enough home =
+      let v = ordinal_place declared scene.types_valid scene.own_types_valid h (entire q) is_place in
       let t = ordinal_of_host h v.type_value v.of_host in
       let parts = code_stands-parts G ps p references at code.0 (bare line op.UNDEFINE ∷ []) (subst (λ w. CodeStands G ps p references at w) code.2 stands) in
       let ends : p.instructions.before + (at + length code.0) + 1 ≡ p.instructions.before + (at + length is) = omega (arith, ap length code.2, length-append code.0 (bare line op.UNDEFINE ∷ [])) in
       fragment_bind_bare {e = λ b. d + 8} (λ b. steady_spend 1 (steady_give tt))
-      (fragment_bind_place {type = v.type_value} {e = λ a. d + 8} (λ a. steady_using (meaning.Error run_error.DISPOSED unit line) a.allocation (steady_undefined call steady_call n unit a)) (places q v.type_value v.has_type line at code.0 code.1 parts.0 injection memory below d (omega arith) home) (λ a place_here longer after grown routine spot described.
+      (fragment_bind_place {type = v.type_value} {e = λ a. d + 8} (λ a. steady_using (meaning.Error run_error.DISPOSED unit line) a.allocation (steady_undefined call steady_call n unit a)) (places (entire q) v.valid v.type_value v.has_type line at code.0 code.1 parts.0 (omega (arith, ends, inside)) injection memory below d (omega arith) home) (λ a place_here longer after grown routine spot described.
       fragment_to ends (undefine_moves t.0 t.1 a place_here line (at + length code.0) parts.1 longer after below (d + 8) (omega (arith, enough)) (unit_in-same G routine ∙ home) spot (subst (λ w. Describes after.types place_here.type_number w) t.2 described))))
       (λ b last final grown routine. fragment_less {n = suc n} (omega arith) (fragment_move {d1 = d} (omega arith) (fragment_give (omega arith) (inside_here refl))))
 
@@ -169,7 +169,7 @@ module _ {declared : Declarations} {G : Image} {untouched : Slots} {Here : Facts
   -- where the parts of the code of the turns stand, with the final value on the operands
   pub record TurnsStand (line body_at test_at back_at : ℕ) (c : Control) : Type 0 where
     pub read : List Instr
-    pub is_read : IsExprCode texts references line (test_at + 1) (Read c.variable) read
+    pub is_read : IsExprCode texts references line (test_at + 1) (Read (entire c.variable)) read
     pub dup : CodeStands G ps p references test_at (bare line op.DUP ∷ [])
     pub reads : CodeStands G ps p references (test_at + 1) read
     pub compares : CodeStands G ps p references (test_at + 1 + length read) (two_code line binary.Unequal ∷ [])
@@ -182,23 +182,23 @@ module _ {declared : Declarations} {G : Image} {untouched : Slots} {Here : Facts
 
   module _ (line body_at test_at back_at : ℕ) (c : Control) (h : Host) (s : Stmt) (control : IsControl declared h c) (x : TurnsStand line body_at test_at back_at c)
       (body : Moves declared G untouched Here ps p texts references call n unit body_at test_at (exec call n unit s))
-      (next : Moves declared G untouched Here ps p texts references call n unit (test_at + 1 + length x.read + 2) back_at (assigns call n unit line c.variable (next_value c))) where
-    steady_next : (k : ℕ) (z : ℤ) → Steady (bind (assigns call n unit line c.variable (next_value c)) (λ b. turns_to call n unit k line c z (exec call n unit s)))
-    steady_next k z = steady_bind (steady_assigns call steady_call n unit line c.variable (next_value c)) (λ b. steady_turns_to call steady_call n unit k line c z (steady_exec call steady_call n unit s))
+      (next : Moves declared G untouched Here ps p texts references call n unit (test_at + 1 + length x.read + 2) back_at (assigns call n unit line (entire c.variable) (next_value c))) where
+    steady_next : (k : ℕ) (z : ℤ) → Steady (bind (assigns call n unit line (entire c.variable) (next_value c)) (λ b. turns_to call n unit k line c z (exec call n unit s)))
+    steady_next k z = steady_bind (steady_assigns call steady_call n unit line (entire c.variable) (next_value c)) (λ b. steady_turns_to call steady_call n unit k line c z (steady_exec call steady_call n unit s))
 
-    steady_tested : (k : ℕ) (z w : ℤ) → Steady (spend 1 (if is_same z w then give tt else bind (assigns call n unit line c.variable (next_value c)) (λ b. turns_to call n unit k line c z (exec call n unit s))))
+    steady_tested : (k : ℕ) (z w : ℤ) → Steady (spend 1 (if is_same z w then give tt else bind (assigns call n unit line (entire c.variable) (next_value c)) (λ b. turns_to call n unit k line c z (exec call n unit s))))
     steady_tested k z w = steady_spend 1 (steady_if (is_same z w) (steady_give tt) (steady_next k z))
 
     pub turns_follow : (z : ℤ) (k : ℕ) → k ≤ n → (injection : Injection) (memory : Memory) (below : List Operand) (d : ℕ) → statement_credit ≤ d → unit_in G memory.frames ≡ unit
         → Fragment declared G Here k (point injection memory (p.instructions.before + body_at) (Word z ∷ below)) (turns_to call n unit k line c z (exec call n unit s)) (p.instructions.before + (back_at + 2)) (λ b. Inside untouched injection memory (Bare below b)) d (λ b. d)
     turns_follow z zero le injection memory below d enough home = fragment_cut
     turns_follow z (suc k) le injection memory below d enough home =
-        fragment_bind_bare {e = λ b. d} (λ b. steady_bind (steady_eval call steady_call n unit line (Read c.variable)) (λ r. steady_tested k z (number_of r)))
+        fragment_bind_bare {e = λ b. d} (λ b. steady_bind (steady_eval call steady_call n unit line (Read (entire c.variable))) (λ r. steady_tested k z (number_of r)))
         (fragment_less le (body injection memory (Word z ∷ below) d enough home)) (λ b v1 m1 grown1 routine1.
         fragment_waits {d1 = d - 1} (λ s1 matches. dup_pushes G (p.instructions.before + test_at) line below z x.dup.0 m1 s1.trace) (omega (arith, enough))
         (fragment_from {place = p.instructions.before + (test_at + 1)} (omega arith)
         (fragment_bind_number {host = h} {e = λ r. d - 1 + 8 + weight_of r} (λ r. steady_tested k z (number_of r))
-        (fragment_less le (expressions (kind.Ordinal h) (Read c.variable) (h, refl, control.variable) line (test_at + 1) x.read x.is_read x.reads (omega (arith, x.order, x.inside)) v1 m1 (Word z ∷ Word z ∷ below) (d - 1) (omega (arith, enough)) (unit_in-same G routine1 ∙ home))) (λ w v2 m2 of_host grown2 routine2.
+        (fragment_less le (expressions (kind.Ordinal h) (Read (entire c.variable)) (h, refl, control.variable) line (test_at + 1) x.read x.is_read x.reads (omega (arith, x.order, x.inside)) v1 m1 (Word z ∷ Word z ∷ below) (d - 1) (omega (arith, enough)) (unit_in-same G routine1 ∙ home))) (λ w v2 m2 of_host grown2 routine2.
         fragment_waits {d1 = d + 6} (λ s1 matches. unequal_answers G (p.instructions.before + (test_at + 1 + length x.read)) line (Word z ∷ below) z w x.compares.0 m2 s1.trace) (omega (arith, enough))
         (fragment_from {place = p.instructions.before + (test_at + 1 + length x.read + 1)} (omega arith)
         (fragment_branch_one {then_place = p.instructions.before + (back_at + 1)} {else_place = p.instructions.before + (test_at + 1 + length x.read + 2)} {d1 = d + 8} (is_same z w)
@@ -265,12 +265,12 @@ module _ {declared : Declarations} {G : Image} {untouched : Slots} {Here : Facts
           inside = omega (arith, parts.room);
         }
 
-    next_moves : Moves declared G untouched Here ps p texts references call n unit (t_at + 1 + length turns_stand.read + 2) k_at (assigns call n unit line c.variable (next_value c))
+    next_moves : Moves declared G untouched Here ps p texts references call n unit (t_at + 1 + length turns_stand.read + 2) k_at (assigns call n unit line (entire c.variable) (next_value c))
     next_moves =
         let code = parts.is_test in
         let long : n_at ≡ t_at + 1 + length code.0 + 2 = omega (arith, ap length code.2, length-append code.0 (two_code line binary.Unequal ∷ [])) in
-        subst (λ w. Moves declared G untouched Here ps p texts references call n unit w k_at (assigns call n unit line c.variable (next_value c))) long
-        (assigned_moves lasts ps p texts references call steady_call n unit scene expressions places line n_at c.variable h h (next_value c) next control.variable (next_value_valid declared h c control) parts.is_next (omega (arith, parts.room)) parts.next_stands)
+        subst (λ w. Moves declared G untouched Here ps p texts references call n unit w k_at (assigns call n unit line (entire c.variable) (next_value c))) long
+        (assigned_moves lasts ps p texts references call steady_call n unit scene expressions places line n_at (entire c.variable) h h (next_value c) next control.variable (next_value_valid declared h c control) parts.is_next (omega (arith, parts.room)) parts.next_stands)
 
     steady_turns : (w : ℤ) → Steady (turns_to call n unit n line c w (exec call n unit s))
     steady_turns w = steady_turns_to call steady_call n unit n line c w steady_body
@@ -284,11 +284,11 @@ module _ {declared : Declarations} {G : Image} {untouched : Slots} {Here : Facts
         let one = code_stands-parts G ps p references f_at code.0 (code.1 ++ code.2) all in
         let two = code_stands-parts G ps p references (f_at + length code.0) code.1 code.2 one.1 in
         let long : length first ≡ length code.0 + length code.1 + length code.2 = omega (arith, ap length code.6, length-append code.0 (code.1 ++ code.2), length-append code.1 code.2) in
-        let tries = assigned_moves lasts ps p texts references call steady_call n unit scene expressions places line (f_at + length code.0) c.variable h host.Integer (Read c.last) code.1 control.variable (host.Integer, refl, control.last) code.4 (omega (arith, long, parts.room)) two.0 in
-        let starts = assigned_moves lasts ps p texts references call steady_call n unit scene expressions places line (f_at + length code.0 + length code.1) c.variable h host.Integer (Read c.initial) code.2 control.variable (host.Integer, refl, control.initial) code.5 (omega (arith, long, parts.room)) two.1 in
-        fragment_bind_number {host = host.Integer} {e = λ r. d + 7 + 8 + weight_of r} (λ r. steady_bind (steady_assigns call steady_call n unit line c.variable (Read c.last)) (λ b. steady_bind (steady_assigns call steady_call n unit line c.variable (Read c.initial)) (λ b. steady_turns (number_of r))))
-        (expressions (kind.Ordinal host.Integer) (Read c.last) (host.Integer, refl, control.last) line f_at code.0 code.3 one.0 (omega (arith, long, parts.room)) injection memory below (d + 7) (omega (arith, enough)) home) (λ w v1 m1 of_host grown1 routine1.
-        fragment_bind_bare {e = λ b. d + 7 + 8 + 0} (λ b. steady_bind (steady_assigns call steady_call n unit line c.variable (Read c.initial)) (λ b. steady_turns w))
+        let tries = assigned_moves lasts ps p texts references call steady_call n unit scene expressions places line (f_at + length code.0) (entire c.variable) h host.Integer (Read (entire c.last)) code.1 control.variable (host.Integer, refl, control.last) code.4 (omega (arith, long, parts.room)) two.0 in
+        let starts = assigned_moves lasts ps p texts references call steady_call n unit scene expressions places line (f_at + length code.0 + length code.1) (entire c.variable) h host.Integer (Read (entire c.initial)) code.2 control.variable (host.Integer, refl, control.initial) code.5 (omega (arith, long, parts.room)) two.1 in
+        fragment_bind_number {host = host.Integer} {e = λ r. d + 7 + 8 + weight_of r} (λ r. steady_bind (steady_assigns call steady_call n unit line (entire c.variable) (Read (entire c.last))) (λ b. steady_bind (steady_assigns call steady_call n unit line (entire c.variable) (Read (entire c.initial))) (λ b. steady_turns (number_of r))))
+        (expressions (kind.Ordinal host.Integer) (Read (entire c.last)) (host.Integer, refl, control.last) line f_at code.0 code.3 one.0 (omega (arith, long, parts.room)) injection memory below (d + 7) (omega (arith, enough)) home) (λ w v1 m1 of_host grown1 routine1.
+        fragment_bind_bare {e = λ b. d + 7 + 8 + 0} (λ b. steady_bind (steady_assigns call steady_call n unit line (entire c.variable) (Read (entire c.initial))) (λ b. steady_turns w))
         (tries v1 m1 (Word w ∷ below) (d + 7 + 8 + 0) (omega (arith, enough)) (unit_in-same G routine1 ∙ home)) (λ b v2 m2 grown2 routine2.
         fragment_bind_bare {e = λ b. d + 7 + 8 + 0} (λ b. steady_turns w)
         (fragment_to {to = p.instructions.before + (f_at + length code.0 + length code.1 + length code.2)} (omega (arith, long)) (starts v2 m2 (Word w ∷ below) (d + 7 + 8 + 0) (omega (arith, enough)) (unit_in-same G routine2 ∙ (unit_in-same G routine1 ∙ home)))) (λ b v3 m3 grown3 routine3.
@@ -304,8 +304,8 @@ module _ {declared : Declarations} {G : Image} {untouched : Slots} {Here : Facts
     steady_choice : Steady choice
     steady_choice = steady_bind (steady_eval call steady_call n unit line (in_order c)) (λ r. steady_if (is_true (number_of r)) steady_counted (steady_give tt))
 
-    steady_end : Steady {A = Unit {0}} (bind (undefines call n unit line c.variable) (λ b. spend 1 (give tt)))
-    steady_end = steady_bind (steady_undefines call steady_call n unit line c.variable) (λ b. steady_spend 1 (steady_give tt))
+    steady_end : Steady {A = Unit {0}} (bind (undefines call n unit line (entire c.variable)) (λ b. spend 1 (give tt)))
+    steady_end = steady_bind (steady_undefines call steady_call n unit line (entire c.variable)) (λ b. steady_spend 1 (steady_give tt))
 
     -- whether there is a turn, and the turns where there is one
     choice_moves : (tests : List Instr) (at_test : ℕ) → IsExprCode texts references line at_test (in_order c) tests → CodeStands G ps p references at_test tests → at_test + length tests ≡ at + length bounds → Moves declared G untouched Here ps p texts references call n unit at_test whole choice
@@ -325,10 +325,10 @@ module _ {declared : Declarations} {G : Image} {untouched : Slots} {Here : Facts
         let one = code_stands-parts G ps p references at code.0 (code.1 ++ code.2) all in
         let two = code_stands-parts G ps p references (at + length code.0) code.1 code.2 one.1 in
         let long : length bounds ≡ length code.0 + length code.1 + length code.2 = omega (arith, ap length code.6, length-append code.0 (code.1 ++ code.2), length-append code.1 code.2) in
-        let initials = assigned_moves lasts ps p texts references call steady_call n unit scene expressions places line at c.initial host.Integer h x code.0 control.initial valid_initial code.3 (omega (arith, long, parts.room)) one.0 in
-        let finals = assigned_moves lasts ps p texts references call steady_call n unit scene expressions places line (at + length code.0) c.last host.Integer h y code.1 control.last valid_last code.4 (omega (arith, long, parts.room)) two.0 in
+        let initials = assigned_moves lasts ps p texts references call steady_call n unit scene expressions places line at (entire c.initial) host.Integer h x code.0 control.initial valid_initial code.3 (omega (arith, long, parts.room)) one.0 in
+        let finals = assigned_moves lasts ps p texts references call steady_call n unit scene expressions places line (at + length code.0) (entire c.last) host.Integer h y code.1 control.last valid_last code.4 (omega (arith, long, parts.room)) two.0 in
         fragment_to (ap (λ w. p.instructions.before + w) (sym parts.total))
-        (fragment_bind_bare {e = λ b. d} (λ b. steady_bind (steady_assigns call steady_call n unit line c.last y) (λ b. steady_bind steady_choice (λ b. steady_end))) (initials injection memory below d enough home) (λ b v1 m1 grown1 routine1.
+        (fragment_bind_bare {e = λ b. d} (λ b. steady_bind (steady_assigns call steady_call n unit line (entire c.last) y) (λ b. steady_bind steady_choice (λ b. steady_end))) (initials injection memory below d enough home) (λ b v1 m1 grown1 routine1.
         fragment_bind_bare {e = λ b. d} (λ b. steady_bind steady_choice (λ b. steady_end)) (finals v1 m1 below d enough (unit_in-same G routine1 ∙ home)) (λ b v2 m2 grown2 routine2.
         fragment_bind_bare {e = λ b. d} (λ b. steady_end) (choice_moves code.2 (at + length code.0 + length code.1) code.5 two.1 (omega (arith, long)) v2 m2 below d enough (unit_in-same G routine2 ∙ (unit_in-same G routine1 ∙ home))) (λ b v3 m3 grown3 routine3.
-        end_moves line whole c.variable h ends control.variable parts.is_end parts.ends_stand v3 m3 below d enough (unit_in-same G routine3 ∙ (unit_in-same G routine2 ∙ (unit_in-same G routine1 ∙ home)))))))
+        end_moves line whole c.variable h ends control.variable parts.is_end parts.ends_stand parts.room v3 m3 below d enough (unit_in-same G routine3 ∙ (unit_in-same G routine2 ∙ (unit_in-same G routine1 ∙ home)))))))

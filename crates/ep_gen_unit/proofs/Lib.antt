@@ -3,6 +3,7 @@ pub mod CaseForms
 pub mod CaseMoves
 pub mod Compounds
 pub mod Declared
+pub mod Elaborating
 pub mod Following
 pub mod ForForms
 pub mod ForMoves
@@ -20,5 +21,7 @@ pub mod Starts
 pub mod StmtMoves
 pub mod StmtForms
 pub mod StmtStays
+pub mod TypeForms
+pub mod TypeNames
 pub mod Units
 pub mod Writing

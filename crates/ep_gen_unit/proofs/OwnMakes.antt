@@ -1,12 +1,13 @@
 -- The machine follows how a routine takes its arguments and makes its variables, in its activation.
-use Rattle.std.proofs.Common.{IsTrue, ◌≡◌, ℕ, ℤ, pos, suc, ◌+◌, ◌-◌, ◌≤◌, List, [], ◌∷◌, ◌++◌, length, length-append, Option, Some, slice_get, refl, sym, ap, ◌∙◌, subst, arith}
-use Rattle.std.specs.Prelude.{int_le}
+use Rattle.std.proofs.Common.{◌≡◌, ℕ, ℤ, pos, suc, ◌+◌, ◌-◌, ◌≤◌, List, [], ◌∷◌, ◌++◌, length, length-append, Option, Some, slice_get, refl, sym, ap, ◌∙◌, subst, arith}
 use Rattle.std.proofs.lemmas.Option.{same_Some}
 use Rattle.ep_gen_expr.specs.Following.{least_credit}
 use Rattle.ep_gen_expr.specs.ExprCode.{instr, bare}
 use Rattle.ep_gen_expr.proofs.Placed.{instr_at}
-use Rattle.ep_gen_unit.specs.StmtCode.{type_code, elaborating_code, make_code, make_all_code, value_code, place_taken, take_code, take_all_code}
-use Rattle.ep_gen_unit.proofs.Parts.{code_stands-parts}
+use Rattle.ep_gen_unit.specs.StmtCode.{make_code, make_all_code, value_code, place_taken, take_code, take_all_code}
+use Rattle.ep_gen_unit.specs.TypeCode.{type_code}
+use Rattle.ep_gen_unit.proofs.Elaborating.{elaborates}
+use Rattle.ep_gen_unit.proofs.Parts.{code_stands-parts, ordinal_of_host}
 use Rattle.ep_object.specs.Activations.{InActivation}
 use Rattle.ep_object.specs.Follows.{point, operand_of, Fragment, Lasts, StillRuns, Inside}
 use Rattle.ep_object.specs.Matching.{Slots, Memory, Injection, IsSpot, Describes, HasOwnType}
@@ -22,33 +23,33 @@ use Rattle.ep_object.specs.Placing.{Placement, CodeStands}
 use Rattle.ep_object.specs.Scene.{HaveValidOwnTypes}
 use Rattle.ep_object.specs.declared.code.Image.{Image}
 use Rattle.ep_object.specs.declared.code.Reference.{Reference}
-use Rattle.ep_object.proofs.following.Fragments.{fragment_bind, fragment_credit, fragment_weaken, fragment_post, fragment_give, fragment_from, fragment_to, fragment_less, fragment_waits}
+use Rattle.ep_object.proofs.following.Fragments.{fragment_bind, fragment_credit, fragment_weaken, fragment_post, fragment_give, fragment_from, fragment_to, fragment_less}
 use Rattle.ep_object.proofs.following.Losing.{fragment_counted}
 use Rattle.ep_object.proofs.matching.Growing.{same_routine-refl, still_routine, still_runs-trans, unit_in-still}
 use Rattle.ep_object.proofs.matching.Awaiting.{arguments_in, AreAwaited, awaited-grown, awaited-taken, without_argument}
-use Rattle.ep_object.proofs.rows.NewTypes.{TypeOnTop, ord_does}
+use Rattle.ep_object.proofs.rows.NewTypes.{TypeOnTop}
+use Rattle.ep_object.proofs.matching.NewSegments.{has_words}
 use Rattle.ep_object.proofs.rows.ArgumentRows.{Taken, taken-later, same_arguments, value_taken, variable_taken}
 use Rattle.ep_object.proofs.rows.OwnRows.{StillBare, MadeOwn, in_frame, make_own_does}
-use Rattle.ep_object.proofs.rows.Rows.{push_pushes}
 use Rattle.ep_typed.specs.Steady.{IsSteadyHandler}
 use Rattle.ep_typed.specs.Calls.{Argument, Value, Handler}
 use Rattle.ep_typed.specs.Calls as argument_is
-use Rattle.ep_typed.specs.Denoters.{type_of}
+use Rattle.ep_typed.specs.Denoters.{type_of, host_of}
 use Rattle.ep_typed.specs.Printing.{Result, number_of}
 use Rattle.ep_typed.specs.declared.interface.Formal.{Formal}
 use Rattle.ep_typed.specs.declared.interface.FormalMode.{FormalMode}
 use Rattle.ep_typed.specs.declared.interface.FormalMode.TheVariants as mode
 use Rattle.ep_typed.proofs.Denoters.{types_are_instances}
-use Rattle.ep_typed.proofs.Steady.{grows_refl, grows_made_own, steady_bind, steady_allocate_own, steady_make_all_own, steady_initialized, steady_takes_all}
-use Rattle.ep_typed.specs.Operations.{is_integer}
-use Rattle.ep_typed.specs.Meaning.{elaborate, elaborated, make_own, make_all_own, initialized, takes_by, takes_all}
-use Rattle.ep_typed.specs.Steps.{Component, Computation, bind, spend, change, with_own_bound, with_type, counted, made_own, allocate_own}
-use Rattle.ep_typed.specs.Valid.{variables_up, Declarations, Kind, IsTypeOf, IsDenoter, formal_variable}
+use Rattle.ep_typed.proofs.Typed.{typed_of_host, typed_value}
+use Rattle.ep_typed.proofs.Steady.{grows_made_own, steady_bind, steady_allocate_own, steady_make_all_own, steady_initialized, steady_takes_all}
+use Rattle.ep_typed.specs.Meaning.{elaborate, make_own, make_all_own, initialized, takes_by, takes_all}
+use Rattle.ep_typed.specs.Steps.{Component, Computation, bind, spend, change, with_own_bound, counted, made_own, allocate_own, size_of}
+use Rattle.ep_typed.specs.Valid.{variables_up, Declarations, Kind, IsTypeOf, IsTypeValue, IsDenoter, formal_variable}
 use Rattle.ep_typed.specs.Valid as kind
 use Rattle.ep_typed.specs.Viewed.{denoter_of}
 use Rattle.ep_typed.specs.Hosts.{Host}
-use Rattle.ep_typed.specs.declared.value.TypeValue.{TypeValue}
-use Rattle.ep_typed.specs.declared.value.TypeValue.TheVariants as type
+use Rattle.ep_typed.specs.TypeValues.{TypeValue}
+use Rattle.ep_typed.specs.TypeValues as type
 use Rattle.ep_typed.specs.declared.unit.UnitVariable.{UnitVariable}
 use Rattle.ep_object.specs.declared.op.TheConstants as op
 
@@ -67,102 +68,41 @@ still_later runs longer after operands h = record { runs = still_runs-trans runs
 module _ (declared : Declarations) (G : Image) (untouched : Slots) (first : Injection) (start : Memory) (lasts : Lasts untouched (InActivation declared untouched first start)) (ps : List Placement) (p : Placement) (references : List Reference) (call : Handler) (steady_call : IsSteadyHandler call) (n : ℕ) (unit : List ℕ) (own_valid : HaveValidOwnTypes declared) where
   module _ (number line at : ℕ) (v : UnitVariable) (is_declared : slice_get (variables_up declared 0) number ≡ Some v) where
     -- `Make`, over the number of the type
-    make_row_moves : (low high : ℤ) (type_number : ℕ) → IsTrue (is_integer low) → IsTrue (is_integer high)
-        → ((w : UnitVariable) → slice_get (variables_up declared 0) number ≡ Some w → HasOwnType declared w (type.Ordinal low high))
+    make_row_moves : (t : TypeValue) (type_number : ℕ) → IsTypeValue t
+        → ((w : UnitVariable) → slice_get (variables_up declared 0) number ≡ Some w → HasOwnType declared w t)
         → (place : ℕ) → slice_get G.instructions place ≡ Some (instr op.MAKE (pos number) 0 line)
         → (injection : Injection) (memory : Memory) (below : List Operand) (d : ℕ) → 1 ≤ d
-        → Describes memory.types type_number (type.Ordinal low high)
-        → Fragment declared G (InActivation declared untouched first start) n (point injection memory place (Word (pos type_number) ∷ below)) (allocate_own number (type.Ordinal low high)) (place + 1) (λ a. MadeOwn untouched number (type.Ordinal low high) injection memory below) d (λ a. d)
-    make_row_moves low high type_number low_fits high_fits declared_so place has injection memory below d enough described =
-        fragment_less {n = suc n} (omega arith) (fragment_counted {weight = 1} 0 (counted (type.Ordinal low high)) (made_own number (type.Ordinal low high)) tt (λ s. refl) (grows_made_own number (type.Ordinal low high)) (λ s matches here. make_own_does declared G place line below low high type_number number v has low_fits high_fits is_declared declared_so injection memory s described matches here) enough (omega arith) (omega arith) (omega arith))
-
-    -- the bounds of the type, and `TOrd` over them
-    type_moves : (g : ℕ) (low high : ℤ) → IsTrue (int_le low high) → CodeStands G ps p references at (type_code line (type.Ordinal low high))
-        → (injection : Injection) (memory : Memory) (below : List Operand) (d : ℕ) → least_credit ≤ d
-        → Fragment declared G (InActivation declared untouched first start) n (point injection memory (p.instructions.before + at) below) (elaborated call g unit (Some (type.Ordinal low high))) (p.instructions.before + (at + 3)) (λ a. Inside untouched injection memory (TypeOnTop (type.Ordinal low high) below a)) d (λ a. d + 3)
-    type_moves g low high ordered stands injection memory below d enough =
-        let second : p.instructions.before + at + 1 ≡ p.instructions.before + (at + 1) = omega arith in
-        let third : p.instructions.before + (at + 1) + 1 ≡ p.instructions.before + (at + 1 + 1) = omega arith in
-        fragment_to {to = p.instructions.before + (at + 1 + 1) + 1} (omega arith)
-        (fragment_waits {d1 = d - 1} (λ s matches. push_pushes G (p.instructions.before + at) line below low stands.0 memory s.trace) (omega (arith, enough))
-        (fragment_from second (fragment_waits {d1 = d - 2} (λ s matches. push_pushes G (p.instructions.before + (at + 1)) line (Word low ∷ below) high stands.1.0 memory s.trace) (omega (arith, enough))
-        (fragment_from third (fragment_less {n = suc n} (omega arith) (fragment_counted {weight = 0} 0 (with_type (type.Ordinal low high)) (λ s. s) (type.Ordinal low high) (λ s. refl) grows_refl (λ s matches here. ord_does declared G (p.instructions.before + (at + 1 + 1)) line below low high ordered stands.1.1.0 lasts injection memory s matches here) (omega (arith, enough)) (omega (arith, enough)) (omega (arith, enough)) (omega (arith, enough))))))))
-
-    -- the code that makes a variable of a type
-    make_typed : (g : ℕ) (t : TypeValue) (host : Host) → IsTypeOf host t
-        → ((w : UnitVariable) → slice_get (variables_up declared 0) number ≡ Some w → HasOwnType declared w t)
-        → CodeStands G ps p references at (type_code line t ++ instr op.MAKE (pos number) 0 line ∷ [])
-        → MovesOwn declared G untouched first start p n at (at + length (type_code line t ++ instr op.MAKE (pos number) 0 line ∷ [])) (bind (elaborated call g unit (Some t)) (λ a. allocate_own number a))
-    make_typed g type.Text host valid declared_so stands injection memory below d enough = absurd valid
-    make_typed g (type.Ordinal low high) host valid declared_so stands injection memory below d enough =
-        let parts = code_stands-parts G ps p references at (type_code line (type.Ordinal low high)) (instr op.MAKE (pos number) 0 line ∷ []) stands in
-        fragment_bind {middle = p.instructions.before + (at + 3)} {P = λ a. Inside untouched injection memory (TypeOnTop (type.Ordinal low high) below a)} {e = λ a. d + 3} (λ a. steady_allocate_own number a)
-        (type_moves g low high valid.0 parts.0 injection memory below d enough)
-        (λ a longer after pushed inside.
-        let top = inside.operands_are in
-        let runs : StillRuns memory.frames after.frames = still_routine inside.routine in (
-          runs,
-          subst (λ t. Fragment declared G (InActivation declared untouched first start) n (point longer after (p.instructions.before + (at + 3)) pushed) (allocate_own number t) (p.instructions.before + (at + 4)) (λ b. StillBare memory below) (d + 3) (λ b. d)) (sym top.type_is)
-              (subst (λ o. Fragment declared G (InActivation declared untouched first start) n (point longer after (p.instructions.before + (at + 3)) o) (allocate_own number (type.Ordinal low high)) (p.instructions.before + (at + 4)) (λ b. StillBare memory below) (d + 3) (λ b. d)) (sym top.is)
-              (fragment_to {to = p.instructions.before + (at + 3) + 1} (omega arith) (fragment_weaken {d = d + 3} {e = λ b. d + 3} (omega arith) (λ b. omega arith) (λ b last final operands made. record { runs = still_runs-trans runs made.runs; operands_are = made.operands_are })
-              (make_row_moves low high top.number valid.3 valid.4 declared_so (p.instructions.before + (at + 3)) parts.1.0 longer after below (d + 3) (omega arith) top.described)))),
-        ))
-
-    -- the code by which a value formal of a type takes its argument
-    value_typed : (g : ℕ) (t : TypeValue) (host : Host) → IsTypeOf host t
-        → ((w : UnitVariable) → slice_get (variables_up declared 0) number ≡ Some w → HasOwnType declared w t)
-        → CodeStands G ps p references at (type_code line t ++ instr op.MAKE (pos number) 0 line ∷ instr op.SLOT (pos number) 0 line ∷ instr op.ARG (pos number) 0 line ∷ bare line op.STORE ∷ [])
-        → (z : ℤ) (injection : Injection) (memory : Memory) (below : List Operand) (d : ℕ) → least_credit ≤ d → unit_in G memory.frames ≡ unit
-        → argument_at (arguments_in memory.frames.calls) number ≡ Some (Word z) → suc number ≤ length (arguments_in memory.frames.calls)
-        → Fragment declared G (InActivation declared untouched first start) n (point injection memory (p.instructions.before + at) below) (bind (elaborated call g unit (Some t)) (λ a. bind (allocate_own number a) (λ _. initialized unit line a z))) (p.instructions.before + (at + length (type_code line t ++ instr op.MAKE (pos number) 0 line ∷ instr op.SLOT (pos number) 0 line ∷ instr op.ARG (pos number) 0 line ∷ bare line op.STORE ∷ []))) (λ a. Taken untouched injection memory (without_argument number (arguments_in memory.frames.calls)) below) d (λ a. d)
-    value_typed g type.Text host valid declared_so stands z injection memory below d enough home there within = absurd valid
-    value_typed g (type.Ordinal low high) host valid declared_so stands z injection memory below d enough home there within =
-        let t : TypeValue = type.Ordinal low high in
-        let inside_args : List (Option Operand) = arguments_in memory.frames.calls in
-        let parts = code_stands-parts G ps p references at (type_code line t) (instr op.MAKE (pos number) 0 line ∷ instr op.SLOT (pos number) 0 line ∷ instr op.ARG (pos number) 0 line ∷ bare line op.STORE ∷ []) stands in
-        fragment_bind {middle = p.instructions.before + (at + 3)} {P = λ a. Inside untouched injection memory (TypeOnTop t below a)} {e = λ a. d + 3} (λ a. steady_bind (steady_allocate_own number a) (λ u. steady_initialized unit line a z))
-        (type_moves g low high valid.0 parts.0 injection memory below d enough)
-        (λ a longer after pushed inside.
-        let top = inside.operands_are in
-        let runs : StillRuns memory.frames after.frames = still_routine inside.routine in
-        let routine = inside.routine in
-        let same : arguments_in after.frames.calls ≡ inside_args = same_arguments memory.frames.calls after.frames.calls routine.calls in (
-          runs,
-          subst (λ t. Fragment declared G (InActivation declared untouched first start) n (point longer after (p.instructions.before + (at + 3)) pushed) (bind (allocate_own number t) (λ _. initialized unit line t z)) (p.instructions.before + (at + 7)) (λ b. Taken untouched injection memory (without_argument number inside_args) below) (d + 3) (λ b. d)) (sym top.type_is)
-              (subst (λ o. Fragment declared G (InActivation declared untouched first start) n (point longer after (p.instructions.before + (at + 3)) o) (bind (allocate_own number t) (λ _. initialized unit line t z)) (p.instructions.before + (at + 7)) (λ b. Taken untouched injection memory (without_argument number inside_args) below) (d + 3) (λ b. d)) (sym top.is)
-              (fragment_post (λ b. taken-later inside.grown runs) (fragment_bind {P = λ u. MadeOwn untouched number t longer after below} {e = λ u. d + 3} (λ u. steady_initialized unit line t z)
-              (make_row_moves low high top.number valid.3 valid.4 declared_so (p.instructions.before + (at + 3)) parts.1.0 longer after below (d + 3) (omega arith) top.described)
-              (λ u last final above made.
-              let f = in_frame final number (Some made.place) made.slot in
-              let args : (f.frame).arguments ≡ inside_args = sym (ap arguments_in f.frames) ∙ (made.left_are ∙ same) in (
-                made.runs,
-                subst (λ o. Fragment declared G (InActivation declared untouched first start) n (point last final (p.instructions.before + (at + 3) + 1) o) (initialized unit line t z) (p.instructions.before + (at + 7)) (λ b. Taken untouched longer after (without_argument number inside_args) below) (d + 3) (λ b. d)) (sym made.operands_are)
-                    (fragment_post (λ b. taken-later made.grown made.runs) (subst (λ l. Fragment declared G (InActivation declared untouched first start) n (point last final (p.instructions.before + (at + 3) + 1) below) (initialized unit line t z) (p.instructions.before + (at + 7)) (λ b. Taken untouched last final (without_argument number l) below) (d + 3) (λ b. d)) args
-                    (fragment_credit {d = d + 3} {e = λ b. d + 3 - 3} (omega arith) (λ b. omega arith) (fragment_from {place = p.instructions.before + (at + 4) + 1 - 1} (omega arith) (fragment_to {to = p.instructions.before + (at + 4) + 1 + 1 + 1} (omega arith)
-                    (value_taken declared G untouched first start lasts (p.instructions.before + (at + 4) + 1) line number unit below last final f.frame f.below f.frames (unit_in-still G made.runs ∙ (unit_in-still G runs ∙ home)) (omega (arith, within, ap length args)) n (d + 3) low high z made.number made.place
-                    (instr_at G {other = p.instructions.before + (at + 3 + 1)} (omega arith) parts.1.1.0) (omega arith) (instr_at G {other = p.instructions.before + (at + 3 + 1 + 1)} (omega arith) parts.1.1.1.0) (instr_at G {other = p.instructions.before + (at + 3 + 1 + 1 + 1)} (omega arith) parts.1.1.1.1.0)
-                    (ap (λ l. argument_at l number) args ∙ there) made.slot made.spot made.stands made.described (omega arith))))))),
-              ))))),
-        ))
+        → Describes memory.types type_number t
+        → Fragment declared G (InActivation declared untouched first start) n (point injection memory place (Word (pos type_number) ∷ below)) (allocate_own number t) (place + 1) (λ a. MadeOwn untouched number t injection memory below) d (λ a. d)
+    make_row_moves t type_number valid declared_so place has injection memory below d enough described =
+        let w = has_words t valid in
+        subst (λ m. Fragment declared G (InActivation declared untouched first start) n (point injection memory place (Word (pos type_number) ∷ below)) (bind (change (counted t)) (λ _. spend m (change (made_own number t)))) (place + 1) (λ a. MadeOwn untouched number t injection memory below) d (λ a. d)) (sym w.1)
+        (fragment_less {n = suc n} (omega arith) (fragment_counted {weight = size_of t} w.0 (counted t) (made_own number t) tt (λ s. refl) (grows_made_own number t) (λ s matches here. make_own_does declared G place line below t type_number number v has valid is_declared declared_so injection memory s described matches here) enough (omega (arith, w.1)) (omega (arith, w.1)) (omega (arith, w.1))))
 
   -- a variable is made in its slot
   one_moves : (g number at : ℕ) (v : UnitVariable) → slice_get (variables_up declared 0) number ≡ Some v
       → CodeStands G ps p references at (make_code declared.routine_types number v)
       → MovesOwn declared G untouched first start p n at (at + length (make_code declared.routine_types number v)) (make_own call g unit declared.routine_types number v)
-  one_moves g number at v is_declared stands =
-      subst (λ o. CodeStands G ps p references at (elaborating_code v.line o ++ instr op.MAKE (pos number) 0 v.line ∷ []) → MovesOwn declared G untouched first start p n at (at + length (elaborating_code v.line o ++ instr op.MAKE (pos number) 0 v.line ∷ [])) (bind (elaborated call g unit o) (λ a. allocate_own number a))) (sym valid.has_type) typed stands
-    where
-      valid : IsDenoter declared.routine_types (denoter_of v.denoter)
-      valid = own_valid 0 number v is_declared
-
-      has_type : (w : UnitVariable) → slice_get (variables_up declared 0) number ≡ Some w
-          → HasOwnType declared w valid.type_value
-      has_type w e = subst (λ (u : UnitVariable). HasOwnType declared u valid.type_value) (same_Some v w (sym is_declared ∙ e)) (types_are_instances declared.routine_types (denoter_of v.denoter) valid.type_value valid.has_type)
-
-      typed : CodeStands G ps p references at (type_code v.line valid.type_value ++ instr op.MAKE (pos number) 0 v.line ∷ [])
-          → MovesOwn declared G untouched first start p n at (at + length (type_code v.line valid.type_value ++ instr op.MAKE (pos number) 0 v.line ∷ [])) (bind (elaborated call g unit (Some valid.type_value)) (λ a. allocate_own number a))
-      typed s =
-          make_typed number v.line at v is_declared g valid.type_value valid.host valid.is_type has_type s
+  one_moves g number at v is_declared stands injection memory below d enough =
+      let types = declared.routine_types in
+      let valid : IsDenoter types (denoter_of v.denoter) = own_valid 0 number v is_declared in
+      let t : TypeValue = valid.type_value in
+      let code : List Instr = type_code types v.line (denoter_of v.denoter) in
+      let is_type : IsTypeValue t = typed_value types (denoter_of v.denoter) t valid.typed in
+      let parts = code_stands-parts G ps p references at code (instr op.MAKE (pos number) 0 v.line ∷ []) stands in
+      let ends : p.instructions.before + (at + length code) + 1 ≡ p.instructions.before + (at + length (code ++ instr op.MAKE (pos number) 0 v.line ∷ [])) = omega (arith, length-append code (instr op.MAKE (pos number) 0 v.line ∷ [])) in
+      let has_type : ((w : UnitVariable) → slice_get (variables_up declared 0) number ≡ Some w → HasOwnType declared w t) = λ w e. subst (λ (u : UnitVariable). HasOwnType declared u t) (same_Some v w (sym is_declared ∙ e)) (types_are_instances types (denoter_of v.denoter) t valid.has_type) in
+      fragment_bind {P = λ a. Inside untouched injection memory (TypeOnTop t below a)} {e = λ a. d + 3} (λ a. steady_allocate_own number a)
+      (elaborates declared G untouched (InActivation declared untouched first start) lasts ps p references call steady_call n g unit v.line types at (denoter_of v.denoter) t valid.has_type is_type parts.0 injection memory below d enough)
+      (λ a longer after pushed inside.
+      let top = inside.operands_are in
+      let runs : StillRuns memory.frames after.frames = still_routine inside.routine in (
+        runs,
+        subst (λ u. Fragment declared G (InActivation declared untouched first start) n (point longer after (p.instructions.before + (at + length code)) pushed) (allocate_own number u) (p.instructions.before + (at + length (code ++ instr op.MAKE (pos number) 0 v.line ∷ []))) (λ b. StillBare memory below) (d + 3) (λ b. d)) (sym top.type_is)
+            (subst (λ o. Fragment declared G (InActivation declared untouched first start) n (point longer after (p.instructions.before + (at + length code)) o) (allocate_own number t) (p.instructions.before + (at + length (code ++ instr op.MAKE (pos number) 0 v.line ∷ []))) (λ b. StillBare memory below) (d + 3) (λ b. d)) (sym top.is)
+            (fragment_to ends (fragment_weaken {d = d + 3} {e = λ b. d + 3} (omega arith) (λ b. omega arith) (λ b last final operands made. record { runs = still_runs-trans runs made.runs; operands_are = made.operands_are })
+            (make_row_moves number v.line at v is_declared t top.number is_type has_type (p.instructions.before + (at + length code)) parts.1.0 longer after below (d + 3) (omega arith) top.described)))),
+      ))
 
   -- and so are the variables from this number on
   pub make_all_own_moves : (g number at : ℕ) (vs : List UnitVariable) → ((i : ℕ) (v : UnitVariable) → slice_get vs i ≡ Some v → slice_get (variables_up declared 0) (number + i) ≡ Some v)
@@ -191,17 +131,52 @@ module _ (declared : Declarations) (G : Image) (untouched : Slots) (first : Inje
     has_its_type : (w : UnitVariable) → slice_get (variables_up declared 0) number ≡ Some w → HasOwnType declared w its.type_value
     has_its_type w e = subst (λ (u : UnitVariable). HasOwnType declared u its.type_value) (same_Some (formal_variable line f) w (sym is_declared ∙ e)) (types_are_instances declared.routine_types (denoter_of f.denoter) its.type_value its.has_type)
 
-    -- a value formal takes a number
-    value_moves : CodeStands G ps p references at (value_code declared.routine_types line number f)
+    -- a value formal of an ordinal type takes a number
+    value_moves : (h : Host) → host_of declared.routine_types (denoter_of f.denoter) ≡ Some h
+        → CodeStands G ps p references at (value_code declared.routine_types line number f)
         → (z : ℤ) (injection : Injection) (memory : Memory) (below : List Operand) (d : ℕ) → least_credit ≤ d → unit_in G memory.frames ≡ unit
         → argument_at (arguments_in memory.frames.calls) number ≡ Some (Word z) → suc number ≤ length (arguments_in memory.frames.calls)
         → Fragment declared G (InActivation declared untouched first start) n (point injection memory (p.instructions.before + at) below) (bind (elaborate call g unit declared.routine_types (denoter_of f.denoter)) (λ a. bind (allocate_own number a) (λ _. initialized unit line a z))) (p.instructions.before + (at + length (value_code declared.routine_types line number f))) (λ a. Taken untouched injection memory (without_argument number (arguments_in memory.frames.calls)) below) d (λ a. d)
-    value_moves =
-        subst (λ o. CodeStands G ps p references at (elaborating_code line o ++ instr op.MAKE (pos number) 0 line ∷ instr op.SLOT (pos number) 0 line ∷ instr op.ARG (pos number) 0 line ∷ bare line op.STORE ∷ [])
-        → (z : ℤ) (injection : Injection) (memory : Memory) (below : List Operand) (d : ℕ) → least_credit ≤ d → unit_in G memory.frames ≡ unit
-        → argument_at (arguments_in memory.frames.calls) number ≡ Some (Word z) → suc number ≤ length (arguments_in memory.frames.calls)
-        → Fragment declared G (InActivation declared untouched first start) n (point injection memory (p.instructions.before + at) below) (bind (elaborated call g unit o) (λ a. bind (allocate_own number a) (λ _. initialized unit line a z))) (p.instructions.before + (at + length (elaborating_code line o ++ instr op.MAKE (pos number) 0 line ∷ instr op.SLOT (pos number) 0 line ∷ instr op.ARG (pos number) 0 line ∷ bare line op.STORE ∷ []))) (λ a. Taken untouched injection memory (without_argument number (arguments_in memory.frames.calls)) below) d (λ a. d)) (sym its.has_type)
-        (value_typed number line at (formal_variable line f) is_declared g its.type_value its.host its.is_type has_its_type)
+    value_moves h is_host stands z injection memory below d enough home there within =
+        let types = declared.routine_types in
+        let of_host : IsTypeOf h its.type_value = typed_of_host types (denoter_of f.denoter) its.type_value h its.typed is_host in
+        let ordinal = ordinal_of_host h its.type_value of_host in
+        let low : ℤ = ordinal.0 in
+        let high : ℤ = ordinal.1 in
+        let t : TypeValue = type.Ordinal low high in
+        let valid : IsTypeValue t = subst IsTypeValue ordinal.2 (typed_value types (denoter_of f.denoter) its.type_value its.typed) in
+        let declared_so : ((w : UnitVariable) → slice_get (variables_up declared 0) number ≡ Some w → HasOwnType declared w t) = λ w e. subst (λ u. HasOwnType declared w u) ordinal.2 (has_its_type w e) in
+        let code : List Instr = type_code types line (denoter_of f.denoter) in
+        let k : ℕ = at + length code in
+        let rest : List Instr = instr op.MAKE (pos number) 0 line ∷ instr op.SLOT (pos number) 0 line ∷ instr op.ARG (pos number) 0 line ∷ bare line op.STORE ∷ [] in
+        let ends : p.instructions.before + (k + 4) ≡ p.instructions.before + (at + length (code ++ rest)) = omega (arith, length-append code rest) in
+        let inside_args : List (Option Operand) = arguments_in memory.frames.calls in
+        let parts = code_stands-parts G ps p references at code rest stands in
+        fragment_to ends
+        (fragment_bind {middle = p.instructions.before + k} {P = λ a. Inside untouched injection memory (TypeOnTop t below a)} {e = λ a. d + 3} (λ a. steady_bind (steady_allocate_own number a) (λ u. steady_initialized unit line a z))
+        (elaborates declared G untouched (InActivation declared untouched first start) lasts ps p references call steady_call n g unit line types at (denoter_of f.denoter) t (its.has_type ∙ ap Some ordinal.2) valid parts.0 injection memory below d enough)
+        (λ a longer after pushed inside.
+        let top = inside.operands_are in
+        let runs : StillRuns memory.frames after.frames = still_routine inside.routine in
+        let routine = inside.routine in
+        let same : arguments_in after.frames.calls ≡ inside_args = same_arguments memory.frames.calls after.frames.calls routine.calls in (
+          runs,
+          subst (λ t. Fragment declared G (InActivation declared untouched first start) n (point longer after (p.instructions.before + k) pushed) (bind (allocate_own number t) (λ _. initialized unit line t z)) (p.instructions.before + (k + 4)) (λ b. Taken untouched injection memory (without_argument number inside_args) below) (d + 3) (λ b. d)) (sym top.type_is)
+              (subst (λ o. Fragment declared G (InActivation declared untouched first start) n (point longer after (p.instructions.before + k) o) (bind (allocate_own number t) (λ _. initialized unit line t z)) (p.instructions.before + (k + 4)) (λ b. Taken untouched injection memory (without_argument number inside_args) below) (d + 3) (λ b. d)) (sym top.is)
+              (fragment_post (λ b. taken-later inside.grown runs) (fragment_bind {P = λ u. MadeOwn untouched number t longer after below} {e = λ u. d + 3} (λ u. steady_initialized unit line t z)
+              (make_row_moves number line at (formal_variable line f) is_declared t top.number valid declared_so (p.instructions.before + k) parts.1.0 longer after below (d + 3) (omega arith) top.described)
+              (λ u last final above made.
+              let x = in_frame final number (Some made.place) made.slot in
+              let args : (x.frame).arguments ≡ inside_args = sym (ap arguments_in x.frames) ∙ (made.left_are ∙ same) in (
+                made.runs,
+                subst (λ o. Fragment declared G (InActivation declared untouched first start) n (point last final (p.instructions.before + k + 1) o) (initialized unit line t z) (p.instructions.before + (k + 4)) (λ b. Taken untouched longer after (without_argument number inside_args) below) (d + 3) (λ b. d)) (sym made.operands_are)
+                    (fragment_post (λ b. taken-later made.grown made.runs) (subst (λ l. Fragment declared G (InActivation declared untouched first start) n (point last final (p.instructions.before + k + 1) below) (initialized unit line t z) (p.instructions.before + (k + 4)) (λ b. Taken untouched last final (without_argument number l) below) (d + 3) (λ b. d)) args
+                    (fragment_credit {d = d + 3} {e = λ b. d + 3 - 3} (omega arith) (λ b. omega arith) (fragment_from {place = p.instructions.before + (k + 1) + 1 - 1} (omega arith) (fragment_to {to = p.instructions.before + (k + 1) + 1 + 1 + 1} (omega arith)
+                    (value_taken declared G untouched first start lasts (p.instructions.before + (k + 1) + 1) line number unit below last final x.frame x.below x.frames (unit_in-still G made.runs ∙ (unit_in-still G runs ∙ home)) (omega (arith, within, ap length args)) n (d + 3) low high z made.number made.place
+                    (instr_at G {other = p.instructions.before + (k + 1)} (omega arith) parts.1.1.0) (omega arith) (instr_at G {other = p.instructions.before + (k + 1 + 1)} (omega arith) parts.1.1.1.0) (instr_at G {other = p.instructions.before + (k + 1 + 1 + 1)} (omega arith) parts.1.1.1.1.0)
+                    (ap (λ l. argument_at l number) args ∙ there) made.slot made.spot made.stands made.described (omega arith))))))),
+              ))))),
+        )))
 
     -- a variable formal takes a variable
     reference_moves : CodeStands G ps p references at (place_taken line number)
@@ -225,14 +200,14 @@ module _ (declared : Declarations) (G : Image) (untouched : Slots) (first : Inje
             (variable_taken declared G untouched first start lasts (p.instructions.before + at) line number unit below injection memory c calls e home within n m d q t (formal_variable line f) stands.0 (instr_at G {other = p.instructions.before + (at + 1)} (omega arith) stands.1.0) there spot described is_declared typed (omega (arith, enough)))))
 
     -- a value formal takes a result that is a number
-    number_moves : (k : Kind) (h : Host) (r : Result) → k ≡ kind.Ordinal h → CodeStands G ps p references at (value_code declared.routine_types line number f)
+    number_moves : (k : Kind) (h : Host) (r : Result) → k ≡ kind.Ordinal h → host_of declared.routine_types (denoter_of f.denoter) ≡ Some h → CodeStands G ps p references at (value_code declared.routine_types line number f)
         → (o : Operand) (injection : Injection) (memory : Memory) (below : List Operand) (d : ℕ) → least_credit ≤ d → unit_in G memory.frames ≡ unit
         → argument_at (arguments_in memory.frames.calls) number ≡ Some o → suc number ≤ length (arguments_in memory.frames.calls) → IsOfKind k r × (o ≡ operand_of r)
         → Fragment declared G (InActivation declared untouched first start) n (point injection memory (p.instructions.before + at) below) (bind (elaborate call g unit declared.routine_types (denoter_of f.denoter)) (λ a. bind (allocate_own number a) (λ _. initialized unit line a (number_of r)))) (p.instructions.before + (at + length (value_code declared.routine_types line number f))) (λ a. Taken untouched injection memory (without_argument number (arguments_in memory.frames.calls)) below) d (λ a. d)
-    number_moves k h r is_kind stands o injection memory below d enough home there within (of_kind, o_is) =
+    number_moves k h r is_kind is_host stands o injection memory below d enough home there within (of_kind, o_is) =
         let z = subst (λ k. IsOfKind k r) is_kind of_kind in
         subst (λ y. Fragment declared G (InActivation declared untouched first start) n (point injection memory (p.instructions.before + at) below) (bind (elaborate call g unit declared.routine_types (denoter_of f.denoter)) (λ a. bind (allocate_own number a) (λ _. initialized unit line a (number_of y)))) (p.instructions.before + (at + length (value_code declared.routine_types line number f))) (λ a. Taken untouched injection memory (without_argument number (arguments_in memory.frames.calls)) below) d (λ a. d)) (sym z.1)
-        (value_moves stands z.0 injection memory below d enough home (there ∙ ap Some (o_is ∙ ap operand_of z.1)) within)
+        (value_moves h is_host stands z.0 injection memory below d enough home (there ∙ ap Some (o_is ∙ ap operand_of z.1)) within)
 
     -- a formal parameter takes its argument
     take_moves : (w : FormalMode) (q : Passing) (x : Argument) → IsPassed declared.routine_types w f q
@@ -241,11 +216,11 @@ module _ (declared : Declarations) (G : Image) (untouched : Slots) (first : Inje
         → argument_at (arguments_in memory.frames.calls) number ≡ Some o → suc number ≤ length (arguments_in memory.frames.calls) → IsArgument injection memory q x o
         → Fragment declared G (InActivation declared untouched first start) n (point injection memory (p.instructions.before + at) below) (takes_by call g unit declared.routine_types w line number f x) (p.instructions.before + (at + length (take_code declared.routine_types line number w f))) (λ a. Taken untouched injection memory (without_argument number (arguments_in memory.frames.calls)) below) d (λ a. d)
     take_moves mode.Value (ByValue k) (Value r) (h, is_host, is_kind) stands o injection memory below d enough home there within is =
-        number_moves k h r is_kind stands o injection memory below d enough home there within is
+        number_moves k h r is_kind is_host stands o injection memory below d enough home there within is
     take_moves mode.Value (ByValue k) (argument_is.Variable m) passed stands o injection memory below d enough home there within is = absurd is
     take_moves mode.Value (ByReference t) x passed stands o injection memory below d enough home there within is = absurd passed
     take_moves mode.ProtectedValue (ByValue k) (Value r) (h, is_host, is_kind) stands o injection memory below d enough home there within is =
-        number_moves k h r is_kind stands o injection memory below d enough home there within is
+        number_moves k h r is_kind is_host stands o injection memory below d enough home there within is
     take_moves mode.ProtectedValue (ByValue k) (argument_is.Variable m) passed stands o injection memory below d enough home there within is = absurd is
     take_moves mode.ProtectedValue (ByReference t) x passed stands o injection memory below d enough home there within is = absurd passed
     take_moves mode.Variable (ByValue k) x passed stands o injection memory below d enough home there within is = absurd passed

@@ -1,6 +1,6 @@
 -- What the proofs about statements share: where parts of code stand, and what is known of expressions.
 use Rattle.std.proofs.Common.{◌≡◌, ℕ, ℤ, pos, ◌+◌, ◌<◌, ◌≤◌, List, [], ◌∷◌, ◌++◌, Some, length, slice_get, refl}
-use Rattle.ep_gen_expr.specs.Following.{least_credit, HasPlaceType}
+use Rattle.ep_gen_expr.specs.Following.{least_credit, HasPlaceType, IsValidPlace}
 use Rattle.ep_gen_expr.specs.ExprCode.{IsPlaceCode, IsExprCode, AreActualsCode, instr, reference}
 use Rattle.ep_gen_expr.proofs.Placed.{code_front, code_back}
 use Rattle.ep_object.specs.Follows.{point, Facts, Fragment, Inside, Bare, OnTop, PlaceOnTop, SameRoutine}
@@ -22,8 +22,8 @@ use Rattle.ep_typed.specs.Trees.{Callee, Place, Expr, Actuals}
 use Rattle.ep_typed.specs.Valid.{IsDeclaredUp, Declarations, Kind, IsExpr, IsTypeOf, AreGiven}
 use Rattle.ep_typed.specs.Hosts.{Host}
 use Rattle.ep_typed.specs.declared.interface.RoutineEntry.{RoutineEntry}
-use Rattle.ep_typed.specs.declared.value.TypeValue.{TypeValue}
-use Rattle.ep_typed.specs.declared.value.TypeValue.TheVariants as type
+use Rattle.ep_typed.specs.TypeValues.{TypeValue}
+use Rattle.ep_typed.specs.TypeValues as type
 
 -- two parts of code stand one after the other
 pub code_stands-parts : (G : Image) (ps : List Placement) (p : Placement) (references : List Reference) (at : ℕ) (xs ys : List Instr) → CodeStands G ps p references at (xs ++ ys) → CodeStands G ps p references at xs × CodeStands G ps p references (at + length xs) ys
@@ -33,6 +33,7 @@ code_stands-parts G ps p references at xs ys h = (code_front G ps p references a
 pub ordinal_of_host : (h : Host) (t : TypeValue) → IsTypeOf h t → (low high : ℤ) × (t ≡ type.Ordinal low high)
 ordinal_of_host h (type.Ordinal low high) k = (low, high, refl)
 ordinal_of_host h type.Text k = absurd k
+ordinal_of_host h (type.Array low high of) k = absurd k
 
 -- the credit that is there before each statement
 abbrev pub statement_credit : ℕ
@@ -61,7 +62,7 @@ module _ (declared : Declarations) (G : Image) (untouched : Slots) (Here : Facts
   -- the machine follows places
   abbrev pub PlacesFollow : Type 0
   PlacesFollow =
-      (q : Place) (t : TypeValue) → HasPlaceType declared q t → (line at : ℕ) (code : List Instr) → IsPlaceCode references line q code → CodeStands G ps p references at code
+      (q : Place) → IsValidPlace declared q → (t : TypeValue) → HasPlaceType declared q t → (line at : ℕ) (code : List Instr) → IsPlaceCode texts references line at q code → CodeStands G ps p references at code → at + length code < p.instructions.own
       → (injection : Injection) (memory : Memory) (below : List Operand) (d : ℕ) → least_credit ≤ d → unit_in G memory.frames ≡ unit
       → Fragment declared G Here n (point injection memory (p.instructions.before + at) below) (place call n unit line q) (p.instructions.before + (at + length code)) (λ a. Inside untouched injection memory (PlaceOnTop t below a)) d (λ a. d + 8)
 

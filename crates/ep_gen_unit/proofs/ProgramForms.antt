@@ -10,7 +10,6 @@ use Rattle.ep_typed.specs.Auxiliaries.{auxiliary_variables, first_for}
 use Rattle.ep_typed.specs.Trees.{Stmt}
 use Rattle.ep_typed.specs.Routines.{result_variable, unit_variables}
 use Rattle.ep_typed.specs.Viewed.{denoter_of, stmt_of}
-use Rattle.ep_typed.specs.declared.value.TypeValue.TheVariants.{Ordinal}
 use Rattle.ep_typed.specs.declared.unit.Unit.{Unit as TypedUnit}
 use Rattle.ep_typed.specs.declared.unit.UnitRoutine.{UnitRoutine}
 use Rattle.ep_typed.specs.declared.interface.Formal.{Formal}
@@ -19,22 +18,22 @@ use Rattle.ep_typed.specs.declared.run_error.TheConstants as run_error
 use Rattle.ep_typed.specs.declared.unit.UnitVariable.{UnitVariable}
 use Rattle.ep_gen_expr.specs.ExprCode.{instr, bare, push}
 use Rattle.ep_gen_expr.specs.Growth.{Grows, IsTable, AreDistinct, empty_code}
-use Rattle.ep_typed.specs.Denoters.{type_of}
 use Rattle.ep_typed.specs.declared.unit.UnitType.{UnitType}
 use Rattle.ep_gen_expr.specs.declared.code.Code.{Code}
 use Rattle.ep_gen_expr.specs.declared.code.TheConstants as code
 use Rattle.ep_gen_expr.proofs.Forms.{grows_at}
-use Rattle.ep_gen_unit.specs.StmtCode.{IsStmtCode, type_code, elaborating_code, make_code, make_all_code, value_code, place_taken, take_code, take_all_code, return_code, result_code, end_code}
+use Rattle.ep_gen_unit.specs.TypeCode.{ordinal_code, type_code}
+use Rattle.ep_gen_unit.specs.StmtCode.{IsStmtCode, make_code, make_all_code, value_code, place_taken, take_code, take_all_code, return_code, result_code, end_code}
 use Rattle.ep_gen_expr.specs.Jumps.{IsNextPlace}
 use Rattle.ep_gen_unit.specs.StmtGrowth.{Follows, AppendsStmt, AppendsStart, AppendsRoutine, AppendsRoutines, IsCompact, MakesBlock, MakesOwn, MakesResult, assembled}
 use Rattle.ep_gen_unit.specs.UnitCode.{IsProgramCode, IsRoutineCode, AreRoutinesCode, StandsIn, own_code, its_end, entry_of, plain_at, routine_at}
 use Rattle.ep_gen_unit.proofs.Following.{later_follows, stmt_later, follows_none, follows_grows, follows_line, follows_then, grown_length}
 use Rattle.ep_object.specs.declared.op.TheConstants as op
 
-pub grows_ordinal : {a b c d : Code} (low high : ℤ) → Grows a b (push a.line low ∷ []) → Grows b c (push b.line high ∷ []) → Grows c d (bare c.line op.T_ORD ∷ []) → Grows a d (type_code a.line (Ordinal low high))
+pub grows_ordinal : {a b c d : Code} (low high : ℤ) → Grows a b (push a.line low ∷ []) → Grows b c (push b.line high ∷ []) → Grows c d (bare c.line op.T_ORD ∷ []) → Grows a d (ordinal_code a.line low high)
 grows_ordinal low high p q r = grows_at (λ l. bare l op.T_ORD ∷ []) (grows_at (λ l. push l high ∷ []) p q) r
 
-pub makes_variable : {b c : Code} (a : Code) (types : List UnitType) (v : UnitVariable) (slot : ℕ) → Grows (record a { line = v.line }) b (elaborating_code v.line (type_of types (denoter_of v.denoter))) → Grows b c (instr op.MAKE (pos slot) 0 b.line ∷ []) → Follows a c (make_code types slot v)
+pub makes_variable : {b c : Code} (a : Code) (types : List UnitType) (v : UnitVariable) (slot : ℕ) → Grows (record a { line = v.line }) b (type_code types v.line (denoter_of v.denoter)) → Grows b c (instr op.MAKE (pos slot) 0 b.line ∷ []) → Follows a c (make_code types slot v)
 makes_variable a types v slot p q = follows_line a v.line (follows_grows (grows_at (λ l. instr op.MAKE (pos slot) 0 l ∷ []) p q))
 
 make_push : (types : List UnitType) (number : ℕ) (vs : List UnitVariable) (v : UnitVariable) → make_all_code types number (vs ++ v ∷ []) ≡ make_all_code types number vs ++ make_code types (number + length vs) v
@@ -58,7 +57,7 @@ makes_more {a = a} {c = c} types first vs k slot v h e at p q =
 -- ---- formal parameters
 
 -- a value is stored in a variable that is made
-pub grows_value : {a b c d e f : Code} (types : List UnitType) (number : ℕ) (w : Formal) → Grows a b (elaborating_code a.line (type_of types (denoter_of w.denoter))) → Grows b c (instr op.MAKE (pos number) 0 b.line ∷ []) → Grows c d (instr op.SLOT (pos number) 0 c.line ∷ []) → Grows d e (instr op.ARG (pos number) 0 d.line ∷ []) → Grows e f (bare e.line op.STORE ∷ []) → Grows a f (value_code types a.line number w)
+pub grows_value : {a b c d e f : Code} (types : List UnitType) (number : ℕ) (w : Formal) → Grows a b (type_code types a.line (denoter_of w.denoter)) → Grows b c (instr op.MAKE (pos number) 0 b.line ∷ []) → Grows c d (instr op.SLOT (pos number) 0 c.line ∷ []) → Grows d e (instr op.ARG (pos number) 0 d.line ∷ []) → Grows e f (bare e.line op.STORE ∷ []) → Grows a f (value_code types a.line number w)
 grows_value {a = a} {f = f} types number w elaborates make slot arg store =
     let rest = grows_at (λ l. bare l op.STORE ∷ []) (grows_at (λ l. instr op.ARG (pos number) 0 l ∷ []) (grows_at (λ l. instr op.SLOT (pos number) 0 l ∷ []) make slot) arg) store in
     grows_at (λ l. instr op.MAKE (pos number) 0 l ∷ instr op.SLOT (pos number) 0 l ∷ instr op.ARG (pos number) 0 l ∷ bare l op.STORE ∷ []) elaborates rest
@@ -134,14 +133,14 @@ makes_none a types r fs o slot formals_are result_is none many =
 
 -- the variable of a function's result
 pub makes_one : {b c : Code} (a : Code) (types : List UnitType) (r : UnitRoutine) (fs : List Formal) (o : Option RoutineResult) (x : RoutineResult) (slot first : ℕ) → fs ≡ r.formals → o ≡ r.result → o ≡ Some x → slot ≡ length fs
-    → Grows (record a { line = r.line }) b (elaborating_code r.line (type_of types (denoter_of x.denoter))) → Grows b c (instr op.MAKE (pos slot) 0 b.line ∷ []) → first ≡ slot + 1
+    → Grows (record a { line = r.line }) b (type_code types r.line (denoter_of x.denoter)) → Grows b c (instr op.MAKE (pos slot) 0 b.line ∷ []) → first ≡ slot + 1
     → MakesResult a c types r first
 makes_one {c = c} a types r fs o x slot first formals_are result_is some many elaborates make behind =
     let is : result_variable r.name r.line r.result ≡ result_variable r.name r.line (Some x) = ap (result_variable r.name r.line) (sym result_is ∙ some) in
-    let made : Follows a c (elaborating_code r.line (type_of types (denoter_of x.denoter)) ++ instr op.MAKE (pos slot) 0 r.line ∷ []) = follows_line a r.line (follows_grows (grows_at (λ l. instr op.MAKE (pos slot) 0 l ∷ []) elaborates make)) in
+    let made : Follows a c (type_code types r.line (denoter_of x.denoter) ++ instr op.MAKE (pos slot) 0 r.line ∷ []) = follows_line a r.line (follows_grows (grows_at (λ l. instr op.MAKE (pos slot) 0 l ∷ []) elaborates make)) in
     record {
       follows = subst (λ l. Follows a c (make_all_code types (length r.formals) l)) (sym is)
-          (subst (λ l. Follows a c l) (sym (append-nil _)) (subst (λ n. Follows a c (elaborating_code r.line (type_of types (denoter_of x.denoter)) ++ instr op.MAKE (pos n) 0 r.line ∷ [])) (many ∙ ap length formals_are) made));
+          (subst (λ l. Follows a c l) (sym (append-nil _)) (subst (λ n. Follows a c (type_code types r.line (denoter_of x.denoter) ++ instr op.MAKE (pos n) 0 r.line ∷ [])) (many ∙ ap length formals_are) made));
       count = omega (arith, many, behind, ap length formals_are, ap length is);
     }
 

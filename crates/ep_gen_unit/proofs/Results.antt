@@ -37,8 +37,8 @@ use Rattle.ep_typed.specs.Valid as kind
 use Rattle.ep_typed.specs.Valid.{variables_up, Declarations, IsTypeOf}
 use Rattle.ep_typed.specs.declared.run_error.TheConstants as run_error
 use Rattle.ep_typed.specs.declared.unit.UnitVariable.{UnitVariable}
-use Rattle.ep_typed.specs.declared.value.TypeValue.{TypeValue}
-use Rattle.ep_typed.specs.declared.value.TypeValue.TheVariants as type
+use Rattle.ep_typed.specs.TypeValues.{TypeValue}
+use Rattle.ep_typed.specs.TypeValues as type
 
 -- what is read of a state, by what it is there
 follows_found : {A B : Type 0} {Within : State → Type 0} {G : Image} {n : ℕ} {k : State} {s : meaning.State} {Post : B → meaning.State → State → Type 0} {d : ℕ} {e : B → ℕ} (x : meaning.End) (h : meaning.State → Option A) (f : A → Computation B) (o : Option A)
@@ -132,5 +132,6 @@ pub result_moves : {declared : Declarations} {G : Image} {Here : Facts} (untouch
     → (injection : Injection) (memory : Memory) (below : List Operand) (d : ℕ) → 16 ≤ d → unit_in G memory.frames ≡ unit
     → Fragment declared G Here n (point injection memory (p.instructions.before + at) below) (result_at unit line number) (p.instructions.before + at + 5) (λ rs. ResultsOnTop (kind.Ordinal h ∷ []) below rs) d (λ rs. 1)
 result_moves untouched knows ps p references n unit room number line at h type.Text of_host stands inside v is_declared has_type injection memory below d enough home = absurd of_host
+result_moves untouched knows ps p references n unit room number line at h (type.Array low high of) of_host stands inside v is_declared has_type injection memory below d enough home = absurd of_host
 result_moves untouched knows ps p references n unit room number line at h (type.Ordinal low high) of_host stands inside v is_declared has_type injection memory below d enough home =
     ordinal_moves untouched knows ps p references n unit room number line at h low high of_host stands inside v is_declared has_type injection memory below d enough home

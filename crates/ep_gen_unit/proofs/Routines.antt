@@ -6,6 +6,7 @@ use Rattle.ep_gen_expr.specs.ExprCode.{bare}
 use Rattle.ep_gen_expr.proofs.Following.{place_follows, expression_follows, call_then}
 use Rattle.ep_gen_expr.proofs.Placed.{instr_at}
 use Rattle.ep_typed.proofs.Denoters.{types_are_instances}
+use Rattle.ep_typed.proofs.Typed.{typed_of_host}
 use Rattle.ep_gen_unit.specs.StmtCode.{IsStmtCode, make_all_code, take_all_code, return_code, end_code}
 use Rattle.ep_gen_unit.specs.UnitCode.{IsProgramCode, own_code, its_end, entry_of, plain_at}
 use Rattle.ep_gen_unit.proofs.Declared.{name_same, same_name, own_types, slice_get-either, variables_valid}
@@ -48,14 +49,15 @@ use Rattle.ep_typed.specs.Printing.{Result}
 use Rattle.ep_typed.specs.Routines.{made_variables, result_name, result_variable}
 use Rattle.ep_typed.specs.Steps.{Computation, bind}
 use Rattle.ep_typed.specs.Steps as meaning
-use Rattle.ep_typed.specs.Trees.{Callee}
+use Rattle.ep_typed.specs.Trees.{Callee, Denoter}
 use Rattle.ep_typed.specs.Valid as kind
-use Rattle.ep_typed.specs.Valid.{Declarations, Kind, in_block, levels_of, around_in, variables_in, variables_at, variables_up, IsResult, IsDenoter, IsFormal, IsValid, IsRoutine, IsVariable, formal_variable, variables_of, heading_of, own}
+use Rattle.ep_typed.specs.Valid.{Declarations, Kind, in_block, levels_of, around_in, variables_in, variables_at, variables_up, IsResult, IsDenoter, IsFormal, IsFormalBy, IsValid, IsRoutine, IsVariable, formal_variable, variables_of, heading_of, own}
 use Rattle.ep_typed.specs.Steady.{Steady, IsSteadyHandler}
 use Rattle.ep_typed.specs.Viewed.{denoter_of, stmt_of}
 use Rattle.ep_typed.specs.declared.interface.Formal.{Formal}
 use Rattle.ep_typed.specs.declared.interface.FormalMode.{FormalMode}
 use Rattle.ep_typed.specs.declared.interface.FormalMode.TheVariants as mode
+use Rattle.ep_typed.specs.declared.unit.UnitType.{UnitType}
 use Rattle.ep_typed.specs.declared.interface.RoutineEntry.{RoutineEntry}
 use Rattle.ep_typed.specs.declared.interface.RoutineResult.{RoutineResult}
 use Rattle.ep_typed.specs.declared.unit.Unit.{Unit as TypedUnit}
@@ -95,6 +97,13 @@ end_length line number at (Some y) = omega arith
 slice_get-behind : {A : Type 0} (xs ys : List A) (k : ℕ) → slice_get (xs ++ ys) (length xs + k) ≡ slice_get ys k
 slice_get-behind [] ys k = ap (slice_get ys) {x = 0 + k} {y = k} (omega arith)
 slice_get-behind (x ∷ xs) ys k = ap (slice_get (x ∷ (xs ++ ys))) {x = suc (length xs) + k} {y = suc (length xs + k)} (omega arith) ∙ slice_get-behind xs ys k
+
+-- a formal parameter has a valid denoter
+formal_denoter : (w : FormalMode) (types : List UnitType) (d : Denoter) → IsFormalBy w types d → IsDenoter types d
+formal_denoter mode.Value types d valid = valid.denoter
+formal_denoter mode.ProtectedValue types d valid = valid.denoter
+formal_denoter mode.Variable types d valid = valid
+formal_denoter mode.ProtectedVariable types d valid = valid
 
 module _ (u : TypedUnit) (o : Object) (is : IsProgramCode u o) (valid : IsValid u) (G : Image) (ps : List Placement) (p : Placement) (stands : Stands G ps p o) (distinct : HasDistinctNames G) where
   -- where a routine of the unit stands in the image
@@ -144,13 +153,13 @@ module _ (u : TypedUnit) (o : Object) (is : IsProgramCode u o) (valid : IsValid 
 
   -- how a formal parameter of a valid denoter takes its argument
   passing_of : (f : Formal) → IsFormal u.types f → (q : Passing) × IsPassed u.types f.mode f q × IsLight q
-  passing_of f valid = by_mode f.mode
+  passing_of f valid = by_mode f.mode valid.denoter
     where
-      by_mode : (w : FormalMode) → (q : Passing) × IsPassed u.types w f q × IsLight q
-      by_mode mode.Value = let d = valid.denoter in (ByValue (kind.Ordinal d.host), (d.host, d.has_host, refl), tt)
-      by_mode mode.ProtectedValue = let d = valid.denoter in (ByValue (kind.Ordinal d.host), (d.host, d.has_host, refl), tt)
-      by_mode mode.Variable = let d = valid.denoter in (ByReference d.type_value, d.has_type, tt)
-      by_mode mode.ProtectedVariable = let d = valid.denoter in (ByReference d.type_value, d.has_type, tt)
+      by_mode : (w : FormalMode) → IsFormalBy w u.types (denoter_of f.denoter) → (q : Passing) × IsPassed u.types w f q × IsLight q
+      by_mode mode.Value d = (ByValue (kind.Ordinal d.host), (d.host, d.has_host, refl), tt)
+      by_mode mode.ProtectedValue d = (ByValue (kind.Ordinal d.host), (d.host, d.has_host, refl), tt)
+      by_mode mode.Variable d = (ByReference d.type_value, d.has_type, tt)
+      by_mode mode.ProtectedVariable d = (ByReference d.type_value, d.has_type, tt)
 
   -- and how all of them do
   passings_of : (fs : List Formal) → ((k : ℕ) (f : Formal) → slice_get fs k ≡ Some f → IsFormal u.types f) → (qs : List Passing) × ArePassed u.types fs qs × AreLight qs × (length qs ≡ length fs)
@@ -169,7 +178,7 @@ module _ (u : TypedUnit) (o : Object) (is : IsProgramCode u o) (valid : IsValid 
   made_valid : (name : List ℕ) (line : ℕ) (y : Option RoutineResult) → IsResult u.types y → (vs : List UnitVariable) → ((k : ℕ) (v : UnitVariable) → slice_get vs k ≡ Some v → IsDenoter u.types (denoter_of v.denoter))
       → (k : ℕ) (v : UnitVariable) → slice_get (result_variable name line y ++ vs) k ≡ Some v → IsDenoter u.types (denoter_of v.denoter)
   made_valid name line None valid vs each k v e = each k v e
-  made_valid name line (Some y) valid vs each zero v e = subst (λ (w : UnitVariable). IsDenoter u.types (denoter_of w.denoter)) (same_Some (record { name = result_name name y.name; line = line; declaration = 0; denoter = y.denoter; tuple = []; parameter = false }) v e) valid
+  made_valid name line (Some y) valid vs each zero v e = subst (λ (w : UnitVariable). IsDenoter u.types (denoter_of w.denoter)) (same_Some (record { name = result_name name y.name; line = line; declaration = 0; denoter = y.denoter; tuple = []; parameter = false }) v e) valid.denoter
   made_valid name line (Some y) valid vs each (suc k) v e = each k v e
 
   -- the variables of a routine have valid denoters
@@ -190,7 +199,7 @@ module _ (u : TypedUnit) (o : Object) (is : IsProgramCode u o) (valid : IsValid 
           of_formal None q is = cc
           of_formal (Some f) q is =
               let valid_formal : IsFormal u.types f = subst (λ w. IsFormal u.types w) (get_or_from_slice_get r.formals k f f q) (its.formals k f (slice_get_within r.formals k f q)) in
-              subst (λ (w : UnitVariable). IsDenoter u.types (denoter_of w.denoter)) (same_Some (formal_variable r.line f) v is) valid_formal.denoter
+              subst (λ (w : UnitVariable). IsDenoter u.types (denoter_of w.denoter)) (same_Some (formal_variable r.line f) v is) (formal_denoter f.mode u.types (denoter_of f.denoter) valid_formal.denoter)
       either (inr at) = made_typed at.0 v at.1
 
   -- and so have those of the routines around one
@@ -334,6 +343,7 @@ module _ (u : TypedUnit) (o : Object) (is : IsProgramCode u o) (valid : IsValid 
           moves = λ knows longer after below home. fragment_give (omega arith) refl;
         }
     ends_of (Some y) valid_result is_some end_stands room_for =
+        let its = valid_result.denoter in
         let result : UnitVariable = record { name = result_name r.name y.name; line = line_of; declaration = 0; denoter = y.denoter; tuple = []; parameter = false } in
         let first : slice_get (made_variables r) 0 ≡ Some result = ap (λ z. slice_get (result_variable r.name line_of z ++ (r.variables ++ auxiliary_variables (first_for (stmt_of r.block)))) 0) is_some in
         let numbered_so : slice_get variables (length formals) ≡ Some result = ap (slice_get variables) {x = length formals} {y = length formals + 0} (omega arith) ∙ variable_is 0 result first in
@@ -345,8 +355,8 @@ module _ (u : TypedUnit) (o : Object) (is : IsProgramCode u o) (valid : IsValid 
           first_field = refl;
           second_field = refl;
           moves = λ knows longer after below home.
-              result_moves untouched knows ps p o.references m u.name in_code (length formals) line_of end valid_result.host valid_result.type_value valid_result.is_type end_stands (omega (arith, room_for))
-              result numbered_so (types_are_instances u.types (denoter_of y.denoter) valid_result.type_value valid_result.has_type) longer after below 63 (omega arith) home;
+              result_moves untouched knows ps p o.references m u.name in_code (length formals) line_of end valid_result.host its.type_value (typed_of_host u.types (denoter_of y.denoter) its.type_value valid_result.host its.typed valid_result.has_host) end_stands (omega (arith, room_for))
+              result numbered_so (types_are_instances u.types (denoter_of y.denoter) its.type_value its.has_type) longer after below 63 (omega arith) home;
         }
 
     ends : Ends r.result results
@@ -385,7 +395,7 @@ module _ (u : TypedUnit) (o : Object) (is : IsProgramCode u o) (valid : IsValid 
           subst (λ o. Fragment within G Here m (point longer after (p.instructions.before + (x.entry.entry + length (own_code u.types r))) o) (exec call m u.name (stmt_of r.block)) (p.instructions.before + end) (λ b. Inside untouched longer after (Bare below b)) 63 (λ b. 63)) (sym is_below)
           (statement_moves lasts ps p o.texts o.references call steady_call m u.name in_code scene
           (λ x_kind e is_x line at code is_code x_stands inside v1 m1 operands d enough x_home. expression_follows {untouched = untouched} ps p o.texts o.references scene knows call steady_call m u.name in_code lasts among_same m kept_inside x_kind e is_x line at code is_code x_stands inside v1 m1 operands d (omega arith) x_home)
-          (λ q t has_type line at code is_code x_stands v1 m1 operands d enough x_home. place_follows ps p o.texts o.references scene knows call steady_call m u.name m q t has_type line at code is_code x_stands v1 m1 operands d (omega arith) x_home)
+          (λ q q_valid t has_type line at code is_code x_stands inside v1 m1 operands d enough x_home. place_follows {untouched = untouched} ps p o.texts o.references scene knows call steady_call m u.name in_code lasts among_same m kept_inside q q_valid t has_type line at code is_code x_stands inside v1 m1 operands d (omega arith) x_home)
           (λ line at to callee k given xs r keeps given_valid is_code is_declared named xs_stands xs_inside v1 m1 operands d enough x_home rest steady behind. call_then {untouched = untouched} ps p o.texts o.references scene knows call steady_call m u.name in_code lasts among_same m kept_inside {to = to} line at callee k given xs r keeps given_valid is_code is_declared named xs_stands xs_inside v1 m1 operands d enough x_home rest steady behind)
           kept_inside (stmt_of r.block) (x.entry.entry + length (own_code u.types r)) x.code its.block x.is_code x.code_stands (omega (arith, x.room_for, end_length line_of (length formals) end r.result)) longer after below 63 (omega arith) at_home)
 

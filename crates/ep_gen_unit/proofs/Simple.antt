@@ -3,7 +3,7 @@ use Rattle.std.proofs.Common.{◌≡◌, ℕ, ℤ, suc, ◌+◌, ◌<◌, ◌≤
 use Rattle.ep_gen_expr.specs.Following.{least_credit}
 use Rattle.ep_gen_expr.specs.ExprCode.{bare, IsPlaceCode, IsExprCode}
 use Rattle.ep_gen_unit.specs.StmtCode.{IsAssignCode}
-use Rattle.ep_gen_expr.proofs.Following.{IsTyped, typed_place}
+use Rattle.ep_gen_expr.proofs.PlaceTypes.{IsOrdinalPlace, ordinal_place}
 use Rattle.ep_gen_unit.proofs.Parts.{Moves, ExpressionsFollow, PlacesFollow, code_stands-parts, ordinal_of_host}
 use Rattle.ep_object.specs.Follows.{point, Facts, Lasts, Fragment, Inside, Bare}
 use Rattle.ep_object.specs.Matching.{Slots, Memory, Injection, IsSpot, Describes, at as standing}
@@ -32,7 +32,7 @@ use Rattle.ep_typed.specs.Trees.{Place, Expr, Empty, Halt}
 use Rattle.ep_typed.specs.Valid as kind
 use Rattle.ep_typed.specs.Valid.{Declarations, IsExpr, IsPlace}
 use Rattle.ep_typed.specs.Hosts.{Host}
-use Rattle.ep_typed.specs.declared.value.TypeValue.TheVariants as type
+use Rattle.ep_typed.specs.TypeValues as type
 use Rattle.ep_object.specs.declared.op.TheConstants as op
 
 module _ {declared : Declarations} {G : Image} {untouched : Slots} {Here : Facts} (lasts : Lasts untouched Here) (ps : List Placement) (p : Placement) (texts : List (List ℕ)) (references : List Reference) (call : Handler) (steady_call : IsSteadyHandler call) (n : ℕ) (unit : List ℕ) where
@@ -59,10 +59,10 @@ module _ {declared : Declarations} {G : Image} {untouched : Slots} {Here : Facts
 
   module _ (scene : Scene declared G ps p texts) (expressions : ExpressionsFollow declared G untouched Here ps p texts references call n unit) (places : PlacesFollow declared G untouched Here ps p texts references call n unit) where
     -- an assignment to a variable of an ordinal type, of a value of any host
-    assign_to : (line at : ℕ) (q : Place) (h k : Host) (v : IsTyped declared q h) (low high : ℤ) (x : Expr) (pcode xcode : List Instr) → v.type_value ≡ type.Ordinal low high → IsExpr declared (kind.Ordinal k) x → IsPlaceCode references line q pcode → IsExprCode texts references line (at + length pcode) x xcode → at + length pcode + length xcode < p.instructions.own
+    assign_to : (line at : ℕ) (q : Place) (h k : Host) (v : IsOrdinalPlace declared q h) (low high : ℤ) (x : Expr) (pcode xcode : List Instr) → v.type_value ≡ type.Ordinal low high → IsExpr declared (kind.Ordinal k) x → IsPlaceCode texts references line at q pcode → IsExprCode texts references line (at + length pcode) x xcode → at + length pcode + length xcode < p.instructions.own
         → CodeStands G ps p references at pcode → CodeStands G ps p references (at + length pcode) xcode → CodeStands G ps p references (at + length pcode + length xcode) (bare line op.STORE ∷ []) → Moves declared G untouched Here ps p texts references call n unit at (at + length pcode + length xcode + 1) (assigns call n unit line q x)
     assign_to line at q h k v low high x pcode xcode of_type valid place_code expr_code inside at_place at_expr at_store injection memory below d enough home =
-        fragment_bind_place {type = v.type_value} {e = λ a. d + 8} (λ a. steady_bind (steady_eval call steady_call n unit line x) (λ r. steady_assign call steady_call n unit line a (number_of r))) (places q v.type_value v.has_type line at pcode place_code at_place injection memory below d (omega arith) home) (λ a place_here longer after grown routine spot described.
+        fragment_bind_place {type = v.type_value} {e = λ a. d + 8} (λ a. steady_bind (steady_eval call steady_call n unit line x) (λ r. steady_assign call steady_call n unit line a (number_of r))) (places q v.valid v.type_value v.has_type line at pcode place_code at_place (omega (arith, inside)) injection memory below d (omega arith) home) (λ a place_here longer after grown routine spot described.
         fragment_bind_number {host = k} {e = λ r. d + 8 + 8 + weight_of r} (λ r. steady_assign call steady_call n unit line a (number_of r)) (expressions (kind.Ordinal k) x valid line (at + length pcode) xcode expr_code at_expr inside longer after (operand.Place place_here ∷ below) (d + 8) (omega arith) (unit_in-same G routine ∙ home)) (λ z last final of_host grown2 routine2.
         fragment_to {to = p.instructions.before + (at + length pcode + length xcode) + 1} (omega arith) (fragment_credit {d = d + 8 + 8 + 0} {e = λ b. d + 8 + 8 + 0} (omega arith) (λ b. omega arith) (
         store_moves low high z a place_here line (at + length pcode + length xcode) at_store last final below (d + 8 + 8 + 0) (omega arith) (unit_in-same G routine2 ∙ (unit_in-same G routine ∙ home)) (is_spot-grown grown2 spot)
@@ -74,7 +74,7 @@ module _ {declared : Declarations} {G : Image} {untouched : Slots} {Here : Facts
     assigned_moves line at q h k x is is_place valid code inside stands =
         let pcode : List Instr = code.0 in
         let xcode : List Instr = code.1 in
-        let v = typed_place declared scene.types_valid scene.own_types_valid h q is_place in
+        let v = ordinal_place declared scene.types_valid scene.own_types_valid h q is_place in
         let t = ordinal_of_host h v.type_value v.of_host in
         let first = code_stands-parts G ps p references at pcode (xcode ++ bare line op.STORE ∷ []) (subst (λ w. CodeStands G ps p references at w) code.4 stands) in
         let second = code_stands-parts G ps p references (at + length pcode) xcode (bare line op.STORE ∷ []) first.1 in

@@ -31,7 +31,7 @@ appends_assign {b = b} {c = c} {d = d} a line place x p q r =
     whole a (Assign line place x) (p.code ++ (q.code ++ bare line op.STORE ∷ [])) (
       p.code,
       q.code,
-      place_code_stays b.references d.references line place p.code after.references.begins p.is_code,
+      place_code_stays b.texts d.texts b.references d.references line after.texts.begins after.references.begins (length a.instructions) place p.code p.is_code,
       subst (λ n. IsExprCode d.texts d.references line n x q.code) (grown_length (follows_grows p.grows)) (subst (λ l. IsExprCode d.texts d.references l (length b.instructions) x q.code) p.grows.line (expr_later b.line (length b.instructions) x q.code (later_grows r) q.is_code)),
       refl,
     )

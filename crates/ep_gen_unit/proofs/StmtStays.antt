@@ -4,7 +4,7 @@ use Rattle.ep_outside.specs.Known.{IsPrefix}
 use Rattle.ep_object.specs.declared.code.Instr.{Instr}
 use Rattle.ep_object.specs.declared.code.Reference.{Reference}
 use Rattle.ep_typed.specs.Controls.{in_order, next_value}
-use Rattle.ep_typed.specs.Trees.{Place, Variable, Own, Standard, Function, Item, Plain, Wide, Stmt, Stmts, Empty, Compound, Assign, If, While, Repeat, Control, For, Read, Expr, Procedure, Halt, Write, none, next, Case, Arms, no_arm, next_arm, Other, no_other, otherwise_do}
+use Rattle.ep_typed.specs.Trees.{Entire, OfUnit, OfRoutine, entire, Place, Function, Item, Plain, Wide, Stmt, Stmts, Empty, Compound, Assign, If, While, Repeat, Control, For, Read, Expr, Procedure, Halt, Write, none, next, Case, Arms, no_arm, next_arm, Other, no_other, otherwise_do}
 use Rattle.ep_typed.specs.declared.tree.CaseRange.{CaseRange}
 use Rattle.ep_typed.specs.declared.operations.Print.{Print}
 use Rattle.ep_typed.specs.declared.operations.Print.TheVariants as print
@@ -27,19 +27,19 @@ module _ (ts us : List (List ℕ)) (rs ss : List Reference) (a : IsPrefix ts us)
   items_code_stays line at (i ∷ items) ends_line is h = (h.0, h.1, item_code_stays line at i h.0 h.2, items_code_stays line (at + length h.0) items ends_line h.1 h.3, h.4)
 
   assign_code_stays : (line at : ℕ) (p : Place) (x : Expr) (is : List Instr) → IsAssignCode ts rs line at p x is → IsAssignCode us ss line at p x is
-  assign_code_stays line at p x is h = (h.0, h.1, place_code_stays rs ss line p h.0 b h.2, expr_code_stays ts us rs ss line a b (at + length h.0) x h.1 h.3, h.4)
+  assign_code_stays line at p x is h = (h.0, h.1, place_code_stays ts us rs ss line a b at p h.0 h.2, expr_code_stays ts us rs ss line a b (at + length h.0) x h.1 h.3, h.4)
 
   -- the parts of a `for`
   pub bounds_code_stays : (line at : ℕ) (c : Control) (x y : Expr) (is : List Instr) → AreBoundsCode ts rs line at c x y is → AreBoundsCode us ss line at c x y is
   bounds_code_stays line at c x y is h =
-      (h.0, h.1, h.2, assign_code_stays line at c.initial x h.0 h.3, assign_code_stays line (at + length h.0) c.last y h.1 h.4, expr_code_stays ts us rs ss line a b (at + length h.0 + length h.1) (in_order c) h.2 h.5, h.6)
+      (h.0, h.1, h.2, assign_code_stays line at (entire c.initial) x h.0 h.3, assign_code_stays line (at + length h.0) (entire c.last) y h.1 h.4, expr_code_stays ts us rs ss line a b (at + length h.0 + length h.1) (in_order c) h.2 h.5, h.6)
 
   pub first_code_stays : (line at : ℕ) (c : Control) (is : List Instr) → IsFirstCode ts rs line at c is → IsFirstCode us ss line at c is
   first_code_stays line at c is h =
-      (h.0, h.1, h.2, expr_code_stays ts us rs ss line a b at (Read c.last) h.0 h.3, assign_code_stays line (at + length h.0) c.variable (Read c.last) h.1 h.4, assign_code_stays line (at + length h.0 + length h.1) c.variable (Read c.initial) h.2 h.5, h.6)
+      (h.0, h.1, h.2, expr_code_stays ts us rs ss line a b at (Read (entire c.last)) h.0 h.3, assign_code_stays line (at + length h.0) (entire c.variable) (Read (entire c.last)) h.1 h.4, assign_code_stays line (at + length h.0 + length h.1) (entire c.variable) (Read (entire c.initial)) h.2 h.5, h.6)
 
   pub test_code_stays : (line at : ℕ) (c : Control) (is : List Instr) → IsTestCode ts rs line at c is → IsTestCode us ss line at c is
-  test_code_stays line at c is h = (h.0, expr_code_stays ts us rs ss line a b (at + 1) (Read c.variable) h.0 h.1, h.2)
+  test_code_stays line at c is h = (h.0, expr_code_stays ts us rs ss line a b (at + 1) (Read (entire c.variable)) h.0 h.1, h.2)
 
   mutual
     pub stmt_code_stays : (at : ℕ) (s : Stmt) (is : List Instr) → IsStmtCode ts rs at s is → IsStmtCode us ss at s is
@@ -61,8 +61,8 @@ module _ (ts us : List (List ℕ)) (rs ss : List Reference) (a : IsPrefix ts us)
       first_code_stays line (at + length h.0 + 1) c h.1 h.7,
       stmt_code_stays (at + length h.0 + 1 + length h.1) s h.2 h.8,
       test_code_stays line (at + length h.0 + 1 + length h.1 + length h.2) c h.3 h.9,
-      assign_code_stays line (at + length h.0 + 1 + length h.1 + length h.2 + length h.3 + 1) c.variable (next_value c) h.4 h.10,
-      (h.11.0, place_code_stays rs ss line c.variable h.11.0 b h.11.1, h.11.2),
+      assign_code_stays line (at + length h.0 + 1 + length h.1 + length h.2 + length h.3 + 1) (entire c.variable) (next_value c) h.4 h.10,
+      (h.11.0, place_code_stays ts us rs ss line a b (at + length h.0 + 1 + length h.1 + length h.2 + length h.3 + 1 + length h.4 + 1 + 1) (entire c.variable) h.11.0 h.11.1, h.11.2),
       h.12,
     )
     stmt_code_stays at (Procedure line callee given) is h = expr_code_stays ts us rs ss line a b at (Function callee given) is h
@@ -136,10 +136,9 @@ tests_length line body at (r ∷ rs) = omega (arith, length-append (test_code li
 arms_short : (xs ss rest : List Instr) (i j l : Instr) (is : List Instr) → is ≡ xs ++ i ∷ j ∷ (ss ++ l ∷ rest) → (c k m : ℕ) → length xs ≡ 6 * c → length ss + 8 ≤ 32 * k → length rest ≤ 32 * m → length is ≤ 32 * (3 * c + k + m)
 arms_short xs ss rest i j l is e c k m p q r = omega (arith, ap length e, length-append xs (i ∷ j ∷ (ss ++ l ∷ rest)), length-append ss (l ∷ rest), p, q, r)
 
-place_one : (p : Place) → place_nodes p ≡ 1
-place_one (Variable unit number) = refl
-place_one (Own levels number) = refl
-place_one (Standard file) = refl
+entire_one : (v : Entire) → place_nodes (entire v) ≡ 1
+entire_one (OfUnit unit number) = refl
+entire_one (OfRoutine levels number) = refl
 
 module _ (ts : List (List ℕ)) (rs : List Reference) where
   item_code_short : (line at : ℕ) (i : Item) (is : List Instr) → IsItemCode ts rs line at i is → length is ≤ 32 * item_nodes i
@@ -164,23 +163,22 @@ module _ (ts : List (List ℕ)) (rs : List Reference) where
 
   -- ---- a `for`
 
-  place_length : (line : ℕ) (p : Place) (is : List Instr) → IsPlaceCode rs line p is → length is ≡ 1
-  place_length line (Variable unit number) is h = ap length h.2
-  place_length line (Own levels number) is h = ap length h
-  place_length line (Standard file) is h = ap length h
+  entire_length : (line at : ℕ) (v : Entire) (is : List Instr) → IsPlaceCode ts rs line at (entire v) is → length is ≡ 1
+  entire_length line at (OfUnit unit number) is h = ap length h.2
+  entire_length line at (OfRoutine levels number) is h = ap length h
 
-  read_short : (line at : ℕ) (p : Place) (is : List Instr) → IsExprCode ts rs line at (Read p) is → length is ≤ 2
-  read_short line at p is h = omega (arith, ap length h.2, length-append h.0 (bare line op.LOAD ∷ []), place_length line p h.0 h.1)
+  read_short : (line at : ℕ) (v : Entire) (is : List Instr) → IsExprCode ts rs line at (Read (entire v)) is → length is ≤ 2
+  read_short line at v is h = omega (arith, ap length h.2, length-append h.0 (bare line op.LOAD ∷ []), entire_length line at v h.0 h.1)
 
-  assign_short : (line at : ℕ) (p : Place) (x : Expr) (is : List Instr) → IsAssignCode ts rs line at p x is → length is + 6 ≤ 32 * expr_nodes x
-  assign_short line at p x is h =
-      omega (arith, ap length h.4, length-append h.0 (h.1 ++ bare line op.STORE ∷ []), length-append h.1 (bare line op.STORE ∷ []), place_length line p h.0 h.2, expr_code_short ts rs line (at + length h.0) x h.1 h.3)
+  assign_short : (line at : ℕ) (v : Entire) (x : Expr) (is : List Instr) → IsAssignCode ts rs line at (entire v) x is → length is + 6 ≤ 32 * expr_nodes x
+  assign_short line at v x is h =
+      omega (arith, ap length h.4, length-append h.0 (h.1 ++ bare line op.STORE ∷ []), length-append h.1 (bare line op.STORE ∷ []), entire_length line at v h.0 h.2, expr_code_short ts rs line (at + length h.0) x h.1 h.3)
 
-  assign_read_short : (line at : ℕ) (p q : Place) (is : List Instr) → IsAssignCode ts rs line at p (Read q) is → length is ≤ 4
-  assign_read_short line at p q is h =
-      omega (arith, ap length h.4, length-append h.0 (h.1 ++ bare line op.STORE ∷ []), length-append h.1 (bare line op.STORE ∷ []), place_length line p h.0 h.2, read_short line (at + length h.0) q h.1 h.3)
+  assign_read_short : (line at : ℕ) (v w : Entire) (is : List Instr) → IsAssignCode ts rs line at (entire v) (Read (entire w)) is → length is ≤ 4
+  assign_read_short line at v w is h =
+      omega (arith, ap length h.4, length-append h.0 (h.1 ++ bare line op.STORE ∷ []), length-append h.1 (bare line op.STORE ∷ []), entire_length line at v h.0 h.2, read_short line (at + length h.0) w h.1 h.3)
 
-  next_short : (line at : ℕ) (c : Control) (is : List Instr) → IsAssignCode ts rs line at c.variable (next_value c) is → length is ≤ 9
+  next_short : (line at : ℕ) (c : Control) (is : List Instr) → IsAssignCode ts rs line at (entire c.variable) (next_value c) is → length is ≤ 9
   next_short line at c is h =
       let xs : List Instr = h.1 in
       let e = h.3 in
@@ -189,7 +187,7 @@ module _ (ts : List (List ℕ)) (rs : List Reference) where
         ap length h.4,
         length-append h.0 (xs ++ bare line op.STORE ∷ []),
         length-append xs (bare line op.STORE ∷ []),
-        place_length line c.variable h.0 h.2,
+        entire_length line at c.variable h.0 h.2,
         ap length e.4,
         length-append e.0 (e.1 ++ step_code line c.falls c.low c.high),
         length-append e.1 (step_code line c.falls c.low c.high),
@@ -222,8 +220,8 @@ module _ (ts : List (List ℕ)) (rs : List Reference) where
   test_short : (line at : ℕ) (c : Control) (is : List Instr) → IsTestCode ts rs line at c is → length is ≤ 4
   test_short line at c is h = omega (arith, ap length h.2, length-append h.0 (two_code line binary.Unequal ∷ []), read_short line (at + 1) c.variable h.0 h.1)
 
-  undefine_short : (line : ℕ) (p : Place) (is : List Instr) → IsUndefineCode ts rs line p is → length is ≤ 2
-  undefine_short line p is h = omega (arith, ap length h.2, length-append h.0 (bare line op.UNDEFINE ∷ []), place_length line p h.0 h.1)
+  undefine_short : (line at : ℕ) (v : Entire) (is : List Instr) → IsUndefineCode ts rs line at v is → length is ≤ 2
+  undefine_short line at v is h = omega (arith, ap length h.2, length-append h.0 (bare line op.UNDEFINE ∷ []), entire_length line at v h.0 h.1)
 
   -- The code of a statement, with some room for what the form around it adds.
   mutual
@@ -231,7 +229,7 @@ module _ (ts : List (List ℕ)) (rs : List Reference) where
     stmt_code_room at Empty is h = omega (arith, ap length h)
     stmt_code_room at (Compound statements) is h = omega (arith, stmts_code_short at statements is h)
     stmt_code_room at (Assign line p x) is h =
-        omega (arith, ap length h.4, length-append h.0 (h.1 ++ bare line op.STORE ∷ []), length-append h.1 (bare line op.STORE ∷ []), place_code_short rs line p h.0 h.2, place_one p, expr_code_short ts rs line (at + length h.0) x h.1 h.3)
+        omega (arith, ap length h.4, length-append h.0 (h.1 ++ bare line op.STORE ∷ []), length-append h.1 (bare line op.STORE ∷ []), place_code_short ts rs line at p h.0 h.2, expr_code_short ts rs line (at + length h.0) x h.1 h.3)
     stmt_code_room at (If line x s t) is h =
         if_short h.0 h.1 h.2 _ _ is h.6 (expr_nodes x) (stmt_nodes s) (stmt_nodes t)
         (expr_code_short ts rs line at x h.0 h.3) (stmt_code_room (at + length h.0 + 1) s h.1 h.4) (stmt_code_room (at + length h.0 + 1 + length h.1 + 1) t h.2 h.5)
@@ -249,8 +247,8 @@ module _ (ts : List (List ℕ)) (rs : List Reference) where
           stmt_code_room (at + length h.0 + 1 + length h.1) s h.2 h.8,
           test_short line (at + length h.0 + 1 + length h.1 + length h.2) c h.3 h.9,
           next_short line (at + length h.0 + 1 + length h.1 + length h.2 + length h.3 + 1) c h.4 h.10,
-          undefine_short line c.variable h.5 h.11,
-          place_one c.variable,
+          undefine_short line (at + length h.0 + 1 + length h.1 + length h.2 + length h.3 + 1 + length h.4 + 1 + 1) c.variable h.5 h.11,
+          entire_one c.variable,
         )
     stmt_code_room at (Procedure line callee given) is h = expr_code_short ts rs line at (Function callee given) is h
     stmt_code_room at (Case line x arms o) is h =

@@ -198,7 +198,7 @@ module _ (u : TypedUnit) (o : Object) (is : IsProgramCode u o) (G : Image) (ps :
               let knows : KnowsNames declared (Since (kept_slots declared G) injection s memory) = λ longer t after since. none_named declared no_routine longer t after in
               let body = body_follows {Here = Since (kept_slots declared G) injection s memory} since_lasts ps p call steady_call n u o is stands.code room whole.instructions scene
               (λ x_kind x is_x line at code is_code x_stands inside v1 m1 operands d enough x_home. expression_follows ps p o.texts o.references scene knows call steady_call n u.name room since_lasts among_same n kept x_kind x is_x line at code is_code x_stands inside v1 m1 operands d (omega arith) x_home)
-              (λ q t has_type line at code is_code x_stands v1 m1 operands d enough x_home. place_follows ps p o.texts o.references scene knows call steady_call n u.name n q t has_type line at code is_code x_stands v1 m1 operands d (omega arith) x_home)
+              (λ q q_valid t has_type line at code is_code x_stands inside v1 m1 operands d enough x_home. place_follows ps p o.texts o.references scene knows call steady_call n u.name room since_lasts among_same n kept q q_valid t has_type line at code is_code x_stands inside v1 m1 operands d (omega arith) x_home)
               (λ line at to callee k given xs r keeps given_valid is_code is_declared named xs_stands xs_inside v1 m1 operands d enough x_home rest steady behind. call_then ps p o.texts o.references scene knows call steady_call n u.name room since_lasts among_same n kept {to = to} line at callee k given xs r keeps given_valid is_code is_declared named xs_stands xs_inside v1 m1 operands d enough x_home rest steady behind)
               kept valid (makes since_lasts) injection memory below routine_credit (omega arith) (home o.start (plain_at 0) start_is memory.frames enters.without_calls enters.runs) (record { calls = enters.without_calls; unit = enters.in_unit }) in
               follows_from (at_entry o.start (plain_at 0) start_is (omega (arith, instructions_own)) enters)

@@ -2,5 +2,6 @@ pub mod Laws
 pub mod ProgramLaws
 pub mod StmtCode
 pub mod StmtGrowth
+pub mod TypeCode
 pub mod UnitCode
 pub mod UnitLaws

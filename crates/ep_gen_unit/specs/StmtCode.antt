@@ -2,18 +2,16 @@
 -- the object, so the code of a statement depends on where it begins.
 use Rattle.std.specs.Prelude.{◌≡◌, ℕ, pos, suc, ◌+◌, Bool, true, false, List, [], ◌∷◌, ◌++◌, length, Option, Some, None, ◌*◌}
 use Rattle.ep_typed.specs.declared.operations.Binary.TheVariants as binary
-use Rattle.ep_typed.specs.Denoters.{type_of}
 use Rattle.ep_typed.specs.Controls.{in_order, next_value}
 use Rattle.ep_gen_expr.specs.ExprCode.{instr, bare, two_code, push, standard_code, IsPlaceCode, IsExprCode}
 use Rattle.ep_gen_expr.specs.declared.code.TheConstants as code
+use Rattle.ep_gen_unit.specs.TypeCode.{type_code}
 use Rattle.ep_object.specs.declared.code.Instr.{Instr}
 use Rattle.ep_object.specs.declared.code.Reference.{Reference}
-use Rattle.ep_typed.specs.Trees.{Place, Expr, Read, Function, Item, Plain, Wide, Stmt, Stmts, Empty, Compound, Assign, If, While, Repeat, Control, For, Procedure, Halt, Write, none, next, Case, Arms, no_arm, next_arm, Other, no_other, otherwise_do}
+use Rattle.ep_typed.specs.Trees.{Place, Expr, Read, Function, Item, Plain, Wide, Stmt, Stmts, Empty, Compound, Assign, If, While, Repeat, Control, For, Procedure, Halt, Write, none, next, Case, Arms, no_arm, next_arm, Other, no_other, otherwise_do, Entire, entire}
 use Rattle.ep_typed.specs.Viewed.{denoter_of}
 use Rattle.ep_typed.specs.declared.operations.Print.{Print}
 use Rattle.ep_typed.specs.declared.operations.Print.TheVariants as print
-use Rattle.ep_typed.specs.declared.value.TypeValue.{TypeValue}
-use Rattle.ep_typed.specs.declared.value.TypeValue.TheVariants.{Ordinal, Text}
 use Rattle.ep_typed.specs.declared.run_error.TheConstants as run_error
 use Rattle.ep_typed.specs.declared.tree.CaseRange.{CaseRange}
 use Rattle.ep_typed.specs.declared.tree.StandardFile.TheVariants as file
@@ -89,25 +87,25 @@ module _ (texts : List (List ℕ)) (references : List Reference) where
 
   -- the code of an assignment
   abbrev pub IsAssignCode : ℕ → ℕ → Place → Expr → List Instr → Type 0
-  IsAssignCode line at p x is = (ps xs : List Instr) × IsPlaceCode references line p ps × IsExprCode texts references line (at + length ps) x xs × (is ≡ ps ++ (xs ++ bare line op.STORE ∷ []))
+  IsAssignCode line at p x is = (ps xs : List Instr) × IsPlaceCode texts references line at p ps × IsExprCode texts references line (at + length ps) x xs × (is ≡ ps ++ (xs ++ bare line op.STORE ∷ []))
 
   -- The code of a `for` before its turns: the auxiliary variables get the bounds, and whether there is a turn is on top.
   abbrev pub AreBoundsCode : ℕ → ℕ → Control → Expr → Expr → List Instr → Type 0
   AreBoundsCode line at c x y is =
-      (xs ys ts : List Instr) × IsAssignCode line at c.initial x xs × IsAssignCode line (at + length xs) c.last y ys × IsExprCode texts references line (at + length xs + length ys) (in_order c) ts × (is ≡ xs ++ (ys ++ ts))
+      (xs ys ts : List Instr) × IsAssignCode line at (entire c.initial) x xs × IsAssignCode line (at + length xs) (entire c.last) y ys × IsExprCode texts references line (at + length xs + length ys) (in_order c) ts × (is ≡ xs ++ (ys ++ ts))
 
   -- The final value, which stays on the operands while there are turns; and the control variable gets the final value, by which both bounds are tried, and then the initial one.
   abbrev pub IsFirstCode : ℕ → ℕ → Control → List Instr → Type 0
   IsFirstCode line at c is =
-      (bs ls fs : List Instr) × IsExprCode texts references line at (Read c.last) bs × IsAssignCode line (at + length bs) c.variable (Read c.last) ls × IsAssignCode line (at + length bs + length ls) c.variable (Read c.initial) fs × (is ≡ bs ++ (ls ++ fs))
+      (bs ls fs : List Instr) × IsExprCode texts references line at (Read (entire c.last)) bs × IsAssignCode line (at + length bs) (entire c.variable) (Read (entire c.last)) ls × IsAssignCode line (at + length bs + length ls) (entire c.variable) (Read (entire c.initial)) fs × (is ≡ bs ++ (ls ++ fs))
 
   -- over the final value: whether the control variable has another one
   abbrev pub IsTestCode : ℕ → ℕ → Control → List Instr → Type 0
-  IsTestCode line at c is = (rs : List Instr) × IsExprCode texts references line (at + 1) (Read c.variable) rs × (is ≡ bare line op.DUP ∷ (rs ++ two_code line binary.Unequal ∷ []))
+  IsTestCode line at c is = (rs : List Instr) × IsExprCode texts references line (at + 1) (Read (entire c.variable)) rs × (is ≡ bare line op.DUP ∷ (rs ++ two_code line binary.Unequal ∷ []))
 
-  -- the variable at the place becomes undefined
-  abbrev pub IsUndefineCode : ℕ → Place → List Instr → Type 0
-  IsUndefineCode line p is = (ps : List Instr) × IsPlaceCode references line p ps × (is ≡ ps ++ bare line op.UNDEFINE ∷ [])
+  -- the variable becomes undefined
+  abbrev pub IsUndefineCode : ℕ → ℕ → Entire → List Instr → Type 0
+  IsUndefineCode line at v is = (ps : List Instr) × IsPlaceCode texts references line at (entire v) ps × (is ≡ ps ++ bare line op.UNDEFINE ∷ [])
 
   abbrev mutual
     -- the code of a statement that begins at this place
@@ -126,7 +124,7 @@ module _ (texts : List (List ℕ)) (references : List Reference) where
     IsStmtCode at (For line c x y s) is =
         (bounds first body test step ends : List Instr) × AreBoundsCode line at c x y bounds × IsFirstCode line (at + length bounds + 1) c first
         × IsStmtCode (at + length bounds + 1 + length first) s body × IsTestCode line (at + length bounds + 1 + length first + length body) c test
-        × IsAssignCode line (at + length bounds + 1 + length first + length body + length test + 1) c.variable (next_value c) step × IsUndefineCode line c.variable ends
+        × IsAssignCode line (at + length bounds + 1 + length first + length body + length test + 1) (entire c.variable) (next_value c) step × IsUndefineCode line (at + length bounds + 1 + length first + length body + length test + 1 + length step + 1 + 1) c.variable ends
         × (is ≡ for_code line at bounds first body test step ends)
     -- that of a function designator: the jump behind the call has the tick for the step that the statement spends when the call is done
     IsStmtCode at (Procedure line callee given) is = IsExprCode texts references line at (Function callee given) is
@@ -152,19 +150,9 @@ module _ (texts : List (List ℕ)) (references : List Reference) where
     IsOtherCode line at no_other is = is ≡ instr op.FAIL (pos run_error.NO_CASE) 0 line ∷ []
     IsOtherCode line at (otherwise_do ss) is = (ys : List Instr) × AreStmtsCode (at + 1) ss ys × (is ≡ bare line op.DROP ∷ ys)
 
--- the bounds and the type
-abbrev pub type_code : ℕ → TypeValue → List Instr
-type_code line (Ordinal low high) = push line low ∷ push line high ∷ bare line op.T_ORD ∷ []
-type_code line Text = []
-
--- the code that elaborates a denoter of this type value; one without a type value has no meaning and no code
-abbrev pub elaborating_code : ℕ → Option TypeValue → List Instr
-elaborating_code line None = []
-elaborating_code line (Some t) = type_code line t
-
 -- the code that makes a variable of a unit with these types, in a slot
 abbrev pub make_code : List UnitType → ℕ → UnitVariable → List Instr
-make_code types number v = elaborating_code v.line (type_of types (denoter_of v.denoter)) ++ instr op.MAKE (pos number) 0 v.line ∷ []
+make_code types number v = type_code types v.line (denoter_of v.denoter) ++ instr op.MAKE (pos number) 0 v.line ∷ []
 
 -- the code that makes the variables from this number on
 abbrev pub make_all_code : List UnitType → ℕ → List UnitVariable → List Instr
@@ -173,7 +161,7 @@ make_all_code types number (v ∷ vs) = make_code types number v ++ make_all_cod
 
 abbrev pub value_code : List UnitType → ℕ → ℕ → Formal → List Instr
 value_code types line number f =
-    elaborating_code line (type_of types (denoter_of f.denoter)) ++ instr op.MAKE (pos number) 0 line ∷ instr op.SLOT (pos number) 0 line ∷ instr op.ARG (pos number) 0 line ∷ bare line op.STORE ∷ []
+    type_code types line (denoter_of f.denoter) ++ instr op.MAKE (pos number) 0 line ∷ instr op.SLOT (pos number) 0 line ∷ instr op.ARG (pos number) 0 line ∷ bare line op.STORE ∷ []
 
 abbrev pub place_taken : ℕ → ℕ → List Instr
 place_taken line number = instr op.ARG (pos number) 0 line ∷ instr op.BIND (pos number) 0 line ∷ []

@@ -19,7 +19,7 @@ use Rattle.ep_typed.specs.declared.unit.UnitRoutine.{UnitRoutine}
 use Rattle.ep_typed.specs.declared.unit.UnitType.{UnitType}
 use Rattle.ep_typed.specs.declared.unit.UnitVariable.{UnitVariable}
 use Rattle.ep_object.specs.declared.code.Reference.{Reference}
-use Rattle.ep_typed.specs.Trees.{Control, Place, Item, Stmt, Stmts, Expr, Arms, Other}
+use Rattle.ep_typed.specs.Trees.{Control, Entire, Item, Stmt, Stmts, Expr, Arms, Other}
 use Rattle.ep_typed.specs.declared.tree.CaseRange.{CaseRange}
 
 -- these instructions are appended, the line is any, and all else is as before but for new items of the two tables
@@ -64,8 +64,8 @@ AppendsFirst line old new c = AppendsPart (λ texts references at is. IsFirstCod
 abbrev pub AppendsTest : ℕ → Code → Code → Control → Type 0
 AppendsTest line old new c = AppendsPart (λ texts references at is. IsTestCode texts references line at c is) old new
 
-abbrev pub AppendsUndefine : ℕ → Code → Code → Place → Type 0
-AppendsUndefine line old new p = AppendsPart (λ texts references at is. IsUndefineCode texts references line p is) old new
+abbrev pub AppendsUndefine : ℕ → Code → Code → Entire → Type 0
+AppendsUndefine line old new v = AppendsPart (λ texts references at is. IsUndefineCode texts references line at v is) old new
 
 -- the code of the statements is appended
 pub record AppendsStmts (old new : Code) (ss : Stmts) : Type 0 where

@@ -2,17 +2,17 @@
 
 ghost use Rattle.std.specs.Prelude.{OnOk};
 ghost use Rattle.ep_typed.specs.Controls.{next_value};
-ghost use Rattle.ep_typed.specs.Trees.{Assign, Read};
-ghost use Rattle.ep_typed.specs.Viewed.{control_of, expr_of, place_of};
+ghost use Rattle.ep_typed.specs.Trees.{entire, Assign, Read};
+ghost use Rattle.ep_typed.specs.Viewed.{control_of, entire_of, expr_of};
 ghost use Rattle.ep_gen_unit.specs.StmtGrowth.{AppendsBounds, AppendsFirst, AppendsStmt, AppendsTest, AppendsUndefine};
 
-use crate::statements::assign_code;
 use ep_base::{Line, NoMemory};
 use ep_gen_expr::{
-    Code, apply_binary, emit, in_order_code, next_value_code, place_code, read_code,
+    Code, apply_binary, emit, entire_code, entire_value_code, expression_code, in_order_code,
+    next_value_code,
 };
 use ep_object::op;
-use ep_typed::{Binary, ForControl, TypedExpr, TypedPlace};
+use ep_typed::{Binary, EntireVariable, ForControl, TypedExpr};
 use std::alloc::Global;
 
 /// Appends the code before the turns: the auxiliary variables get the bounds, and whether there is a turn is left.
@@ -27,10 +27,27 @@ pub(crate) fn bounds_code(
     ensures { OnOk result (AppendsBounds line code.old code.new (control_of control.now)
         (expr_of initial.now) (expr_of last.now)) }
 {
-    assign_code(alloc, line, &control.initial, initial, code)?;
-    assign_code(alloc, line, &control.last, last, code)?;
+    assign_entire(alloc, line, &control.initial, initial, code)?;
+    assign_entire(alloc, line, &control.last, last, code)?;
     code.line = line;
     in_order_code(alloc, control, code)
+}
+
+/// Appends the code of an assignment to an entire variable.
+fn assign_entire(
+    alloc: Global,
+    line: Line,
+    variable: &EntireVariable,
+    value: &TypedExpr,
+    code: &mut Code,
+) -> Result<(), NoMemory>
+    ensures { OnOk result (AppendsStmt code.old code.new
+        (Assign line (entire (entire_of variable.now)) (expr_of value.now))) }
+{
+    code.line = line;
+    entire_code(alloc, variable, code)?;
+    expression_code(alloc, value, code)?;
+    emit(code, op::STORE, 0, 0)
 }
 
 /// Appends the code that leaves the final value, tries both bounds in the control variable, and gives it the initial one.
@@ -43,7 +60,7 @@ pub(crate) fn first_code(
     ensures { OnOk result (AppendsFirst line code.old code.new (control_of control.now)) }
 {
     code.line = line;
-    read_code(alloc, &control.last, code)?;
+    entire_value_code(alloc, &control.last, code)?;
     assign_read(alloc, line, &control.variable, &control.last, code)?;
     assign_read(alloc, line, &control.variable, &control.initial, code)
 }
@@ -52,16 +69,16 @@ pub(crate) fn first_code(
 fn assign_read(
     alloc: Global,
     line: Line,
-    place: &TypedPlace,
-    from: &TypedPlace,
+    variable: &EntireVariable,
+    from: &EntireVariable,
     code: &mut Code,
 ) -> Result<(), NoMemory>
     ensures { OnOk result (AppendsStmt code.old code.new
-        (Assign line (place_of place.now) (Read (place_of from.now)))) }
+        (Assign line (entire (entire_of variable.now)) (Read (entire (entire_of from.now))))) }
 {
     code.line = line;
-    place_code(alloc, place, code)?;
-    read_code(alloc, from, code)?;
+    entire_code(alloc, variable, code)?;
+    entire_value_code(alloc, from, code)?;
     emit(code, op::STORE, 0, 0)
 }
 
@@ -76,7 +93,7 @@ pub(crate) fn test_code(
 {
     code.line = line;
     emit(code, op::DUP, 0, 0)?;
-    read_code(alloc, &control.variable, code)?;
+    entire_value_code(alloc, &control.variable, code)?;
     apply_binary(Binary::Unequal, code)
 }
 
@@ -88,10 +105,10 @@ pub(crate) fn next_code(
     code: &mut Code,
 ) -> Result<(), NoMemory>
     ensures { OnOk result (AppendsStmt code.old code.new
-        (Assign line (control_of control.now).variable (next_value (control_of control.now)))) }
+        (Assign line (entire (control_of control.now).variable) (next_value (control_of control.now)))) }
 {
     code.line = line;
-    place_code(alloc, &control.variable, code)?;
+    entire_code(alloc, &control.variable, code)?;
     next_value_code(alloc, control, code)?;
     emit(code, op::STORE, 0, 0)
 }
@@ -100,12 +117,12 @@ pub(crate) fn next_code(
 pub(crate) fn undefine_code(
     alloc: Global,
     line: Line,
-    place: &TypedPlace,
+    variable: &EntireVariable,
     code: &mut Code,
 ) -> Result<(), NoMemory>
-    ensures { OnOk result (AppendsUndefine line code.old code.new (place_of place.now)) }
+    ensures { OnOk result (AppendsUndefine line code.old code.new (entire_of variable.now)) }
 {
     code.line = line;
-    place_code(alloc, place, code)?;
+    entire_code(alloc, variable, code)?;
     emit(code, op::UNDEFINE, 0, 0)
 }

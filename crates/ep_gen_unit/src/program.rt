@@ -1,21 +1,21 @@
 //! The object of a program.
 
 ghost use Rattle.std.specs.Prelude.{◌≡◌, ◌+◌, ◌<◌, ◌^◌, OnOk, IfOk, length};
-ghost use Rattle.ep_typed.specs.declared.value.TypeValue.TheVariants.{Ordinal};
 ghost use Rattle.ep_gen_expr.specs.Growth.{Grows};
-ghost use Rattle.ep_gen_unit.specs.StmtCode.{result_code, type_code, elaborating_code, make_code, make_all_code, value_code, place_taken, take_code, take_all_code};
+ghost use Rattle.ep_gen_unit.specs.StmtCode.{result_code, make_code, make_all_code, value_code, place_taken, take_code, take_all_code};
 ghost use Rattle.ep_gen_unit.specs.StmtGrowth.{AppendsEnd, AppendsStart, AppendsRoutine, AppendsRoutines, Follows, IsCompact, MakesBlock, MakesOwn, MakesResult, assembled};
 ghost use Rattle.ep_typed.specs.Auxiliaries.{auxiliary_variables, first_for};
 ghost use Rattle.ep_typed.specs.Viewed.{stmt_of};
 ghost use Rattle.ep_gen_unit.specs.UnitCode.{IsProgramCode, routine_at};
 
 use crate::statements::statement_code;
+use crate::types::elaborate;
 use ep_base::{Line, List, Name, NoMemory};
 use ep_gen_expr::{Code, NO_LINE, emit, field_number, next_place};
 use ep_object::{CodeRoutine, CodeRoutines, Object, op};
 use ep_typed::{
-    Formal, FormalMode, TypeValue, TypedStmt, Unit, UnitRoutine, UnitType, UnitVariable,
-    auxiliary_variables, first_for, run_error, type_of,
+    Formal, FormalMode, TypedStmt, Unit, UnitRoutine, UnitType, UnitVariable, auxiliary_variables,
+    first_for, run_error,
 };
 use std::alloc::{AllocError, Global};
 
@@ -167,7 +167,7 @@ fn make_result(types: &[UnitType], routine: &UnitRoutine, code: &mut Code) -> Re
         Some(result) => {
             let behind = field_sum(slot as usize, 1)?;
             code.line = routine.line;
-            elaborate(type_of(types, &result.denoter), code)?;
+            elaborate(types, &result.denoter, code)?;
             emit(code, op::MAKE, slot as i64, 0)?;
             Ok(behind)
         }
@@ -302,7 +302,7 @@ fn take_value(
 ) -> Result<(), NoMemory>
     ensures { OnOk result (Grows code.old code.new (value_code types.now code.old.line slot formal.now)) }
 {
-    elaborate(type_of(types, &formal.denoter), code)?;
+    elaborate(types, &formal.denoter, code)?;
     emit(code, op::MAKE, slot as i64, 0)?;
     emit(code, op::SLOT, slot as i64, 0)?;
     emit(code, op::ARG, slot as i64, 0)?;
@@ -327,35 +327,6 @@ fn make_variable(
     ensures { OnOk result (Follows code.old code.new (make_code types.now slot variable.now)) }
 {
     code.line = variable.line;
-    elaborate(type_of(types, &variable.denoter), code)?;
+    elaborate(types, &variable.denoter, code)?;
     emit(code, op::MAKE, slot as i64, 0)
-}
-
-/// Appends the code that elaborates a denoter of this type value. One without has no meaning and no code.
-fn elaborate(found: Option<TypeValue>, code: &mut Code) -> Result<(), NoMemory>
-    ensures { OnOk result (Grows code.old code.new (elaborating_code code.old.line found)) }
-{
-    match found {
-        None => Ok(()),
-        Some(type_value) => push_type(type_value, code),
-    }
-}
-
-/// Appends the code that leaves an ordinal type. The type of text files needs none.
-fn push_type(type_value: TypeValue, code: &mut Code) -> Result<(), NoMemory>
-    ensures { OnOk result (Grows code.old code.new (type_code code.old.line type_value)) }
-{
-    match type_value {
-        TypeValue::Ordinal(low, high) => push_ordinal(low, high, code),
-        TypeValue::Text => Ok(()),
-    }
-}
-
-/// Appends the code that leaves an ordinal type with these bounds.
-fn push_ordinal(low: i64, high: i64, code: &mut Code) -> Result<(), NoMemory>
-    ensures { OnOk result (Grows code.old code.new (type_code code.old.line (Ordinal low high))) }
-{
-    emit(code, op::PUSH, low, 0)?;
-    emit(code, op::PUSH, high, 0)?;
-    emit(code, op::T_ORD, 0, 0)
 }

@@ -39,6 +39,7 @@ fn is_text(types: &[TypeEntry], type_number: u32) -> Option<bool>
             Kind::Text => Some(true),
             Kind::Ord(_, _) => Some(false),
             Kind::Pointer => Some(false),
+            Kind::Array(_, _, _) => Some(false),
         },
         None => None,
     }

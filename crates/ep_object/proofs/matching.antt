@@ -2,12 +2,14 @@ pub mod Awaiting
 pub mod Beginning
 pub mod Changes
 pub mod Counts
+pub mod Described
 pub mod Elements
 pub mod Endings
 pub mod Growing
 pub mod HiddenWords
 pub mod Levels
 pub mod Names
+pub mod NewSegments
 pub mod NewVariables
 pub mod OwnVariables
 pub mod Standing

@@ -2,6 +2,7 @@ pub mod ArgumentRows
 pub mod Answers
 pub mod ChangeRows
 pub mod FrameRows
+pub mod IndexRow
 pub mod MakeRow
 pub mod NewTypes
 pub mod OwnRows

@@ -12,7 +12,7 @@ use Rattle.ep_typed.specs.Valid.{Declarations, Level, variables_up}
 use Rattle.ep_typed.specs.Viewed.{denoter_of}
 use Rattle.ep_typed.specs.declared.unit.UnitType.{UnitType}
 use Rattle.ep_typed.specs.declared.unit.UnitVariable.{UnitVariable}
-use Rattle.ep_typed.specs.declared.value.TypeValue.{TypeValue}
+use Rattle.ep_typed.specs.TypeValues.{TypeValue}
 
 -- A variable of the routine has a slot in the frame of its call: it holds a place of the variable once that is made, of a
 -- type that describes the one of the declaration, and none before.

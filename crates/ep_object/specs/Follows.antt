@@ -8,7 +8,7 @@ use Rattle.ep_typed.specs.Steps as meaning
 use Rattle.ep_typed.specs.Valid as kind
 use Rattle.ep_typed.specs.Valid.{Declarations, Kind}
 use Rattle.ep_typed.specs.Hosts.{Host, is_of_host}
-use Rattle.ep_typed.specs.declared.value.TypeValue.{TypeValue}
+use Rattle.ep_typed.specs.TypeValues.{TypeValue}
 use Rattle.ep_object.specs.Matching.{Memory, at, Injection, Matches, Slots, own_slot, Grown, IsSpot, Describes}
 use Rattle.ep_object.specs.Operands.{Operand, Word, Place, Text}
 use Rattle.ep_object.specs.Runs.{run, tick}

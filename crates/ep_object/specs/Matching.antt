@@ -1,23 +1,26 @@
 -- When a state of the machine matches a state of the meaning.
-use Rattle.std.specs.Prelude.{◌≡◌, ℕ, ℤ, zero, suc, ◌+◌, ◌*◌, ◌≤◌, ◌==◌, Bool, true, false, IsTrue, List, [], ◌∷◌, length, slice_get, Option, Some, None, option_map, ⊤, if◌then◌else◌}
+use Rattle.std.specs.Prelude.{◌≡◌, ℕ, ℤ, zero, suc, ◌+◌, ◌*◌, ◌≤◌, ◌<◌, ◌==◌, cond, ltb, Bool, true, false, IsTrue, List, [], ◌∷◌, length, slice_get, Option, Some, None, option_map, ⊤, if◌then◌else◌}
 use Rattle.std.specs.List.{list_any}
 use Rattle.ep_outside.specs.Known.{IsPrefix}
+use Rattle.ep_typed.specs.Bounds.{count_of}
 use Rattle.ep_typed.specs.Denoters.{IsInstance}
 use Rattle.ep_typed.specs.Events.{Trace}
 use Rattle.ep_typed.specs.Operations.{is_integer}
-use Rattle.ep_typed.specs.Steps.{Value, Undefined, Component, Allocation, Resources, is_within, same_type, size_of}
+use Rattle.ep_typed.specs.Steps.{Value, Undefined, Component, Allocation, Resources, component_of, is_within, same_type, size_of}
 use Rattle.ep_typed.specs.Steps as meaning
 use Rattle.ep_typed.specs.Valid.{Declarations}
 use Rattle.ep_typed.specs.Viewed.{denoter_of}
-use Rattle.ep_typed.specs.declared.value.TypeValue.{TypeValue}
-use Rattle.ep_typed.specs.declared.value.TypeValue.TheVariants as type
+use Rattle.ep_typed.specs.TypeValues.{TypeValue}
+use Rattle.ep_typed.specs.TypeValues as type
 use Rattle.ep_typed.specs.declared.unit.UnitVariable.{UnitVariable}
 use Rattle.ep_object.specs.Frames.{slots_over}
 use Rattle.ep_object.specs.Operands.{Operand}
 use Rattle.ep_object.specs.State.{Frames, Segments, TypeTable, State, text_entry, first_types, undefined}
-use Rattle.ep_object.specs.Types.{ordinal_entry, size_of_kind}
+use Rattle.ep_object.specs.Types.{ordinal_entry, array_entry}
 use Rattle.ep_object.specs.declared.code.Image.{Image}
 use Rattle.ep_object.specs.declared.code.ImageUnit.{ImageUnit}
+use Rattle.ep_object.specs.declared.state.Kind.{Kind}
+use Rattle.ep_object.specs.declared.state.Kind.TheVariants as kind
 use Rattle.ep_object.specs.declared.state.Place.{Place}
 use Rattle.ep_object.specs.declared.state.Segment.{Segment}
 use Rattle.ep_object.specs.declared.state.TypeEntry.{TypeEntry}
@@ -70,6 +73,8 @@ IsOf injection (suc n) t = option_map (λ m. m.type_value) (slice_get injection 
 abbrev pub Describes : TypeTable → ℕ → TypeValue → Type 0
 Describes types n (type.Ordinal low high) = slice_get types n ≡ Some (ordinal_entry low high)
 Describes types n type.Text = slice_get types n ≡ Some text_entry
+Describes types n (type.Array low high of) =
+    (c : ℕ) × (slice_get types n ≡ Some (array_entry low high c (size_of (type.Array low high of)))) × Describes types c of
 
 -- a component of a type: how many words are before it, and its type
 pub record Part : Type 0 where
@@ -84,6 +89,7 @@ part_behind n (Some p) = Some (record p { offset = n + p.offset })
 abbrev pub part_of : TypeValue → ℕ → Option Part
 part_of (type.Ordinal low high) k = None
 part_of type.Text k = None
+part_of (type.Array low high of) k = cond (ltb k (count_of low high)) (Some (record { offset = k * size_of of; type_value = of })) None
 
 -- the part at a path, of a part that begins behind so many words
 abbrev pub part_along : Option Part → List ℕ → Option Part
@@ -122,6 +128,8 @@ FileAt (meaning.Components of) word = ⊥
 abbrev pub HasAt : Injection → TypeValue → Value → Words → ℕ → Type 0
 HasAt injection (type.Ordinal low high) value words offset = OrdinalAt low high value (words offset)
 HasAt injection type.Text value words offset = FileAt value (words offset)
+HasAt injection (type.Array low high of) value words offset =
+    (k : ℕ) → k < count_of low high → HasAt injection of (component_of value k) words (offset + k * size_of of)
 
 -- A segment has as many words as the type of an allocation that lives, they hold its value, and the segment's type describes
 -- the allocation's.
@@ -206,11 +214,18 @@ pub record MatchesStore (injection : Injection) (allocations : List Allocation) 
   pub represented : (n segment : ℕ) (allocation : Allocation) → IsIn injection n segment
       → meaning.allocation_at allocations n ≡ Some allocation → IsRepresented injection segments types segment allocation
 
+-- the size that a type of this kind has
+abbrev pub HasSize : TypeTable → Kind → ℕ → Type 0
+HasSize types (kind.Ord low high) size = size ≡ 1
+HasSize types kind.Pointer size = size ≡ 1
+HasSize types kind.Text size = size ≡ 1
+HasSize types (kind.Array low high c) size = (e : TypeEntry) × (slice_get types c ≡ Some e) × (size ≡ count_of low high * e.size)
+
 -- The types: the table begins with the first ones, each entry has the size that its kind gives, none stands twice, and one
 -- describes each type value that was elaborated. Which others there are is left open.
 pub record MatchesTypes (elaborated : List TypeValue) (types : TypeTable) : Type 0 where
   pub first : IsPrefix first_types types
-  pub sized : (n : ℕ) (entry : TypeEntry) → slice_get types n ≡ Some entry → entry.size ≡ size_of_kind entry.kind
+  pub sized : (n : ℕ) (entry : TypeEntry) → slice_get types n ≡ Some entry → HasSize types entry.kind entry.size
   pub shared : (m n : ℕ) (entry : TypeEntry) → slice_get types m ≡ Some entry → slice_get types n ≡ Some entry
       → m ≡ n
   pub known : (t : TypeValue) → IsTrue (list_any (same_type t) elaborated) → (n : ℕ) × Describes types n t
@@ -243,9 +258,10 @@ pub record MatchesUnits (declared : Declarations) (G : Image) (injection : Injec
   pub typed : (unit : List ℕ) (k : ℕ) (c : Component) (v : UnitVariable) → variables unit k ≡ Some c
       → declared.variables unit k ≡ Some v → IsOfType allocations c (HasType declared unit v)
 
--- the outside: `output` is the second allocation and the second segment, and lives
+-- the outside: `output` is the second allocation and the second segment, is a text file, and lives
 pub record MatchesOutside (injection : Injection) (allocations : List Allocation) : Type 0 where
   pub output : IsIn injection 2 2
+  pub file : IsOf injection 2 type.Text
   pub lives : meaning.ended_in (meaning.allocation_at allocations 2) ≡ false
 
 -- The counts: no more words live than were counted, where a type value counts 4 for each of its words; hidden segments

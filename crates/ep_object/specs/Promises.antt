@@ -8,7 +8,7 @@ use Rattle.ep_typed.specs.declared.interface.Formal.{Formal}
 use Rattle.ep_typed.specs.declared.interface.FormalMode.{FormalMode}
 use Rattle.ep_typed.specs.declared.interface.FormalMode.TheVariants as mode
 use Rattle.ep_typed.specs.declared.unit.UnitType.{UnitType}
-use Rattle.ep_typed.specs.declared.value.TypeValue.{TypeValue}
+use Rattle.ep_typed.specs.TypeValues.{TypeValue}
 use Rattle.ep_object.specs.Follows.{end_of, Operands, point, state_at, operand_of, Fragment, Since, Lands, Inside, GivesUp}
 use Rattle.ep_object.specs.Activations.{IsCallable}
 use Rattle.ep_object.specs.Matching.{Memory, Injection, Matches, IsSpot, Describes, kept_slots}

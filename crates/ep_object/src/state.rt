@@ -52,6 +52,8 @@ pub enum Kind {
     Pointer,
     /// The type of text files.
     Text,
+    /// An array type with the bounds of its index type, and the number of the type of its components.
+    Array(i64, i64, u32),
 }
 
 /// An entry of the type table.

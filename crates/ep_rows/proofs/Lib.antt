@@ -1,2 +1,4 @@
 mod Endings
+mod IndexTypes
+mod Indexing
 mod Making

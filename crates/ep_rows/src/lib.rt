@@ -6,6 +6,7 @@
 //! ep_machine.
 #![tactic(auto)]
 
+mod bounds;
 pub mod control;
 pub mod places;
 pub mod pointers;

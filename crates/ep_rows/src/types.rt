@@ -1,42 +1,47 @@
-//! The row that makes an ordinal type.
+//! The rows that make types. Equal types have one number.
 
 ghost use Rattle.std.specs.Prelude.{◌≡◌, ◌<◌, ◌≤◌, ◌+◌, ◌*◌, ◌^◌, suc, length, Option, Some, None, MatchOption};
-ghost use Rattle.ep_object.specs.Types.{is_ordinal as is_that, ordinal_number as number_of, ord_row, ordinal_of, ordinal_entry as ordinal, added};
+ghost use Rattle.ep_object.specs.Types.{same_kind as is_same, kind_number as number_of, words_of_kind as words_of, ord_row, ordinal_entry as ordinal, added, interned, entry_of as type_of, bounds_of as kind_bounds, arr_row};
 ghost use Rattle.ep_rows.specs.Steps.{IsStep};
 ghost use Rattle.ep_rows.specs.Parts.{typing};
 
 use crate::step::Step;
-use crate::words;
+use crate::{bounds, places, words};
 use ep_frames::Stack;
 use ep_object::{Kind, TypeEntry, limit};
 use ep_typed::run_error;
 
-/// Whether the kind is the ordinal one with these bounds.
-fn is_ordinal(lo: i64, hi: i64, kind: Kind) -> bool
-    ensures { result ≡ is_that lo hi kind }
+/// Whether two kinds are the same.
+fn same_kind(a: Kind, b: Kind) -> bool
+    ensures { result ≡ is_same a b }
 {
-    match kind {
-        Kind::Ord(l, h) => lo == l && hi == h,
-        Kind::Pointer => false,
-        Kind::Text => false,
+    match (a, b) {
+        (Kind::Ord(lo, hi), Kind::Ord(l, h)) => lo == l && hi == h,
+        (Kind::Pointer, Kind::Pointer) => true,
+        (Kind::Text, Kind::Text) => true,
+        (Kind::Array(lo, hi, c), Kind::Array(l, h, d)) => lo == l && hi == h && c == d,
+        _ => false,
     }
 }
 
-/// The number of the ordinal type with these bounds.
+/// The number of the type of this kind.
 #[inline(never)]
-fn ordinal_number(lo: i64, hi: i64, types: &[TypeEntry]) -> Option<usize>
-    ensures { result ≡ number_of lo hi types.now }
+fn kind_number(kind: Kind, types: &[TypeEntry]) -> Option<usize>
+    ensures { result ≡ number_of kind types.now }
 {
-    types.iter().position(|e| is_ordinal(lo, hi, e.kind))
+    types.iter().position(|e| same_kind(kind, e.kind))
 }
 
-/// The ordinal type with these bounds.
-fn ordinal_entry(lo: i64, hi: i64) -> TypeEntry
-    ensures { result ≡ ordinal lo hi }
+/// How many words a new type of this kind counts.
+fn words_of_kind(kind: Kind) -> u64
+    ensures words { result ≡ words_of kind }
+    ensures small { result ≤ 2 }
 {
-    TypeEntry {
-        kind: Kind::Ord(lo, hi),
-        size: 1,
+    match kind {
+        Kind::Ord(_, _) => 1,
+        Kind::Pointer => 1,
+        Kind::Text => 1,
+        Kind::Array(_, _, _) => 2,
     }
 }
 
@@ -50,29 +55,37 @@ fn add(entry: TypeEntry, types: &mut Vec<TypeEntry>, live: &mut u64, stack: &mut
     if number as u64 >= limit::TYPES {
         return Step::Error(run_error::STORAGE_LIMIT);
     }
-    if *live >= limit::LIVE_WORDS {
+    let words = words_of_kind(entry.kind);
+    if !places::has_room(*live, words) {
         return Step::Error(run_error::STORAGE_LIMIT);
     }
     if types.push(entry).is_err() {
         return Step::NoMemory;
     }
-    *live += 1;
+    *live += words;
     words::push_word(stack, number as i64)
 }
 
-/// The number that the ordinal type has, or a new one.
+/// The number that the type has, or a new one.
 #[inline(always)]
-fn intern(lo: i64, hi: i64, types: &mut Vec<TypeEntry>, live: &mut u64, stack: &mut Stack) -> Step
-    ensures { IsStep (ordinal_of lo hi stack.old (typing stack.old types.old.items live.old)) result
+fn intern(entry: TypeEntry, types: &mut Vec<TypeEntry>, live: &mut u64, stack: &mut Stack) -> Step
+    ensures { IsStep (interned entry stack.old (typing stack.old types.old.items live.old)) result
         (typing stack.new types.new.items live.new) }
 {
-    if lo > hi {
-        return Step::Error(run_error::OUTSIDE_DOMAIN);
-    }
-    if let Some(number) = ordinal_number(lo, hi, types) {
+    if let Some(number) = kind_number(entry.kind, types) {
         return words::push_word(stack, number as i64);
     }
-    add(ordinal_entry(lo, hi), types, live, stack)
+    add(entry, types, live, stack)
+}
+
+/// The ordinal type with these bounds.
+fn ordinal_entry(lo: i64, hi: i64) -> TypeEntry
+    ensures { result ≡ ordinal lo hi }
+{
+    TypeEntry {
+        kind: Kind::Ord(lo, hi),
+        size: 1,
+    }
 }
 
 /// The ordinal type with two bounds.
@@ -82,7 +95,60 @@ pub fn ord(types: &mut Vec<TypeEntry>, live: &mut u64, stack: &mut Stack) -> Ste
         (typing stack.new types.new.items live.new) }
 {
     match words::pop_two_words(stack) {
-        Some((lo, hi)) => intern(lo, hi, types, live, stack),
+        Some((lo, hi)) => {
+            if lo > hi {
+                return Step::Error(run_error::OUTSIDE_DOMAIN);
+            }
+            intern(ordinal_entry(lo, hi), types, live, stack)
+        }
         None => Step::Broken,
     }
+}
+
+/// The type that a word numbers, with the number.
+fn entry_of(types: &[TypeEntry], w: i64) -> Option<(usize, TypeEntry)>
+    ensures { MatchOption result (type_of types.now w ≡ None)
+        (λ p. type_of types.now w ≡ Some (record { number = p.0; entry = p.1 })) }
+{
+    match places::index(types.len(), w) {
+        Some(number) => Some((number, types[number])),
+        None => None,
+    }
+}
+
+/// The bounds of an ordinal type.
+fn bounds_of(kind: Kind) -> Option<(i64, i64)>
+    ensures { result ≡ kind_bounds kind }
+{
+    match kind {
+        Kind::Ord(lo, hi) => Some((lo, hi)),
+        _ => None,
+    }
+}
+
+/// The array type with the index type and the component type of these numbers.
+pub fn arr(types: &mut Vec<TypeEntry>, live: &mut u64, stack: &mut Stack) -> Step
+    ensures { IsStep (arr_row (typing stack.old types.old.items live.old)) result
+        (typing stack.new types.new.items live.new) }
+{
+    let Some((index, component)) = words::pop_two_words(stack) else {
+        return Step::Broken;
+    };
+    let Some((_, index_type)) = entry_of(types, index) else {
+        return Step::Broken;
+    };
+    let Some((lo, hi)) = bounds_of(index_type.kind) else {
+        return Step::Broken;
+    };
+    let Some((number, component_type)) = entry_of(types, component) else {
+        return Step::Broken;
+    };
+    let Some(size) = bounds::array_size(lo, hi, component_type.size) else {
+        return Step::Error(run_error::STORAGE_LIMIT);
+    };
+    let Ok(number) = u32::try_from(number) else {
+        return Step::NoMemory;
+    };
+    let kind = Kind::Array(lo, hi, number);
+    intern(TypeEntry { kind, size }, types, live, stack)
 }

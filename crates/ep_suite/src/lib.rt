@@ -20,6 +20,8 @@ mod texts;
 #[cfg(test)]
 mod tokens;
 #[cfg(test)]
+mod typed_arrays;
+#[cfg(test)]
 mod typed_functions;
 #[cfg(test)]
 mod typed_programs;

@@ -387,6 +387,75 @@ Unit:-1:1 Push:1 Push:5 TOrd Drop Push:1 Push:5 TOrd Form Put Return=5|normal|13
 Push:5 Push:1 TOrd=|error 5 at 3|3\n\
 Push:1 Push:5 TOrd Make:0 Slot:0 Push:6 Store=|error 2 at 7|8";
 
+/// Array types, by the numbers of an index type and a component type: 0 integer, 1 char, 2 Boolean, 3 text, 4 pointer.
+/// A variable of one has 16,777,216 words at most.
+const ARRAY_TYPES: &str = "\
+Unit:-1:1 Push:1 Push:3 TOrd Push:0 TArr Form Put Return=6|normal|11\n\
+Unit:-1:1 Push:2 Push:0 TArr Form Put Return=5|normal|9\n\
+Unit:-1:1 Push:2 Push:0 TArr Drop Push:2 Push:0 TArr Form Put Return=5|normal|13\n\
+Unit:-1:1 Push:2 Push:0 TArr Drop Push:2 Push:1 TArr Form Put Return=6|normal|13\n\
+Unit:-1:1 Push:2 Push:0 TArr Drop Push:1 Push:0 TArr Form Put Return=6|normal|13\n\
+Unit:-1:1 Push:2 Push:0 TArr Drop Push:0 Push:1 TOrd Form Put Return=2|normal|13\n\
+Unit:-1:1 Push:2 Push:2 Push:0 TArr TArr Form Put Return=6|normal|11\n\
+Unit:-1:1 Push:1 Push:16777216 TOrd Push:0 TArr Form Put Return=6|normal|11\n\
+Push:1 Push:16777217 TOrd Push:0 TArr=|error 24 at 5|5\n\
+Unit:-1:1 Push:1 Push:4096 TOrd Push:1 Push:4096 TOrd Push:0 TArr TArr Form Put Return=7|normal|15\n\
+Push:1 Push:4096 TOrd Push:1 Push:4097 TOrd Push:0 TArr TArr=|error 24 at 9|9\n\
+Push:0 Push:0 TArr=|error 24 at 3|3\n\
+Push:0 Push:1 Push:16777216 TOrd Push:0 TArr TArr=|error 24 at 7|7\n\
+Push:-9223372036854775808 Push:9223372036854775807 TOrd Push:0 TArr=|error 24 at 5|5\n\
+Push:1 Push:16777216 TOrd Push:0 TArr Make:0=|error 24 at 6|6\n\
+Push:3 Push:0 TArr=|broken at 2|3\n\
+Push:4 Push:0 TArr=|broken at 2|3\n\
+Push:2 Push:0 TArr Push:0 TArr=|broken at 4|5\n\
+Push:5 Push:0 TArr=|broken at 2|3\n\
+Push:-1 Push:0 TArr=|broken at 2|3\n\
+Push:2 Push:5 TArr=|broken at 2|3\n\
+Push:2 Push:-1 TArr=|broken at 2|3\n\
+Push:2 TArr=|broken at 1|2\n\
+Unit:-1:1 Push:0 TArr=|broken at 2|3\n\
+Push:2 Push:0 TArr:1=|broken at 2|3\n\
+Push:2 Push:0 TArr:0:1=|broken at 2|3";
+
+/// Components of arrays. Those of one type stand one behind the other.
+const COMPONENTS: &str = "\
+Unit:-1:1 Push:1 Push:3 TOrd Push:0 TArr Make:0 \
+Slot:0 Push:1 Index Push:7 Store Slot:0 Push:3 Index Push:9 Store \
+Slot:0 Push:1 Index Load Slot:0 Push:3 Index Load Sub Form Put Return=-2|normal|36\n\
+Push:1 Push:3 TOrd Push:0 TArr Make:0 Slot:0 Push:1 Index Push:7 Store \
+Slot:0 Push:2 Index Load=|error 1 at 15|18\n\
+Push:1 Push:3 TOrd Push:0 TArr Make:0 Slot:0 Push:0 Index=|error 3 at 9|12\n\
+Push:1 Push:3 TOrd Push:0 TArr Make:0 Slot:0 Push:4 Index=|error 3 at 9|12\n\
+Push:1 Push:3 TOrd Push:0 TArr Make:0 Slot:0 Push:-9223372036854775808 Index=|error 3 at 9|12\n\
+Unit:-1:1 Push:-2 Push:1 TOrd Push:0 TArr Make:0 \
+Slot:0 Push:-2 Index Push:5 Store Slot:0 Push:1 Index Push:7 Store \
+Slot:0 Push:-2 Index Load Slot:0 Push:1 Index Load Sub Form Put Return=-2|normal|37\n\
+Push:-2 Push:1 TOrd Push:0 TArr Make:0 Slot:0 Push:-3 Index=|error 3 at 9|13\n\
+Push:-2 Push:1 TOrd Push:0 TArr Make:0 Slot:0 Push:2 Index=|error 3 at 9|13\n\
+Unit:-1:1 Push:2 Push:1 Push:3 TOrd Push:0 TArr TArr Make:0 \
+Slot:0 Push:1 Index Push:2 Index Push:5 Store Slot:0 Push:0 Index Push:3 Index Push:7 Store \
+Slot:0 Push:1 Index Push:2 Index Load Slot:0 Push:0 Index Push:3 Index Load Sub Form Put \
+Return=-2|normal|49\n\
+Push:2 Push:1 Push:3 TOrd Push:0 TArr TArr Make:0 Slot:0 Push:1 Index Push:4 Index=|error 3 at 13|19\n\
+Push:2 Push:1 Push:3 TOrd Push:0 TArr TArr Make:0 Slot:0 Push:1 Index Load=|broken at 11|18\n\
+Push:2 Push:2 TArr Make:0 Slot:0 Push:1 Index Push:2 Store=|error 2 at 9|11\n\
+Push:2 Push:0 TArr Make:0 Slot:0 Load=|broken at 5|8\n\
+Push:2 Push:0 TArr Make:0 Slot:0 Push:1 Store=|broken at 6|9\n\
+Push:2 Push:0 TArr Make:0 Slot:0 Undefine=|broken at 5|8\n\
+Push:2 Push:0 TArr Make:0 Slot:0 Defined=|broken at 5|8\n\
+Push:2 Push:0 TArr Make:0 Slot:0 Text:0 Put=|broken at 6|11\n\
+Push:0 Make:0 Slot:0 Push:1 Index=|broken at 4|6\n\
+Unit:-1:1 Push:0 Index=|broken at 2|3\n\
+Push:1 Push:1 Index=|broken at 2|3\n\
+Push:2 Push:0 TArr Make:0 Slot:0 Text:0 Index=|broken at 6|11\n\
+Push:1 Index=|broken at 1|2\n\
+Index=|broken at 0|1\n\
+Push:2 Push:0 TArr Make:0 Slot:0 Push:1 Index:1=|broken at 6|9\n\
+Push:2 Push:0 TArr Make:0 Slot:0 Push:1 Index:0:1=|broken at 6|9\n\
+Push:2 Push:0 TArr New Dup Deref Bind:0 Dispose Slot:0 Push:1 Index=|error 11 at 11|13\n\
+Push:2 Push:0 TArr New Dup Deref Bind:0 Dispose Slot:0 Push:5 Index=|error 11 at 11|13\n\
+Push:2 Push:0 TArr New Dup Deref Push:1 Index Bind:0 Dispose Slot:0 Load=|error 11 at 12|14";
+
 /// What is printed.
 const PRINTS: &str = "\
 Unit:-1:1 Push:65 Chars Put Return=A|normal|7\n\
@@ -405,8 +474,21 @@ Push:0 Make:0 Slot:0 Text:0 Put=|broken at 4|8";
 #[test]
 fn each_row_comes_to_what_the_table_of_instructions_says(rt: HostRuntime) -> Result<(), Fail> {
     for table in [
-        OPERANDS, JUMPS, VARIABLES, PLACES, POINTERS, DISPOSALS, ARGUMENTS, CALLS, LEVELS, SUMS,
-        TRUTHS, TYPES, PRINTS,
+        OPERANDS,
+        JUMPS,
+        VARIABLES,
+        PLACES,
+        POINTERS,
+        DISPOSALS,
+        ARGUMENTS,
+        CALLS,
+        LEVELS,
+        SUMS,
+        TRUTHS,
+        TYPES,
+        ARRAY_TYPES,
+        COMPONENTS,
+        PRINTS,
     ] {
         let differing = differing(rt.alloc(), table)?;
         assert_eq!(rt; differing.as_str(), "");
@@ -437,10 +519,13 @@ fn a_run_stops_at_its_budget_and_a_further_one_goes_on(rt: HostRuntime) -> Resul
 
 /// 16,777,216 words may live, of which `input` and `output` are 4 and a variable of one word is 2. So 8,388,606 of them
 /// are made, each in five ticks with what stands around it, and the next one ends the run at its second tick. One that
-/// is disposed of at once gives its words back, however often.
+/// is disposed of at once gives its words back, however often. An ordinal type is 1 word and an array type 2, so besides
+/// these the array may have 16,777,208.
 const STORAGE: &str = "\
 Push:0 New Drop Jump:0=|error 24 at 2|41943032=50000000\n\
-Push:0 New Dispose Jump:0=|budget|45000000=45000000";
+Push:0 New Dispose Jump:0=|budget|45000000=45000000\n\
+Push:1 Push:16777208 TOrd Push:0 TArr Make:0 Return=|normal|16777215=20000000\n\
+Push:1 Push:16777209 TOrd Push:0 TArr Make:0=|error 24 at 6|6=20000000";
 
 #[test]
 fn variables_are_made_up_to_the_limit_of_words_that_live(rt: HostRuntime) -> Result<(), Fail> {

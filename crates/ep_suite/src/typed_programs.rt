@@ -391,7 +391,7 @@ fn trees_have_their_code(rt: HostRuntime) -> Result<(), Fail> {
 }
 
 /// The denoter `0..9`.
-fn digits(alloc: Global) -> Result<Denoter, Unbuilt> {
+pub(crate) fn digits(alloc: Global) -> Result<Denoter, Unbuilt> {
     let host = Boxed::new(alloc, Denoter::Required(RequiredType::Integer))?;
     Ok(Denoter::Subrange(host, Bound::Constant(0), Bound::Constant(9)))
 }

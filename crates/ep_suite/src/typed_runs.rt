@@ -3,54 +3,65 @@
 use crate::images::image;
 use crate::machine::end_of;
 use crate::typed_programs::builder::{Builder, Step, Unbuilt};
-use crate::typed_programs::{unit_of, variable};
-use ep_base::{Boxed, List, Name};
+use crate::typed_programs::{digits, unit_of, variable};
+use ep_base::{List, Name};
 use ep_gen_unit::program_code;
 use ep_machine::{End, Machine};
 use ep_object::{Image, Object};
 use ep_outside::SureSink;
 use ep_typed::{
-    Binary, Bound, Denoter, Formal, FormalMode, Formals, Print, RequiredType, RoutineNumbers,
-    TypedStmt, Unary, UnitRoutine, UnitRoutines, UnitVariables,
+    Binary, Denoter, Formal, FormalMode, Formals, Print, RequiredType, RoutineNumbers, TypedStmt,
+    Unary, UnitRoutine, UnitRoutines, UnitVariables,
 };
 use std::alloc::{AllocError, Global};
 use std::test::Fail;
 
-/// A formal parameter: an integer, or of the type `0..9`.
+/// The type of a formal parameter.
+#[derive(Clone, Copy)]
+pub(crate) enum Of {
+    /// `integer`
+    Integer,
+    /// `0..9`
+    Digit,
+    /// The first type of the program.
+    First,
+}
+
+/// A formal parameter.
 #[derive(Clone, Copy)]
 pub(crate) struct Parameter {
-    mode: FormalMode,
-    digit: bool,
+    pub(crate) mode: FormalMode,
+    pub(crate) of: Of,
 }
 
 /// A procedure: its formal parameters, how many integer variables it has, which are numbered behind them, the procedures
 /// around it, the innermost first, and its statements.
 #[derive(Clone, Copy)]
-struct Routine {
-    formals: &'static [Parameter],
-    variables: u32,
-    around: &'static [u32],
-    steps: &'static [Step],
+pub(crate) struct Routine {
+    pub(crate) formals: &'static [Parameter],
+    pub(crate) variables: u32,
+    pub(crate) around: &'static [u32],
+    pub(crate) steps: &'static [Step],
 }
 
 pub(crate) const BY_VALUE: Parameter = Parameter {
     mode: FormalMode::Value,
-    digit: false,
+    of: Of::Integer,
 };
 
 const PROTECTED: Parameter = Parameter {
     mode: FormalMode::ProtectedValue,
-    digit: false,
+    of: Of::Integer,
 };
 
 pub(crate) const BY_REFERENCE: Parameter = Parameter {
     mode: FormalMode::Variable,
-    digit: false,
+    of: Of::Integer,
 };
 
 const DIGIT: Parameter = Parameter {
     mode: FormalMode::Value,
-    digit: true,
+    of: Of::Digit,
 };
 
 /// The procedures of a program `main` with an integer variable, the statements of the program, the budget of its run, and
@@ -560,12 +571,11 @@ pub(crate) fn integer(alloc: Global) -> Result<UnitVariables, Unbuilt> {
 
 /// The denoter of a formal parameter.
 fn denoter_of(alloc: Global, parameter: Parameter) -> Result<Denoter, Unbuilt> {
-    let integer = Denoter::Required(RequiredType::Integer);
-    if !parameter.digit {
-        return Ok(integer);
+    match parameter.of {
+        Of::Integer => Ok(Denoter::Required(RequiredType::Integer)),
+        Of::Digit => digits(alloc),
+        Of::First => Ok(Denoter::Named(0, List::new(alloc))),
     }
-    let host = Boxed::new(alloc, integer)?;
-    Ok(Denoter::Subrange(host, Bound::Constant(0), Bound::Constant(9)))
 }
 
 pub(crate) fn formals(alloc: Global, parameters: &[Parameter]) -> Result<Formals, Unbuilt> {
@@ -618,7 +628,7 @@ fn procedure(alloc: Global, routine: Routine) -> Result<UnitRoutine, Unbuilt> {
     })
 }
 
-fn procedures(alloc: Global, all: &[Routine]) -> Result<UnitRoutines, Unbuilt> {
+pub(crate) fn procedures(alloc: Global, all: &[Routine]) -> Result<UnitRoutines, Unbuilt> {
     let mut routines = List::new(alloc);
     for routine in all {
         routines.push(procedure(alloc, *routine)?)?;

@@ -4,7 +4,7 @@ use Rattle.ep_typed.specs.Auxiliaries.{auxiliary_variable, auxiliary_variables}
 use Rattle.ep_typed.specs.Denoters.{host_of, required_type}
 use Rattle.ep_typed.specs.Hosts as host
 use Rattle.ep_typed.specs.Trees.{Required}
-use Rattle.ep_typed.specs.Valid.{IsDenoter, IsVariable}
+use Rattle.ep_typed.specs.Valid.{required, IsDenoter, IsVariable}
 use Rattle.ep_typed.specs.Viewed.{denoter_of}
 use Rattle.ep_typed.specs.declared.denoter.RequiredType.TheVariants as simple
 use Rattle.ep_typed.specs.declared.unit.UnitType.{UnitType}
@@ -12,7 +12,7 @@ use Rattle.ep_typed.specs.declared.unit.UnitVariable.{UnitVariable}
 use Rattle.ep_typed.proofs.Forms.{required_is}
 
 integer_valid : (types : List UnitType) → IsDenoter types (Required simple.Integer)
-integer_valid types = record { host = host.Integer; has_host = refl; type_value = required_type simple.Integer; has_type = refl; is_type = (refl, refl, refl, refl, refl) }
+integer_valid types = record { type_value = required_type simple.Integer; has_type = refl; typed = required simple.Integer }
 
 pub auxiliary_valid : (types : List UnitType) (line : ℕ) → IsVariable types (auxiliary_variable line)
 auxiliary_valid types line = record { denoter = subst (λ d. IsDenoter types d) (sym (required_is simple.Integer)) (integer_valid types); tuple = refl }

@@ -1,13 +1,21 @@
 -- What is found for a denoter is its type value, and a denoter has at most one.
-use Rattle.std.proofs.Common.{◌≡◌, arith, ℕ, pos, zero, suc, List, [], ◌∷◌, length, Option, Some, None, slice_get, refl, sym, ap, ◌∙◌, subst}
+use Rattle.std.proofs.Common.{◌≡◌, ℕ, ℤ, pos, zero, suc, List, [], ◌∷◌, length, Option, Some, None, slice_get, refl, sym, ◌∙◌, subst}
 use Rattle.std.proofs.lemmas.Option.{same_Some}
-use Rattle.ep_typed.specs.Denoters.{IsInstance, required, named, subrange, enumeration, required_type, definition_of, subrange_type, enumeration_type, found_of, type_step, type_within}
+use Rattle.ep_typed.specs.Denoters.{IsInstance, required, named, subrange, enumeration, array, required_type, definition_of, array_type, found_of, type_step, type_within}
 use Rattle.ep_typed.specs.Laws.{TypesAreInstances, InstancesAreOne}
-use Rattle.ep_typed.specs.Trees.{Bound, Fixed, Denoter, Required, Named, Subrange, Enumeration}
-use Rattle.ep_typed.specs.declared.denoter.RequiredType.{RequiredType}
+use Rattle.ep_typed.specs.Trees.{Fixed, Denoter, Required, Named, Subrange, Enumeration, Array}
 use Rattle.ep_typed.specs.declared.unit.UnitType.{UnitType}
-use Rattle.ep_typed.specs.declared.value.TypeValue.{TypeValue}
-use Rattle.ep_typed.specs.declared.value.TypeValue.TheVariants.{Ordinal}
+use Rattle.ep_typed.specs.TypeValues as type
+use Rattle.ep_typed.specs.TypeValues.{TypeValue, Ordinal}
+
+-- the type value of an array comes from that of its index type, which is ordinal, and that of its components
+pub of_array : (o p : Option TypeValue) (v : TypeValue) → array_type o p ≡ Some v
+    → (low high : ℤ) × (of : TypeValue) × (o ≡ Some (Ordinal low high)) × (p ≡ Some of) × (v ≡ type.Array low high of)
+of_array None p v e = cc
+of_array (Some (Ordinal low high)) None v e = cc
+of_array (Some (Ordinal low high)) (Some of) v e = (low, high, of, refl, refl, same_Some v (type.Array low high of) (sym e))
+of_array (Some type.Text) p v e = cc
+of_array (Some (type.Array l h t)) p v e = cc
 
 module _ (types : List UnitType) where
   -- what is found of a denoter is its type value, where that is so of definitions
@@ -22,6 +30,10 @@ module _ (types : List UnitType) where
   instance_step find h (Subrange host (Fixed low) (Fixed high)) v e = subst (λ w. IsInstance types (Subrange host (Fixed low) (Fixed high)) w) (same_Some (Ordinal low high) v e) (subrange host low high)
   instance_step find h (Enumeration []) v e = cc
   instance_step find h (Enumeration (first ∷ others)) v e = subst (λ w. IsInstance types (Enumeration (first ∷ others)) w) (same_Some _ v e) (enumeration first others)
+  instance_step find h (Array index component) v e =
+      let p = of_array (type_step types find index) (type_step types find component) v e in
+      subst (λ w. IsInstance types (Array index component) w) (sym p.5)
+      (array index component p.0 p.1 p.2 (instance_step find h index (Ordinal p.0 p.1) p.3) (instance_step find h component p.2 p.4))
 
   -- however many denoters are looked at
   instance_within : (n : ℕ) (d : Denoter) (v : TypeValue) → type_within types n d ≡ Some v → IsInstance types d v
@@ -32,6 +44,9 @@ module _ (types : List UnitType) where
 pub types_are_instances : TypesAreInstances
 types_are_instances types d v e = instance_within types (suc (length types)) d v e
 
+same_ordinal : (l h m k : ℤ) → Ordinal l h ≡ Ordinal m k → (l ≡ m) × (h ≡ k)
+same_ordinal l h m k e = (cc, cc)
+
 module _ (types : List UnitType) where
   -- what a type value of a denoter of each form comes from
   abbrev IsOf : Denoter → TypeValue → Type 0
@@ -41,12 +56,15 @@ module _ (types : List UnitType) where
   IsOf (Subrange host (Fixed low) (Fixed high)) v = Ordinal low high ≡ v
   IsOf (Enumeration []) v = ⊥
   IsOf (Enumeration (first ∷ others)) v = Ordinal (pos 0) (pos (length others)) ≡ v
+  IsOf (Array index component) v =
+      (low high : ℤ) × (of : TypeValue) × (type.Array low high of ≡ v) × IsInstance types index (Ordinal low high) × IsInstance types component of
 
   is_of : (d : Denoter) (v : TypeValue) → IsInstance types d v → IsOf d v
   is_of d v (required r) = refl
   is_of d v (named index t at h) = (t, at, h)
   is_of d v (subrange host low high) = refl
   is_of d v (enumeration first others) = refl
+  is_of d v (array index component low high of i c) = (low, high, of, refl, i, c)
 
   -- a denoter has at most one type value
   instance_one : (d : Denoter) (v w : TypeValue) → IsInstance types d v → IsInstance types d w → v ≡ w
@@ -57,31 +75,12 @@ module _ (types : List UnitType) where
       instance_one (definition_of t) v w h (subst (λ u. IsInstance types (definition_of u) w) same x.2)
   instance_one d v w (subrange host low high) other = is_of (Subrange host (Fixed low) (Fixed high)) w other
   instance_one d v w (enumeration first others) other = is_of (Enumeration (first ∷ others)) w other
+  instance_one d v w (array index component low high of i c) other =
+      let x = is_of (Array index component) w other in
+      let bounds = same_ordinal low high x.0 x.1 (instance_one index (Ordinal low high) (Ordinal x.0 x.1) i x.4) in
+      let of_same : of ≡ x.2 = instance_one component of x.2 c x.5 in
+      (λ k. type.Array (bounds.0 k) (bounds.1 k) (of_same k)) ∙ x.3
 
 -- a denoter has at most one type value
 pub instances_are_one : InstancesAreOne
 instances_are_one types d v w p q = instance_one types d v w p q
-
-module _ (types : List UnitType) (k m : ℕ) (d : Denoter) {o : Option TypeValue} (h : type_within types k d ≡ o) (more : k ≡ suc m) where
-  -- what is found for the denoter that is looked at next, with so many to look at, by its form
-  looked : (f : Denoter) → d ≡ f → type_step types (type_within types m) f ≡ o
-  looked f same = sym (ap (λ n. type_within types n d) more ∙ ap (type_within types (suc m)) same) ∙ h
-
-  pub looked_required : (r : RequiredType) → d ≡ Required r → Some (required_type r) ≡ o
-  looked_required r same = looked (Required r) same
-
-  pub looked_subrange : (host : Denoter) (low high : Bound) → d ≡ Subrange host low high → subrange_type low high ≡ o
-  looked_subrange host low high same = looked (Subrange host low high) same
-
-  pub looked_enumeration : (names : List (List ℕ)) → d ≡ Enumeration names → enumeration_type names ≡ o
-  looked_enumeration names same = looked (Enumeration names) same
-
-  -- a name without a tuple that the list does not have has none
-  pub looked_nothing : (index : ℕ) (tuple : List Bound) → d ≡ Named index tuple → length tuple ≡ 0 → slice_get types index ≡ None → None ≡ o
-  looked_nothing index [] same none there = sym (ap (found_of (type_within types m)) there) ∙ looked (Named index []) same
-  looked_nothing index (b ∷ bs) same none there = absurd (omega (arith, none))
-
-  -- and one that it has has what is found for its definition
-  pub looked_name : (index : ℕ) (tuple : List Bound) (t : UnitType) → d ≡ Named index tuple → length tuple ≡ 0 → slice_get types index ≡ Some t → type_within types m (definition_of t) ≡ o
-  looked_name index [] t same none there = sym (ap (found_of (type_within types m)) there) ∙ looked (Named index []) same
-  looked_name index (b ∷ bs) t same none there = absurd (omega (arith, none))

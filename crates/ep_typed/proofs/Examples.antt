@@ -1,10 +1,10 @@
 -- The meaning computes the answers of small programs.
-use Rattle.std.proofs.Common.{◌≡◌, ℕ, ℤ, pos, negsuc, Bool, true, false, [], ◌∷◌, refl, codes}
+use Rattle.std.proofs.Common.{◌≡◌, ℕ, ℤ, pos, negsuc, Bool, true, false, Some, None, [], ◌∷◌, refl, codes}
 use Rattle.ep_typed.specs.Events.{Trace, Write}
-use Rattle.ep_typed.specs.Trees.{Variable, Expr, Constant, Function, Evaluated, no_actual, next_actual, Read, One, Two, Plain, Wide, Stmt, Compound, Assign, While, Repeat, For, Case, Short, Write, stmts, none, next, Other, no_other, otherwise_do, arms}
+use Rattle.ep_typed.specs.Trees.{Variable, OfUnit, Indexed, Expr, Constant, Function, Evaluated, no_actual, next_actual, Read, One, Two, Plain, Wide, Stmt, Compound, Assign, While, Repeat, For, Case, Short, Write, stmts, none, next, Other, no_other, otherwise_do, arms}
 use Rattle.ep_typed.specs.Trees as tree
-use Rattle.ep_typed.specs.declared.value.TypeValue.{TypeValue}
-use Rattle.ep_typed.specs.Steps.{State, End, Normal, Error, Outcome, Gives, Ends, Cut, give, spend, state_of, made, first_state}
+use Rattle.ep_typed.specs.TypeValues.{TypeValue, Array, component_type, size_of}
+use Rattle.ep_typed.specs.Steps.{State, End, Normal, Halted, Error, Outcome, Gives, Ends, Cut, give, spend, state_of, made, first_state}
 use Rattle.ep_typed.specs.Calls.{Handler}
 use Rattle.ep_typed.specs.Meaning.{eval, exec, routine_of}
 use Rattle.ep_typed.specs.Printing.{Result, Number}
@@ -13,7 +13,7 @@ use Rattle.ep_typed.specs.declared.operations.Binary.TheVariants as binary
 use Rattle.ep_typed.specs.declared.operations.ShortOperation.TheVariants as short
 use Rattle.ep_typed.specs.declared.operations.Print.TheVariants as print
 use Rattle.ep_typed.specs.declared.tree.CaseRange.{CaseRange}
-use Rattle.ep_typed.specs.declared.value.TypeValue.TheVariants.{Ordinal}
+use Rattle.ep_typed.specs.TypeValues.{Ordinal}
 use Rattle.ep_typed.specs.declared.run_error.TheConstants as run_error
 
 -- what a statement of unit p comes to, with one variable x of type integer
@@ -105,7 +105,7 @@ with_auxiliaries t = made (codes "p") 2 (Ordinal (negsuc 9223372036854775806) (p
 
 abbrev counting : Bool → ℕ → ℕ → Stmt → Stmt
 counting falls initial last body =
-    For 3 (record { variable = x; initial = Variable (codes "p") 1; last = Variable (codes "p") 2; falls = falls; low = negsuc 9223372036854775806; high = pos 9223372036854775807 }) (Constant (pos initial)) (Constant (pos last)) body
+    For 3 (record { variable = OfUnit (codes "p") 0; initial = OfUnit (codes "p") 1; last = OfUnit (codes "p") 2; falls = falls; low = negsuc 9223372036854775806; high = pos 9223372036854775807 }) (Constant (pos initial)) (Constant (pos last)) body
 
 -- x as a character
 abbrev shows_x : Stmt
@@ -138,3 +138,49 @@ outside = refl
 
 outside_ends : end_of (counts_in (Ordinal (pos 1) (pos 5)) (counting false 4 7 shows_x)) ≡ Error run_error.OUTSIDE_TYPE (codes "p") 3
 outside_ends = refl
+
+-- ---- arrays
+
+-- a variable a of type array [2..3] of array [Boolean] of -1..1
+abbrev matrix : TypeValue
+matrix = Array (pos 2) (pos 3) (Array (pos 0) (pos 1) (Ordinal (negsuc 0) (pos 1)))
+
+abbrev a : tree.Place
+a = Variable (codes "p") 0
+
+abbrev element : ℕ → ℕ → tree.Place
+element i j = Indexed (Indexed a (Constant (pos i))) (Constant (pos j))
+
+abbrev in_matrix : Stmt → Outcome (Unit {0})
+in_matrix s = exec (routine_of [] 0) 200 (codes "p") s 200 (made (codes "p") 0 matrix first_state)
+
+-- its components stand one behind the other, the last index first
+words : size_of matrix ≡ 4
+words = refl
+
+second_row : component_type matrix 1 ≡ Some (Array (pos 0) (pos 1) (Ordinal (negsuc 0) (pos 1)))
+second_row = refl
+
+no_third_row : component_type matrix 2 ≡ None
+no_third_row = refl
+
+-- what a component has been given, and no other one
+given_back : trace_of (in_matrix (Compound (next (Assign 3 (element 3 0) (Constant (pos 1))) (next (Assign 4 (element 2 1) (Constant (negsuc 0))) (next (tree.Write 5 (Plain print.Boolean (equals (Two binary.Subtract (Read (element 3 0)) (Read (element 2 1))) (pos 2)) ∷ []) false) none)))))
+    ≡ Write (codes "True") ∷ []
+given_back = refl
+
+undefined_element : end_of (in_matrix (Compound (next (Assign 3 (element 3 0) (Constant (pos 1))) (next (Assign 4 (element 2 1) (Read (element 3 1))) none)))) ≡ Error run_error.UNDEFINED_VALUE (codes "p") 4
+undefined_element = refl
+
+outside_first : end_of (in_matrix (Assign 3 (element 4 0) (Constant (pos 1)))) ≡ Error run_error.INDEX (codes "p") 3
+outside_first = refl
+
+outside_second : end_of (in_matrix (Assign 3 (element 2 2) (Constant (pos 1)))) ≡ Error run_error.INDEX (codes "p") 3
+outside_second = refl
+
+outside_type : end_of (in_matrix (Assign 3 (element 2 1) (Constant (pos 2)))) ≡ Error run_error.OUTSIDE_TYPE (codes "p") 3
+outside_type = refl
+
+-- an assignment to an element spends a step for its variable, two for each index, one for the value and one of its own
+steps_of_an_element : end_of (exec (routine_of [] 0) 7 (codes "p") (Compound (next (Assign 3 (element 2 1) (Constant (pos 1))) (next (tree.Halt 4) none))) 7 (made (codes "p") 0 matrix first_state)) ≡ Halted
+steps_of_an_element = refl

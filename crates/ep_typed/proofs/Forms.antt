@@ -1,6 +1,6 @@
 -- What the denoters of the code are seen as.
 use Rattle.std.proofs.Common.{◌≡◌, ◌∙◌, ℕ, List, map, sym, ap}
-use Rattle.ep_typed.specs.Trees.{Denoter, Required, Named, Subrange, Enumeration}
+use Rattle.ep_typed.specs.Trees.{Denoter, Required, Named, Subrange, Enumeration, Array}
 use Rattle.ep_typed.specs.Viewed.{bound_of, denoter_of, denoter_step}
 use Rattle.ep_typed.specs.declared.denoter.Bound.{Bound}
 use Rattle.ep_typed.specs.declared.denoter.Denoter.{Denoter as Written}
@@ -20,3 +20,6 @@ subrange_is host low high = ap denoter_of (sym (written.rolls-Subrange host low 
 
 pub enumeration_is : (names : List (List ℕ)) → denoter_of (written.Enumeration names) ≡ Enumeration names
 enumeration_is names = ap denoter_of (sym (written.rolls-Enumeration names)) ∙ fold-roll-Denoter Denoter denoter_step (layer.Enumeration names)
+
+pub array_is : (index component : Written) → denoter_of (written.Array index component) ≡ Array (denoter_of index) (denoter_of component)
+array_is index component = ap denoter_of (sym (written.rolls-Array index component)) ∙ fold-roll-Denoter Denoter denoter_step (layer.Array index component)

@@ -1,17 +1,17 @@
 -- With more steps, and more turns of its loops, a computation comes to the same, or goes on from where it was cut.
-use Rattle.std.proofs.Common.{◌≡◌, ℕ, ℤ, pos, negsuc, zero, suc, ◌+◌, List, [], ◌∷◌, Option, Some, None, Bool, true, false, length, refl, ap, arith}
+use Rattle.std.proofs.Common.{slice_get, ◌≡◌, ℕ, ℤ, pos, negsuc, zero, suc, ◌+◌, List, [], ◌∷◌, Option, Some, None, Bool, true, false, length, refl, ap, arith}
 use Rattle.std.specs.Prelude.{if◌then◌else◌}
 use Rattle.ep_typed.specs.Controls.{in_order, next_value}
-use Rattle.ep_typed.specs.Denoters.{type_of}
-use Rattle.ep_typed.specs.Meaning.{argument, arguments, one_result, weight_of, results_given, initialized, takes_by, takes_all, elaborate, answered, place, eval, write_piece, write_wide, write_item, write_items, assign, turns, turns_until, assigns, undefines, turns_to, counts, exec, exec_all, elaborated, make, make_all, make_own, make_all_own, start_of, starts_of, Found, routine_in, activation, runs_routine, routine_does, routine_of, read, assign_living, tried, exec_arms, exec_other}
+use Rattle.ep_typed.specs.Denoters.{definition_of, required_type, subrange_type, enumeration_type, array_type}
+use Rattle.ep_typed.specs.Meaning.{argument, arguments, one_result, weight_of, results_given, initialized, takes_by, takes_all, elaborate, answered, indexed, place, eval, write_piece, write_wide, write_item, write_items, assign, turns, turns_until, assigns, undefines, turns_to, counts, exec, exec_all, elaborated, elaborated_where, elaborated_found, elaborate_step, elaborate_within, make, make_all, make_own, make_all_own, start_of, starts_of, Found, routine_in, activation, runs_routine, routine_does, routine_of, read, assign_living, tried, exec_arms, exec_other}
 use Rattle.ep_typed.specs.Operations.{Answer, Number, Fault, is_same, is_true, decides, is_in}
 use Rattle.ep_typed.specs.Printing.{Result, number_of, plain_text, wide_text, piece_events}
 use Rattle.ep_typed.specs.Printing as result
 use Rattle.ep_typed.specs.Calls.{Argument, Value, Handler, entered, given_back, in_call}
 use Rattle.ep_typed.specs.Calls as argument_is
 use Rattle.ep_typed.specs.Steady.{Grows, Steady, IsSteadyHandler}
-use Rattle.ep_typed.specs.Steps.{Call, End, Normal, Halted, Error, Word, Undefined, State, Outcome, Gives, Ends, Cut, state_of, Computation, give, cut, stop, go_on, bind, spend, change, found, fetch, assigned, type_at, is_within, is_among, Component, whole, size_of, with_type, counted, made, made_own, allocate, allocate_own, newest_assigned, with_own_bound, standard_file, first_state, using, has_ended, own_variable, word_at}
-use Rattle.ep_typed.specs.Trees.{Callee, Place, Variable, Own, Standard, Expr, Constant, Text, Read, One, Two, Short, Step, Function, Actual, Evaluated, Accessed, Actuals, no_actual, next_actual, Item, Plain, Wide, Stmt, Stmts, Empty, Compound, Assign, If, While, Repeat, Control, For, Procedure, Halt, Write, none, next, Case, Arms, no_arm, next_arm, Other, no_other, otherwise_do}
+use Rattle.ep_typed.specs.Steps.{Call, End, Normal, Halted, Error, Word, Undefined, State, Outcome, Gives, Ends, Cut, state_of, Computation, give, cut, stop, go_on, bind, spend, change, found, fetch, assigned, type_at, is_within, is_among, Component, component, whole, size_of, with_type, counted, made, made_own, allocate, allocate_own, newest_assigned, with_own_bound, standard_file, first_state, using, has_ended, own_variable, word_at}
+use Rattle.ep_typed.specs.Trees.{Array, Enumeration, Subrange, Named, Required, Denoter, Callee, Place, Variable, Own, Standard, Indexed, Expr, Constant, Text, Read, One, Two, Short, Step, Function, Actual, Evaluated, Accessed, Actuals, no_actual, next_actual, Item, Plain, Wide, Stmt, Stmts, Empty, Compound, Assign, If, While, Repeat, Control, For, Procedure, Halt, Write, none, next, Case, Arms, no_arm, next_arm, Other, no_other, otherwise_do, entire}
 use Rattle.ep_typed.specs.Routines.{made_variables, unit_variables}
 use Rattle.ep_typed.specs.Viewed.{denoter_of, stmt_of}
 use Rattle.ep_typed.specs.declared.interface.Formal.{Formal}
@@ -23,7 +23,7 @@ use Rattle.ep_typed.specs.declared.unit.Unit.{Unit as TypedUnit}
 use Rattle.ep_typed.specs.declared.unit.UnitType.{UnitType}
 use Rattle.ep_typed.specs.declared.unit.UnitVariable.{UnitVariable}
 use Rattle.ep_typed.specs.declared.tree.CaseRange.{CaseRange}
-use Rattle.ep_typed.specs.declared.value.TypeValue.{TypeValue}
+use Rattle.ep_typed.specs.TypeValues.{TypeValue}
 use Rattle.ep_typed.specs.Laws.{IsLonger, MeaningsLast}
 use Rattle.ep_typed.proofs.Steady.{grows_refl, grows_trans, grows_quiet, grows_events, grows_type, grows_counted, grows_made, grows_made_own, steady_give, steady_cut, steady_stop, steady_bind, steady_spend, steady_change, steady_fetch, steady_turns, steady_turns_until, steady_turns_to, steady_in_call, steady_routine_of, steady_using, steady_assign_living}
 use Rattle.ep_typed.specs.declared.run_error.TheConstants as run_error
@@ -143,12 +143,6 @@ module _ (call other : Handler) (lasts : IsLastingHandler call other) (g j : ℕ
   lasting_answered line (Number z) = lasting_give z
   lasting_answered line (Fault error) = lasting_stop (Error error unit line)
 
-  -- a place
-  lasting_place : (line : ℕ) (p : Place) → Lasting (place call g unit line p) (place other (g + j) unit line p)
-  lasting_place line (Variable u k) = lasting_bind (lasting_fetch _ _) (λ n. lasting_spend 1 (lasting_give n))
-  lasting_place line (Own levels k) = lasting_bind (lasting_fetch _ _) (λ n. lasting_spend 1 (lasting_give n))
-  lasting_place line (Standard file) = lasting_spend 1 (lasting_give (whole (standard_file file)))
-
   -- the value of an allocation
   lasting_read : (line : ℕ) (v : Component) → Lasting (read call g unit line v) (read other (g + j) unit line v)
   lasting_read line v = lasting_using _ v.allocation (lasting_bind (lasting_fetch _ _) (λ w. lasting_spend 1 (lasting_give (result.Number w))))
@@ -159,7 +153,18 @@ module _ (call other : Handler) (lasts : IsLastingHandler call other) (g j : ℕ
   lasting_one_result (r ∷ []) = lasting_spend (suc (weight_of r)) (lasting_give r)
   lasting_one_result (r ∷ s ∷ more) = lasting_cut
 
+  -- the component at an index
+  lasting_indexed : (line : ℕ) (c : Component) (z : ℤ) → Lasting (indexed call g unit line c z) (indexed other (g + j) unit line c z)
+  lasting_indexed line c z = lasting_using _ c.allocation (lasting_bind (lasting_fetch _ _) (λ k. lasting_spend 1 (lasting_give (component c k))))
+
   mutual
+    -- a place
+    lasting_place : (line : ℕ) (p : Place) → Lasting (place call g unit line p) (place other (g + j) unit line p)
+    lasting_place line (Variable u k) = lasting_bind (lasting_fetch _ _) (λ n. lasting_spend 1 (lasting_give n))
+    lasting_place line (Own levels k) = lasting_bind (lasting_fetch _ _) (λ n. lasting_spend 1 (lasting_give n))
+    lasting_place line (Standard file) = lasting_spend 1 (lasting_give (whole (standard_file file)))
+    lasting_place line (Indexed p x) = lasting_bind (lasting_place line p) (λ c. lasting_bind (lasting_eval line x) (λ r. lasting_indexed line c (number_of r)))
+
     -- an expression
     lasting_eval : (line : ℕ) (x : Expr) → Lasting (eval call g unit line x) (eval other (g + j) unit line x)
     lasting_eval line (Constant z) = lasting_spend 1 (lasting_give (result.Number z))
@@ -237,11 +242,11 @@ module _ (call other : Handler) (lasts : IsLastingHandler call other) (g j : ℕ
       record { steady = z; by = λ m k s. z.by (m + k) s }
   lasting_turns_to (suc turns) line c last x =
       let one : suc turns + j ≡ suc (turns + j) = omega arith in
-      rw one (lasting_bind x (λ _. lasting_bind (lasting_eval line (Read c.variable)) (λ r. lasting_spend 1 (lasting_if (is_same last (number_of r)) (lasting_give tt) (lasting_bind (lasting_assigns line c.variable (next_value c)) (λ _. lasting_turns_to turns line c last x))))))
+      rw one (lasting_bind x (λ _. lasting_bind (lasting_eval line (Read (entire c.variable))) (λ r. lasting_spend 1 (lasting_if (is_same last (number_of r)) (lasting_give tt) (lasting_bind (lasting_assigns line (entire c.variable) (next_value c)) (λ _. lasting_turns_to turns line c last x))))))
 
   lasting_counts : (line : ℕ) (c : Control) {body body2 : Computation (Unit {0})} → Lasting body body2 → Lasting (counts call g unit line c body) (counts other (g + j) unit line c body2)
   lasting_counts line c x =
-      lasting_bind (lasting_eval line (Read c.last)) (λ b. lasting_bind (lasting_assigns line c.variable (Read c.last)) (λ _. lasting_bind (lasting_assigns line c.variable (Read c.initial)) (λ _. lasting_turns_to g line c (number_of b) x)))
+      lasting_bind (lasting_eval line (Read (entire c.last))) (λ b. lasting_bind (lasting_assigns line (entire c.variable) (Read (entire c.last))) (λ _. lasting_bind (lasting_assigns line (entire c.variable) (Read (entire c.initial))) (λ _. lasting_turns_to g line c (number_of b) x)))
 
   mutual
     lasting_exec : (x : Stmt) → Lasting (exec call g unit x) (exec other (g + j) unit x)
@@ -253,9 +258,9 @@ module _ (call other : Handler) (lasts : IsLastingHandler call other) (g j : ℕ
     lasting_exec (While line x s) = lasting_turns call other g (g + j) g j unit (lasting_eval line x) (lasting_exec s)
     lasting_exec (Repeat line ss x) = lasting_turns_until call other g (g + j) g j unit (lasting_exec_all ss) (lasting_eval line x)
     lasting_exec (For line c x y s) =
-        lasting_bind (lasting_assigns line c.initial x) (λ _. lasting_bind (lasting_assigns line c.last y) (λ _.
+        lasting_bind (lasting_assigns line (entire c.initial) x) (λ _. lasting_bind (lasting_assigns line (entire c.last) y) (λ _.
         lasting_bind (lasting_bind (lasting_eval line (in_order c)) (λ r. lasting_if (is_true (number_of r)) (lasting_counts line c (lasting_exec s)) (lasting_give tt))) (λ _.
-        lasting_bind (lasting_undefines line c.variable) (λ _. lasting_spend 1 (lasting_give tt)))))
+        lasting_bind (lasting_undefines line (entire c.variable)) (λ _. lasting_spend 1 (lasting_give tt)))))
     lasting_exec (Procedure line callee given) =
         lasting_bind (lasting_arguments line given) (λ xs. lasting_bind (lasts.by unit line callee xs) (λ results. lasting_spend 1 (lasting_give tt)))
     lasting_exec (Case line x arms o) = lasting_bind (lasting_eval line x) (λ r. lasting_exec_arms (number_of r) arms (lasting_exec_other line o))
@@ -275,9 +280,35 @@ module _ (call other : Handler) (lasts : IsLastingHandler call other) (g j : ℕ
     lasting_exec_other line (otherwise_do ss) = lasting_bind (lasting_exec_all ss) (λ _. lasting_spend 1 (lasting_give tt))
 
   -- a type that is elaborated
-  lasting_elaborated : (o : Option TypeValue) → Lasting (elaborated call g unit o) (elaborated other (g + j) unit o)
-  lasting_elaborated None = lasting_cut
-  lasting_elaborated (Some t) = lasting_bind {c = change (with_type t)} {f = λ _. spend 1 (give t)} (lasting_change (grows_type t)) (λ _. lasting_spend 1 (lasting_give t))
+  lasting_elaborated : (t : TypeValue) → Lasting (elaborated call g unit t) (elaborated other (g + j) unit t)
+  lasting_elaborated t = lasting_bind {c = change (with_type t)} {f = λ _. spend 1 (give t)} (lasting_change (grows_type t)) (λ _. lasting_spend 1 (lasting_give t))
+
+  lasting_elaborated_where : (o : Option TypeValue) → Lasting (elaborated_where call g unit o) (elaborated_where other (g + j) unit o)
+  lasting_elaborated_where None = lasting_cut
+  lasting_elaborated_where (Some t) = lasting_elaborated t
+
+  module _ (types : List UnitType) where
+    lasting_elaborated_found : (find found : Denoter → Computation TypeValue) → ((d : Denoter) → Lasting (find d) (found d)) → (o : Option UnitType)
+        → Lasting (elaborated_found call g unit find o) (elaborated_found other (g + j) unit found o)
+    lasting_elaborated_found find found last None = lasting_cut
+    lasting_elaborated_found find found last (Some t) = last (definition_of t)
+
+    lasting_elaborate_step : (find found : Denoter → Computation TypeValue) → ((d : Denoter) → Lasting (find d) (found d)) → (d : Denoter)
+        → Lasting (elaborate_step call g unit types find d) (elaborate_step other (g + j) unit types found d)
+    lasting_elaborate_step find found last (Required r) = lasting_elaborated (required_type r)
+    lasting_elaborate_step find found last (Named index []) = lasting_elaborated_found find found last (slice_get types index)
+    lasting_elaborate_step find found last (Named index (b ∷ bs)) = lasting_cut
+    lasting_elaborate_step find found last (Subrange host low high) = lasting_elaborated_where (subrange_type low high)
+    lasting_elaborate_step find found last (Enumeration names) = lasting_elaborated_where (enumeration_type names)
+    lasting_elaborate_step find found last (Array index component) =
+        lasting_bind (lasting_elaborate_step find found last index) (λ t. lasting_bind (lasting_elaborate_step find found last component) (λ u. lasting_elaborated_where (array_type (Some t) (Some u))))
+
+    lasting_elaborate_within : (n : ℕ) (d : Denoter) → Lasting (elaborate_within call g unit types n d) (elaborate_within other (g + j) unit types n d)
+    lasting_elaborate_within zero d = lasting_cut
+    lasting_elaborate_within (suc n) d = lasting_elaborate_step (elaborate_within call g unit types n) (elaborate_within other (g + j) unit types n) (lasting_elaborate_within n) d
+
+    lasting_elaborate : (d : Denoter) → Lasting (elaborate call g unit types d) (elaborate other (g + j) unit types d)
+    lasting_elaborate d = lasting_elaborate_within (suc (length types)) d
 
   -- a variable that is allocated
   lasting_allocate : (number : ℕ) (t : TypeValue) → Lasting (allocate unit number t) (allocate unit number t)
@@ -286,7 +317,7 @@ module _ (call other : Handler) (lasts : IsLastingHandler call other) (g j : ℕ
 
   -- a variable
   lasting_make : (types : List UnitType) (number : ℕ) (v : UnitVariable) → Lasting (make call g unit types number v) (make other (g + j) unit types number v)
-  lasting_make types number v = lasting_bind (lasting_elaborated (type_of types (denoter_of v.denoter))) (λ t. lasting_allocate number t)
+  lasting_make types number v = lasting_bind (lasting_elaborate types (denoter_of v.denoter)) (λ t. lasting_allocate number t)
 
   -- variables
   lasting_make_all : (types : List UnitType) (number : ℕ) (vs : List UnitVariable) → Lasting (make_all call g unit types number vs) (make_all other (g + j) unit types number vs)
@@ -300,7 +331,7 @@ module _ (call other : Handler) (lasts : IsLastingHandler call other) (g j : ℕ
 
   -- a variable of a routine
   lasting_make_own : (types : List UnitType) (number : ℕ) (v : UnitVariable) → Lasting (make_own call g unit types number v) (make_own other (g + j) unit types number v)
-  lasting_make_own types number v = lasting_bind (lasting_elaborated (type_of types (denoter_of v.denoter))) (λ t. lasting_allocate_own number t)
+  lasting_make_own types number v = lasting_bind (lasting_elaborate types (denoter_of v.denoter)) (λ t. lasting_allocate_own number t)
 
   -- its variables
   lasting_make_all_own : (types : List UnitType) (number : ℕ) (vs : List UnitVariable) → Lasting (make_all_own call g unit types number vs) (make_all_own other (g + j) unit types number vs)
@@ -339,7 +370,7 @@ module _ (call other : Handler) (lasts : IsLastingHandler call other) (g j : ℕ
   lasting_takes_value : (line number : ℕ) (f : Formal) (z : ℤ)
       → Lasting (bind (elaborate call g unit types (denoter_of f.denoter)) (λ t. bind (allocate_own number t) (λ _. initialized unit line t z))) (bind (elaborate other (g + j) unit types (denoter_of f.denoter)) (λ t. bind (allocate_own number t) (λ _. initialized unit line t z)))
   lasting_takes_value line number f z =
-      lasting_bind (lasting_elaborated call other lasts g j unit (type_of types (denoter_of f.denoter))) (λ t. lasting_bind (lasting_allocate_own call other lasts g j unit number t) (λ _. lasting_initialized unit line t z))
+      lasting_bind (lasting_elaborate call other lasts g j unit types (denoter_of f.denoter)) (λ t. lasting_bind (lasting_allocate_own call other lasts g j unit number t) (λ _. lasting_initialized unit line t z))
 
   lasting_takes_variable : (number : ℕ) (v : Component) → Lasting (spend 1 (change (with_own_bound number v))) (spend 1 (change (with_own_bound number v)))
   lasting_takes_variable number v = lasting_spend 1 (lasting_change (λ s. grows_quiet s (with_own_bound number v s) refl refl))

@@ -3,7 +3,7 @@ use Rattle.std.proofs.Common.{◌≡◌, ℕ, pos, Some, None, refl, codes}
 use Rattle.ep_typed.specs.Calls.{entered}
 use Rattle.ep_typed.specs.Meaning.{activation}
 use Rattle.ep_typed.specs.Steps.{whole, State, made_own, own_variable, first_state}
-use Rattle.ep_typed.specs.declared.value.TypeValue.TheVariants.{Ordinal}
+use Rattle.ep_typed.specs.TypeValues.{Ordinal}
 
 -- one more activation of a routine that is declared so many levels up, with one variable
 abbrev enters : ℕ → State → State

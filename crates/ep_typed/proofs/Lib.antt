@@ -6,3 +6,4 @@ pub mod Forms
 pub mod Lasting
 pub mod Levels
 pub mod Steady
+pub mod Typed

@@ -1,20 +1,20 @@
 -- No computation takes back an event, or room that was lost.
-use Rattle.std.proofs.Common.{◌≡◌, ℕ, ℤ, pos, negsuc, zero, suc, ◌+◌, List, [], ◌∷◌, ◌++◌, Option, Some, None, Bool, true, false, IsTrue, length, refl, sym, ap, ◌∙◌, append_assoc, append-nil}
+use Rattle.std.proofs.Common.{slice_get, ◌≡◌, ℕ, ℤ, pos, negsuc, zero, suc, ◌+◌, List, [], ◌∷◌, ◌++◌, Option, Some, None, Bool, true, false, IsTrue, length, refl, sym, ap, ◌∙◌, append_assoc, append-nil}
 use Rattle.std.specs.Prelude.{if◌then◌else◌}
 use Rattle.std.specs.List.{list_any}
 use Rattle.ep_outside.specs.Known.{IsPrefix}
 use Rattle.ep_typed.specs.Controls.{in_order, next_value}
-use Rattle.ep_typed.specs.Denoters.{type_of}
+use Rattle.ep_typed.specs.Denoters.{definition_of, required_type, subrange_type, enumeration_type, array_type}
 use Rattle.ep_typed.specs.Events.{Trace}
-use Rattle.ep_typed.specs.Meaning.{argument, arguments, one_result, weight_of, result_at, results_given, initialized, takes_by, takes_all, elaborate, answered, place, eval, write_piece, write_wide, write_item, write_items, assign, turns, turns_until, assigns, undefines, turns_to, counts, exec, exec_all, elaborated, make, make_all, make_own, make_all_own, start_of, starts_of, Found, routine_in, activation, runs_routine, routine_does, routine_of, read, assign_living, tried, exec_arms, exec_other}
+use Rattle.ep_typed.specs.Meaning.{argument, arguments, one_result, weight_of, result_at, results_given, initialized, takes_by, takes_all, elaborate, answered, indexed, place, eval, write_piece, write_wide, write_item, write_items, assign, turns, turns_until, assigns, undefines, turns_to, counts, exec, exec_all, elaborated, elaborated_where, elaborated_found, elaborate_step, elaborate_within, make, make_all, make_own, make_all_own, start_of, starts_of, Found, routine_in, activation, runs_routine, routine_does, routine_of, read, assign_living, tried, exec_arms, exec_other}
 use Rattle.ep_typed.specs.Operations.{Answer, Number, Fault, is_same, is_true, decides, is_in}
 use Rattle.ep_typed.specs.Printing.{Result, number_of, plain_text, wide_text, piece_events}
 use Rattle.ep_typed.specs.Printing as result
 use Rattle.ep_typed.specs.Calls.{Argument, Value, Handler, entered, given_back, in_call}
 use Rattle.ep_typed.specs.Calls as argument_is
 use Rattle.ep_typed.specs.Steady.{Grows, Steady, IsSteadyHandler}
-use Rattle.ep_typed.specs.Steps.{Call, End, Normal, Halted, Error, Word, Undefined, State, Outcome, Gives, Ends, Cut, state_of, Computation, give, cut, stop, go_on, bind, spend, change, found, fetch, with_events, assigned, type_at, is_within, is_among, Component, whole, size_of, same_type, Resources, watched, words_of_type, met, with_type, counted, made, made_own, allocate, allocate_own, newest_assigned, with_own_bound, standard_file, using, has_ended, own_variable, word_at}
-use Rattle.ep_typed.specs.Trees.{Callee, Place, Variable, Own, Standard, Expr, Constant, Text, Read, One, Two, Short, Step, Function, Actual, Evaluated, Accessed, Actuals, no_actual, next_actual, Item, Plain, Wide, Stmt, Stmts, Empty, Compound, Assign, If, While, Repeat, Control, For, Procedure, Halt, Write, none, next, Case, Arms, no_arm, next_arm, Other, no_other, otherwise_do}
+use Rattle.ep_typed.specs.Steps.{Call, End, Normal, Halted, Error, Word, Undefined, State, Outcome, Gives, Ends, Cut, state_of, Computation, give, cut, stop, go_on, bind, spend, change, found, fetch, with_events, assigned, type_at, is_within, is_among, Component, component, whole, size_of, same_type, Resources, watched, words_of_type, sized, met, with_type, counted, made, made_own, allocate, allocate_own, newest_assigned, with_own_bound, standard_file, using, has_ended, own_variable, word_at}
+use Rattle.ep_typed.specs.Trees.{Array, Enumeration, Subrange, Named, Required, Denoter, Callee, Place, Variable, Own, Standard, Indexed, Expr, Constant, Text, Read, One, Two, Short, Step, Function, Actual, Evaluated, Accessed, Actuals, no_actual, next_actual, Item, Plain, Wide, Stmt, Stmts, Empty, Compound, Assign, If, While, Repeat, Control, For, Procedure, Halt, Write, none, next, Case, Arms, no_arm, next_arm, Other, no_other, otherwise_do, entire}
 use Rattle.ep_typed.specs.Routines.{made_variables, unit_variables}
 use Rattle.ep_typed.specs.Viewed.{denoter_of, stmt_of}
 use Rattle.ep_typed.specs.declared.interface.Formal.{Formal}
@@ -23,7 +23,7 @@ use Rattle.ep_typed.specs.declared.interface.FormalMode.TheVariants as mode
 use Rattle.ep_typed.specs.declared.interface.RoutineResult.{RoutineResult}
 use Rattle.ep_typed.specs.declared.operations.Print.{Print}
 use Rattle.ep_typed.specs.declared.tree.CaseRange.{CaseRange}
-use Rattle.ep_typed.specs.declared.value.TypeValue.{TypeValue}
+use Rattle.ep_typed.specs.TypeValues.{TypeValue}
 use Rattle.ep_typed.specs.declared.unit.Unit.{Unit as TypedUnit}
 use Rattle.ep_typed.specs.declared.unit.UnitType.{UnitType}
 use Rattle.ep_typed.specs.declared.unit.UnitVariable.{UnitVariable}
@@ -61,7 +61,7 @@ watched_lost r h = rw h refl
 met_lost : (t : TypeValue) (r : Resources) → IsTrue r.lost → IsTrue (met t r).lost
 met_lost t r h = go (list_any (same_type t) r.types)
   where
-    go : (b : Bool) → IsTrue (watched (if b then r else record r { types = t ∷ r.types; typed = r.typed + words_of_type t })).lost
+    go : (b : Bool) → IsTrue (sized t (watched (if b then r else record r { types = t ∷ r.types; typed = r.typed + words_of_type t }))).lost
     go true = rw h refl
     go false = rw h refl
 
@@ -174,12 +174,6 @@ module _ (call : Handler) (steady : IsSteadyHandler call) (g : ℕ) (unit : List
   steady_answered line (Number z) = steady_give z
   steady_answered line (Fault error) = steady_stop (Error error unit line)
 
-  -- a place
-  pub steady_place : (line : ℕ) (p : Place) → Steady (place call g unit line p)
-  steady_place line (Variable u k) = steady_bind (steady_fetch _ _) (λ n. steady_spend 1 (steady_give n))
-  steady_place line (Own levels k) = steady_bind (steady_fetch _ _) (λ n. steady_spend 1 (steady_give n))
-  steady_place line (Standard file) = steady_spend 1 (steady_give (whole (standard_file file)))
-
   -- the value of an allocation
   pub steady_read : (line : ℕ) (c : Component) → Steady (read call g unit line c)
   steady_read line c = steady_using _ c.allocation (steady_bind (steady_fetch _ _) (λ w. steady_spend 1 (steady_give (result.Number w))))
@@ -190,7 +184,18 @@ module _ (call : Handler) (steady : IsSteadyHandler call) (g : ℕ) (unit : List
   steady_one_result (r ∷ []) = steady_spend (suc (weight_of r)) (steady_give r)
   steady_one_result (r ∷ s ∷ more) = steady_cut
 
+  -- the component at an index
+  pub steady_indexed : (line : ℕ) (c : Component) (z : ℤ) → Steady (indexed call g unit line c z)
+  steady_indexed line c z = steady_using _ c.allocation (steady_bind (steady_fetch _ _) (λ k. steady_spend 1 (steady_give (component c k))))
+
   mutual
+    -- a place
+    pub steady_place : (line : ℕ) (p : Place) → Steady (place call g unit line p)
+    steady_place line (Variable u k) = steady_bind (steady_fetch _ _) (λ n. steady_spend 1 (steady_give n))
+    steady_place line (Own levels k) = steady_bind (steady_fetch _ _) (λ n. steady_spend 1 (steady_give n))
+    steady_place line (Standard file) = steady_spend 1 (steady_give (whole (standard_file file)))
+    steady_place line (Indexed p x) = steady_bind (steady_place line p) (λ c. steady_bind (steady_eval line x) (λ r. steady_indexed line c (number_of r)))
+
     -- an expression
     pub steady_eval : (line : ℕ) (x : Expr) → Steady (eval call g unit line x)
     steady_eval line (Constant z) = steady_spend 1 (steady_give (result.Number z))
@@ -267,11 +272,11 @@ module _ (call : Handler) (steady : IsSteadyHandler call) (g : ℕ) (unit : List
   pub steady_turns_to : (turns line : ℕ) (c : Control) (last : ℤ) {body : Computation (Unit {0})} → Steady body → Steady (turns_to call g unit turns line c last body)
   steady_turns_to zero line c last x = steady_cut
   steady_turns_to (suc turns) line c last x =
-      steady_bind x (λ _. steady_bind (steady_eval line (Read c.variable)) (λ r. steady_spend 1 (steady_if (is_same last (number_of r)) (steady_give tt) (steady_bind (steady_assigns line c.variable (next_value c)) (λ _. steady_turns_to turns line c last x)))))
+      steady_bind x (λ _. steady_bind (steady_eval line (Read (entire c.variable))) (λ r. steady_spend 1 (steady_if (is_same last (number_of r)) (steady_give tt) (steady_bind (steady_assigns line (entire c.variable) (next_value c)) (λ _. steady_turns_to turns line c last x)))))
 
   pub steady_counts : (line : ℕ) (c : Control) {body : Computation (Unit {0})} → Steady body → Steady (counts call g unit line c body)
   steady_counts line c x =
-      steady_bind (steady_eval line (Read c.last)) (λ b. steady_bind (steady_assigns line c.variable (Read c.last)) (λ _. steady_bind (steady_assigns line c.variable (Read c.initial)) (λ _. steady_turns_to g line c (number_of b) x)))
+      steady_bind (steady_eval line (Read (entire c.last))) (λ b. steady_bind (steady_assigns line (entire c.variable) (Read (entire c.last))) (λ _. steady_bind (steady_assigns line (entire c.variable) (Read (entire c.initial))) (λ _. steady_turns_to g line c (number_of b) x)))
 
   mutual
     pub steady_exec : (x : Stmt) → Steady (exec call g unit x)
@@ -283,9 +288,9 @@ module _ (call : Handler) (steady : IsSteadyHandler call) (g : ℕ) (unit : List
     steady_exec (While line x s) = steady_turns call g g unit (steady_eval line x) (steady_exec s)
     steady_exec (Repeat line ss x) = steady_turns_until call g g unit (steady_exec_all ss) (steady_eval line x)
     steady_exec (For line c x y s) =
-        steady_bind (steady_assigns line c.initial x) (λ _. steady_bind (steady_assigns line c.last y) (λ _.
+        steady_bind (steady_assigns line (entire c.initial) x) (λ _. steady_bind (steady_assigns line (entire c.last) y) (λ _.
         steady_bind (steady_bind (steady_eval line (in_order c)) (λ r. steady_if (is_true (number_of r)) (steady_counts line c (steady_exec s)) (steady_give tt))) (λ _.
-        steady_bind (steady_undefines line c.variable) (λ _. steady_spend 1 (steady_give tt)))))
+        steady_bind (steady_undefines line (entire c.variable)) (λ _. steady_spend 1 (steady_give tt)))))
     steady_exec (Procedure line callee given) =
         steady_bind (steady_arguments line given) (λ xs. steady_bind (steady unit line callee xs) (λ results. steady_spend 1 (steady_give tt)))
     steady_exec (Case line x arms o) = steady_bind (steady_eval line x) (λ r. steady_exec_arms (number_of r) arms (steady_exec_other line o))
@@ -305,13 +310,39 @@ module _ (call : Handler) (steady : IsSteadyHandler call) (g : ℕ) (unit : List
     steady_exec_other line (otherwise_do ss) = steady_bind (steady_exec_all ss) (λ _. steady_spend 1 (steady_give tt))
 
   -- a type that is elaborated
-  pub steady_elaborated : (o : Option TypeValue) → Steady (elaborated call g unit o)
-  steady_elaborated None = steady_cut
-  steady_elaborated (Some t) = steady_bind {c = change (with_type t)} {f = λ _. spend 1 (give t)} (steady_change (grows_type t)) (λ _. steady_spend 1 (steady_give t))
+  pub steady_elaborated : (t : TypeValue) → Steady (elaborated call g unit t)
+  steady_elaborated t = steady_bind {c = change (with_type t)} {f = λ _. spend 1 (give t)} (steady_change (grows_type t)) (λ _. steady_spend 1 (steady_give t))
+
+  pub steady_elaborated_where : (o : Option TypeValue) → Steady (elaborated_where call g unit o)
+  steady_elaborated_where None = steady_cut
+  steady_elaborated_where (Some t) = steady_elaborated t
+
+  module _ (types : List UnitType) where
+    steady_elaborated_found : (find : Denoter → Computation TypeValue) → ((d : Denoter) → Steady (find d)) → (o : Option UnitType)
+        → Steady (elaborated_found call g unit find o)
+    steady_elaborated_found find steady_find None = steady_cut
+    steady_elaborated_found find steady_find (Some t) = steady_find (definition_of t)
+
+    pub steady_elaborate_step : (find : Denoter → Computation TypeValue) → ((d : Denoter) → Steady (find d)) → (d : Denoter)
+        → Steady (elaborate_step call g unit types find d)
+    steady_elaborate_step find steady_find (Required r) = steady_elaborated (required_type r)
+    steady_elaborate_step find steady_find (Named index []) = steady_elaborated_found find steady_find (slice_get types index)
+    steady_elaborate_step find steady_find (Named index (b ∷ bs)) = steady_cut
+    steady_elaborate_step find steady_find (Subrange host low high) = steady_elaborated_where (subrange_type low high)
+    steady_elaborate_step find steady_find (Enumeration names) = steady_elaborated_where (enumeration_type names)
+    steady_elaborate_step find steady_find (Array index component) =
+        steady_bind (steady_elaborate_step find steady_find index) (λ t. steady_bind (steady_elaborate_step find steady_find component) (λ u. steady_elaborated_where (array_type (Some t) (Some u))))
+
+    pub steady_elaborate_within : (n : ℕ) (d : Denoter) → Steady (elaborate_within call g unit types n d)
+    steady_elaborate_within zero d = steady_cut
+    steady_elaborate_within (suc n) d = steady_elaborate_step (elaborate_within call g unit types n) (steady_elaborate_within n) d
+
+    pub steady_elaborate : (d : Denoter) → Steady (elaborate call g unit types d)
+    steady_elaborate d = steady_elaborate_within (suc (length types)) d
 
   -- a variable of a type that is elaborated
   pub steady_make : (types : List UnitType) (number : ℕ) (v : UnitVariable) → Steady (make call g unit types number v)
-  steady_make types number v = steady_bind (steady_elaborated (type_of types (denoter_of v.denoter))) (λ t. steady_allocate unit number t)
+  steady_make types number v = steady_bind (steady_elaborate types (denoter_of v.denoter)) (λ t. steady_allocate unit number t)
 
   -- variables
   pub steady_make_all : (types : List UnitType) (number : ℕ) (vs : List UnitVariable) → Steady (make_all call g unit types number vs)
@@ -320,7 +351,7 @@ module _ (call : Handler) (steady : IsSteadyHandler call) (g : ℕ) (unit : List
 
   -- a variable of a routine, of a type that is elaborated
   pub steady_make_own : (types : List UnitType) (number : ℕ) (v : UnitVariable) → Steady (make_own call g unit types number v)
-  steady_make_own types number v = steady_bind (steady_elaborated (type_of types (denoter_of v.denoter))) (λ t. steady_allocate_own number t)
+  steady_make_own types number v = steady_bind (steady_elaborate types (denoter_of v.denoter)) (λ t. steady_allocate_own number t)
 
   -- its variables
   pub steady_make_all_own : (types : List UnitType) (number : ℕ) (vs : List UnitVariable) → Steady (make_all_own call g unit types number vs)
@@ -358,7 +389,7 @@ module _ (call : Handler) (steady : IsSteadyHandler call) (g : ℕ) (unit : List
   -- a formal parameter that takes its argument
   steady_takes_value : (line number : ℕ) (f : Formal) (z : ℤ) → Steady (bind (elaborate call g unit types (denoter_of f.denoter)) (λ t. bind (allocate_own number t) (λ _. initialized unit line t z)))
   steady_takes_value line number f z =
-      steady_bind (steady_elaborated call steady g unit (type_of types (denoter_of f.denoter))) (λ t. steady_bind (steady_allocate_own number t) (λ _. steady_initialized unit line t z))
+      steady_bind (steady_elaborate call steady g unit types (denoter_of f.denoter)) (λ t. steady_bind (steady_allocate_own number t) (λ _. steady_initialized unit line t z))
 
   steady_takes_variable : (number : ℕ) (c : Component) → Steady (spend 1 (change (with_own_bound number c)))
   steady_takes_variable number c = steady_spend 1 (steady_change (λ s. grows_quiet s (with_own_bound number c s) refl refl))

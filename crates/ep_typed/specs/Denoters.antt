@@ -3,13 +3,13 @@ use Rattle.std.specs.Prelude.{◌≡◌, ℕ, ℤ, pos, neg_ℤ, zero, suc, List
 use Rattle.ep_typed.specs.Hosts as host
 use Rattle.ep_typed.specs.Hosts.{Host}
 use Rattle.ep_typed.specs.Operations.{maxint, last_char}
-use Rattle.ep_typed.specs.Trees.{Bound, Fixed, Denoter, Required, Named, Subrange, Enumeration}
+use Rattle.ep_typed.specs.Trees.{Bound, Fixed, Denoter, Required, Named, Subrange, Enumeration, Array}
 use Rattle.ep_typed.specs.Viewed.{denoter_of}
 use Rattle.ep_typed.specs.declared.denoter.RequiredType.{RequiredType}
 use Rattle.ep_typed.specs.declared.denoter.RequiredType.TheVariants as simple
 use Rattle.ep_typed.specs.declared.unit.UnitType.{UnitType}
-use Rattle.ep_typed.specs.declared.value.TypeValue.{TypeValue}
-use Rattle.ep_typed.specs.declared.value.TypeValue.TheVariants.{Ordinal}
+use Rattle.ep_typed.specs.TypeValues as type
+use Rattle.ep_typed.specs.TypeValues.{TypeValue, Ordinal, Text}
 
 -- the type value of a required type (ISO 10206, 6.4.2.2)
 abbrev pub required_type : RequiredType → TypeValue
@@ -22,12 +22,15 @@ abbrev pub definition_of : UnitType → Denoter
 definition_of t = denoter_of t.entry.denoter
 
 -- The denoter has the type value: a required type its own, a name that of what it is defined as, a subrange its
--- bounds, and an enumeration of one name or more the ordinal numbers of its constants.
+-- bounds, an enumeration of one name or more the ordinal numbers of its constants, and an array that of its index type
+-- and its components.
 pub data IsInstance (types : List UnitType) : Denoter → TypeValue → Type 0 where
   required : (r : RequiredType) → IsInstance types (Required r) (required_type r)
   named : (index : ℕ) (t : UnitType) {v : TypeValue} → slice_get types index ≡ Some t → IsInstance types (definition_of t) v → IsInstance types (Named index []) v
   subrange : (host : Denoter) (low high : ℤ) → IsInstance types (Subrange host (Fixed low) (Fixed high)) (Ordinal low high)
   enumeration : (first : List ℕ) (others : List (List ℕ)) → IsInstance types (Enumeration (first ∷ others)) (Ordinal (pos 0) (pos (length others)))
+  array : (index component : Denoter) (low high : ℤ) (of : TypeValue) → IsInstance types index (Ordinal low high) → IsInstance types component of
+      → IsInstance types (Array index component) (type.Array low high of)
 
 -- the type value of a subrange whose bounds are constants
 abbrev pub subrange_type : Bound → Bound → Option TypeValue
@@ -42,12 +45,36 @@ abbrev pub enumeration_host : List (List ℕ) → Option Host
 enumeration_host [] = None
 enumeration_host (first ∷ others) = Some (host.Enumeration (length others))
 
+-- the type value of an array, whose index type is ordinal
+abbrev pub array_type : Option TypeValue → Option TypeValue → Option TypeValue
+array_type (Some (Ordinal low high)) (Some of) = Some (type.Array low high of)
+array_type _ _ = None
+
 -- what is found of the definition of a name, where the list has it
 abbrev pub found_of : {A : Type 0} → (Denoter → Option A) → Option UnitType → Option A
 found_of find None = None
 found_of find (Some t) = find (definition_of t)
 
+-- the index type and the type of the components of an array
+pub record ArrayParts : Type 0 where
+  pub index : Denoter
+  pub component : Denoter
+
 module _ (types : List UnitType) where
+  -- the parts of a denoter of an array, by those of the definition where it is a name
+  abbrev pub array_step : (Denoter → Option ArrayParts) → Denoter → Option ArrayParts
+  array_step find (Array index component) = Some (record { index = index; component = component })
+  array_step find (Named index []) = found_of find (slice_get types index)
+  array_step find _ = None
+
+  abbrev pub array_within : ℕ → Denoter → Option ArrayParts
+  array_within zero d = None
+  array_within (suc n) d = array_step (array_within n) d
+
+  -- the parts of an array, by its denoter
+  abbrev pub array_of : Denoter → Option ArrayParts
+  array_of = array_within (suc (length types))
+
   -- the type value of a denoter, by that of the definition where it is a name
   abbrev pub type_step : (Denoter → Option TypeValue) → Denoter → Option TypeValue
   type_step find (Required r) = Some (required_type r)
@@ -55,8 +82,9 @@ module _ (types : List UnitType) where
   type_step find (Named index (b ∷ bs)) = None
   type_step find (Subrange host low high) = subrange_type low high
   type_step find (Enumeration names) = enumeration_type names
+  type_step find (Array index component) = array_type (type_step find index) (type_step find component)
 
-  -- the host of a denoter, likewise
+  -- the host of a denoter, likewise; what is not ordinal has none
   abbrev pub host_step : (Denoter → Option Host) → Denoter → Option Host
   host_step find (Required simple.Integer) = Some host.Integer
   host_step find (Required simple.Char) = Some host.Char
@@ -65,8 +93,9 @@ module _ (types : List UnitType) where
   host_step find (Named index (b ∷ bs)) = None
   host_step find (Subrange of low high) = host_step find of
   host_step find (Enumeration names) = enumeration_host names
+  host_step find (Array index component) = None
 
-  -- at most so many denoters are looked at, each but the first the definition of the name before it
+  -- at most so many names are followed, each but the first one in the definition of the one before it
   abbrev pub type_within : ℕ → Denoter → Option TypeValue
   type_within zero d = None
   type_within (suc n) d = type_step (type_within n) d

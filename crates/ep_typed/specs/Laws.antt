@@ -7,7 +7,7 @@ use Rattle.ep_typed.specs.Steps.{Outcome, Gives, Ends, Cut, state_of}
 use Rattle.ep_typed.specs.Trees.{Denoter}
 use Rattle.ep_typed.specs.declared.unit.Unit.{Unit as TypedUnit}
 use Rattle.ep_typed.specs.declared.unit.UnitType.{UnitType}
-use Rattle.ep_typed.specs.declared.value.TypeValue.{TypeValue}
+use Rattle.ep_typed.specs.TypeValues.{TypeValue}
 
 -- With so many more steps a computation that was not cut comes to the same, and they are left. One that was cut goes on from there.
 abbrev pub IsLonger : {A : Type 0} → ℕ → Outcome A → Outcome A → Type 0

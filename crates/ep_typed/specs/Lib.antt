@@ -1,4 +1,5 @@
 pub mod Auxiliaries
+pub mod Bounds
 pub mod Calls
 pub mod Controls
 pub mod Denoters
@@ -13,5 +14,6 @@ pub mod Routines
 pub mod Steady
 pub mod Steps
 pub mod Trees
+pub mod TypeValues
 pub mod Valid
 pub mod Viewed

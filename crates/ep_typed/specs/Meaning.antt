@@ -4,11 +4,11 @@ use Rattle.std.specs.Prelude.{ℕ, ℤ, pos, negsuc, zero, suc, Bool, true, fals
 use Rattle.ep_typed.specs.Calls.{Argument, Value, Handler, in_call}
 use Rattle.ep_typed.specs.Calls as argument_is
 use Rattle.ep_typed.specs.Controls.{in_order, next_value}
-use Rattle.ep_typed.specs.Denoters.{type_of}
-use Rattle.ep_typed.specs.Trees.{Denoter, Callee, Place, Variable, Own, Standard, Expr, Constant, Text, Read, One, Two, Short, Step, Function, Actual, Evaluated, Accessed, Actuals, no_actual, next_actual, Item, Plain, Wide, Stmt, Stmts, Empty, Compound, Assign, If, While, Repeat, Control, For, Procedure, Halt, Write, none, next, Case, Arms, no_arm, next_arm, Other, no_other, otherwise_do}
+use Rattle.ep_typed.specs.Denoters.{required_type, subrange_type, enumeration_type, array_type, definition_of}
+use Rattle.ep_typed.specs.Trees.{Denoter, Required, Named, Subrange, Enumeration, Array, Callee, Place, Variable, Own, Standard, Indexed, Expr, Constant, Text, Read, One, Two, Short, Step, Function, Actual, Evaluated, Accessed, Actuals, no_actual, next_actual, Item, Plain, Wide, Stmt, Stmts, Empty, Compound, Assign, If, While, Repeat, Control, For, Procedure, Halt, Write, none, next, Case, Arms, no_arm, next_arm, Other, no_other, otherwise_do, entire}
 use Rattle.ep_typed.specs.Routines.{made_variables, unit_variables}
 use Rattle.ep_typed.specs.Viewed.{denoter_of, stmt_of}
-use Rattle.ep_typed.specs.Steps.{Call, Normal, Halted, Error, Word, Undefined, Outcome, Computation, give, cut, stop, bind, spend, change, fetch, with_events, word_at, assigned, type_at, is_within, is_among, whole, Component, with_type, allocate, allocate_own, own_variable, newest_assigned, with_own_bound, standard_file, first_state, using}
+use Rattle.ep_typed.specs.Steps.{Call, Normal, Halted, Error, Word, Undefined, Outcome, Computation, give, cut, stop, bind, spend, change, fetch, with_events, word_at, assigned, type_at, is_within, is_among, whole, Component, component, component_number, with_type, allocate, allocate_own, own_variable, newest_assigned, with_own_bound, standard_file, first_state, using}
 use Rattle.ep_typed.specs.Operations.{Answer, Number, Fault, unary_answer, binary_answer, step_answer, is_same, is_true, decides, is_in}
 use Rattle.ep_typed.specs.Printing.{Result, Bytes, number_of, line_end, plain_text, wide_text, piece_events}
 use Rattle.ep_typed.specs.Printing as result
@@ -22,7 +22,7 @@ use Rattle.ep_typed.specs.declared.unit.UnitRoutine.{UnitRoutine}
 use Rattle.ep_typed.specs.declared.tree.CaseRange.{CaseRange}
 use Rattle.ep_typed.specs.declared.unit.UnitType.{UnitType}
 use Rattle.ep_typed.specs.declared.unit.UnitVariable.{UnitVariable}
-use Rattle.ep_typed.specs.declared.value.TypeValue.{TypeValue}
+use Rattle.ep_typed.specs.TypeValues.{TypeValue}
 use Rattle.ep_typed.specs.declared.unit.Unit.{Unit as TypedUnit}
 
 -- the steps that a result spends besides the one of its node: a text has its length
@@ -36,11 +36,10 @@ module _ (call : Handler) (g : ℕ) (unit : List ℕ) where
   answered line (Number z) = give z
   answered line (Fault error) = stop (Error error unit line)
 
-  -- a place is a variable; an undefined value where that is not made yet
-  abbrev pub place : ℕ → Place → Computation Component
-  place line (Variable u k) = bind (fetch (Error run_error.UNDEFINED_VALUE unit line) (λ s. s.variables u k)) (λ c. spend 1 (give c))
-  place line (Own levels k) = bind (fetch (Error run_error.UNDEFINED_VALUE unit line) (own_variable levels k)) (λ c. spend 1 (give c))
-  place line (Standard file) = spend 1 (give (whole (standard_file file)))
+  -- the component of a variable at an index: an error where the variable has ended, and else where the index is outside of the bounds
+  abbrev pub indexed : ℕ → Component → ℤ → Computation Component
+  indexed line c z =
+      using (Error run_error.DISPOSED unit line) c.allocation (bind (fetch (Error run_error.INDEX unit line) (λ s. component_number (type_at c s) z)) (λ k. spend 1 (give (component c k))))
 
   -- the value of a variable: an error where its allocation has ended, and else where the value is undefined
   abbrev pub read : ℕ → Component → Computation Result
@@ -53,6 +52,13 @@ module _ (call : Handler) (g : ℕ) (unit : List ℕ) where
   one_result (r ∷ more) = cut
 
   abbrev mutual
+    -- a place is a variable; an undefined value where that is not made yet
+    pub place : ℕ → Place → Computation Component
+    place line (Variable u k) = bind (fetch (Error run_error.UNDEFINED_VALUE unit line) (λ s. s.variables u k)) (λ c. spend 1 (give c))
+    place line (Own levels k) = bind (fetch (Error run_error.UNDEFINED_VALUE unit line) (own_variable levels k)) (λ c. spend 1 (give c))
+    place line (Standard file) = spend 1 (give (whole (standard_file file)))
+    place line (Indexed p x) = bind (place line p) (λ c. bind (eval line x) (λ r. indexed line c (number_of r)))
+
     -- an expression spends a step and its weight when it is done
     pub eval : ℕ → Expr → Computation Result
     eval line (Constant z) = spend 1 (give (result.Number z))
@@ -127,14 +133,14 @@ module _ (call : Handler) (g : ℕ) (unit : List ℕ) where
   abbrev pub turns_to : ℕ → ℕ → Control → ℤ → Computation (Unit {0}) → Computation (Unit {0})
   turns_to zero line c last body = cut
   turns_to (suc g) line c last body =
-      bind body (λ _. bind (eval line (Read c.variable)) (λ r.
-      spend 1 (if is_same last (number_of r) then give tt else bind (assigns line c.variable (next_value c)) (λ _. turns_to g line c last body))))
+      bind body (λ _. bind (eval line (Read (entire c.variable))) (λ r.
+      spend 1 (if is_same last (number_of r) then give tt else bind (assigns line (entire c.variable) (next_value c)) (λ _. turns_to g line c last body))))
 
   -- A `for` that has a turn, with its body: both bounds are values of the control variable's type, which has the initial
   -- one at first. The final value is the one that the auxiliary variable has then, since a `for` in the body has the same variables.
   abbrev pub counts : ℕ → Control → Computation (Unit {0}) → Computation (Unit {0})
   counts line c body =
-      bind (eval line (Read c.last)) (λ b. bind (assigns line c.variable (Read c.last)) (λ _. bind (assigns line c.variable (Read c.initial)) (λ _.
+      bind (eval line (Read (entire c.last))) (λ b. bind (assigns line (entire c.variable) (Read (entire c.last))) (λ _. bind (assigns line (entire c.variable) (Read (entire c.initial))) (λ _.
       turns_to g line c (number_of b) body)))
 
   -- The ranges of an arm are tried in order, up to the first one that has the value. One that is tried spends a step.
@@ -153,9 +159,9 @@ module _ (call : Handler) (g : ℕ) (unit : List ℕ) where
     exec (Repeat line ss x) = turns_until g (exec_all ss) (eval line x)
     -- both bounds are evaluated once, and the control variable is undefined in the end, as it is where there is no turn
     exec (For line c x y s) =
-        bind (assigns line c.initial x) (λ _. bind (assigns line c.last y) (λ _.
+        bind (assigns line (entire c.initial) x) (λ _. bind (assigns line (entire c.last) y) (λ _.
         bind (bind (eval line (in_order c)) (λ r. if is_true (number_of r) then counts line c (exec s) else give tt)) (λ _.
-        bind (undefines line c.variable) (λ _. spend 1 (give tt)))))
+        bind (undefines line (entire c.variable)) (λ _. spend 1 (give tt)))))
     exec (Procedure line callee given) =
         bind (arguments line given) (λ xs. bind (call unit line callee xs) (λ results. spend 1 (give tt)))
     exec (Case line x arms o) = bind (eval line x) (λ r. exec_arms (number_of r) arms (exec_other line o))
@@ -175,14 +181,37 @@ module _ (call : Handler) (g : ℕ) (unit : List ℕ) where
     exec_other line no_other = stop (Error run_error.NO_CASE unit line)
     exec_other line (otherwise_do ss) = bind (exec_all ss) (λ _. spend 1 (give tt))
 
-  -- A type is elaborated: it is counted, and then spends a step for its node. Constant bounds spend none, and a name
-  -- spends what its definition does. A denoter without a type value has no meaning, and no valid unit has one.
-  abbrev pub elaborated : Option TypeValue → Computation TypeValue
-  elaborated None = cut
-  elaborated (Some t) = bind (change (with_type t)) (λ _. spend 1 (give t))
+  -- A type value is counted, and then a step is spent for its node. Constant bounds spend none.
+  abbrev pub elaborated : TypeValue → Computation TypeValue
+  elaborated t = bind (change (with_type t)) (λ _. spend 1 (give t))
 
-  abbrev pub elaborate : List UnitType → Denoter → Computation TypeValue
-  elaborate types d = elaborated (type_of types d)
+  -- what has no type value has no meaning, and no valid unit has it
+  abbrev pub elaborated_where : Option TypeValue → Computation TypeValue
+  elaborated_where None = cut
+  elaborated_where (Some t) = elaborated t
+
+  abbrev pub elaborated_found : (Denoter → Computation TypeValue) → Option UnitType → Computation TypeValue
+  elaborated_found find None = cut
+  elaborated_found find (Some t) = find (definition_of t)
+
+  module _ (types : List UnitType) where
+    -- A type is elaborated, its parts in the order of the text. A name spends what its definition does.
+    abbrev pub elaborate_step : (Denoter → Computation TypeValue) → Denoter → Computation TypeValue
+    elaborate_step find (Required r) = elaborated (required_type r)
+    elaborate_step find (Named index []) = elaborated_found find (slice_get types index)
+    elaborate_step find (Named index (b ∷ bs)) = cut
+    elaborate_step find (Subrange host low high) = elaborated_where (subrange_type low high)
+    elaborate_step find (Enumeration names) = elaborated_where (enumeration_type names)
+    elaborate_step find (Array index component) =
+        bind (elaborate_step find index) (λ t. bind (elaborate_step find component) (λ u. elaborated_where (array_type (Some t) (Some u))))
+
+    -- at most so many names are followed
+    abbrev pub elaborate_within : ℕ → Denoter → Computation TypeValue
+    elaborate_within zero d = cut
+    elaborate_within (suc n) d = elaborate_step (elaborate_within n) d
+
+    abbrev pub elaborate : Denoter → Computation TypeValue
+    elaborate = elaborate_within (suc (length types))
 
   -- its type is elaborated, and then the variable is made, which spends its size
   abbrev pub make : List UnitType → ℕ → UnitVariable → Computation (Unit {0})

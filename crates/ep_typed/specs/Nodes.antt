@@ -1,6 +1,6 @@
 -- How many typed nodes a unit has: its expressions, places, statements, ranges of `case` statements, imports, routines, formals, variables, denoters, bounds and values. An expression that is a constant or a text counts one, and its value one more.
 use Rattle.std.specs.Prelude.{ℕ, ◌+◌, ◌*◌, List, [], ◌∷◌, length, map, sum, Option, Some, None}
-use Rattle.ep_typed.specs.Trees.{Denoter, Required, Named, Subrange, Enumeration, Place, Variable, Own, Standard, Expr, Constant, Text, Read, One, Two, Short, Step, Function, Actual, Evaluated, Accessed, Actuals, no_actual, next_actual, Item, Plain, Wide, Stmt, Stmts, Empty, Compound, Assign, If, While, Repeat, For, Procedure, Case, Halt, Write, none, next, Arm, Arms, no_arm, next_arm, Other, no_other, otherwise_do}
+use Rattle.ep_typed.specs.Trees.{Denoter, Required, Named, Subrange, Enumeration, Array, Place, Variable, Own, Standard, Indexed, Expr, Constant, Text, Read, One, Two, Short, Step, Function, Actual, Evaluated, Accessed, Actuals, no_actual, next_actual, Item, Plain, Wide, Stmt, Stmts, Empty, Compound, Assign, If, While, Repeat, For, Procedure, Case, Halt, Write, none, next, Arm, Arms, no_arm, next_arm, Other, no_other, otherwise_do, entire}
 use Rattle.ep_typed.specs.Viewed.{denoter_of, expr_of, stmt_of}
 use Rattle.ep_typed.specs.declared.interface.ConstantEntry.{ConstantEntry}
 use Rattle.ep_typed.specs.declared.interface.Formal.{Formal}
@@ -20,15 +20,17 @@ denoter_nodes (Required required) = 1
 denoter_nodes (Named index tuple) = 1 + length tuple
 denoter_nodes (Subrange host low high) = 3 + denoter_nodes host
 denoter_nodes (Enumeration names) = 1
+denoter_nodes (Array index component) = 1 + denoter_nodes index + denoter_nodes component
 
 -- ---- expressions
 
-abbrev pub place_nodes : Place → ℕ
-place_nodes (Variable unit number) = 1
-place_nodes (Own levels number) = 1
-place_nodes (Standard file) = 1
-
 abbrev mutual
+  pub place_nodes : Place → ℕ
+  place_nodes (Variable unit number) = 1
+  place_nodes (Own levels number) = 1
+  place_nodes (Standard file) = 1
+  place_nodes (Indexed array index) = 1 + place_nodes array + expr_nodes index
+
   pub expr_nodes : Expr → ℕ
   expr_nodes (Constant value) = 2
   expr_nodes (Text bytes) = 2
@@ -66,7 +68,7 @@ abbrev mutual
   stmt_nodes (While line x s) = 1 + expr_nodes x + stmt_nodes s
   stmt_nodes (Repeat line ss x) = 1 + stmts_nodes ss + expr_nodes x
   -- the auxiliary variables are no nodes
-  stmt_nodes (For line c x y s) = 1 + place_nodes c.variable + expr_nodes x + expr_nodes y + stmt_nodes s
+  stmt_nodes (For line c x y s) = 1 + place_nodes (entire c.variable) + expr_nodes x + expr_nodes y + stmt_nodes s
   stmt_nodes (Procedure line callee given) = 1 + actuals_nodes given
   stmt_nodes (Case line x arms o) = 1 + expr_nodes x + arms_nodes arms + other_nodes o
   stmt_nodes (Halt line) = 1

@@ -2,13 +2,12 @@
 use Rattle.std.specs.Prelude.{ℕ, ℤ, pos, neg_ℤ, zero, suc, ◌+◌, ◌-◌, Bool, true, false, ◌&&◌, ◌||◌, not, nat_le, List, [], ◌∷◌, ◌++◌, Option, Some, None, length, slice_get, slice_set, drop, if◌then◌else◌}
 use Rattle.std.specs.List.{list_any}
 use Rattle.std.specs.Str.{bytes_eq}
-use Rattle.std.specs.Prelude.{int_le}
 use Rattle.ep_typed.specs.Events.{Trace}
 use Rattle.ep_typed.specs.Operations.{maxint, last_char}
 use Rattle.ep_typed.specs.declared.tree.StandardFile.{StandardFile}
 use Rattle.ep_typed.specs.declared.tree.StandardFile.TheVariants.{Input, Output}
-use Rattle.ep_typed.specs.declared.value.TypeValue.{TypeValue}
-use Rattle.ep_typed.specs.declared.value.TypeValue.TheVariants.{Ordinal, Text}
+use Rattle.ep_typed.specs.Bounds.{component_at}
+pub use Rattle.ep_typed.specs.TypeValues.{TypeValue, Ordinal, Text, Array, component_type, is_within, size_of, same_type, parts_of}
 
 -- how a run ends
 pub data End : Type 0 where
@@ -31,6 +30,10 @@ pub record Component : Type 0 where
 
 abbrev pub whole : ℕ → Component
 whole n = record { allocation = n; path = [] }
+
+-- a component of a variable, by its number
+abbrev pub component : Component → ℕ → Component
+component c k = record c { path = c.path ++ k ∷ [] }
 
 -- an allocation: a variable that a declaration makes, or a standard file. They are numbered from 1 in the order of
 -- their making, and `input` and `output` are the first two. One that has ended keeps its number.
@@ -206,11 +209,6 @@ assigned_at (suc n) path value allocations = changed_at n path value allocations
 abbrev pub assigned : Component → Value → State → State
 assigned c value s = record s { allocations = assigned_at c.allocation c.path value s.allocations }
 
--- the type of a component of this number, where the type has one
-abbrev pub component_type : TypeValue → ℕ → Option TypeValue
-component_type (Ordinal low high) k = None
-component_type Text k = None
-
 -- the type at a path
 abbrev pub type_along : Option TypeValue → List ℕ → Option TypeValue
 type_along t [] = t
@@ -226,27 +224,15 @@ type_in (Some a) = Some a.type_value
 abbrev pub type_at : Component → State → Option TypeValue
 type_at c s = type_along (type_in (allocation_at s.allocations c.allocation)) c.path
 
--- whether a word is a value of a type
-abbrev pub is_within : TypeValue → ℤ → Bool
-is_within (Ordinal low high) w = int_le low w && int_le w high
-is_within Text w = false
+-- the number of the component with this index, where the type is an array and the index is within its bounds
+abbrev pub component_number : Option TypeValue → ℤ → Option ℕ
+component_number (Some (Array low high of)) z = component_at low high z
+component_number _ z = None
 
 -- what has no type has no values
 abbrev pub is_among : Option TypeValue → ℤ → Bool
 is_among None w = false
 is_among (Some t) w = is_within t w
-
--- the words of a variable of a type
-abbrev pub size_of : TypeValue → ℕ
-size_of (Ordinal low high) = 1
-size_of Text = 1
-
--- whether two type values are the same
-abbrev pub same_type : TypeValue → TypeValue → Bool
-same_type (Ordinal l h) (Ordinal m k) = (int_le l m && int_le m l) && (int_le h k && int_le k h)
-same_type Text Text = true
-same_type (Ordinal l h) Text = false
-same_type Text (Ordinal l h) = false
 
 -- every run has room for so many words and types
 abbrev pub room_for_words : ℕ
@@ -268,11 +254,15 @@ first_types = Ordinal (neg_ℤ (pos maxint)) (pos maxint) ∷ Ordinal (pos 0) (p
 
 -- the words of a new type value, of which the first types have none
 abbrev pub words_of_type : TypeValue → ℕ
-words_of_type t = if list_any (same_type t) first_types then 0 else 1
+words_of_type t = if list_any (same_type t) first_types then 0 else 1 + parts_of t
+
+-- room is lost where a type has more words than every run has
+abbrev pub sized : TypeValue → Resources → Resources
+sized t r = record r { lost = r.lost || not (nat_le (size_of t) room_for_words) }
 
 -- one more type that is elaborated, which counts where it is a new one
 abbrev pub met : TypeValue → Resources → Resources
-met t r = watched (if list_any (same_type t) r.types then r else record r { types = t ∷ r.types; typed = r.typed + words_of_type t })
+met t r = sized t (watched (if list_any (same_type t) r.types then r else record r { types = t ∷ r.types; typed = r.typed + words_of_type t }))
 
 abbrev pub with_type : TypeValue → State → State
 with_type t s = record s { resources = met t s.resources }

@@ -19,14 +19,8 @@ pub data Denoter : Type 0 where
   Named : (index : ℕ) (tuple : List Bound) → Denoter
   Subrange : (host : Denoter) (low high : Bound) → Denoter
   Enumeration : (names : List (List ℕ)) → Denoter
-
--- where a variable is
-pub data Place : Type 0 where
-  -- the variable of this number of the unit of this name
-  Variable : (unit : List ℕ) (number : ℕ) → Place
-  -- the variable of this number of the routine so many levels up from the one that runs
-  Own : (levels number : ℕ) → Place
-  Standard : (file : StandardFile) → Place
+  -- an array, by its index type and the type of its components
+  Array : (index component : Denoter) → Denoter
 
 -- A routine that is called: its unit, its number in that unit, and 0 for a routine of the unit, or one more than how many
 -- levels up from the one that runs stands that in which it is declared.
@@ -36,6 +30,16 @@ pub record Callee : Type 0 where
   pub levels : ℕ
 
 mutual
+  -- where a variable is
+  pub data Place : Type 0 where
+    -- the variable of this number of the unit of this name
+    Variable : (unit : List ℕ) (number : ℕ) → Place
+    -- the variable of this number of the routine so many levels up from the one that runs
+    Own : (levels number : ℕ) → Place
+    Standard : (file : StandardFile) → Place
+    -- the component of an array at an index
+    Indexed : (array : Place) (index : Expr) → Place
+
   -- an expression
   pub data Expr : Type 0 where
     Constant : (value : ℤ) → Expr
@@ -69,12 +73,23 @@ pub data Item : Type 0 where
   Plain : (print : Print) (value : Expr) → Item
   Wide : (print : Print) (value width : Expr) → Item
 
+-- an entire variable (ISO 10206, 6.5.2): the one of this number of the unit of this name, or of the routine so many levels
+-- up from the one that runs
+pub data Entire : Type 0 where
+  OfUnit : (unit : List ℕ) (number : ℕ) → Entire
+  OfRoutine : (levels number : ℕ) → Entire
+
+-- its place
+abbrev pub entire : Entire → Place
+entire (OfUnit unit number) = Variable unit number
+entire (OfRoutine levels number) = Own levels number
+
 -- What a `for` statement counts with (ISO 10206, 6.9.3.9.2): the control variable, the auxiliary variables that have the
 -- initial and the final value, whether the values fall, and the least and the greatest value of the control variable's host.
 pub record Control : Type 0 where
-  pub variable : Place
-  pub initial : Place
-  pub last : Place
+  pub variable : Entire
+  pub initial : Entire
+  pub last : Entire
   pub falls : Bool
   pub low : ℤ
   pub high : ℤ

@@ -1,12 +1,12 @@
 -- Which typed trees the static rules give: each form has parts of the kinds, types and numbers that it asks for.
-use Rattle.std.specs.Prelude.{◌≡◌, ℕ, zero, suc, ◌<◌, Bool, true, false, All, List, [], ◌∷◌, ◌++◌, map, slice_get, drop, length, Option, Some, None, IsTrue, int_le, ⊤, if◌then◌else◌}
+use Rattle.std.specs.Prelude.{◌≡◌, ℕ, ℤ, pos, zero, suc, ◌<◌, Bool, true, false, All, List, [], ◌∷◌, ◌++◌, map, slice_get, drop, length, Option, Some, None, IsTrue, int_le, ⊤, if◌then◌else◌}
 use Rattle.std.specs.Str.{bytes_eq}
-use Rattle.ep_typed.specs.Denoters.{definition_of, type_of, host_of}
+use Rattle.ep_typed.specs.Denoters.{ArrayParts, array_of, definition_of, required_type, type_of, host_of}
 use Rattle.ep_typed.specs.Hosts.{Host, least, greatest, is_of_host}
 use Rattle.ep_typed.specs.Hosts as host
 use Rattle.ep_typed.specs.Operations.{is_integer, is_apart}
 use Rattle.ep_typed.specs.Steps.{is_within}
-use Rattle.ep_typed.specs.Trees.{Denoter, Callee, Place, Variable, Own, Standard, Expr, Constant, Text, Read, One, Two, Short, Step, Function, Actual, Evaluated, Accessed, Actuals, no_actual, next_actual, Item, Plain, Wide, Stmt, Stmts, Empty, Compound, Assign, If, While, Repeat, Control, For, Procedure, Halt, Write, none, next, Case, Arms, no_arm, next_arm, Other, no_other, otherwise_do}
+use Rattle.ep_typed.specs.Trees.{Fixed, Denoter, Required, Named, Subrange, Enumeration, Array, Callee, Place, Variable, Own, Standard, Indexed, Expr, Constant, Text, Read, One, Two, Short, Step, Function, Actual, Evaluated, Accessed, Actuals, no_actual, next_actual, Item, Plain, Wide, Stmt, Stmts, Empty, Compound, Assign, If, While, Repeat, Control, For, Procedure, Halt, Write, none, next, Case, Arms, no_arm, next_arm, Other, no_other, otherwise_do, entire}
 pub use Rattle.ep_typed.specs.Routines.{heading_of, formal_variable, variables_of, unit_variables}
 use Rattle.ep_typed.specs.Viewed.{denoter_of, stmt_of}
 use Rattle.ep_typed.specs.declared.operations.Unary.{Unary}
@@ -15,6 +15,7 @@ use Rattle.ep_typed.specs.declared.operations.Binary.{Binary}
 use Rattle.ep_typed.specs.declared.operations.Binary.TheVariants as binary
 use Rattle.ep_typed.specs.declared.operations.Print.{Print}
 use Rattle.ep_typed.specs.declared.operations.Print.TheVariants as print
+use Rattle.ep_typed.specs.declared.denoter.RequiredType.{RequiredType}
 use Rattle.ep_typed.specs.declared.interface.ConstantEntry.{ConstantEntry}
 use Rattle.ep_typed.specs.declared.interface.Formal.{Formal}
 use Rattle.ep_typed.specs.declared.interface.FormalMode.{FormalMode}
@@ -22,8 +23,8 @@ use Rattle.ep_typed.specs.declared.interface.FormalMode.TheVariants as mode
 use Rattle.ep_typed.specs.declared.interface.RoutineEntry.{RoutineEntry}
 use Rattle.ep_typed.specs.declared.interface.RoutineResult.{RoutineResult}
 use Rattle.ep_typed.specs.declared.tree.CaseRange.{CaseRange}
-use Rattle.ep_typed.specs.declared.value.TypeValue.{TypeValue}
-use Rattle.ep_typed.specs.declared.value.TypeValue.TheVariants as type
+use Rattle.ep_typed.specs.TypeValues.{TypeValue}
+use Rattle.ep_typed.specs.TypeValues as type
 use Rattle.ep_typed.specs.declared.value.Value.{Value}
 use Rattle.ep_typed.specs.declared.value.Value.TheVariants as value
 use Rattle.ep_typed.specs.declared.unit.UnitRoutine.{UnitRoutine}
@@ -145,24 +146,21 @@ AreApart [] = ⊤
 AreApart (r ∷ rs) = All (λ s. IsTrue (is_apart r s)) rs × AreApart rs
 
 module _ (declared : Declarations) where
-  -- the place of a variable that is declared or of one of the routine, whose type has this host; a standard file is of no ordinal type
-  abbrev pub IsPlace : Host → Place → Type 0
-  IsPlace h (Variable unit number) = (v : UnitVariable) × (declared.variables unit number ≡ Some v) × (host_of (declared.types unit) (denoter_of v.denoter) ≡ Some h)
-  IsPlace h (Own up number) = (v : UnitVariable) × (slice_get (variables_up declared up) number ≡ Some v) × (host_of declared.routine_types (denoter_of v.denoter) ≡ Some h)
-  IsPlace h (Standard file) = ⊥
-
-  -- the place of a variable of this type value (ISO 10206, 6.7.3.3)
-  abbrev pub IsVariableOf : TypeValue → Place → Type 0
-  IsVariableOf t (Variable unit number) = (v : UnitVariable) × (declared.variables unit number ≡ Some v) × (type_of (declared.types unit) (denoter_of v.denoter) ≡ Some t)
-  IsVariableOf t (Own up number) = (v : UnitVariable) × (slice_get (variables_up declared up) number ≡ Some v) × (type_of declared.routine_types (denoter_of v.denoter) ≡ Some t)
-  IsVariableOf t (Standard file) = ⊥
-
   abbrev mutual
+    -- The place of a variable that is declared or of one of a routine, or of a component, of whose denoter, in the list of
+    -- types in which it names, this holds; a standard file has no denoter.
+    pub IsPlaceWhere : (List UnitType → Denoter → Type 0) → Place → Type 0
+    IsPlaceWhere Holds (Variable unit number) = (v : UnitVariable) × (declared.variables unit number ≡ Some v) × Holds (declared.types unit) (denoter_of v.denoter)
+    IsPlaceWhere Holds (Own up number) = (v : UnitVariable) × (slice_get (variables_up declared up) number ≡ Some v) × Holds declared.routine_types (denoter_of v.denoter)
+    IsPlaceWhere Holds (Standard file) = ⊥
+    IsPlaceWhere Holds (Indexed p x) =
+        IsPlaceWhere (λ types d. (a : ArrayParts) × (array_of types d ≡ Some a) × Holds types a.component × ((h : Host) × (host_of types a.index ≡ Some h) × IsExpr (Ordinal h) x)) p
+
     -- an expression of this kind
     pub IsExpr : Kind → Expr → Type 0
     IsExpr kind (Constant z) = (h : Host) × (kind ≡ Ordinal h) × IsTrue (is_of_host h z)
     IsExpr kind (Text bytes) = kind ≡ Bytes
-    IsExpr kind (Read p) = (h : Host) × (kind ≡ Ordinal h) × IsPlace h p
+    IsExpr kind (Read p) = (h : Host) × (kind ≡ Ordinal h) × IsPlaceWhere (λ types d. host_of types d ≡ Some h) p
     IsExpr kind (One operation x) = (k : Kind) × IsUnary operation k kind × IsExpr k x
     IsExpr kind (Two operation x y) = (k l : Kind) × IsBinary operation k l kind × IsExpr k x × IsExpr l y
     IsExpr kind (Short operation x y) = (kind ≡ Ordinal host.Boolean) × IsExpr (Ordinal host.Boolean) x × IsExpr (Ordinal host.Boolean) y
@@ -175,8 +173,8 @@ module _ (declared : Declarations) where
     pub IsGiven : List UnitType → FormalMode → Formal → Actual → Type 0
     IsGiven types mode.Value f (Evaluated x) = (h : Host) × (host_of types (denoter_of f.denoter) ≡ Some h) × IsExpr (Ordinal h) x
     IsGiven types mode.ProtectedValue f (Evaluated x) = (h : Host) × (host_of types (denoter_of f.denoter) ≡ Some h) × IsExpr (Ordinal h) x
-    IsGiven types mode.Variable f (Accessed p) = (t : TypeValue) × (type_of types (denoter_of f.denoter) ≡ Some t) × IsVariableOf t p
-    IsGiven types mode.ProtectedVariable f (Accessed p) = (t : TypeValue) × (type_of types (denoter_of f.denoter) ≡ Some t) × IsVariableOf t p
+    IsGiven types mode.Variable f (Accessed p) = (t : TypeValue) × (type_of types (denoter_of f.denoter) ≡ Some t) × IsPlaceWhere (λ list d. type_of list d ≡ Some t) p
+    IsGiven types mode.ProtectedVariable f (Accessed p) = (t : TypeValue) × (type_of types (denoter_of f.denoter) ≡ Some t) × IsPlaceWhere (λ list d. type_of list d ≡ Some t) p
     IsGiven types mode f a = ⊥
 
     -- one for each, in order
@@ -185,6 +183,14 @@ module _ (declared : Declarations) where
     AreGiven types [] (next_actual a more) = ⊥
     AreGiven types (f ∷ fs) no_actual = ⊥
     AreGiven types (f ∷ fs) (next_actual a more) = IsGiven types f.mode f a × AreGiven types fs more
+
+  -- the place of a variable whose type has this host
+  abbrev pub IsPlace : Host → Place → Type 0
+  IsPlace h = IsPlaceWhere (λ types d. host_of types d ≡ Some h)
+
+  -- the place of a variable of this type value (ISO 10206, 6.7.3.3)
+  abbrev pub IsVariableOf : TypeValue → Place → Type 0
+  IsVariableOf t = IsPlaceWhere (λ types d. type_of types d ≡ Some t)
 
   abbrev pub IsItem : Item → Type 0
   IsItem (Plain print x) = IsExpr (printed_kind print) x
@@ -211,9 +217,9 @@ module _ (declared : Declarations) where
 
   -- The control variable has this host, whose least and greatest values those are, and the auxiliary variables are integers.
   pub record IsControl (h : Host) (c : Control) : Type 0 where
-    pub variable : IsPlace h c.variable
-    pub initial : IsPlace host.Integer c.initial
-    pub last : IsPlace host.Integer c.last
+    pub variable : IsPlace h (entire c.variable)
+    pub initial : IsPlace host.Integer (entire c.initial)
+    pub last : IsPlace host.Integer (entire c.last)
     pub low : c.low ≡ least h
     pub high : c.high ≡ greatest h
 
@@ -249,14 +255,37 @@ module _ (declared : Declarations) where
 abbrev pub IsTypeOf : Host → TypeValue → Type 0
 IsTypeOf h (type.Ordinal low high) = IsTrue (int_le low high) × IsTrue (is_of_host h low) × IsTrue (is_of_host h high) × IsTrue (is_integer low) × IsTrue (is_integer high)
 IsTypeOf h type.Text = ⊥
+IsTypeOf h (type.Array low high of) = ⊥
 
--- under a list of types the denoter has a host, and a type value that is a type of it
+-- no type that a type value is made of is empty, and bounds are integers
+abbrev pub IsTypeValue : TypeValue → Type 0
+IsTypeValue (type.Ordinal low high) = IsTrue (int_le low high) × IsTrue (is_integer low) × IsTrue (is_integer high)
+IsTypeValue type.Text = ⊥
+IsTypeValue (type.Array low high of) = (IsTrue (int_le low high) × IsTrue (is_integer low) × IsTrue (is_integer high)) × IsTypeValue of
+
+-- The denoter has the type value and breaks no rule: the bounds of a subrange are in order and of its host, and an
+-- enumeration has no more constants than there are integers.
+pub data IsTyped (types : List UnitType) : Denoter → TypeValue → Type 0 where
+  required : (r : RequiredType) → IsTyped types (Required r) (required_type r)
+  named : (index : ℕ) (t : UnitType) {v : TypeValue} → slice_get types index ≡ Some t → IsTyped types (definition_of t) v → IsTyped types (Named index []) v
+  subrange : (of : Denoter) (low high : ℤ) (h : Host) → host_of types of ≡ Some h → IsTypeOf h (type.Ordinal low high)
+      → IsTyped types (Subrange of (Fixed low) (Fixed high)) (type.Ordinal low high)
+  enumeration : (first : List ℕ) (others : List (List ℕ)) → IsTrue (is_integer (pos (length others)))
+      → IsTyped types (Enumeration (first ∷ others)) (type.Ordinal (pos 0) (pos (length others)))
+  array : (index component : Denoter) (low high : ℤ) (of : TypeValue) → IsTyped types index (type.Ordinal low high) → IsTyped types component of
+      → IsTyped types (Array index component) (type.Array low high of)
+
+-- under a list of types a valid denoter has a type value
 pub record IsDenoter (types : List UnitType) (d : Denoter) : Type 0 where
-  pub host : Host
-  pub has_host : host_of types d ≡ Some host
   pub type_value : TypeValue
   pub has_type : type_of types d ≡ Some type_value
-  pub is_type : IsTypeOf host type_value
+  pub typed : IsTyped types d type_value
+
+-- under a list of types the denoter is that of an ordinal type
+pub record IsOrdinal (types : List UnitType) (d : Denoter) : Type 0 where
+  pub host : Host
+  pub has_host : host_of types d ≡ Some host
+  pub denoter : IsDenoter types d
 
 -- The value is one of the type. A text is of none so far.
 abbrev pub IsValue : TypeValue → Value → Type 0
@@ -268,10 +297,10 @@ pub record IsType (types : List UnitType) (t : UnitType) : Type 0 where
   pub formals : t.entry.formals ≡ []
   pub denoter : IsDenoter types (definition_of t)
 
--- a constant that is a value of its type
+-- a constant of an ordinal type that is a value of it
 pub record IsConstant (types : List UnitType) (c : ConstantEntry) : Type 0 where
-  pub denoter : IsDenoter types (denoter_of c.denoter)
-  pub value : IsValue denoter.type_value c.value
+  pub ordinal : IsOrdinal types (denoter_of c.denoter)
+  pub value : IsValue ordinal.denoter.type_value c.value
 
 -- a variable of a valid denoter without discriminants
 pub record IsVariable (types : List UnitType) (v : UnitVariable) : Type 0 where
@@ -313,14 +342,21 @@ own u =
 abbrev pub in_block : TypedUnit → ℕ → UnitRoutine → Declarations
 in_block u number r = in_routine (record { number = number; variables = variables_of r } ∷ levels_of u.routines r.around) (own u)
 
+-- a value parameter is of an ordinal type, and a variable parameter of any
+abbrev pub IsFormalBy : FormalMode → List UnitType → Denoter → Type 0
+IsFormalBy mode.Value types d = IsOrdinal types d
+IsFormalBy mode.ProtectedValue types d = IsOrdinal types d
+IsFormalBy mode.Variable types d = IsDenoter types d
+IsFormalBy mode.ProtectedVariable types d = IsDenoter types d
+
 -- a formal parameter of a valid denoter
 pub record IsFormal (types : List UnitType) (f : Formal) : Type 0 where
-  pub denoter : IsDenoter types (denoter_of f.denoter)
+  pub denoter : IsFormalBy f.mode types (denoter_of f.denoter)
 
--- a result of a valid denoter, where there is one
+-- a result of an ordinal type, where there is one
 abbrev pub IsResult : List UnitType → Option RoutineResult → Type 0
 IsResult types None = ⊤
-IsResult types (Some r) = IsDenoter types (denoter_of r.denoter)
+IsResult types (Some r) = IsOrdinal types (denoter_of r.denoter)
 
 -- The routines around one of this number: the innermost stands before it, and the others are those around that one.
 abbrev pub IsAround : List UnitRoutine → ℕ → List ℕ → Type 0

@@ -12,12 +12,13 @@ use Rattle.ep_typed.specs.declared.operations.Print.{Print}
 use Rattle.ep_typed.specs.declared.tree.Actual.{Actual}
 use Rattle.ep_typed.specs.declared.tree.Callee.{Callee}
 use Rattle.ep_typed.specs.declared.tree.TypedPlace.{TypedPlace}
-use Rattle.ep_typed.specs.declared.tree.TypedPlace.TheVariants.{Variable, Own, Standard}
 use Rattle.ep_typed.specs.declared.tree.TypedExpr.{TypedExpr}
 use Rattle.ep_typed.specs.declared.tree.Actual.TheOpen as expr
-use Rattle.ep_typed.specs.declared.tree.Actual.TheOpen.{Actual-F, TypedExpr-F}
-use Rattle.ep_typed.specs.declared.tree.Actual.TheFolds.{fold-Actual, fold-TypedExpr}
+use Rattle.ep_typed.specs.declared.tree.Actual.TheOpen.{Actual-F, TypedExpr-F, TypedPlace-F}
+use Rattle.ep_typed.specs.declared.tree.Actual.TheFolds.{fold-Actual, fold-TypedExpr, fold-TypedPlace}
 use Rattle.ep_typed.specs.declared.tree.WriteItem.{WriteItem}
+use Rattle.ep_typed.specs.declared.tree.EntireVariable.{EntireVariable}
+use Rattle.ep_typed.specs.declared.tree.EntireVariable.TheVariants as entire
 use Rattle.ep_typed.specs.declared.tree.ForControl.{ForControl}
 use Rattle.ep_typed.specs.declared.tree.TypedStmt.{TypedStmt}
 use Rattle.ep_typed.specs.declared.tree.TypedStmt.TheOpen as stmt
@@ -33,37 +34,42 @@ denoter_step (denoter.Required required) = tree.Required required
 denoter_step (denoter.Named index tuple) = tree.Named index (map bound_of tuple)
 denoter_step (denoter.Subrange host low high) = tree.Subrange host (bound_of low) (bound_of high)
 denoter_step (denoter.Enumeration names) = tree.Enumeration names
+denoter_step (denoter.Array index component) = tree.Array index component
 
 abbrev pub denoter_of : Denoter → tree.Denoter
 denoter_of = fold-Denoter tree.Denoter denoter_step
 
-abbrev pub place_of : TypedPlace → tree.Place
-place_of (Variable unit number) = tree.Variable unit number
-place_of (Own levels number) = tree.Own levels number
-place_of (Standard file) = tree.Standard file
-
 abbrev pub callee_of : Callee → tree.Callee
 callee_of c = record { unit = c.unit; number = c.number; levels = c.levels }
 
-abbrev pub expr_step : TypedExpr-F tree.Actual tree.Expr → tree.Expr
+abbrev pub place_step : TypedPlace-F tree.Actual tree.Expr tree.Place → tree.Place
+place_step (expr.«TypedPlace::Variable» unit number) = tree.Variable unit number
+place_step (expr.Own levels number) = tree.Own levels number
+place_step (expr.Standard file) = tree.Standard file
+place_step (expr.Indexed array index) = tree.Indexed array index
+
+abbrev pub expr_step : TypedExpr-F tree.Actual tree.Expr tree.Place → tree.Expr
 expr_step (expr.Constant value) = tree.Constant value
 expr_step (expr.Text bytes) = tree.Text bytes
-expr_step (expr.Read place) = tree.Read (place_of place)
+expr_step (expr.Read place) = tree.Read place
 expr_step (expr.Unary operation operand) = tree.One operation operand
 expr_step (expr.Binary operation left right) = tree.Two operation left right
 expr_step (expr.Short operation left right) = tree.Short operation left right
 expr_step (expr.Step down low high value count) = tree.Step down low high value count
 expr_step (expr.Function callee given) = tree.Function (callee_of callee) (tree.actuals given)
 
-abbrev pub actual_step : Actual-F tree.Actual tree.Expr → tree.Actual
+abbrev pub actual_step : Actual-F tree.Actual tree.Expr tree.Place → tree.Actual
 actual_step (expr.Value value) = tree.Evaluated value
-actual_step (expr.Variable place) = tree.Accessed (place_of place)
+actual_step (expr.«Actual::Variable» place) = tree.Accessed place
+
+abbrev pub place_of : TypedPlace → tree.Place
+place_of = fold-TypedPlace tree.Actual tree.Expr tree.Place actual_step expr_step place_step
 
 abbrev pub expr_of : TypedExpr → tree.Expr
-expr_of = fold-TypedExpr tree.Actual tree.Expr actual_step expr_step
+expr_of = fold-TypedExpr tree.Actual tree.Expr tree.Place actual_step expr_step place_step
 
 abbrev pub actual_of : Actual → tree.Actual
-actual_of = fold-Actual tree.Actual tree.Expr actual_step expr_step
+actual_of = fold-Actual tree.Actual tree.Expr tree.Place actual_step expr_step place_step
 
 abbrev pub wide : Print → TypedExpr → Option TypedExpr → tree.Item
 wide print value None = tree.Plain print (expr_of value)
@@ -72,9 +78,13 @@ wide print value (Some width) = tree.Wide print (expr_of value) (expr_of width)
 abbrev pub item_of : WriteItem → tree.Item
 item_of i = wide i.print i.value i.width
 
+abbrev pub entire_of : EntireVariable → tree.Entire
+entire_of (entire.Unit unit number) = tree.OfUnit unit number
+entire_of (entire.Own levels number) = tree.OfRoutine levels number
+
 abbrev pub control_of : ForControl → tree.Control
 control_of c =
-    record { variable = place_of c.variable; initial = place_of c.initial; last = place_of c.last; falls = c.falls; low = c.low; high = c.high }
+    record { variable = entire_of c.variable; initial = entire_of c.initial; last = entire_of c.last; falls = c.falls; low = c.low; high = c.high }
 
 abbrev pub stmt_step : TypedStmt-F tree.Stmt tree.Arm → tree.Stmt
 stmt_step stmt.Empty = tree.Empty

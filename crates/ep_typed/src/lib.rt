@@ -18,7 +18,7 @@ mod unit;
 mod value;
 
 pub use auxiliary::{auxiliary_variables, first_for};
-pub use denoter::{Bound, Bounds, Denoter, RequiredType, type_of};
+pub use denoter::{Bound, Bounds, Denoter, RequiredType};
 pub use interface::{
     ConstantEntries, ConstantEntry, Constituent, ConstituentKind, Constituents, ExportEntries,
     ExportEntry, Formal, FormalMode, Formals, ImportSpec, ImportSpecs, Interface, NamePair,
@@ -29,11 +29,11 @@ pub use laws::{laws_of_denoters, laws_of_meanings};
 pub use nodes::unit_nodes;
 pub use operations::{Binary, Print, ShortOperation, Unary};
 pub use tree::{
-    Actual, Actuals, Callee, CaseArm, CaseArms, CaseRange, CaseRanges, ForControl, StandardFile,
-    TypedExpr, TypedExprs, TypedPlace, TypedStmt, TypedStmts, WriteItem, WriteItems,
+    Actual, Actuals, Callee, CaseArm, CaseArms, CaseRange, CaseRanges, EntireVariable, ForControl,
+    StandardFile, TypedExpr, TypedExprs, TypedPlace, TypedStmt, TypedStmts, WriteItem, WriteItems,
 };
 pub use unit::{
     RoutineNumbers, Unit, UnitRoutine, UnitRoutines, UnitType, UnitTypes, UnitVariable,
     UnitVariables,
 };
-pub use value::{TypeValue, Value};
+pub use value::Value;

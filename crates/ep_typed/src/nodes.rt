@@ -2,13 +2,13 @@
 
 ghost use Rattle.std.specs.Prelude.{◌≡◌, min, map, sum};
 ghost use Rattle.ep_typed.specs.Nodes as nodes;
-ghost use Rattle.ep_typed.specs.Viewed.{actual_of, arm_of, denoter_of, expr_of, item_of, place_of, stmt_of};
+ghost use Rattle.ep_typed.specs.Viewed.{actual_of, arm_of, denoter_of, entire_of, expr_of, item_of, place_of, stmt_of};
 ghost use Rattle.ep_typed.specs.Trees as tree;
 ghost use Rattle.ep_typed.specs.Trees.{stmts};
 
 use crate::denoter::Denoter;
 use crate::interface::{ConstantEntry, Formal, RoutineResult, SchemaFormal};
-use crate::tree::{Actual, CaseArm, TypedExpr, TypedPlace, TypedStmt, WriteItem};
+use crate::tree::{Actual, CaseArm, EntireVariable, TypedExpr, TypedPlace, TypedStmt, WriteItem};
 use crate::unit::{Unit, UnitRoutine, UnitType, UnitVariable};
 
 /// The typed nodes of a unit, at most the greatest `u64`. It takes no memory.
@@ -145,6 +145,9 @@ fn denoter(d: &Denoter) -> u64
         Denoter::Required(_) | Denoter::Enumeration(_) => 1,
         Denoter::Named(_, tuple) => (tuple.items().len() as u64).saturating_add(1),
         Denoter::Subrange(host, _, _) => denoter(host.get()).saturating_add(3),
+        Denoter::Array(index, component) => denoter(index.get())
+            .saturating_add(denoter(component.get()))
+            .saturating_add(1),
     }
 }
 
@@ -178,7 +181,7 @@ fn statement(s: &TypedStmt) -> u64
                 .saturating_add(1)
         }
         TypedStmt::For(_, control, initial, last, body) => {
-            place(&control.variable)
+            entire(&control.variable)
                 .saturating_add(expression(initial.get()))
                 .saturating_add(expression(last.get()))
                 .saturating_add(statement(body.get()))
@@ -269,11 +272,26 @@ fn item(i: &WriteItem) -> u64
     }
 }
 
+#[cycle(expressions)]
 fn place(p: &TypedPlace) -> u64
-    ensures { result ≡ nodes.place_nodes (place_of p.now) }
+    ensures { result ≡ min (nodes.place_nodes (place_of p.now)) u64.MAX }
 {
     match p {
         TypedPlace::Variable(_, _) | TypedPlace::Own(_, _) | TypedPlace::Standard(_) => 1,
+        TypedPlace::Indexed(array, index) => {
+            place(array.get())
+                .saturating_add(expression(index.get()))
+                .saturating_add(1)
+        }
+    }
+}
+
+/// The nodes of the place of an entire variable.
+fn entire(variable: &EntireVariable) -> u64
+    ensures { result ≡ min (nodes.place_nodes (tree.entire (entire_of variable.now))) u64.MAX }
+{
+    match variable {
+        EntireVariable::Unit(_, _) | EntireVariable::Own(_, _) => 1,
     }
 }
 

@@ -13,6 +13,8 @@ pub enum StandardFile {
 }
 
 /// A place, which is where a variable is (ISO 10206, 6.5.1).
+#[cycle(expression)]
+#[derive(Drop)]
 pub enum TypedPlace {
     /// The variable of this number of the unit of this name.
     Variable(Name, u32),
@@ -20,14 +22,23 @@ pub enum TypedPlace {
     Own(u32, u32),
     /// A standard file.
     Standard(StandardFile),
+    /// The component of an array at an index (ISO 10206, 6.5.3.2).
+    Indexed(Boxed<TypedPlace>, Boxed<TypedExpr>),
 }
 
-impl Drop for TypedPlace {
+/// An entire variable (ISO 10206, 6.5.2).
+pub enum EntireVariable {
+    /// The variable of this number of the unit of this name.
+    Unit(Name, u32),
+    /// A variable of a routine around the place, or of the one in whose block it stands: so many levels up, and its number.
+    Own(u32, u32),
+}
+
+impl Drop for EntireVariable {
     fn drop(self) {
         match self {
-            TypedPlace::Variable(_, _) => {}
-            TypedPlace::Own(_, _) => {}
-            TypedPlace::Standard(_) => {}
+            EntireVariable::Unit(_, _) => {}
+            EntireVariable::Own(_, _) => {}
         }
     }
 }
@@ -131,11 +142,11 @@ pub type CaseRanges = List<CaseRange>;
 /// block in which the statement is, and all its `for` statements have the same ones.
 pub struct ForControl {
     /// The control variable.
-    pub variable: TypedPlace,
+    pub variable: EntireVariable,
     /// The auxiliary variable that has the initial value.
-    pub initial: TypedPlace,
+    pub initial: EntireVariable,
     /// The auxiliary variable that has the final value.
-    pub last: TypedPlace,
+    pub last: EntireVariable,
     /// Whether the values fall, as `downto` says.
     pub falls: bool,
     /// The least value of the host type of the control variable.

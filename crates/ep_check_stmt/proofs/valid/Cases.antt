@@ -9,7 +9,7 @@ use Rattle.ep_typed.specs.Auxiliaries.{first_for, first_for_arms, first_for_othe
 use Rattle.ep_typed.specs.Hosts.{is_of_host}
 use Rattle.ep_typed.specs.Operations.{is_apart}
 use Rattle.ep_typed.specs.Trees as tree
-use Rattle.ep_typed.specs.Trees.{Expr, Place, Stmt, Arms, Other, no_arm, next_arm}
+use Rattle.ep_typed.specs.Trees.{Entire, Expr, Stmt, Arms, Other, no_arm, next_arm}
 use Rattle.ep_typed.specs.Valid as valid
 use Rattle.ep_typed.specs.Valid.{AreApart, Declarations, HasRange, IsExpr, IsRange, ranges_of}
 use Rattle.ep_typed.specs.declared.tree.CaseRange.{CaseRange}
@@ -207,7 +207,7 @@ module _ (declared : Declarations) (locals : Locals) (labels : LabelsAreSound) (
   -- the statement of each arm is valid, where it passes
   abbrev pub BodiesFit : List ArmJudged → Type 0
   BodiesFit [] = ⊤
-  BodiesFit (a ∷ all) = ((controls : List Place) → FitsRow (IsSound declared locals) (a.1 controls)) × BodiesFit all
+  BodiesFit (a ∷ all) = ((controls : List Entire) → FitsRow (IsSound declared locals) (a.1 controls)) × BodiesFit all
 
   abbrev labels_in : List ArmJudged → List (List Label)
   labels_in all = map (λ (a : ArmJudged). a.0) all
@@ -225,7 +225,7 @@ module _ (declared : Declarations) (locals : Locals) (labels : LabelsAreSound) (
     one_more scopes h a.0 (labels_in all) x.0 x.1 arms q.0.1 r.1,
   )
 
-  arms_fit : (line : ℕ) (controls : List Place) (all : List ArmJudged) → BodiesFit all → FitsRow (AreOwnArms all) (arms_in_order (map (arm_row scopes line h controls) all))
+  arms_fit : (line : ℕ) (controls : List Entire) (all : List ArmJudged) → BodiesFit all → FitsRow (AreOwnArms all) (arms_in_order (map (arm_row scopes line h controls) all))
   arms_fit line controls [] p = (λ there. tt, λ found more e. let same : found ≡ more = cc in ap (λ l. l.ranges) (sym same) ∙ sym (append-nil found.ranges))
   arms_fit line controls (a ∷ all) p =
       after_fits (IsOwnArm a.0) (AreOwnArms all) (AreOwnArms (a ∷ all)) _ (arm_row scopes line h controls a) (arms_in_order (map (arm_row scopes line h controls) all))
@@ -244,7 +244,7 @@ module _ (declared : Declarations) (locals : Locals) (labels : LabelsAreSound) (
   abbrev pub IsSelected : List (List Label) → Option Expr → Type 0
   IsSelected all form = IfForm (λ x. IsExpr declared (valid.Ordinal (typed_host h)) x) form × AreApartIn all
 
-  pub row_fits : (line : ℕ) (controls : List Place) (selector : Judged (Option Expr)) (all : List ArmJudged) (other : Judgement Other) → Fits (IfForm (λ x. IsExpr declared (valid.Ordinal (typed_host h)) x)) selector → AreApartIn (labels_in all) → BodiesFit all → FitsRow (OtherIsSound declared locals) other
+  pub row_fits : (line : ℕ) (controls : List Entire) (selector : Judged (Option Expr)) (all : List ArmJudged) (other : Judgement Other) → Fits (IfForm (λ x. IsExpr declared (valid.Ordinal (typed_host h)) x)) selector → AreApartIn (labels_in all) → BodiesFit all → FitsRow (OtherIsSound declared locals) other
       → FitsRow (IsSound declared locals) (case_row line selector (arms_in_order (map (arm_row scopes line h controls) all)) other)
   row_fits line controls selector all other p a q r =
       after_fits (IsExpr declared (valid.Ordinal (typed_host h))) (λ (x : Arms × Other). AreOwnArms all x.0 × OtherIsSound declared locals x.1) (IsSound declared locals) _ (at_item line selector) (after (λ a b. (a, b)) (arms_in_order (map (arm_row scopes line h controls) all)) other)

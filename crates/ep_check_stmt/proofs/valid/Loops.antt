@@ -1,10 +1,10 @@
 -- A `for` statement that the rules accept is valid, where the auxiliary variables are there.
-use Rattle.std.proofs.Common.{◌≡◌, ℕ, Bool, true, false, List, [], ◌∷◌, Option, Some, None, refl, sym, subst}
+use Rattle.std.proofs.Common.{◌≡◌, ℕ, ◌-◌, Bool, true, false, List, [], ◌∷◌, Option, Some, None, refl, sym, subst}
 use Rattle.std.specs.Prelude.{⊤, if◌then◌else◌}
 use Rattle.ep_tree.specs.declared.expression.Expression.{Expression}
 use Rattle.ep_typed.specs.Hosts as typed
 use Rattle.ep_typed.specs.Trees as tree
-use Rattle.ep_typed.specs.Trees.{Expr, Place, Stmt}
+use Rattle.ep_typed.specs.Trees.{Entire, Expr, Place, Stmt}
 use Rattle.ep_typed.specs.Valid as valid
 use Rattle.ep_typed.specs.Valid.{Declarations, IsControl, IsExpr, IsPlace}
 use Rattle.ep_scope.specs.Scopes.{Region, Meant, Declares, Standard, Requires, Nothing, depth_in, meant}
@@ -24,7 +24,7 @@ use Rattle.ep_check_expr.specs.Operators.{map_both}
 use Rattle.ep_check_expr.proofs.Meant.{IsMeant, meant-declared}
 use Rattle.ep_check_expr.proofs.Passing.{IfForm, given-fits}
 use Rattle.ep_check_stmt.specs.Laws.{AuxiliariesAreThere}
-use Rattle.ep_check_stmt.specs.Statements.{Context, Counted, ForHead, Judgement, Locals, Target, Under, at_item, bound_judged, bounds_judged, control_if, control_judged, control_named, counted_by, declared_control, declares_own, declares_variable, for_head, for_judged, for_row, head_threat, is_threatened_in, unless_threatened_in, unless_threatening}
+use Rattle.ep_check_stmt.specs.Statements.{Context, Counted, ForHead, Judgement, Locals, Named, Under, at_item, bound_judged, bounds_judged, control_if, control_judged, control_named, counted_by, declared_control, declares_own, declares_variable, for_head, for_judged, for_row, head_threat, is_threatened_in, unless_threatened_in, unless_threatening}
 use Rattle.ep_check_stmt.proofs.judged.Fits.{Fits, fits_both, fits_then}
 use Rattle.ep_check_stmt.proofs.valid.Passing.{FitsRow, after_fits, item_fits, unthreatening_fits}
 use Rattle.ep_check_stmt.proofs.valid.Sound.{IsSound}
@@ -38,21 +38,21 @@ module _ (declared : Declarations) (scopes : List Region) (agrees : Agrees decla
   IsVariableOf kind.Text place = ⊤
   IsVariableOf kind.File place = ⊤
 
-  abbrev IsVariable : Target → Type 0
-  IsVariable t = IsVariableOf t.kind t.place
+  abbrev IsVariable : Named → Type 0
+  IsVariable v = IsVariableOf v.kind (tree.entire v.variable)
 
   stored_fits : (place : Place) (k : Kind) → IsStoredIn declared place k → IsVariableOf k place
   stored_fits place (kind.Ordinal h) x = x.1
   stored_fits place kind.Text x = tt
   stored_fits place kind.File x = tt
 
-  if_fits : (own : Bool) (t : Target) → IsVariable t → Fits IsVariable (control_if own t)
+  if_fits : (own : Bool) (t : Named) → IsVariable t → Fits IsVariable (control_if own t)
   if_fits true t x = x
   if_fits false t x = tt
 
   declared_fits : (locals : Locals) (d : Declared) (what : Declaration) → IsDeclaration declared agrees.0 (depth_in scopes) d what → Fits IsVariable (declared_control locals (depth_in scopes) d what)
-  declared_fits locals d (declaration.Variable of k) x = if_fits (declares_variable locals d.unit) (record { place = tree.Variable d.unit d.number; kind = k }) (stored_fits (tree.Variable d.unit d.number) k x.0)
-  declared_fits locals d (declaration.Own of k guarded) x = if_fits (declares_own locals (depth_in scopes) d) (record { place = own_place (depth_in scopes) d; kind = k }) (stored_fits (own_place (depth_in scopes) d) k x.0)
+  declared_fits locals d (declaration.Variable of k) x = if_fits (declares_variable locals d.unit) (record { variable = tree.OfUnit d.unit d.number; kind = k }) (stored_fits (tree.Variable d.unit d.number) k x.0)
+  declared_fits locals d (declaration.Own of k guarded) x = if_fits (declares_own locals (depth_in scopes) d) (record { variable = tree.OfRoutine (depth_in scopes - d.level) d.number; kind = k }) (stored_fits (own_place (depth_in scopes) d) k x.0)
   declared_fits locals d (declaration.Constant k v) x = tt
   declared_fits locals d (declaration.«Type» of h) x = tt
   declared_fits locals d (declaration.Procedure parameters) x = tt
@@ -65,12 +65,12 @@ module _ (declared : Declarations) (scopes : List Region) (agrees : Agrees decla
   named_fits locals name Nothing x = tt
 
   abbrev IsCounted : Counted → Type 0
-  IsCounted c = IsPlace declared (typed_host c.host) c.place
+  IsCounted c = IsPlace declared (typed_host c.host) (tree.entire c.variable)
 
-  counted_fits : (place : Place) (k : Kind) → IsVariableOf k place → Fits IsCounted (counted_by place k)
-  counted_fits place (kind.Ordinal h) x = x
-  counted_fits place kind.Text x = tt
-  counted_fits place kind.File x = tt
+  counted_fits : (v : Entire) (k : Kind) → IsVariableOf k (tree.entire v) → Fits IsCounted (counted_by v k)
+  counted_fits v (kind.Ordinal h) x = x
+  counted_fits v kind.Text x = tt
+  counted_fits v kind.File x = tt
 
   unless_fits : (threatened : Bool) (c : Counted) → IsCounted c → Fits IsCounted (if threatened then Breaks (rule.CONTROL_THREATENED ∷ []) else Accepts c)
   unless_fits true c x = tt
@@ -78,11 +78,11 @@ module _ (declared : Declarations) (scopes : List Region) (agrees : Agrees decla
 
   pub control_fits : (c : Context) → c.scopes ≡ scopes → (name : List ℕ) → Fits IsCounted (control_judged c name)
   control_fits c is name =
-      fits_then IsCounted IsCounted (unless_threatened_in c.locals c.routines) (when_accepted (λ t. counted_by t.place t.kind) (control_named c.locals (depth_in c.scopes) name (meant c.scopes name)))
-      (fits_then IsVariable IsCounted (λ t. counted_by t.place t.kind) (control_named c.locals (depth_in c.scopes) name (meant c.scopes name))
+      fits_then IsCounted IsCounted (unless_threatened_in c.locals c.routines) (when_accepted (λ v. counted_by v.variable v.kind) (control_named c.locals (depth_in c.scopes) name (meant c.scopes name)))
+      (fits_then IsVariable IsCounted (λ v. counted_by v.variable v.kind) (control_named c.locals (depth_in c.scopes) name (meant c.scopes name))
       (subst (λ s. Fits IsVariable (control_named c.locals (depth_in s) name (meant s name))) (sym is) (named_fits c.locals name (meant scopes name) (meant-declared declared agrees.0 (depth_in scopes) scopes name agrees.1)))
-      (λ t x. counted_fits t.place t.kind x))
-      (λ k x. unless_fits (is_threatened_in c.locals c.routines k.place) k x)
+      (λ v x. counted_fits v.variable v.kind x))
+      (λ k x. unless_fits (is_threatened_in c.locals c.routines k.variable) k x)
 
   -- ---- the head
 
@@ -114,11 +114,11 @@ module _ (declared : Declarations) (scopes : List Region) (agrees : Agrees decla
       after_fits (IsHead locals) (IsSound declared locals) (IsSound declared locals) (λ h s. tree.For line h.control h.initial h.last s) head body p q
       (λ h s f g. λ there. (f (there line refl), g (λ other e. there line refl)))
 
-  pub for_fits : (c : Context) → c.scopes ≡ scopes → (controls : List Place) (line : ℕ) (j : Judged Counted) (falls : Bool) (start end : Expression) (body : Under Stmt) → Fits IsCounted j → ((inner : List Place) → FitsRow (IsSound declared c.locals) (body inner))
+  pub for_fits : (c : Context) → c.scopes ≡ scopes → (controls : List Entire) (line : ℕ) (j : Judged Counted) (falls : Bool) (start end : Expression) (body : Under Stmt) → Fits IsCounted j → ((inner : List Entire) → FitsRow (IsSound declared c.locals) (body inner))
       → FitsRow (IsSound declared c.locals) (for_judged c controls line j falls start end body)
   for_fits c is controls line (Breaks rules) falls start end body p q = tt
   for_fits c is controls line (Accepts k) falls start end body p q =
-      subst (λ s. FitsRow (IsSound declared c.locals) (for_row line (at_item line (unless_threatening (head_threat c.routines) controls (bounds_judged c.locals falls k (judged s start) (judged s end)))) (body (k.place ∷ controls)))) (sym is)
-      (row_fits c.locals line _ (body (k.place ∷ controls))
+      subst (λ s. FitsRow (IsSound declared c.locals) (for_row line (at_item line (unless_threatening (head_threat c.routines) controls (bounds_judged c.locals falls k (judged s start) (judged s end)))) (body (k.variable ∷ controls)))) (sym is)
+      (row_fits c.locals line _ (body (k.variable ∷ controls))
       (item_fits (IsHead c.locals) line _ (unthreatening_fits (IsHead c.locals) (head_threat c.routines) controls (bounds_judged c.locals falls k (judged scopes start) (judged scopes end)) (bounds_fit c.locals falls k p start end)))
-      (q (k.place ∷ controls)))
+      (q (k.variable ∷ controls)))

@@ -2,7 +2,7 @@
 use Rattle.std.proofs.Common.{ℕ, Bool, true, false, List, [], ◌∷◌, Option, Some, None}
 use Rattle.std.specs.Prelude.{⊤, if◌then◌else◌}
 use Rattle.std.specs.List.{list_any}
-use Rattle.ep_typed.specs.Trees.{Place}
+use Rattle.ep_typed.specs.Trees.{Entire}
 use Rattle.ep_scope.specs.declared.rule.TheConstants as rule
 use Rattle.ep_check_expr.specs.Judgements.{Judged, Accepts, Breaks}
 use Rattle.ep_check_expr.proofs.Passing.{IfForm}
@@ -36,7 +36,7 @@ after_fits P Q R f (Waits line) y h k g = waiting_fits R line y
 after_fits P Q R f (Fails line rules) y h k g = tt
 
 -- what is accepted has the property, where it threatens no control variable too
-pub unthreatening_fits : {A : Type 0} (P : A → Type 0) (threat : Place → A → Bool) (controls : List Place) (j : Judged (Option A)) → Fits (IfForm P) j → Fits (IfForm P) (unless_threatening threat controls j)
+pub unthreatening_fits : {A : Type 0} (P : A → Type 0) (threat : Entire → A → Bool) (controls : List Entire) (j : Judged (Option A)) → Fits (IfForm P) j → Fits (IfForm P) (unless_threatening threat controls j)
 unthreatening_fits P threat controls (Accepts None) h = tt
 unthreatening_fits P threat controls (Accepts (Some a)) h = go (list_any (λ v. threat v a) controls)
   where

@@ -18,7 +18,7 @@ use Rattle.ep_tree.specs.declared.statement.Statement.TheOpen.{Statement-F, Arm-
 use Rattle.ep_typed.specs.Auxiliaries.{first_for, first_for_of}
 use Rattle.ep_typed.specs.Hosts as typed
 use Rattle.ep_typed.specs.Trees as tree
-use Rattle.ep_typed.specs.Trees.{Actual, Callee, Place, Expr, Item, Other, Stmt, Stmts}
+use Rattle.ep_typed.specs.Trees.{Entire, Actual, Callee, Place, Expr, Item, Other, Stmt, Stmts}
 use Rattle.ep_typed.specs.Valid as valid
 use Rattle.ep_typed.specs.Valid.{AreItems, Declarations, IsExpr, IsItem, IsPlace, IsStmt, WritesSomething, printed_kind}
 use Rattle.ep_typed.specs.declared.operations.Print.{Print}
@@ -94,7 +94,7 @@ module _ (declared : Declarations) (expressions : ExpressionsAreSound) (passed :
   tested_fits kind.Text form h = tt
   tested_fits kind.File form h = tt
 
-  condition_fits : (c : Context) → c.scopes ≡ scopes → (controls : List Place) (line : ℕ) (e : Expression) → FitsRow (IsExpr declared (valid.Ordinal typed.Boolean)) (condition_judged c controls line e)
+  condition_fits : (c : Context) → c.scopes ≡ scopes → (controls : List Entire) (line : ℕ) (e : Expression) → FitsRow (IsExpr declared (valid.Ordinal typed.Boolean)) (condition_judged c controls line e)
   condition_fits c is controls line e =
       subst (λ s. FitsRow (IsExpr declared (valid.Ordinal typed.Boolean)) (at_item line (expr_item c controls (condition (judged s e))))) (sym is)
       (item_fits (IsExpr declared (valid.Ordinal typed.Boolean)) line (expr_item c controls (condition (judged scopes e)))
@@ -104,7 +104,7 @@ module _ (declared : Declarations) (expressions : ExpressionsAreSound) (passed :
   -- ---- statements without statements inside
 
   -- one that is valid, inside of `for` statements
-  stmt_fits : (c : Context) (controls : List Place) (line : ℕ) (j : Judged (Option Stmt)) → Fits (IfForm (IsStmt declared)) j → FitsRow (IsSound declared c.locals) (stmt_item c controls line j)
+  stmt_fits : (c : Context) (controls : List Entire) (line : ℕ) (j : Judged (Option Stmt)) → Fits (IfForm (IsStmt declared)) j → FitsRow (IsSound declared c.locals) (stmt_item c controls line j)
   stmt_fits c controls line j h =
       item_fits (IsSound declared c.locals) line (unless_threatening (stmt_threat c.routines) controls j)
       (unthreatening_fits (IsSound declared c.locals) (stmt_threat c.routines) controls j (fits_weaker (IfForm (IsStmt declared)) (IfForm (IsSound declared c.locals)) j weaker h))
@@ -301,7 +301,7 @@ module _ (declared : Declarations) (expressions : ExpressionsAreSound) (passed :
     -- the statements of arms are valid, where they pass
     abbrev ArmsFit : List ArmJudged → Type 0
     ArmsFit [] = ⊤
-    ArmsFit (a ∷ all) = ((controls : List Place) → FitsRow (IsSound declared c.locals) (a.1 controls)) × ArmsFit all
+    ArmsFit (a ∷ all) = ((controls : List Entire) → FitsRow (IsSound declared c.locals) (a.1 controls)) × ArmsFit all
 
     -- a selector, with its labels
     abbrev IsChosen : List (List Label) → CaseSelector → Type 0
@@ -321,7 +321,7 @@ module _ (declared : Declarations) (expressions : ExpressionsAreSound) (passed :
         go (Accepts t) p = selecting_fits all t.kind t.form p
         go (Breaks rules) p = tt
 
-    chosen_fits : (controls : List Place) (line : ℕ) (j : Judged CaseSelector) (all : List ArmJudged) (other : Judgement Other) → Fits (IsChosen (labels_in all)) j → ArmsFit all → FitsRow (OtherIsSound declared c.locals) other
+    chosen_fits : (controls : List Entire) (line : ℕ) (j : Judged CaseSelector) (all : List ArmJudged) (other : Judgement Other) → Fits (IsChosen (labels_in all)) j → ArmsFit all → FitsRow (OtherIsSound declared c.locals) other
         → FitsRow (IsSound declared c.locals) (case_judged line (λ x. expr_item c controls (Accepts x)) j (λ h. arms_in_order (map (arm_row scopes line h controls) all)) other)
     chosen_fits controls line (Accepts s) all other p q r =
         arms_row_fits declared c.locals labels scopes agrees s.host line controls (expr_item c controls (Accepts s.form)) all other
@@ -332,7 +332,7 @@ module _ (declared : Declarations) (expressions : ExpressionsAreSound) (passed :
         bodies h (a ∷ all) q = (q.0, bodies h all q.1)
     chosen_fits controls line (Breaks rules) all other p q r = tt
 
-    case_fits : (controls : List Place) (line : ℕ) (e : Expression) (all : List ArmJudged) (other : Judgement Other) → ArmsFit all → FitsRow (OtherIsSound declared c.locals) other
+    case_fits : (controls : List Entire) (line : ℕ) (e : Expression) (all : List ArmJudged) (other : Judgement Other) → ArmsFit all → FitsRow (OtherIsSound declared c.locals) other
         → FitsRow (IsSound declared c.locals) (case_judged line (λ x. expr_item c controls (Accepts x)) (selector_judged c.scopes e (labels_in all)) (λ h. arms_in_order (map (arm_row c.scopes line h controls) all)) other)
     case_fits controls line e all other q r =
         subst (λ s. FitsRow (IsSound declared c.locals) (case_judged line (λ x. expr_item c controls (Accepts x)) (selector_judged s e (labels_in all)) (λ h. arms_in_order (map (arm_row s line h controls) all)) other)) (sym is)
@@ -405,16 +405,16 @@ module _ (declared : Declarations) (expressions : ExpressionsAreSound) (passed :
 
     -- inside of any `for` statements
     abbrev IsStatement : Statement → Type 0
-    IsStatement s = (controls : List Place) → Sound (statement_judged c s controls)
+    IsStatement s = (controls : List Entire) → Sound (statement_judged c s controls)
 
     abbrev IsCompound : Compound → Type 0
-    IsCompound s = (controls : List Place) → AllSound (compound_under c s controls)
+    IsCompound s = (controls : List Entire) → AllSound (compound_under c s controls)
 
     abbrev IsArm : Arm → Type 0
-    IsArm a = (controls : List Place) → Sound ((arm_judged c a).1 controls)
+    IsArm a = (controls : List Entire) → Sound ((arm_judged c a).1 controls)
 
     abbrev IsOtherwise : Otherwise → Type 0
-    IsOtherwise o = (controls : List Place) → AllSound (otherwise_judged c o controls)
+    IsOtherwise o = (controls : List Entire) → AllSound (otherwise_judged c o controls)
 
     abbrev ValidStatement : Type 0
     ValidStatement = (s : Statement) × IsStatement s
@@ -444,20 +444,20 @@ module _ (declared : Declarations) (expressions : ExpressionsAreSound) (passed :
     rolled_arm : (x : Arm-F Statement Arm Compound Otherwise) → IsStatement x.body → IsArm (roll-Arm x)
     rolled_arm x h controls = subst (λ (a : ArmJudged). Sound (a.1 controls)) (sym (fold-roll-Arm (Under Stmt) ArmJudged (Under Stmts) (Under Stmts) (at_statement c) (at_arm c) (at_compound c) (at_otherwise c) x)) (h controls)
 
-    rolled_otherwise : (x : Otherwise-F Statement Arm Compound Otherwise) → ((controls : List Place) → AllSound (in_order (map (λ s. s controls) (map (statement_judged c) x.statements)))) → IsOtherwise (roll-Otherwise x)
+    rolled_otherwise : (x : Otherwise-F Statement Arm Compound Otherwise) → ((controls : List Entire) → AllSound (in_order (map (λ s. s controls) (map (statement_judged c) x.statements)))) → IsOtherwise (roll-Otherwise x)
     rolled_otherwise x h controls = subst (λ (judge : Under Stmts). AllSound (judge controls)) (sym (fold-roll-Otherwise (Under Stmt) ArmJudged (Under Stmts) (Under Stmts) (at_statement c) (at_arm c) (at_compound c) (at_otherwise c) x)) (h controls)
 
-    rolled : (x : Statement-F Statement Arm Compound Otherwise) → ((controls : List Place) → Sound (at_statement c (map-Statement Statement Arm Compound Otherwise (Under Stmt) ArmJudged (Under Stmts) (Under Stmts) (statement_judged c) (arm_judged c) (compound_under c) (otherwise_judged c) x) controls)) → IsStatement (roll-Statement x)
+    rolled : (x : Statement-F Statement Arm Compound Otherwise) → ((controls : List Entire) → Sound (at_statement c (map-Statement Statement Arm Compound Otherwise (Under Stmt) ArmJudged (Under Stmts) (Under Stmts) (statement_judged c) (arm_judged c) (compound_under c) (otherwise_judged c) x) controls)) → IsStatement (roll-Statement x)
     rolled x h controls = subst (λ (judge : Under Stmt). Sound (judge controls)) (sym (fold-roll-Statement (Under Stmt) ArmJudged (Under Stmts) (Under Stmts) (at_statement c) (at_arm c) (at_compound c) (at_otherwise c) x)) (h controls)
 
-    rolled_compound : (x : Compound-F Statement Arm Compound Otherwise) → ((controls : List Place) → AllSound (in_order (map (λ s. s controls) (map (statement_judged c) x.statements)))) → IsCompound (roll-Compound x)
+    rolled_compound : (x : Compound-F Statement Arm Compound Otherwise) → ((controls : List Entire) → AllSound (in_order (map (λ s. s controls) (map (statement_judged c) x.statements)))) → IsCompound (roll-Compound x)
     rolled_compound x h controls = subst (λ (judge : Under Stmts). AllSound (judge controls)) (sym (fold-roll-Compound (Under Stmt) ArmJudged (Under Stmts) (Under Stmts) (at_statement c) (at_arm c) (at_compound c) (at_otherwise c) x)) (h controls)
 
     -- one statement before others
     both_sound : (x : Stmt) (xs : Stmts) → IsSound declared c.locals x → AreSound declared c.locals xs → AreSound declared c.locals (tree.next x xs)
     both_sound x xs p q = λ there. (p (first_part declared c.locals (first_for x) (first_for_of xs) there), q (second_part declared c.locals (first_for x) (first_for_of xs) there))
 
-    row_fits : (controls : List Place) (ss : List ValidStatement) → AllSound (in_order (map (λ s. s controls) (map (statement_judged c) (map (λ s. s.0) ss))))
+    row_fits : (controls : List Entire) (ss : List ValidStatement) → AllSound (in_order (map (λ s. s controls) (map (statement_judged c) (map (λ s. s.0) ss))))
     row_fits controls [] = λ there. tt
     row_fits controls (s ∷ ss) =
         after_fits (IsSound declared c.locals) (AreSound declared c.locals) (AreSound declared c.locals) tree.next (statement_judged c s.0 controls) (in_order (map (λ s. s controls) (map (statement_judged c) (map (λ s. s.0) ss)))) (s.1 controls) (row_fits controls ss)
@@ -477,7 +477,7 @@ module _ (declared : Declarations) (expressions : ExpressionsAreSound) (passed :
     bodies_fit [] = tt
     bodies_fit (a ∷ all) = (a.1, bodies_fit all)
 
-    nothing_there : (controls : List Place) → Sound (Passes tree.Empty)
+    nothing_there : (controls : List Entire) → Sound (Passes tree.Empty)
     nothing_there controls = λ there. tt
 
     -- each statement, where those in it are valid

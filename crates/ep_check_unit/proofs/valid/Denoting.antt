@@ -1,5 +1,5 @@
 -- Denoters that name only types before them: their host and type value are found, however many names may be followed.
-use Rattle.std.proofs.Common.{◌≡◌, ℕ, ℤ, pos, suc, zero, ◌<◌, ◌≤◌, List, [], ◌∷◌, length, Some, slice_get, IsTrue, refl, ap, ◌∙◌, arith}
+use Rattle.std.proofs.Common.{◌≡◌, ℕ, ℤ, pos, suc, zero, ◌<◌, ◌≤◌, List, [], ◌∷◌, length, Some, slice_get, IsTrue, refl, ap, ◌∙◌, subst, arith}
 use Rattle.std.proofs.lemmas.Bool.Decides.{nat_tests}
 use Rattle.std.specs.Prelude.{int_le}
 use Rattle.ep_typed.specs.Denoters.{definition_of, found_of, host_within, required_type, type_within}
@@ -7,12 +7,12 @@ use Rattle.ep_typed.specs.Hosts as host
 use Rattle.ep_typed.specs.Hosts.{Host, least, greatest, is_of_host}
 use Rattle.ep_typed.specs.Operations.{is_integer, maxint}
 use Rattle.ep_typed.specs.Trees.{Denoter, Fixed, Required, Named, Subrange, Enumeration}
-use Rattle.ep_typed.specs.Valid.{IsDenoter, IsTypeOf}
+use Rattle.ep_typed.specs.Valid.{IsDenoter, IsOrdinal, IsTyped, enumeration, named, required, subrange}
 use Rattle.ep_typed.specs.declared.denoter.RequiredType.{RequiredType}
 use Rattle.ep_typed.specs.declared.denoter.RequiredType.TheVariants as simple
 use Rattle.ep_typed.specs.declared.unit.UnitType.{UnitType}
-use Rattle.ep_typed.specs.declared.value.TypeValue.{TypeValue}
-use Rattle.ep_typed.specs.declared.value.TypeValue.TheVariants.{Ordinal}
+use Rattle.ep_typed.specs.TypeValues.{TypeValue}
+use Rattle.ep_typed.specs.TypeValues.{Ordinal}
 
 -- the numbers of the host are integers
 abbrev pub IsSmall : Host → Type 0
@@ -28,22 +28,16 @@ host_of_required simple.Integer = host.Integer
 host_of_required simple.Char = host.Char
 host_of_required simple.Boolean = host.Boolean
 
--- Under the list the denoter has this host and this type value, both found behind so many names, and the type value is one of the host.
+-- Under the list the denoter has this host and this type value, both found behind so many names, and breaks no rule.
 pub record Denotes (types : List UnitType) (k : ℕ) (d : Denoter) (h : Host) (v : TypeValue) : Type 0 where
   pub has_host : (n : ℕ) → k < n → host_within types n d ≡ Some h
   pub has_type : (n : ℕ) → k < n → type_within types n d ≡ Some v
-  pub is_type : IsTypeOf h v
-
-full_is_type : (h : Host) → IsSmall h → IsTypeOf h (full_type h)
-full_is_type host.Integer s = (refl, refl, refl, refl, refl)
-full_is_type host.Char s = (refl, refl, refl, refl, refl)
-full_is_type host.Boolean s = (refl, refl, refl, refl, refl)
-full_is_type (host.Enumeration last) s = (grind (arith, nat_tests), grind (arith, nat_tests), grind (arith, nat_tests), refl, grind (arith, nat_tests))
+  pub typed : IsTyped types d v
 
 module _ (types : List UnitType) where
   -- behind more names
   pub denotes_more : (k j : ℕ) (d : Denoter) (h : Host) (v : TypeValue) → k ≤ j → Denotes types k d h v → Denotes types j d h v
-  denotes_more k j d h v le x = record { has_host = λ n lt. x.has_host n (omega (arith, le, lt)); has_type = λ n lt. x.has_type n (omega (arith, le, lt)); is_type = x.is_type }
+  denotes_more k j d h v le x = record { has_host = λ n lt. x.has_host n (omega (arith, le, lt)); has_type = λ n lt. x.has_type n (omega (arith, le, lt)); typed = x.typed }
 
   required_host : (r : RequiredType) (n : ℕ) → 0 < n → host_within types n (Required r) ≡ Some (host_of_required r)
   required_host r zero lt = absurd (omega (arith, lt))
@@ -60,14 +54,9 @@ module _ (types : List UnitType) where
   required_found r zero lt = absurd (omega (arith, lt))
   required_found r (suc n) lt = ap Some (required_full r)
 
-  required_small : (r : RequiredType) → IsSmall (host_of_required r)
-  required_small simple.Integer = refl
-  required_small simple.Char = refl
-  required_small simple.Boolean = refl
-
   -- a required type
   pub denotes_required : (r : RequiredType) → Denotes types 0 (Required r) (host_of_required r) (full_type (host_of_required r))
-  denotes_required r = record { has_host = required_host r; has_type = required_found r; is_type = full_is_type (host_of_required r) (required_small r) }
+  denotes_required r = record { has_host = required_host r; has_type = required_found r; typed = subst (IsTyped types (Required r)) (required_full r) (required r) }
 
   named_host : (index k : ℕ) (t : UnitType) (h : Host) → slice_get types index ≡ Some t → ((n : ℕ) → k < n → host_within types n (definition_of t) ≡ Some h) → (n : ℕ) → suc k < n → host_within types n (Named index []) ≡ Some h
   named_host index k t h at found zero lt = absurd (omega (arith, lt))
@@ -79,7 +68,7 @@ module _ (types : List UnitType) where
 
   -- a name, by the definition that the list has there
   pub denotes_named : (index k : ℕ) (t : UnitType) (h : Host) (v : TypeValue) → slice_get types index ≡ Some t → Denotes types k (definition_of t) h v → Denotes types (suc k) (Named index []) h v
-  denotes_named index k t h v at x = record { has_host = named_host index k t h at x.has_host; has_type = named_type index k t v at x.has_type; is_type = x.is_type }
+  denotes_named index k t h v at x = record { has_host = named_host index k t h at x.has_host; has_type = named_type index k t v at x.has_type; typed = named index t at x.typed }
 
   enumeration_found : (first : List ℕ) (others : List (List ℕ)) (n : ℕ) → 0 < n → host_within types n (Enumeration (first ∷ others)) ≡ Some (host.Enumeration (length others))
   enumeration_found first others zero lt = absurd (omega (arith, lt))
@@ -89,9 +78,12 @@ module _ (types : List UnitType) where
   enumeration_typed first others zero lt = absurd (omega (arith, lt))
   enumeration_typed first others (suc n) lt = refl
 
+  last_integer : (last : ℕ) → IsSmall (host.Enumeration last) → IsTrue (is_integer (pos last))
+  last_integer last s = grind (arith, nat_tests)
+
   -- an enumeration of not too many constants
   pub denotes_enumeration : (first : List ℕ) (others : List (List ℕ)) → IsSmall (host.Enumeration (length others)) → Denotes types 0 (Enumeration (first ∷ others)) (host.Enumeration (length others)) (full_type (host.Enumeration (length others)))
-  denotes_enumeration first others s = record { has_host = enumeration_found first others; has_type = enumeration_typed first others; is_type = full_is_type (host.Enumeration (length others)) s }
+  denotes_enumeration first others s = record { has_host = enumeration_found first others; has_type = enumeration_typed first others; typed = enumeration first others (last_integer (length others) s) }
 
   subrange_host : (of : Denoter) (low high : ℤ) (h : Host) (n : ℕ) → host_within types n of ≡ Some h → host_within types n (Subrange of (Fixed low) (Fixed high)) ≡ Some h
   subrange_host of low high h zero e = e
@@ -109,14 +101,18 @@ module _ (types : List UnitType) where
   host_integer (host.Enumeration last) z s i = grind (arith, nat_tests)
 
   -- a subrange of a denoter's host
-  pub denotes_subrange : (k : ℕ) (of : Denoter) (h : Host) (v : TypeValue) (low high : ℤ) → Denotes types k of h v → IsSmall h → IsTrue (int_le low high) → IsTrue (is_of_host h low) → IsTrue (is_of_host h high)
+  pub denotes_subrange : (k : ℕ) (of : Denoter) (h : Host) (v : TypeValue) (low high : ℤ) → k ≤ length types → Denotes types k of h v → IsSmall h → IsTrue (int_le low high) → IsTrue (is_of_host h low) → IsTrue (is_of_host h high)
       → Denotes types k (Subrange of (Fixed low) (Fixed high)) h (Ordinal low high)
-  denotes_subrange k of h v low high x s ordered l g = record {
+  denotes_subrange k of h v low high le x s ordered l g = record {
     has_host = λ n lt. subrange_host of low high h n (x.has_host n lt);
     has_type = λ n lt. subrange_found of low high k n lt;
-    is_type = (ordered, l, g, host_integer h low s l, host_integer h high s g);
+    typed = subrange of low high h (x.has_host (suc (length types)) (omega (arith, le))) (ordered, l, g, host_integer h low s l, host_integer h high s g);
   }
 
   -- it is valid where the list has as many types as there may be names
   abbrev pub denotes_valid : (k : ℕ) (d : Denoter) (h : Host) (v : TypeValue) → k ≤ length types → Denotes types k d h v → IsDenoter types d
-  denotes_valid k d h v le x = record { host = h; has_host = x.has_host (suc (length types)) (omega (arith, le)); type_value = v; has_type = x.has_type (suc (length types)) (omega (arith, le)); is_type = x.is_type }
+  denotes_valid k d h v le x = record { type_value = v; has_type = x.has_type (suc (length types)) (omega (arith, le)); typed = x.typed }
+
+  -- and is that of an ordinal type
+  abbrev pub denotes_ordinal : (k : ℕ) (d : Denoter) (h : Host) (v : TypeValue) → k ≤ length types → Denotes types k d h v → IsOrdinal types d
+  denotes_ordinal k d h v le x = record { host = h; has_host = x.has_host (suc (length types)) (omega (arith, le)); denoter = denotes_valid k d h v le x }

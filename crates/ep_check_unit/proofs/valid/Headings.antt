@@ -10,7 +10,7 @@ use Rattle.ep_tree.specs.declared.operator.QualifiedName.{QualifiedName}
 use Rattle.ep_tree.specs.declared.routine.RoutineStart.{RoutineStart}
 use Rattle.ep_tree.specs.declared.routine.RoutineStart.TheVariants as start
 use Rattle.ep_outside.specs.Known.{IsPrefix}
-use Rattle.ep_typed.specs.Valid.{IsDenoter, IsResult, IsVariable}
+use Rattle.ep_typed.specs.Valid.{IsOrdinal, IsResult, IsVariable}
 use Rattle.ep_typed.specs.declared.interface.FormalMode.{FormalMode}
 use Rattle.ep_typed.specs.declared.interface.RoutineEntry.{RoutineEntry}
 use Rattle.ep_typed.specs.declared.interface.RoutineResult.{RoutineResult}
@@ -34,7 +34,7 @@ use Rattle.ep_check_unit.specs.Routines.{Headed, declared_routine, formal_of, fo
 use Rattle.ep_check_unit.specs.declared.block.Enclosing.{Enclosing}
 use Rattle.ep_check_unit.specs.declared.functions.HeadingResult.{HeadingResult}
 use Rattle.ep_check_unit.proofs.Forms.{each_push}
-use Rattle.ep_check_unit.proofs.valid.Denoting.{denotes_valid}
+use Rattle.ep_check_unit.proofs.valid.Denoting.{denotes_ordinal}
 use Rattle.ep_check_unit.proofs.valid.Holds.{HasHostHere, Holds, HoldsDeclaration, HoldsParameter, HoldsResult, HoldsRoutine, HoldsThings, HoldsThing, Lists, around_innermost, formals_valid, head_of, headed_around, name_denotes, named_tree}
 use Rattle.ep_check_unit.proofs.valid.Items.{LeadsOn}
 use Rattle.ep_check_unit.proofs.valid.Leading.{Extends, Grows, Leads, bodies_refl, head_in, leads_refl, length_push, named_holds, prefix_last, prefix_length, prefix_more, prefix_refl}
@@ -168,7 +168,7 @@ module _ (u : TypedUnit) where
   -- a result that has a type is valid
   typed_valid : (i : ℕ) (r : Option HeadingResult) → i ≤ length u.types → HoldsTyped i r → IsResult u.types (typed_result r)
   typed_valid i None le x = tt
-  typed_valid i (Some r) le x = subst (IsDenoter u.types) (sym (name_denotes r.of)) (denotes_valid u.types i (named_tree r.of) (typed_host r.host) x.0.0 le x.0.1)
+  typed_valid i (Some r) le x = subst (IsOrdinal u.types) (sym (name_denotes r.of)) (denotes_ordinal u.types i (named_tree r.of) (typed_host r.host) x.0.0 le x.0.1)
 
   -- one routine more
   routine_grows : (name : List ℕ) (line : ℕ) (ps : List FormalParameter) (r : Option HeadingResult) (b : Block) → Grows b (with_routine name line ps r b)

@@ -7,7 +7,7 @@ use Rattle.ep_typed.specs.Denoters.{definition_of, host_of, type_of}
 use Rattle.ep_typed.specs.Hosts as typed
 use Rattle.ep_typed.specs.Hosts.{is_of_host}
 use Rattle.ep_typed.specs.Trees as tree
-use Rattle.ep_typed.specs.Valid.{Declarations, IsAround, IsCallee, IsConstant, IsDeclaredUp, IsDenoter, IsFormal, IsFunction, IsPlace, IsProcedure, IsResult, IsStmt, IsType, IsVariable, Level, around_in, heading_of, in_routine, levels_of, own, variables_at, variables_in}
+use Rattle.ep_typed.specs.Valid.{Declarations, IsAround, IsCallee, IsConstant, IsDeclaredUp, IsFormal, IsFormalBy, IsFunction, IsOrdinal, IsPlace, IsProcedure, IsResult, IsStmt, IsType, IsVariable, Level, around_in, heading_of, in_routine, levels_of, own, variables_at, variables_in}
 use Rattle.ep_typed.specs.Auxiliaries.{auxiliary_variables, first_for}
 use Rattle.ep_typed.specs.Routines.{unit_variables}
 use Rattle.ep_typed.specs.Viewed.{bound_of, denoter_of, denoter_step, stmt_of}
@@ -19,12 +19,14 @@ use Rattle.ep_typed.specs.declared.denoter.Denoter.TheFolds.{fold-roll-Denoter}
 use Rattle.ep_typed.specs.declared.denoter.RequiredType.{RequiredType}
 use Rattle.ep_typed.specs.declared.denoter.RequiredType.TheVariants as simple
 use Rattle.ep_typed.specs.declared.interface.Formal.{Formal}
+use Rattle.ep_typed.specs.declared.interface.FormalMode.{FormalMode}
+use Rattle.ep_typed.specs.declared.interface.FormalMode.TheVariants as mode
 use Rattle.ep_typed.specs.declared.interface.RoutineEntry.{RoutineEntry}
 use Rattle.ep_typed.specs.declared.unit.Unit.{Unit as TypedUnit}
 use Rattle.ep_typed.specs.declared.unit.UnitRoutine.{UnitRoutine}
 use Rattle.ep_typed.specs.declared.unit.UnitType.{UnitType}
 use Rattle.ep_typed.specs.declared.unit.UnitVariable.{UnitVariable}
-use Rattle.ep_typed.specs.declared.value.TypeValue.{TypeValue}
+use Rattle.ep_typed.specs.TypeValues.{TypeValue}
 use Rattle.ep_typed.specs.declared.value.Value.TheVariants as value
 use Rattle.ep_scope.specs.Scopes.{Entries, Region, depth_in}
 use Rattle.ep_scope.specs.declared.kind.Enumeration.{Enumeration}
@@ -52,7 +54,7 @@ use Rattle.ep_check_unit.specs.Functions.{assigned_function, assigned_functions,
 use Rattle.ep_check_unit.specs.declared.block.Enclosing.{Enclosing}
 use Rattle.ep_check_unit.specs.declared.block.OwnResult.{OwnResult}
 use Rattle.ep_check_unit.proofs.valid.Open.{AreUnderWay, IsOpen, around_length}
-use Rattle.ep_check_unit.proofs.valid.Denoting.{Denotes, IsSmall, full_type, denotes_more, denotes_required, denotes_named, denotes_enumeration, denotes_valid}
+use Rattle.ep_check_unit.proofs.valid.Denoting.{Denotes, IsSmall, full_type, denotes_more, denotes_required, denotes_named, denotes_enumeration, denotes_ordinal}
 
 -- ---- denoters as plain data
 
@@ -211,7 +213,7 @@ module _ (u : TypedUnit) where
   pub constant_valid : (i : ℕ) (name : List ℕ) (h : Host) (z : ℤ) → i ≤ length u.types → Lists i h → IsTrue (is_of_host (typed_host h) z)
       → IsConstant u.types (record { name = name; denoter = host_denoter h; value = value.Word z })
   constant_valid i name h z le l s = record {
-    denoter = denotes_valid u.types i (denoter_of (host_denoter h)) (typed_host h) (full_type (typed_host h)) le (host_denotes i h l);
+    ordinal = denotes_ordinal u.types i (denoter_of (host_denoter h)) (typed_host h) (full_type (typed_host h)) le (host_denotes i h l);
     value = s;
   }
 
@@ -412,10 +414,17 @@ module _ (u : TypedUnit) where
   pub around_innermost : (es : List Enclosing) (level : ℕ) → level ≡ length es → around_of (drop (length es - level) es) ≡ around_of es
   around_innermost es level e = ap (λ k. around_of (drop k es)) {x = length es - level} {y = 0} (omega (arith, e))
 
+  -- an ordinal type may be that of a parameter however it is given
+  given_by : (m : FormalMode) (d : tree.Denoter) → IsOrdinal u.types d → IsFormalBy m u.types d
+  given_by mode.Value d x = x
+  given_by mode.Variable d x = x.denoter
+  given_by mode.ProtectedValue d x = x
+  given_by mode.ProtectedVariable d x = x.denoter
+
   -- a formal parameter that has a type is valid
   formal_valid : (i : ℕ) (p : FormalParameter) → i ≤ length u.types → HoldsParameter i p → IsFormal u.types (formal_of p)
   formal_valid i p le x = record {
-    denoter = subst (IsDenoter u.types) (sym (name_denotes p.of)) (denotes_valid u.types i (named_tree p.of) (typed_host p.host) x.denotes.0 le x.denotes.1);
+    denoter = given_by p.mode (denoter_of (type_denoter p.of)) (subst (IsOrdinal u.types) (sym (name_denotes p.of)) (denotes_ordinal u.types i (named_tree p.of) (typed_host p.host) x.denotes.0 le x.denotes.1));
   }
 
   pub formals_valid : (i : ℕ) (ps : List FormalParameter) → i ≤ length u.types → All (HoldsParameter i) ps → All (IsFormal u.types) (map formal_of ps)

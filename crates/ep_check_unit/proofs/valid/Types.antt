@@ -17,8 +17,8 @@ use Rattle.ep_typed.specs.declared.denoter.RequiredType.{RequiredType}
 use Rattle.ep_typed.specs.declared.denoter.RequiredType.TheVariants as simple
 use Rattle.ep_typed.specs.declared.unit.Unit.{Unit as TypedUnit}
 use Rattle.ep_typed.specs.declared.unit.UnitType.{UnitType}
-use Rattle.ep_typed.specs.declared.value.TypeValue.{TypeValue}
-use Rattle.ep_typed.specs.declared.value.TypeValue.TheVariants.{Ordinal as Range}
+use Rattle.ep_typed.specs.TypeValues.{TypeValue}
+use Rattle.ep_typed.specs.TypeValues.{Ordinal as Range}
 use Rattle.ep_typed.specs.declared.value.Value.{Value}
 use Rattle.ep_typed.specs.declared.value.Value.TheVariants as value
 use Rattle.ep_scope.specs.Kinds.{same_host}
@@ -182,12 +182,12 @@ module _ (u : TypedUnit) where
     low_is : IsOpen b → (i : ℕ) → i ≤ length u.types → Holds u i b → IsTrue (is_of_host (typed_host h) (number_in low.value))
     high_is : IsOpen b → (i : ℕ) → i ≤ length u.types → Holds u i b → IsTrue (is_of_host (typed_host h) (number_in high.value))
 
-  range_denotes : (i : ℕ) (h : Host) (low high : ConstantForm) → Lists u i h → IsTrue (int_le (number_in low.value) (number_in high.value)) → IsTrue (is_of_host (typed_host h) (number_in low.value)) → IsTrue (is_of_host (typed_host h) (number_in high.value))
+  range_denotes : (i : ℕ) (h : Host) (low high : ConstantForm) → i ≤ length u.types → Lists u i h → IsTrue (int_le (number_in low.value) (number_in high.value)) → IsTrue (is_of_host (typed_host h) (number_in low.value)) → IsTrue (is_of_host (typed_host h) (number_in high.value))
       → HasHostHere u i (denoter_of (subrange_denoter h low high)) h
-  range_denotes i h low high l order lo hi = (
+  range_denotes i h low high le l order lo hi = (
     Range (number_in low.value) (number_in high.value),
     subst (λ d. Denotes u.types i d (typed_host h) (Range (number_in low.value) (number_in high.value))) (sym (subrange_is (host_denoter h) (Fixed (number_in low.value)) (Fixed (number_in high.value))))
-        (denotes_subrange u.types i (denoter_of (host_denoter h)) (typed_host h) (full_type (typed_host h)) (number_in low.value) (number_in high.value) (host_denotes u i h l) (lists_small u i h l) order lo hi),
+        (denotes_subrange u.types i (denoter_of (host_denoter h)) (typed_host h) (full_type (typed_host h)) (number_in low.value) (number_in high.value) le (host_denotes u i h l) (lists_small u i h l) order lo hi),
   )
 
   subrange_writes : (built : Bool) (line : ℕ) (h : Host) (low high : ConstantForm) (b : Block) → (low.built && high.built) ≡ built → AreBounds b h low high → Writes b (record { denoter = subrange_denoter h low high; of = next_type b; host = h; block = noted built line b })
@@ -197,7 +197,7 @@ module _ (u : TypedUnit) where
     holds = λ under ext free next x.
         let i : ℕ = length b.types in
         let le : i ≤ length u.types = prefix_length b.types u.types ext.types in
-        let range = range_denotes i h low high (k.lists i x) (k.order true e refl) (k.low_is under i le x) (k.high_is under i le x) in
+        let range = range_denotes i h low high le (k.lists i x) (k.order true e refl) (k.low_is under i le x) (k.high_is under i le x) in
         record {
           block = holds_more u i (suc i) b (omega arith) x;
           denotes = range;

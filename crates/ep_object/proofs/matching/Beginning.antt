@@ -2,20 +2,19 @@
 use Rattle.std.proofs.Common.{◌≡◌, ℕ, zero, suc, ◌≤◌, List, [], ◌∷◌, length, Option, Some, None, slice_get, replicate, map, refl, sym, ap, ◌∙◌, subst, arith}
 use Rattle.std.specs.Prelude.{pos, int_le, if◌then◌else◌}
 use Rattle.ep_typed.specs.Operations.{last_char}
-use Rattle.ep_object.specs.Matching.{Memory, Injection, IsIn, IsOf, MatchesSlot, Represents, IsRepresented, Matches}
+use Rattle.ep_object.specs.Matching.{Memory, Injection, IsIn, IsOf, HasSize, MatchesSlot, Represents, IsRepresented, Matches}
 use Rattle.ep_object.specs.State.{Frames, TypeTable, empty_slots, first_segments, first_types, integer_entry, char_entry, boolean_entry, text_entry, pointer_entry, first_live, undefined}
 use Rattle.ep_object.specs.declared.code.Image.{Image}
 use Rattle.ep_object.specs.declared.state.Place.{Place}
-use Rattle.ep_object.specs.Types.{size_of_kind}
 use Rattle.ep_object.specs.declared.state.Kind.{Kind}
-use Rattle.ep_object.specs.declared.state.Kind.TheVariants.{Ord, Pointer, Text}
+use Rattle.ep_object.specs.declared.state.Kind.TheVariants.{Ord, Pointer, Text, Array}
 use Rattle.ep_object.specs.declared.state.TypeEntry.{TypeEntry}
 use Rattle.ep_object.proofs.Grows.{is_prefix}
 use Rattle.ep_typed.specs.Steps.{Component, Allocation, Resources}
 use Rattle.ep_typed.specs.Steps as meaning
 use Rattle.ep_typed.specs.Valid.{Declarations}
-use Rattle.ep_typed.specs.declared.value.TypeValue.{TypeValue}
-use Rattle.ep_typed.specs.declared.value.TypeValue.TheVariants as type
+use Rattle.ep_typed.specs.TypeValues.{TypeValue}
+use Rattle.ep_typed.specs.TypeValues as type
 
 -- before the first start, in these frames
 abbrev pub first_memory : Frames → Memory
@@ -49,12 +48,12 @@ empty_slot types (Some place) h = cc
 
 -- the first types have the sizes that their kinds give
 first_sized : (n : ℕ) (entry : TypeEntry) → slice_get first_types n ≡ Some entry
-    → entry.size ≡ size_of_kind entry.kind
-first_sized zero e h = let f : integer_entry ≡ e = cc in subst (λ x. x.size ≡ size_of_kind x.kind) f refl
-first_sized (suc zero) e h = let f : char_entry ≡ e = cc in subst (λ x. x.size ≡ size_of_kind x.kind) f refl
-first_sized (suc (suc zero)) e h = let f : boolean_entry ≡ e = cc in subst (λ x. x.size ≡ size_of_kind x.kind) f refl
-first_sized (suc (suc (suc zero))) e h = let f : text_entry ≡ e = cc in subst (λ x. x.size ≡ size_of_kind x.kind) f refl
-first_sized (suc (suc (suc (suc zero)))) e h = let f : pointer_entry ≡ e = cc in subst (λ x. x.size ≡ size_of_kind x.kind) f refl
+    → HasSize first_types entry.kind entry.size
+first_sized zero e h = let f : integer_entry ≡ e = cc in subst (λ x. HasSize first_types x.kind x.size) f refl
+first_sized (suc zero) e h = let f : char_entry ≡ e = cc in subst (λ x. HasSize first_types x.kind x.size) f refl
+first_sized (suc (suc zero)) e h = let f : boolean_entry ≡ e = cc in subst (λ x. HasSize first_types x.kind x.size) f refl
+first_sized (suc (suc (suc zero))) e h = let f : text_entry ≡ e = cc in subst (λ x. HasSize first_types x.kind x.size) f refl
+first_sized (suc (suc (suc (suc zero)))) e h = let f : pointer_entry ≡ e = cc in subst (λ x. HasSize first_types x.kind x.size) f refl
 first_sized (suc (suc (suc (suc (suc n))))) e h = cc
 
 -- the place of a first type is told by its kind
@@ -62,6 +61,7 @@ abbrev spot_kind : Kind → ℕ
 spot_kind (Ord low high) = if int_le high (pos 1) then 2 else (if int_le high (pos last_char) then 1 else 0)
 spot_kind Text = 3
 spot_kind Pointer = 4
+spot_kind (Array low high c) = 5
 
 place_is : (n : ℕ) (entry : TypeEntry) → slice_get first_types n ≡ Some entry → spot_kind entry.kind ≡ n
 place_is zero e h = let f : integer_entry ≡ e = cc in subst (λ x. spot_kind x.kind ≡ 0) f refl
@@ -142,7 +142,7 @@ first_matches declared G frames empty alone =
         };
         typed = λ unit k c v h e. absurd (nothing c h);
       };
-      outside = record { output = refl; lives = refl };
+      outside = record { output = refl; file = refl; lives = refl };
       counts = record { words = omega arith; hidden = omega arith; number = omega arith };
       depth = omega (arith, ap length alone);
     }

@@ -15,7 +15,7 @@ use Rattle.ep_typed.specs.Calls.{entered, back_in}
 use Rattle.ep_typed.specs.Events.{Trace}
 use Rattle.ep_typed.specs.Steps.{Component, Call, Value, Allocation, value_with, type_along, allocation_at, assigned_at, assigned, type_in, type_at, ended_in, has_ended, with_events, is_within}
 use Rattle.ep_typed.specs.Steps as meaning
-use Rattle.ep_typed.specs.declared.value.TypeValue.{TypeValue}
+use Rattle.ep_typed.specs.TypeValues.{TypeValue}
 use Rattle.ep_typed.specs.Valid.{Declarations}
 
 -- two numbers are the same or not
@@ -162,7 +162,7 @@ module _ {declared : Declarations} {G : Image} {injection : Injection} {s : mean
         store = record { represented = λ m k b p q. represented_at m k b p q (same_or_not n m) };
         types = h.types;
         units = matches_units-grown grown_whole refl (λ m. type_at_assigned m (same_or_not n m)) h.units;
-        outside = let outside = h.outside in record { output = outside.output; lives = ended_assigned 2 (same_or_not n 2) ∙ outside.lives };
+        outside = let outside = h.outside in record { output = outside.output; file = outside.file; lives = ended_assigned 2 (same_or_not n 2) ∙ outside.lives };
         counts = counts;
         depth = h.depth;
       }

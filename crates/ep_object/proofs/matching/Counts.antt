@@ -1,21 +1,21 @@
 -- What is counted where a type is met, and that room is lost where the machine meets a limit.
-use Rattle.std.proofs.Common.{ltb, ◌≡◌, ℕ, suc, ◌+◌, ◌*◌, ◌≤◌, ◌<◌, Bool, true, false, IsTrue, ◌∷◌, length, refl, sym, ap, ◌∙◌, arith}
+use Rattle.std.proofs.Common.{leb, ltb, ◌≡◌, ℕ, suc, ◌+◌, ◌*◌, ◌≤◌, ◌<◌, Bool, true, false, IsTrue, ◌∷◌, length, refl, sym, ap, ◌∙◌, arith}
 use Rattle.std.specs.Prelude.{◌&&◌, ◌||◌, not, nat_le, if◌then◌else◌}
 use Rattle.std.specs.List.{list_any}
 use Rattle.std.proofs.lemmas.Bool.Decides.{nat_tests}
 use Rattle.ep_object.specs.Matching.{Injection, MatchesCounts}
-use Rattle.ep_object.specs.State.{Segments, TypeTable, live_limit, type_limit}
-use Rattle.ep_typed.specs.Steps.{Resources, held, words_of_type, met, watched, same_type}
+use Rattle.ep_object.specs.State.{Segments, TypeTable, live_limit, size_limit, type_limit}
+use Rattle.ep_typed.specs.Steps.{Resources, held, words_of_type, met, watched, sized, size_of, same_type}
 use Rattle.ep_typed.specs.Steps as meaning
 use Rattle.ep_typed.specs.Steps.{Allocation}
-use Rattle.ep_typed.specs.declared.value.TypeValue.{TypeValue}
+use Rattle.ep_typed.specs.TypeValues.{TypeValue}
 
 -- the words of type values only rise
 pub met-typed : (t : TypeValue) (r : Resources) → r.typed ≤ (met t r).typed
 met-typed t r = go (list_any (same_type t) r.types)
   where
     go : (b : Bool)
-        → r.typed ≤ (watched (if b then r else record r { types = t ∷ r.types; typed = r.typed + words_of_type t })).typed
+        → r.typed ≤ (sized t (watched (if b then r else record r { types = t ∷ r.types; typed = r.typed + words_of_type t }))).typed
     go true = omega arith
     go false = omega arith
 
@@ -25,7 +25,7 @@ pub met-held : (t : TypeValue) (r : Resources)
 met-held t r = go (list_any (same_type t) r.types)
   where
     go : (b : Bool)
-        → ((watched (if b then r else record r { types = t ∷ r.types; typed = r.typed + words_of_type t })).allocated ≡ r.allocated) × ((watched (if b then r else record r { types = t ∷ r.types; typed = r.typed + words_of_type t })).reserved ≡ r.reserved)
+        → ((sized t (watched (if b then r else record r { types = t ∷ r.types; typed = r.typed + words_of_type t }))).allocated ≡ r.allocated) × ((sized t (watched (if b then r else record r { types = t ∷ r.types; typed = r.typed + words_of_type t }))).reserved ≡ r.reserved)
     go true = (refl, refl)
     go false = (refl, refl)
 
@@ -34,7 +34,7 @@ pub met_types-le : (t : TypeValue) (r : Resources) → length r.types ≤ length
 met_types-le t r = go (list_any (same_type t) r.types)
   where
     go : (b : Bool)
-        → length r.types ≤ length (watched (if b then r else record r { types = t ∷ r.types; typed = r.typed + words_of_type t })).types
+        → length r.types ≤ length (sized t (watched (if b then r else record r { types = t ∷ r.types; typed = r.typed + words_of_type t }))).types
     go true = omega arith
     go false = omega arith
 
@@ -44,7 +44,7 @@ pub met_new : (t : TypeValue) (r : Resources) → (IsTrue (list_any (same_type t
 met_new t r n = go (list_any (same_type t) r.types) n
   where
     go : (b : Bool) → (IsTrue b → ⊥)
-        → (suc (length r.types) ≤ length (watched (if b then r else record r { types = t ∷ r.types; typed = r.typed + words_of_type t })).types) × (r.typed + words_of_type t ≤ (watched (if b then r else record r { types = t ∷ r.types; typed = r.typed + words_of_type t })).typed)
+        → (suc (length r.types) ≤ length (sized t (watched (if b then r else record r { types = t ∷ r.types; typed = r.typed + words_of_type t }))).types) × (r.typed + words_of_type t ≤ (sized t (watched (if b then r else record r { types = t ∷ r.types; typed = r.typed + words_of_type t }))).typed)
     go true f = absurd (f refl)
     go false f = (omega arith, omega arith)
 
@@ -78,20 +78,42 @@ pub live_bounded : {injection : Injection} {r : Resources} {segments : Segments}
 live_bounded c = omega (arith, c.words, c.hidden)
 
 -- the limits are not met, or room is lost
-pub full_lost : (a b : ℕ) (r : Resources) → (ltb a type_limit && ltb b live_limit) ≡ false
-    → a ≤ length r.types + 5 → b + 1 ≤ held r + 4 * r.typed → IsTrue (watched r).lost
+pub full_lost : (a b : ℕ) (r : Resources) → (ltb a type_limit && leb b live_limit) ≡ false
+    → a ≤ length r.types + 5 → b ≤ held r + 4 * r.typed → IsTrue (watched r).lost
 full_lost a b r full few live = go (ltb a type_limit) refl
   where
     go : (x : Bool) → ltb a type_limit ≡ x → IsTrue (watched r).lost
-    go true e = lost_words r (let f : ltb b live_limit ≡ false = sym (ap (λ y. y && ltb b live_limit) e) ∙ full in past_limit (b + 1) r (grind (arith, nat_tests)) live)
+    go true e = lost_words r (let f : leb b live_limit ≡ false = sym (ap (λ y. y && leb b live_limit) e) ∙ full in past_limit b r (grind (arith, nat_tests)) live)
     go false e = lost_types r (grind (arith, nat_tests))
 
-pub met_lost : (a b : ℕ) (t : TypeValue) (r : Resources) → (IsTrue (list_any (same_type t) r.types) → ⊥)
-    → (ltb a type_limit && ltb b live_limit) ≡ false → a ≤ length r.types + 5 → b ≤ held r + 4 * r.typed
-    → words_of_type t ≡ 1 → IsTrue (met t r).lost
-met_lost a b t r new full few live word = go (list_any (same_type t) r.types) new
+-- room that was lost stays lost
+sized_lost : (t : TypeValue) (r : Resources) → IsTrue r.lost → IsTrue (sized t r).lost
+sized_lost t r h = rw h refl
+
+-- room is lost where a new type passes a limit, which counts so many words
+pub met_lost : (a b w : ℕ) (t : TypeValue) (r : Resources) → (IsTrue (list_any (same_type t) r.types) → ⊥)
+    → (ltb a type_limit && leb (b + w) live_limit) ≡ false → a ≤ length r.types + 5 → b ≤ held r + 4 * r.typed
+    → words_of_type t ≡ w → IsTrue (met t r).lost
+met_lost a b w t r new full few live word = go (list_any (same_type t) r.types) new
   where
     go : (x : Bool) → (IsTrue x → ⊥)
-        → IsTrue (watched (if x then r else record r { types = t ∷ r.types; typed = r.typed + words_of_type t })).lost
+        → IsTrue (sized t (watched (if x then r else record r { types = t ∷ r.types; typed = r.typed + words_of_type t }))).lost
     go true n = absurd (n refl)
-    go false n = full_lost a b (record r { types = t ∷ r.types; typed = r.typed + words_of_type t }) full (omega (arith, few)) (omega (arith, live, word))
+    go false n =
+        sized_lost t (watched (record r { types = t ∷ r.types; typed = r.typed + words_of_type t }))
+        (full_lost a (b + w) (record r { types = t ∷ r.types; typed = r.typed + words_of_type t }) full (omega (arith, few)) (omega (arith, live, word)))
+
+-- and where a variable of the type would have too many words
+pub met_large : (t : TypeValue) (r : Resources) → size_limit < size_of t → IsTrue (met t r).lost
+met_large t r large = go (watched (if list_any (same_type t) r.types then r else record r { types = t ∷ r.types; typed = r.typed + words_of_type t }))
+  where
+    past : nat_le (size_of t) meaning.room_for_words ≡ false
+    past = grind (arith, nat_tests)
+
+    go : (x : Resources) → IsTrue (sized t x).lost
+    go x = by_flag x.lost (nat_le (size_of t) meaning.room_for_words) past
+      where
+        by_flag : (lost b : Bool) → b ≡ false → IsTrue (lost || not b)
+        by_flag true b e = refl
+        by_flag false true e = cc
+        by_flag false false e = refl

@@ -109,7 +109,7 @@ module _ {declared : Declarations} {G : Image} {injection : Injection} {s : mean
         store = record { represented = λ m k b p q. represented_at m k b p q (same_or_not n m) };
         types = h.types;
         units = matches_units-grown {memory = memory} {after = ended_memory} (grown_ending {untouched = every_slot}) refl (λ m. type_ended m (same_or_not n m)) h.units;
-        outside = let outside = h.outside in record { output = outside.output; lives = ap ended_in (ended_other s.allocations n 2 its.0 its.1 (λ e. absurd (omega (arith, own, e)))) ∙ outside.lives };
+        outside = let outside = h.outside in record { output = outside.output; file = outside.file; lives = ap ended_in (ended_other s.allocations n 2 its.0 its.1 (λ e. absurd (omega (arith, own, e)))) ∙ outside.lives };
         counts = counts;
         depth = h.depth;
       }

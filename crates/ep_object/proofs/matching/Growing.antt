@@ -9,15 +9,15 @@ use Rattle.ep_object.specs.Matching.{Memory, Injection, IsIn, IsOf, IsSpot, Desc
 use Rattle.ep_object.specs.Operands.{Operand}
 use Rattle.ep_object.specs.Routines.{unit_of}
 use Rattle.ep_object.specs.Runs.{name_of, unit_in}
-use Rattle.ep_object.specs.State.{Frame, Frames, text_entry}
-use Rattle.ep_object.specs.Types.{ordinal_entry}
+use Rattle.ep_object.specs.State.{Frame, Frames, TypeTable, text_entry}
+use Rattle.ep_object.specs.Types.{ordinal_entry, array_entry}
 use Rattle.ep_object.specs.declared.code.Image.{Image}
 use Rattle.ep_object.specs.declared.state.Place.{Place}
 use Rattle.ep_object.specs.declared.state.Segment.{Segment}
 use Rattle.ep_object.proofs.Grows.{is_prefix, prefix_then}
 use Rattle.ep_outside.specs.Known.{IsPrefix}
-use Rattle.ep_typed.specs.declared.value.TypeValue.{TypeValue}
-use Rattle.ep_typed.specs.declared.value.TypeValue.TheVariants as type
+use Rattle.ep_typed.specs.TypeValues.{TypeValue, size_of}
+use Rattle.ep_typed.specs.TypeValues as type
 
 -- an element of a front is the same one of the whole
 pub slice_get-prefix : {A : Type 0} (xs ys : List A) (i : ℕ) (x : A) → IsPrefix xs ys → slice_get xs i ≡ Some x
@@ -111,12 +111,19 @@ grown_trans {longer = longer} {last = last} {memory = memory} {after = after} {f
         let y = q.ended segment z (omega (arith, old)) hz in
         let n = p.allocated segment y.0 le y.1 in (n.0, is_in-longer longer last n.0 segment q.larger n.1)
 
+-- a number keeps its type in a longer table
+pub described-longer : (types longer : TypeTable) (n : ℕ) (t : TypeValue) → IsPrefix types longer
+    → Describes types n t → Describes longer n t
+described-longer types longer n (type.Ordinal low high) p h = slice_get-prefix types longer n (ordinal_entry low high) p h
+described-longer types longer n type.Text p h = slice_get-prefix types longer n text_entry p h
+described-longer types longer n (type.Array low high of) p h =
+    (h.0, slice_get-prefix types longer n (array_entry low high h.0 (size_of (type.Array low high of))) p h.1, described-longer types longer h.0 of p h.2)
+
 -- a type stays what it is
 pub describes-grown : {untouched : Slots} {injection longer : Injection} {memory after : Memory} (n : ℕ) (type_value : TypeValue)
     → Grown untouched injection memory longer after → Describes memory.types n type_value
     → Describes after.types n type_value
-describes-grown {memory = memory} {after = after} n (type.Ordinal low high) g h = slice_get-prefix memory.types after.types n (ordinal_entry low high) g.types h
-describes-grown {memory = memory} {after = after} n type.Text g h = slice_get-prefix memory.types after.types n text_entry g.types h
+describes-grown {memory = memory} {after = after} n t g h = described-longer memory.types after.types n t g.types h
 
 -- the place of a variable stays its place
 pub is_spot-grown : {untouched : Slots} {injection longer : Injection} {memory after : Memory} {v : Component} {place : Place}

@@ -7,7 +7,7 @@ use Rattle.std.proofs.lemmas.Bool.Decides.{nat_tests}
 use Rattle.ep_object.specs.Matching.{Memory, Mapped, Injection, is_at, IsIn, IsHidden, Slots, Grown, hidden_from, hidden_words}
 use Rattle.ep_object.proofs.matching.Growing.{before_or_not, is_in-longer}
 use Rattle.ep_object.specs.State.{Segments}
-use Rattle.ep_typed.specs.declared.value.TypeValue.{TypeValue}
+use Rattle.ep_typed.specs.TypeValues.{TypeValue}
 use Rattle.ep_object.specs.declared.state.Segment.{Segment}
 
 -- another segment in an injection does not make this one an item

@@ -1,12 +1,14 @@
 -- A variable is made: the machine goes on matching with one more segment.
-use Rattle.std.proofs.Common.{length-append, ◌≡◌, ℕ, ℤ, zero, suc, ◌+◌, ◌≤◌, ◌<◌, ◌⊎◌, inl, inr, Bool, true, false, ◌&&◌, IsTrue, List, [], ◌∷◌, ◌++◌, length, Option, Some, None, option_map, slice_get, slice_set, refl, sym, ap, ◌∙◌, subst, arith}
-use Rattle.std.specs.Prelude.{nat_le, if◌then◌else◌}
+use Rattle.std.proofs.Common.{length-append, ◌≡◌, ℕ, zero, suc, ◌+◌, ◌≤◌, ◌<◌, ◌⊎◌, inl, inr, Bool, true, false, ◌&&◌, IsTrue, List, [], ◌∷◌, ◌++◌, length, Option, Some, None, option_map, slice_get, slice_set, refl, sym, ap, ◌∙◌, subst, arith}
+use Rattle.std.specs.Prelude.{nat_le, if◌then◌else◌, replicate}
 use Rattle.std.specs.Str.{bytes_eq}
 use Rattle.std.proofs.lemmas.Bool.Decides.{nat_tests}
+use Rattle.std.proofs.lemmas.List.{length-replicate}
 use Rattle.std.proofs.lemmas.Option.{slice_get_within, same_Some}
 use Rattle.std.proofs.lemmas.Slice.Eq.{bytes_eq-Decides}
 use native.Mathlib.Decide.{ℕ_discrete}
 use Rattle.ep_object.specs.Matching.{Memory, Mapped, Injection, IsIn, IsOf, IsSpot, IsOfType, Describes, IsHidden, Slots, every_slot, slot_in, MatchesSlot, MatchesInjection, MatchesFrame, MatchesCounts, hidden_words, IsRepresented, HasType, Matches, Grown}
+use Rattle.ep_object.specs.Places.{fresh_segment}
 use Rattle.ep_object.specs.Placing.{HasDistinctNames}
 use Rattle.ep_object.specs.State.{Frames, undefined}
 use Rattle.ep_object.specs.declared.code.Image.{Image}
@@ -15,16 +17,16 @@ use Rattle.ep_object.specs.declared.state.Place.{Place}
 use Rattle.ep_object.specs.declared.state.Segment.{Segment}
 use Rattle.ep_object.proofs.matching.Changes.{matches_frame-grown, of_type-same}
 use Rattle.ep_object.proofs.matching.Elements.{slice_get-push, slice_get-pushed, mapped-push, slice_get-set-same, slice_get-set-other, length-set}
-use Rattle.ep_object.proofs.matching.Growing.{slice_get-prefix, is_in-longer}
+use Rattle.ep_object.proofs.matching.Growing.{slice_get-prefix, is_in-longer, is_of-longer}
 use Rattle.ep_object.proofs.Grows.{is_prefix}
 use Rattle.ep_object.proofs.matching.HiddenWords.{hidden_words-pushed}
+use Rattle.ep_object.proofs.matching.NewSegments.{fresh_holds}
 use Rattle.ep_object.proofs.matching.Standing.{slice_get-some, mapped_within, both, one_type, represented-same, represented-longer, living_represented, allocated}
-use Rattle.ep_typed.specs.Operations.{is_integer}
-use Rattle.ep_typed.specs.Steps.{Undefined, Component, whole, type_along, Allocation, Resources, allocation_at, type_in, type_at, ended_in, bound, counted, made}
+use Rattle.ep_typed.specs.Steps.{Undefined, Component, whole, type_along, Allocation, allocation_at, type_in, ended_in, bound, counted, made}
 use Rattle.ep_typed.specs.Steps as meaning
-use Rattle.ep_typed.specs.Valid.{Declarations}
-use Rattle.ep_typed.specs.declared.value.TypeValue.{TypeValue}
-use Rattle.ep_typed.specs.declared.value.TypeValue.TheVariants as type
+use Rattle.ep_typed.specs.Valid.{Declarations, IsTypeValue}
+use Rattle.ep_typed.specs.TypeValues as type
+use Rattle.ep_typed.specs.TypeValues.{TypeValue, size_of}
 use Rattle.ep_typed.specs.declared.unit.UnitVariable.{UnitVariable}
 
 -- ---- what is bound
@@ -98,17 +100,13 @@ of_type-more {Holds = Holds} allocations a c h = go (type_in (allocation_at allo
 
 -- ---- the memory with one more variable
 
--- the segment of a new variable
-abbrev pub new_segment : ℕ → Segment
-new_segment number = record { type_number = number; words = undefined ∷ [] }
-
 -- its place
 abbrev pub new_place : Memory → ℕ → Place
 new_place memory number = record { segment = length memory.segments; offset = 0; type_number = number }
 
--- one more variable of the type of this number, with these frames
-abbrev pub with_variable : ℕ → Frames → Memory → Memory
-with_variable number frames memory = record memory { frames = frames; segments = memory.segments ++ Some (new_segment number) ∷ []; live = memory.live + 2 }
+-- one more variable of a type, which has this number, with these frames
+abbrev pub with_variable : TypeValue → ℕ → Frames → Memory → Memory
+with_variable t number frames memory = record memory { frames = frames; segments = memory.segments ++ Some (fresh_segment number (size_of t)) ∷ []; live = memory.live + (size_of t + 1) }
 
 -- the frames with its place in a slot of the unit's frame
 abbrev pub with_place : ℕ → ℕ → List (Option Place) → Memory → Frames
@@ -145,26 +143,26 @@ is_in-within injection (suc n) segment h = let w : n < length injection = mapped
 -- memory grows by the new segment
 pub grown_making : {untouched : Slots} (t : TypeValue) (injection : Injection) (memory : Memory) (number : ℕ) (frames : Frames)
     → ((unit k : ℕ) → IsTrue (untouched.of_units unit k) → slot_in frames unit k ≡ slot_in memory.frames unit k)
-    → Grown untouched injection memory (with_segment t injection memory) (with_variable number frames memory)
+    → Grown untouched injection memory (with_segment t injection memory) (with_variable t number frames memory)
 grown_making t injection memory number frames kept =
     record {
       larger = record { rest = next_item t memory ∷ []; is = refl };
       types = is_prefix memory.types;
-      segments = omega (arith, length-append memory.segments (Some (new_segment number) ∷ []));
+      segments = omega (arith, length-append memory.segments (Some (fresh_segment number (size_of t)) ∷ []));
       hidden = λ segment le hidden n is_in. stays_hidden segment le hidden n (is_in-either t injection memory n segment is_in);
-      others = λ segment le hidden. slice_get-before memory.segments (Some (new_segment number)) segment le;
-      allocated = λ segment y le q. new_allocated segment le (slice_get_within (memory.segments ++ Some (new_segment number) ∷ []) segment (Some y) q);
+      others = λ segment le hidden. slice_get-before memory.segments (Some (fresh_segment number (size_of t))) segment le;
+      allocated = λ segment y le q. new_allocated segment le (slice_get_within (memory.segments ++ Some (fresh_segment number (size_of t)) ∷ []) segment (Some y) q);
       slots = kept;
-      typed = λ segment x y p q. same_type segment x y p (sym (slice_get-before memory.segments (Some (new_segment number)) segment (slice_get_within memory.segments segment (Some x) p)) ∙ q);
-      ended = λ segment y le q. (y, sym (slice_get-before memory.segments (Some (new_segment number)) segment le) ∙ q);
+      typed = λ segment x y p q. same_type segment x y p (sym (slice_get-before memory.segments (Some (fresh_segment number (size_of t))) segment (slice_get_within memory.segments segment (Some x) p)) ∙ q);
+      ended = λ segment y le q. (y, sym (slice_get-before memory.segments (Some (fresh_segment number (size_of t))) segment le) ∙ q);
     }
   where
     -- the only new segment is that of the new allocation
     new_allocated : (segment : ℕ) → length memory.segments ≤ segment
-        → segment < length (memory.segments ++ Some (new_segment number) ∷ [])
+        → segment < length (memory.segments ++ Some (fresh_segment number (size_of t)) ∷ [])
         → (n : ℕ) × IsIn (with_segment t injection memory) n segment
     new_allocated segment le less =
-        let same : length memory.segments ≡ segment = omega (arith, le, less, length-append memory.segments (Some (new_segment number) ∷ [])) in
+        let same : length memory.segments ≡ segment = omega (arith, le, less, length-append memory.segments (Some (fresh_segment number (size_of t)) ∷ [])) in
         (suc (length injection), ap (option_map (λ (m : Mapped). m.segment)) (slice_get-pushed injection (next_item t memory)) ∙ ap Some same)
 
     stays_hidden : (segment : ℕ) → suc segment ≤ length memory.segments → IsHidden injection segment → (n : ℕ)
@@ -180,48 +178,48 @@ grown_making t injection memory number frames kept =
 
 -- the same where the frames stay what they are
 pub grown_same_frames : (t : TypeValue) (injection : Injection) (memory : Memory) (number : ℕ)
-    → Grown every_slot injection memory (with_segment t injection memory) (with_variable number memory.frames memory)
+    → Grown every_slot injection memory (with_segment t injection memory) (with_variable t number memory.frames memory)
 grown_same_frames t injection memory number = grown_making t injection memory number memory.frames (λ unit k kept. refl)
 
-module _ {declared : Declarations} {G : Image} {injection : Injection} {s : meaning.State} {memory : Memory} (h : Matches declared G injection s memory) (low high : ℤ) (number : ℕ) (described : Describes memory.types number (type.Ordinal low high)) (low_fits : IsTrue (is_integer low)) (high_fits : IsTrue (is_integer high)) where
+module _ {declared : Declarations} {G : Image} {injection : Injection} {s : meaning.State} {memory : Memory} (h : Matches declared G injection s memory) (t : TypeValue) (number : ℕ) (described : Describes memory.types number t) (valid : IsTypeValue t) where
   -- the allocation of the new variable
   abbrev pub new_allocation : Allocation
-  new_allocation = record { type_value = type.Ordinal low high; value = Undefined; ended = false }
+  new_allocation = record { type_value = t; value = Undefined; ended = false }
 
   abbrev pub its_segment : Option Segment
-  its_segment = Some (new_segment number)
+  its_segment = Some (fresh_segment number (size_of t))
 
   -- as many allocations as items of the injection
   made_same : length injection ≡ length s.allocations
   made_same = let injected = h.injected in injected.made
 
   -- the new segment represents the new allocation, and those before are as they were
-  pub represented_making : (n segment : ℕ) (a : Allocation) → IsIn (with_segment (type.Ordinal low high) injection memory) n segment
+  pub represented_making : (n segment : ℕ) (a : Allocation) → IsIn (with_segment t injection memory) n segment
       → allocation_at (s.allocations ++ new_allocation ∷ []) n ≡ Some a
-      → IsRepresented (with_segment (type.Ordinal low high) injection memory) (memory.segments ++ its_segment ∷ []) memory.types segment a
+      → IsRepresented (with_segment t injection memory) (memory.segments ++ its_segment ∷ []) memory.types segment a
   represented_making zero segment a is_in is = absurd is_in
-  represented_making (suc n) segment a is_in is = go (is_in-either (type.Ordinal low high) injection memory (suc n) segment is_in) (slice_get-push s.allocations new_allocation a n is)
+  represented_making (suc n) segment a is_in is = go (is_in-either t injection memory (suc n) segment is_in) (slice_get-push s.allocations new_allocation a n is)
     where
       go : IsOldOrNew injection memory (suc n) segment
           → (slice_get s.allocations n ≡ Some a) ⊎ ((n ≡ length s.allocations) × (a ≡ new_allocation))
-          → IsRepresented (with_segment (type.Ordinal low high) injection memory) (memory.segments ++ its_segment ∷ []) memory.types segment a
+          → IsRepresented (with_segment t injection memory) (memory.segments ++ its_segment ∷ []) memory.types segment a
       go (inl old) (inl before) =
           let store = h.store in
           let injected = h.injected in
-          represented-longer injection (with_segment (type.Ordinal low high) injection memory) (memory.segments ++ its_segment ∷ []) memory.types segment a (record { rest = next_item (type.Ordinal low high) memory ∷ []; is = refl })
+          represented-longer injection (with_segment t injection memory) (memory.segments ++ its_segment ∷ []) memory.types segment a (record { rest = next_item t memory ∷ []; is = refl })
           (represented-same injection memory.segments (memory.segments ++ its_segment ∷ []) memory.types segment a (slice_get-before memory.segments its_segment segment (injected.within (suc n) segment old)) (store.represented (suc n) segment a old before))
       go (inl old) (inr last) = absurd (omega (arith, is_in-within injection (suc n) segment old, last.0, made_same))
       go (inr new) (inl before) = absurd (omega (arith, slice_get_within s.allocations n a before, new.0, made_same))
       go (inr new) (inr last) =
-          subst (λ j. IsRepresented (with_segment (type.Ordinal low high) injection memory) (memory.segments ++ its_segment ∷ []) memory.types j a) (sym new.1)
-          (subst (λ b. IsRepresented (with_segment (type.Ordinal low high) injection memory) (memory.segments ++ its_segment ∷ []) memory.types (length memory.segments) b) (sym last.1)
-          (living_represented (with_segment (type.Ordinal low high) injection memory) (memory.segments ++ its_segment ∷ []) memory.types (length memory.segments) new_allocation refl (record {
+          subst (λ j. IsRepresented (with_segment t injection memory) (memory.segments ++ its_segment ∷ []) memory.types j a) (sym new.1)
+          (subst (λ b. IsRepresented (with_segment t injection memory) (memory.segments ++ its_segment ∷ []) memory.types (length memory.segments) b) (sym last.1)
+          (living_represented (with_segment t injection memory) (memory.segments ++ its_segment ∷ []) memory.types (length memory.segments) new_allocation refl (record {
             type_number = number;
-            words = undefined ∷ [];
+            words = replicate (size_of t) undefined;
             stands = slice_get-pushed memory.segments its_segment;
             described = described;
-            sized = refl;
-            holds = record { low_fits = low_fits; high_fits = high_fits; is = refl };
+            sized = length-replicate (size_of t) undefined;
+            holds = fresh_holds (with_segment t injection memory) t valid;
           })))
 
   -- no two allocations are in one segment
@@ -233,13 +231,13 @@ module _ {declared : Declarations} {G : Image} {injection : Injection} {s : mean
   apart_making m n segment (inr p) (inr q) = p.0 ∙ sym q.0
 
   -- its place is that of the new variable
-  pub new_spot : IsSpot (with_segment (type.Ordinal low high) injection memory) memory.types (whole (suc (length s.allocations))) (new_place memory number)
+  pub new_spot : IsSpot (with_segment t injection memory) memory.types (whole (suc (length s.allocations))) (new_place memory number)
   new_spot =
       record {
-        is_in = subst (λ j. option_map (λ (m : Mapped). m.segment) (slice_get (with_segment (type.Ordinal low high) injection memory) j) ≡ Some (length memory.segments)) made_same (ap (option_map (λ (m : Mapped). m.segment)) (slice_get-pushed injection (next_item (type.Ordinal low high) memory)));
-        root = type.Ordinal low high;
-        is_of = subst (λ j. option_map (λ (m : Mapped). m.type_value) (slice_get (with_segment (type.Ordinal low high) injection memory) j) ≡ Some (type.Ordinal low high)) made_same (ap (option_map (λ (m : Mapped). m.type_value)) (slice_get-pushed injection (next_item (type.Ordinal low high) memory)));
-        type_value = type.Ordinal low high;
+        is_in = subst (λ j. option_map (λ (m : Mapped). m.segment) (slice_get (with_segment t injection memory) j) ≡ Some (length memory.segments)) made_same (ap (option_map (λ (m : Mapped). m.segment)) (slice_get-pushed injection (next_item t memory)));
+        root = t;
+        is_of = subst (λ j. option_map (λ (m : Mapped). m.type_value) (slice_get (with_segment t injection memory) j) ≡ Some t) made_same (ap (option_map (λ (m : Mapped). m.type_value)) (slice_get-pushed injection (next_item t memory)));
+        type_value = t;
         leads = refl;
         described = described;
       }
@@ -257,87 +255,87 @@ module _ {declared : Declarations} {G : Image} {injection : Injection} {s : mean
   within_making n segment (inr p) = omega (arith, p.1, length-append memory.segments (its_segment ∷ []))
 
   -- the new allocation has the new segment
-  pub injected_making : MatchesInjection (with_segment (type.Ordinal low high) injection memory) (s.allocations ++ new_allocation ∷ []) (memory.segments ++ its_segment ∷ [])
+  pub injected_making : MatchesInjection (with_segment t injection memory) (s.allocations ++ new_allocation ∷ []) (memory.segments ++ its_segment ∷ [])
   injected_making =
       record {
-        made = omega (arith, made_same, length-append injection (next_item (type.Ordinal low high) memory ∷ []), length-append s.allocations (new_allocation ∷ []));
-        apart = λ m n segment p q. apart_making m n segment (is_in-either (type.Ordinal low high) injection memory m segment p) (is_in-either (type.Ordinal low high) injection memory n segment q);
-        within = λ n segment p. within_making n segment (is_in-either (type.Ordinal low high) injection memory n segment p);
-        typed = λ n t p. typed_as n t (is_of-either (type.Ordinal low high) injection memory n t p);
+        made = omega (arith, made_same, length-append injection (next_item t memory ∷ []), length-append s.allocations (new_allocation ∷ []));
+        apart = λ m n segment p q. apart_making m n segment (is_in-either t injection memory m segment p) (is_in-either t injection memory n segment q);
+        within = λ n segment p. within_making n segment (is_in-either t injection memory n segment p);
+        typed = λ n u p. typed_as n u (is_of-either t injection memory n u p);
       }
     where
-      typed_as : (n : ℕ) (t : TypeValue) → IsOf injection n t ⊎ ((n ≡ suc (length injection)) × (t ≡ type.Ordinal low high))
-          → type_in (allocation_at (s.allocations ++ new_allocation ∷ []) n) ≡ Some t
-      typed_as n t (inl old) = let injected = h.injected in type_more s.allocations new_allocation n t (injected.typed n t old)
-      typed_as n t (inr new) =
+      typed_as : (n : ℕ) (u : TypeValue) → IsOf injection n u ⊎ ((n ≡ suc (length injection)) × (u ≡ t))
+          → type_in (allocation_at (s.allocations ++ new_allocation ∷ []) n) ≡ Some u
+      typed_as n u (inl old) = let injected = h.injected in type_more s.allocations new_allocation n u (injected.typed n u old)
+      typed_as n u (inr new) =
           let newest : n ≡ suc (length s.allocations) = new.0 ∙ ap suc made_same in
           ap (λ i. type_in (allocation_at (s.allocations ++ new_allocation ∷ []) i)) newest ∙ (ap type_in (slice_get-pushed s.allocations new_allocation) ∙ ap Some (sym new.1))
 
   -- its words are counted on both sides
-  pub counts_making : MatchesCounts (with_segment (type.Ordinal low high) injection memory) (counted (type.Ordinal low high) s).resources (memory.segments ++ its_segment ∷ []) memory.types (memory.live + 2)
+  pub counts_making : MatchesCounts (with_segment t injection memory) (counted t s).resources (memory.segments ++ its_segment ∷ []) memory.types (memory.live + (size_of t + 1))
   counts_making =
       let counts = h.counts in
-      let same : hidden_words (with_segment (type.Ordinal low high) injection memory) (memory.segments ++ its_segment ∷ []) ≡ hidden_words injection memory.segments = hidden_words-pushed injection memory.segments (new_segment number) (type.Ordinal low high) in
+      let same : hidden_words (with_segment t injection memory) (memory.segments ++ its_segment ∷ []) ≡ hidden_words injection memory.segments = hidden_words-pushed injection memory.segments (fresh_segment number (size_of t)) t in
       record { words = omega (arith, counts.words, same); hidden = omega (arith, counts.hidden, same); number = counts.number }
 
   module _ (x : ImageUnit) (k : ℕ) (is_unit : slice_get G.units memory.frames.unit ≡ Some x) where
     -- the frame in which the variable is made, where memory has grown
-    pub frame_here : MatchesFrame declared (with_segment (type.Ordinal low high) injection memory) s.variables memory.frames.units memory.types memory.frames.unit x
-    frame_here = let units = h.units in matches_frame-grown {before = s.variables} {after = with_variable number memory.frames memory} memory.frames.unit x (grown_same_frames (type.Ordinal low high) injection memory number) refl (λ j. refl) (units.frames memory.frames.unit x is_unit)
+    pub frame_here : MatchesFrame declared (with_segment t injection memory) s.variables memory.frames.units memory.types memory.frames.unit x
+    frame_here = let units = h.units in matches_frame-grown {before = s.variables} {after = with_variable t number memory.frames memory} memory.frames.unit x (grown_same_frames t injection memory number) refl (λ j. refl) (units.frames memory.frames.unit x is_unit)
 
     abbrev pub new_slots : List (Option Place)
     new_slots = slice_set frame_here.slots k (Some (new_place memory number))
 
     abbrev pub later : Memory
-    later = with_variable number (with_place number k frame_here.slots memory) memory
+    later = with_variable t number (with_place number k frame_here.slots memory) memory
 
     abbrev pub later_state : meaning.State
-    later_state = made x.name k (type.Ordinal low high) (counted (type.Ordinal low high) s)
+    later_state = made x.name k t (counted t s)
 
-    module _ (within : k < x.slots) (declared_so : (v : UnitVariable) → declared.variables x.name k ≡ Some v → HasType declared x.name v (type.Ordinal low high)) where
+    module _ (within : k < x.slots) (declared_so : (v : UnitVariable) → declared.variables x.name k ≡ Some v → HasType declared x.name v t) where
       -- the slot has the place of the new variable, and the others have theirs
       slot_making : (j : ℕ) (v : UnitVariable) (slot : Option Place) → declared.variables x.name j ≡ Some v
           → slice_get new_slots j ≡ Some slot
-          → MatchesSlot (with_segment (type.Ordinal low high) injection memory) later.types (later_state.variables x.name j) slot
+          → MatchesSlot (with_segment t injection memory) later.types (later_state.variables x.name j) slot
       slot_making number_at v slot is_declared q = elim (ℕ_discrete k number_at) [ yes e ↦ same number_at slot q e | no e ↦ other number_at slot is_declared q e ]
         where
           same : (j : ℕ) (slot : Option Place) → slice_get new_slots j ≡ Some slot → k ≡ j
-              → MatchesSlot (with_segment (type.Ordinal low high) injection memory) later.types (later_state.variables x.name j) slot
+              → MatchesSlot (with_segment t injection memory) later.types (later_state.variables x.name j) slot
           same j slot q e =
               let old = slice_get-some frame_here.slots k (omega (arith, within, frame_here.count)) in
               let now = slice_get-set-same frame_here.slots k (Some (new_place memory number)) old.0 old.1 in
               let here : slice_get new_slots k ≡ Some slot = subst (λ i. slice_get new_slots i ≡ Some slot) (sym e) q in
               let slot_is : Some (new_place memory number) ≡ slot = same_Some (Some (new_place memory number)) slot (sym now ∙ here) in
               let bound_here = bound-same x.name k (whole (suc (length s.allocations))) s.variables in
-              subst (λ i. MatchesSlot (with_segment (type.Ordinal low high) injection memory) later.types (later_state.variables x.name i) slot) e
-              (subst (λ o. MatchesSlot (with_segment (type.Ordinal low high) injection memory) later.types (later_state.variables x.name k) o) slot_is
-              (subst (λ o. MatchesSlot (with_segment (type.Ordinal low high) injection memory) later.types o (Some (new_place memory number))) (sym bound_here) new_spot))
+              subst (λ i. MatchesSlot (with_segment t injection memory) later.types (later_state.variables x.name i) slot) e
+              (subst (λ o. MatchesSlot (with_segment t injection memory) later.types (later_state.variables x.name k) o) slot_is
+              (subst (λ o. MatchesSlot (with_segment t injection memory) later.types o (Some (new_place memory number))) (sym bound_here) new_spot))
 
           other : (j : ℕ) (slot : Option Place) → declared.variables x.name j ≡ Some v
               → slice_get new_slots j ≡ Some slot → (k ≡ j → ⊥)
-              → MatchesSlot (with_segment (type.Ordinal low high) injection memory) later.types (later_state.variables x.name j) slot
+              → MatchesSlot (with_segment t injection memory) later.types (later_state.variables x.name j) slot
           other j slot is_declared q e =
               let before : slice_get frame_here.slots j ≡ Some slot = sym (slice_get-set-other frame_here.slots k j (Some (new_place memory number)) e) ∙ q in
-              subst (λ o. MatchesSlot (with_segment (type.Ordinal low high) injection memory) later.types o slot) (sym (bound-other x.name k (whole (suc (length s.allocations))) s.variables x.name j (λ p. e))) (frame_here.matches j v slot is_declared before)
+              subst (λ o. MatchesSlot (with_segment t injection memory) later.types o slot) (sym (bound-other x.name k (whole (suc (length s.allocations))) s.variables x.name j (λ p. e))) (frame_here.matches j v slot is_declared before)
 
       -- the type of the new place describes the declaration's, and those of the others theirs
-      described_making : (j : ℕ) (v : UnitVariable) (place : Place) (t : TypeValue)
+      described_making : (j : ℕ) (v : UnitVariable) (place : Place) (u : TypeValue)
           → declared.variables x.name j ≡ Some v → slice_get new_slots j ≡ Some (Some place)
-          → HasType declared x.name v t → Describes memory.types place.type_number t
-      described_making j v place t is_declared q has_type = elim (ℕ_discrete k j) [ yes e ↦ same e | no e ↦ frame_here.described j v place t is_declared (sym (slice_get-set-other frame_here.slots k j (Some (new_place memory number)) e) ∙ q) has_type ]
+          → HasType declared x.name v u → Describes memory.types place.type_number u
+      described_making j v place u is_declared q has_type = elim (ℕ_discrete k j) [ yes e ↦ same e | no e ↦ frame_here.described j v place u is_declared (sym (slice_get-set-other frame_here.slots k j (Some (new_place memory number)) e) ∙ q) has_type ]
         where
-          same : k ≡ j → Describes memory.types place.type_number t
+          same : k ≡ j → Describes memory.types place.type_number u
           same e =
               let old = slice_get-some frame_here.slots k (omega (arith, within, frame_here.count)) in
               let now = slice_get-set-same frame_here.slots k (Some (new_place memory number)) old.0 old.1 in
               let here : slice_get new_slots k ≡ Some (Some place) = subst (λ i. slice_get new_slots i ≡ Some (Some place)) (sym e) q in
               let place_is : Some (new_place memory number) ≡ Some place = same_Some (Some (new_place memory number)) (Some place) (sym now ∙ here) in
               let number_is : number ≡ place.type_number = ap (λ (p : Place). p.type_number) (same_Some (new_place memory number) place place_is) in
-              let its_type : type.Ordinal low high ≡ t = one_type (declared_so v (subst (λ i. declared.variables x.name i ≡ Some v) (sym e) is_declared)) has_type in
-              subst (λ n. Describes memory.types n t) number_is (subst (λ u. Describes memory.types number u) its_type described)
+              let its_type : t ≡ u = one_type (declared_so v (subst (λ i. declared.variables x.name i ≡ Some v) (sym e) is_declared)) has_type in
+              subst (λ n. Describes memory.types n u) number_is (subst (λ w. Describes memory.types number w) its_type described)
 
       -- the frame has the place of the new variable, and those of the others
-      frame_making : MatchesFrame declared (with_segment (type.Ordinal low high) injection memory) later_state.variables later.frames.units later.types memory.frames.unit x
+      frame_making : MatchesFrame declared (with_segment t injection memory) later_state.variables later.frames.units later.types memory.frames.unit x
       frame_making =
           record {
             slots = new_slots;
@@ -350,21 +348,21 @@ module _ {declared : Declarations} {G : Image} {injection : Injection} {s : mean
       module _ (distinct : HasDistinctNames G) where
         -- the frames of other units stay what they are
         frames_making : (unit : ℕ) (u : ImageUnit) → slice_get G.units unit ≡ Some u
-            → MatchesFrame declared (with_segment (type.Ordinal low high) injection memory) later_state.variables later.frames.units later.types unit u
+            → MatchesFrame declared (with_segment t injection memory) later_state.variables later.frames.units later.types unit u
         frames_making unit u there = elim (ℕ_discrete memory.frames.unit unit) [ yes e ↦ same e | no e ↦ other e ]
           where
             same : memory.frames.unit ≡ unit
-                → MatchesFrame declared (with_segment (type.Ordinal low high) injection memory) later_state.variables later.frames.units later.types unit u
+                → MatchesFrame declared (with_segment t injection memory) later_state.variables later.frames.units later.types unit u
             same e =
                 let is_x : x ≡ u = same_Some x u (sym is_unit ∙ subst (λ i. slice_get G.units i ≡ Some u) (sym e) there) in
-                subst (λ i. MatchesFrame declared (with_segment (type.Ordinal low high) injection memory) later_state.variables later.frames.units later.types i u) e (subst (λ v. MatchesFrame declared (with_segment (type.Ordinal low high) injection memory) later_state.variables later.frames.units later.types memory.frames.unit v) is_x frame_making)
+                subst (λ i. MatchesFrame declared (with_segment t injection memory) later_state.variables later.frames.units later.types i u) e (subst (λ v. MatchesFrame declared (with_segment t injection memory) later_state.variables later.frames.units later.types memory.frames.unit v) is_x frame_making)
 
             other : (memory.frames.unit ≡ unit → ⊥)
-                → MatchesFrame declared (with_segment (type.Ordinal low high) injection memory) later_state.variables later.frames.units later.types unit u
+                → MatchesFrame declared (with_segment t injection memory) later_state.variables later.frames.units later.types unit u
             other e =
                 let units = h.units in
-                let f : MatchesFrame declared (with_segment (type.Ordinal low high) injection memory) later_state.variables memory.frames.units later.types unit u =
-                matches_frame-grown {before = s.variables} {after = with_variable number memory.frames memory} unit u (grown_same_frames (type.Ordinal low high) injection memory number) refl (λ j. bound-other x.name k (whole (suc (length s.allocations))) s.variables u.name j (λ p q. e (distinct memory.frames.unit unit x u is_unit there p))) (units.frames unit u there) in
+                let f : MatchesFrame declared (with_segment t injection memory) later_state.variables memory.frames.units later.types unit u =
+                matches_frame-grown {before = s.variables} {after = with_variable t number memory.frames memory} unit u (grown_same_frames t injection memory number) refl (λ j. bound-other x.name k (whole (suc (length s.allocations))) s.variables u.name j (λ p q. e (distinct memory.frames.unit unit x u is_unit there p))) (units.frames unit u there) in
                 record {
                   slots = f.slots;
                   is = slice_get-set-other memory.frames.units memory.frames.unit unit new_slots e ∙ f.is;
@@ -382,8 +380,8 @@ module _ {declared : Declarations} {G : Image} {injection : Injection} {s : mean
             same p q =
                 let here : later_state.variables x.name k ≡ Some c = subst (λ u. later_state.variables u k ≡ Some c) (sym p) (subst (λ i. later_state.variables unit i ≡ Some c) (sym q) is) in
                 let c_is : whole (suc (length s.allocations)) ≡ c = same_Some (whole (suc (length s.allocations))) c (sym (bound-same x.name k (whole (suc (length s.allocations))) s.variables) ∙ here) in
-                let has_type : HasType declared unit v (type.Ordinal low high) = subst (λ u. HasType declared u v (type.Ordinal low high)) p (declared_so v (subst (λ u. declared.variables u k ≡ Some v) (sym p) (subst (λ i. declared.variables unit i ≡ Some v) (sym q) is_declared))) in
-                subst (λ i. IsOfType later_state.allocations i (HasType declared unit v)) c_is (record { type_value = type.Ordinal low high; is = ap type_in (slice_get-pushed s.allocations new_allocation); holds = has_type })
+                let has_type : HasType declared unit v t = subst (λ u. HasType declared u v t) p (declared_so v (subst (λ u. declared.variables u k ≡ Some v) (sym p) (subst (λ i. declared.variables unit i ≡ Some v) (sym q) is_declared))) in
+                subst (λ i. IsOfType later_state.allocations i (HasType declared unit v)) c_is (record { type_value = t; is = ap type_in (slice_get-pushed s.allocations new_allocation); holds = has_type })
 
             other : (x.name ≡ unit → k ≡ j → ⊥) → IsOfType later_state.allocations c (HasType declared unit v)
             other different =
@@ -391,14 +389,14 @@ module _ {declared : Declarations} {G : Image} {injection : Injection} {s : mean
                 let units = h.units in of_type-more s.allocations new_allocation c (units.typed unit j c v before is_declared)
 
         -- the machine goes on matching
-        pub matches_making : Matches declared G (with_segment (type.Ordinal low high) injection memory) later_state later
+        pub matches_making : Matches declared G (with_segment t injection memory) later_state later
         matches_making =
             record {
               injected = injected_making;
               store = record { represented = represented_making };
               types = h.types;
               units = record { frames = frames_making; typed = typed_making };
-              outside = let outside = h.outside in record { output = is_in-longer injection (with_segment (type.Ordinal low high) injection memory) 2 2 (record { rest = next_item (type.Ordinal low high) memory ∷ []; is = refl }) outside.output; lives = output_lives };
+              outside = let outside = h.outside in record { output = is_in-longer injection (with_segment t injection memory) 2 2 (record { rest = next_item t memory ∷ []; is = refl }) outside.output; file = is_of-longer injection (with_segment t injection memory) 2 type.Text (record { rest = next_item t memory ∷ []; is = refl }) outside.file; lives = output_lives };
               counts = counts_making;
               depth = h.depth;
             }

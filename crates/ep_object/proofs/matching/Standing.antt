@@ -4,11 +4,10 @@ use Rattle.std.proofs.lemmas.Bool.Decides.{nat_tests}
 use Rattle.std.proofs.lemmas.Option.{slice_get_within, same_Some}
 use Rattle.std.specs.Prelude.{int_le, int_lt, neg_ℤ}
 use Rattle.ep_object.specs.Matching.{Memory, Injection, part_along, all_of, IsIn, IsSpot, Describes, OrdinalAt, HasAt, Represents, IsRepresentedWhere, IsRepresented, Matches}
-use Rattle.ep_object.specs.State.{Segments, TypeTable, text_entry, undefined}
-use Rattle.ep_object.specs.Types.{ordinal_entry}
+use Rattle.ep_object.specs.State.{Segments, TypeTable, undefined}
 use Rattle.ep_object.specs.declared.code.Image.{Image}
 use Rattle.ep_object.specs.declared.state.Place.{Place}
-use Rattle.ep_object.specs.declared.state.TypeEntry.{TypeEntry}
+use Rattle.ep_object.proofs.matching.Described.{describes_one}
 use Rattle.ep_object.proofs.matching.Words.{has_at-longer, has_along}
 use Rattle.ep_outside.specs.Known.{IsPrefix}
 use Rattle.ep_typed.proofs.Denoters.{instances_are_one}
@@ -20,8 +19,8 @@ use Rattle.ep_typed.specs.Valid.{Declarations, IsTypeOf}
 use Rattle.ep_typed.specs.Hosts.{Host, is_of_host, least, greatest}
 use Rattle.ep_typed.specs.Trees.{Denoter}
 use Rattle.ep_typed.specs.declared.unit.UnitType.{UnitType}
-use Rattle.ep_typed.specs.declared.value.TypeValue.{TypeValue}
-use Rattle.ep_typed.specs.declared.value.TypeValue.TheVariants as type
+use Rattle.ep_typed.specs.TypeValues.{TypeValue}
+use Rattle.ep_typed.specs.TypeValues as type
 
 -- an element that is there
 pub slice_get-some : {A : Type 0} (xs : List A) (k : ℕ) → k < length xs → (x : A) × (slice_get xs k ≡ Some x)
@@ -128,18 +127,6 @@ place_ended {injection = injection} {s = s} {memory = memory} {v = v} {place = p
     let a = allocated injection s v.allocation place.segment injected.made spot.is_in in
     represents_ended injection memory.segments memory.types place.segment a.0 (sym (ap meaning.ended_in a.1) ∙ ended) (store.represented v.allocation place.segment a.0 spot.is_in a.1)
 
--- a type describes one type value
-pub described-same : (types : TypeTable) (n : ℕ) (t : TypeValue) (low high : ℤ) → Describes types n t
-    → Describes types n (type.Ordinal low high) → t ≡ type.Ordinal low high
-described-same types n (type.Ordinal l h) low high p q =
-    let e : ordinal_entry l h ≡ ordinal_entry low high = same_Some (ordinal_entry l h) (ordinal_entry low high) (sym p ∙ q) in
-    let k : (ordinal_entry l h).kind ≡ (ordinal_entry low high).kind = ap (λ (x : TypeEntry). x.kind) e in
-    cc
-described-same types n type.Text low high p q =
-    let e : text_entry ≡ ordinal_entry low high = same_Some text_entry (ordinal_entry low high) (sym p ∙ q) in
-    let k : text_entry.kind ≡ (ordinal_entry low high).kind = ap (λ (x : TypeEntry). x.kind) e in
-    cc
-
 -- the variable of an ordinal type at a place, whose allocation lives, and the word that is its value
 pub record StandsOrdinal (injection : Injection) (s : meaning.State) (memory : Memory) (v : Component) (place : Place)
     (low high : ℤ) : Type 0 where
@@ -158,7 +145,7 @@ ordinal_stands {injection = injection} {s = s} {memory = memory} {v = v} {place 
     let x : Stands injection s memory v place = place_stands matches spot living in
     let a : Allocation = x.allocation in
     let r : Represents injection memory.segments memory.types place.segment a = x.represents in
-    let its_type : x.type_value ≡ type.Ordinal low high = described-same memory.types place.type_number x.type_value low high x.described described in
+    let its_type : x.type_value ≡ type.Ordinal low high = describes_one memory.types place.type_number x.type_value (type.Ordinal low high) x.described described in
     record {
       allocation = a;
       is = x.is;

@@ -1,30 +1,31 @@
 -- Tables of types: they go on matching where a type is met, whether it has a number already or gets a new one.
 use Rattle.std.proofs.Common.{length-append, ◌≡◌, ℕ, ℤ, zero, suc, ◌+◌, ◌<◌, ◌⊎◌, inl, inr, Bool, true, false, IsTrue, List, [], ◌∷◌, ◌++◌, length, Option, Some, None, slice_get, refl, sym, ap, subst, ◌∙◌, arith, cond, get_or, position}
-use Rattle.std.specs.Prelude.{nat_lt, int_le, ◌&&◌, ◌||◌, not, if◌then◌else◌}
+use Rattle.std.specs.Prelude.{nat_lt, int_le, ◌==◌, ◌&&◌, ◌||◌, not, if◌then◌else◌}
 use Rattle.std.specs.List.{list_any, position_or_len}
 use Rattle.std.proofs.lemmas.Option.{slice_get-get_or}
 use Rattle.std.proofs.lemmas.List.Quantifiers.{position-Some}
 use Rattle.std.proofs.lemmas.Bool.Decides.{nat_tests}
 use Rattle.std.proofs.lemmas.Int.{ints}
-use Rattle.ep_object.specs.Matching.{Memory, Injection, Describes, MatchesSlot, MatchesTypes, IsRepresentedWhere, MatchesStore, MatchesUnits, MatchesCounts, Matches, Slots, Grown}
+use Rattle.ep_object.specs.Matching.{Memory, Injection, Describes, HasSize, MatchesSlot, MatchesTypes, IsRepresentedWhere, MatchesStore, MatchesUnits, MatchesCounts, Matches, Slots, Grown}
 use Rattle.ep_object.specs.Runs.{after}
 use Rattle.ep_object.specs.State.{Segments, TypeTable, integer_entry, char_entry, boolean_entry, text_entry, pointer_entry, first_types}
-use Rattle.ep_object.specs.Types.{is_ordinal, ordinal_number, ordinal_entry, size_of_kind}
+use Rattle.ep_object.specs.Types.{same_kind, kind_number, words_of_kind}
 use Rattle.ep_object.specs.declared.state.Kind.{Kind}
-use Rattle.ep_object.specs.declared.state.Kind.TheVariants.{Ord, Pointer, Text}
+use Rattle.ep_object.specs.declared.state.Kind.TheVariants.{Ord, Pointer, Text, Array}
 use Rattle.ep_object.specs.declared.state.TypeEntry.{TypeEntry}
 use Rattle.ep_object.proofs.Grows.{prefix_then}
-use Rattle.ep_object.proofs.matching.Growing.{slice_get-prefix, grown_refl}
+use Rattle.ep_object.proofs.matching.Described.{IsEntryOf, described_entry, entry_describes, entry-longer, entry_sized, one_size, has_size-longer, one_entry}
+use Rattle.ep_object.proofs.matching.Growing.{slice_get-prefix, described-longer, grown_refl}
 use Rattle.ep_object.proofs.matching.Elements.{slice_get-push, slice_get-pushed}
-use Rattle.ep_typed.specs.Steps.{Resources, held, words_of_type, met, watched, same_type}
+use Rattle.ep_typed.specs.Steps.{Resources, held, words_of_type, met, watched, sized, same_type}
 use Rattle.ep_typed.specs.Steps as meaning
 use Rattle.ep_typed.specs.Steps.{Component, Allocation}
 use Rattle.ep_typed.specs.Valid.{Declarations}
 use Rattle.ep_outside.specs.Known.{IsPrefix}
 use Rattle.ep_object.specs.declared.code.Image.{Image}
 use Rattle.ep_object.specs.declared.state.Place.{Place}
-use Rattle.ep_typed.specs.declared.value.TypeValue.{TypeValue}
-use Rattle.ep_typed.specs.declared.value.TypeValue.TheVariants as type
+use Rattle.ep_typed.specs.TypeValues.{TypeValue, same_bounds}
+use Rattle.ep_typed.specs.TypeValues as type
 
 pub both : (a b : Bool) → IsTrue (a && b) → IsTrue a × IsTrue b
 both true b h = (refl, h)
@@ -34,29 +35,64 @@ both false b h = cc
 same_number : (x y : ℤ) → IsTrue (int_le x y && int_le y x) → x ≡ y
 same_number x y h = let p = both (int_le x y) (int_le y x) h in omega (arith, ints, p.0, p.1)
 
--- the kind that a number was found for
-ordinal_is : (low high : ℤ) (k : Kind) → IsTrue (is_ordinal low high k) → k ≡ Ord low high
-ordinal_is low high (Ord l h) t =
-    let p = both (int_le low l && int_le l low) (int_le high h && int_le h high) t in
-    let e = same_number low l p.0 in let f = same_number high h p.1 in λ i. Ord (sym e i) (sym f i)
-ordinal_is low high Pointer t = cc
-ordinal_is low high Text t = cc
+-- the same bounds
+pub bounds_are : (low high l h : ℤ) → IsTrue (same_bounds l h low high) → (l ≡ low) × (h ≡ high)
+bounds_are low high l h t = let p = both (int_le l low && int_le low l) (int_le h high && int_le high h) t in (same_number l low p.0, same_number h high p.1)
 
--- a number that was found is that of the type
-pub described-found : {elaborated : List TypeValue} {types : TypeTable} (low high : ℤ) (n : ℕ)
-    → MatchesTypes elaborated types → ordinal_number low high types ≡ Some n
-    → Describes types n (type.Ordinal low high)
-described-found {types = types} low high n m h =
-    let d = ordinal_entry low high in
-    let p = position-Some (λ (e : TypeEntry). is_ordinal low high e.kind) types n d h in
-    let at_n : slice_get types n ≡ Some (get_or types n d) = slice_get-get_or types n d p.0 in
-    let size = m.sized n (get_or types n d) at_n in
-    let kind = ordinal_is low high (get_or types n d).kind p.1 in
-    at_n ∙ (λ i. Some (record { kind = kind i; size = (size ∙ ap size_of_kind kind) i }))
+-- equal numbers are told to be so
+same_count : (m n : ℕ) → IsTrue (m == n) → m ≡ n
+same_count m n h = grind (arith, nat_tests)
 
--- the type value that is met is among those that are counted
-same_type-refl : (low high : ℤ) → IsTrue (same_type (type.Ordinal low high) (type.Ordinal low high))
-same_type-refl low high = grind (arith, ints)
+-- kinds that are told to be the same are
+kinds_are : (k l : Kind) → IsTrue (same_kind k l) → k ≡ l
+kinds_are (Ord lo hi) (Ord l h) t = let e = bounds_are l h lo hi t in λ i. Ord (e.0 i) (e.1 i)
+kinds_are (Ord lo hi) Pointer t = cc
+kinds_are (Ord lo hi) Text t = cc
+kinds_are (Ord lo hi) (Array l h d) t = cc
+kinds_are Pointer (Ord l h) t = cc
+kinds_are Pointer Pointer t = refl
+kinds_are Pointer Text t = cc
+kinds_are Pointer (Array l h d) t = cc
+kinds_are Text (Ord l h) t = cc
+kinds_are Text Pointer t = cc
+kinds_are Text Text t = refl
+kinds_are Text (Array l h d) t = cc
+kinds_are (Array lo hi c) (Ord l h) t = cc
+kinds_are (Array lo hi c) Pointer t = cc
+kinds_are (Array lo hi c) Text t = cc
+kinds_are (Array lo hi c) (Array l h d) t =
+    let p = both (same_bounds lo hi l h) (c == d) t in
+    let e = bounds_are l h lo hi p.0 in
+    let f = same_count c d p.1 in
+    λ i. Array (e.0 i) (e.1 i) (f i)
+
+-- a kind is the same as itself
+both_true : (a b : Bool) → IsTrue a → IsTrue b → IsTrue (a && b)
+both_true true b p q = q
+both_true false b p q = cc
+
+bounds-refl : (lo hi : ℤ) → IsTrue (same_bounds lo hi lo hi)
+bounds-refl lo hi = grind (arith, ints)
+
+count-refl : (n : ℕ) → IsTrue (n == n)
+count-refl n = grind (arith, nat_tests)
+
+kind-refl : (k : Kind) → IsTrue (same_kind k k)
+kind-refl (Ord lo hi) = bounds-refl lo hi
+kind-refl Pointer = refl
+kind-refl Text = refl
+kind-refl (Array lo hi c) = both_true (same_bounds lo hi lo hi) (c == c) (bounds-refl lo hi) (count-refl c)
+
+-- a number that was found is that of the type value
+pub described-found : {elaborated : List TypeValue} {types : TypeTable} (t : TypeValue) (e : TypeEntry) (n : ℕ)
+    → MatchesTypes elaborated types → IsEntryOf types t e → kind_number e.kind types ≡ Some n → Describes types n t
+described-found {types = types} t e n m is h =
+    let p = position-Some (λ (x : TypeEntry). same_kind e.kind x.kind) types n e h in
+    let found : TypeEntry = get_or types n e in
+    let at_n : slice_get types n ≡ Some found = slice_get-get_or types n e p.0 in
+    let kind : e.kind ≡ found.kind = kinds_are e.kind found.kind p.1 in
+    let size : e.size ≡ found.size = one_size types found.kind e.size found.size (subst (λ k. HasSize types k e.size) kind (entry_sized types t e is)) (m.sized n found at_n) in
+    entry_describes types n t e (at_n ∙ (λ i. Some (record { kind = sym kind i; size = sym size i }))) is
 
 -- how far the first element is that passes, or the length
 place_more : {A : Type 0} (p : A → Bool) (xs ys : List A) → position_or_len p xs < length xs
@@ -131,139 +167,154 @@ either true b t = inl refl
 either false b t = inr t
 
 -- what is among the types that are counted after one is met
-met_among : (low high : ℤ) (t : TypeValue) (r : Resources)
-    → IsTrue (list_any (same_type t) (met (type.Ordinal low high) r).types)
-    → IsTrue (same_type t (type.Ordinal low high)) ⊎ IsTrue (list_any (same_type t) r.types)
-met_among low high t r = go (list_any (same_type (type.Ordinal low high)) r.types)
+met_among : (u t : TypeValue) (r : Resources) → IsTrue (list_any (same_type t) (met u r).types)
+    → IsTrue (same_type t u) ⊎ IsTrue (list_any (same_type t) r.types)
+met_among u t r = go (list_any (same_type u) r.types)
   where
     go : (b : Bool)
-        → IsTrue (list_any (same_type t) (watched (if b then r else record r { types = type.Ordinal low high ∷ r.types; typed = r.typed + words_of_type (type.Ordinal low high) })).types)
-        → IsTrue (same_type t (type.Ordinal low high)) ⊎ IsTrue (list_any (same_type t) r.types)
+        → IsTrue (list_any (same_type t) (sized u (watched (if b then r else record r { types = u ∷ r.types; typed = r.typed + words_of_type u }))).types)
+        → IsTrue (same_type t u) ⊎ IsTrue (list_any (same_type t) r.types)
     go true h = inr h
-    go false h = either (same_type t (type.Ordinal low high)) (list_any (same_type t) r.types) h
+    go false h = either (same_type t u) (list_any (same_type t) r.types) h
 
--- the same bounds
-pub same_bounds : (low high l h : ℤ) → IsTrue (same_type (type.Ordinal l h) (type.Ordinal low high))
-    → (l ≡ low) × (h ≡ high)
-same_bounds low high l h t = let p = both (int_le l low && int_le low l) (int_le h high && int_le high h) t in (same_number l low p.0, same_number h high p.1)
-
--- what is the same as an ordinal type is that type
-same_ordinal : (low high : ℤ) (t : TypeValue) → IsTrue (same_type t (type.Ordinal low high))
-    → t ≡ type.Ordinal low high
-same_ordinal low high (type.Ordinal l h) same = let e = same_bounds low high l h same in λ i. type.Ordinal (e.0 i) (e.1 i)
-same_ordinal low high type.Text same = cc
+-- type values that are told to be the same are
+types_are : (t u : TypeValue) → IsTrue (same_type t u) → t ≡ u
+types_are (type.Ordinal l h) (type.Ordinal m k) same = let e = bounds_are m k l h same in λ i. type.Ordinal (e.0 i) (e.1 i)
+types_are (type.Ordinal l h) type.Text same = cc
+types_are (type.Ordinal l h) (type.Array m k of) same = cc
+types_are type.Text (type.Ordinal m k) same = cc
+types_are type.Text type.Text same = refl
+types_are type.Text (type.Array m k of) same = cc
+types_are (type.Array l h of) (type.Ordinal m k) same = cc
+types_are (type.Array l h of) type.Text same = cc
+types_are (type.Array l h of) (type.Array m k other) same =
+    let p = both (same_bounds l h m k) (same_type of other) same in
+    let e = bounds_are m k l h p.0 in
+    let c = types_are of other p.1 in
+    λ i. type.Array (e.0 i) (e.1 i) (c i)
 
 -- the type has a number already
-pub types-found : (r : Resources) {types : TypeTable} (low high : ℤ) (n : ℕ) → MatchesTypes r.types types
-    → ordinal_number low high types ≡ Some n → MatchesTypes (met (type.Ordinal low high) r).types types
-types-found r {types = types} low high n m found =
+pub types-found : (r : Resources) {types : TypeTable} (u : TypeValue) (e : TypeEntry) (n : ℕ) → MatchesTypes r.types types
+    → IsEntryOf types u e → kind_number e.kind types ≡ Some n → MatchesTypes (met u r).types types
+types-found r {types = types} u e n m is found =
     record {
       first = m.first;
       sized = m.sized;
       shared = m.shared;
-      known = λ t h. known t (met_among low high t r h);
+      known = λ t h. known t (met_among u t r h);
     }
   where
-    known : (t : TypeValue) → IsTrue (same_type t (type.Ordinal low high)) ⊎ IsTrue (list_any (same_type t) r.types)
+    known : (t : TypeValue) → IsTrue (same_type t u) ⊎ IsTrue (list_any (same_type t) r.types)
         → (k : ℕ) × Describes types k t
-    known t (inl same) = (n, subst (λ x. Describes types n x) (sym (same_ordinal low high t same)) (described-found low high n m found))
+    known t (inl same) = (n, subst (λ x. Describes types n x) (sym (types_are t u same)) (described-found u e n m is found))
     known t (inr h) = m.known t h
 
-is_ordinal-refl : (low high : ℤ) → IsTrue (is_ordinal low high (Ord low high))
-is_ordinal-refl low high = grind (arith, ints)
+-- an entry whose kind has no number does not stand in the table
+not_there : (types : TypeTable) (e : TypeEntry) (n : ℕ) → kind_number e.kind types ≡ None
+    → slice_get types n ≡ Some e → ⊥
+not_there types e n none h = position_at (λ (x : TypeEntry). same_kind e.kind x.kind) types n e h (kind-refl e.kind) none
 
--- a type without a number does not stand in the table
-not_there : (types : TypeTable) (low high : ℤ) (n : ℕ) → ordinal_number low high types ≡ None
-    → slice_get types n ≡ Some (ordinal_entry low high) → ⊥
-not_there types low high n none h = position_at (λ (e : TypeEntry). is_ordinal low high e.kind) types n (ordinal_entry low high) h (is_ordinal-refl low high) none
+-- and its type value was never met
+pub not_known : {elaborated : List TypeValue} {types : TypeTable} (u : TypeValue) (e : TypeEntry) → MatchesTypes elaborated types
+    → IsEntryOf types u e → kind_number e.kind types ≡ None → IsTrue (list_any (same_type u) elaborated) → ⊥
+not_known {types = types} u e m is none t =
+    let k = m.known u t in
+    let x = described_entry types k.0 u k.1 in
+    not_there types e k.0 none (x.1 ∙ ap Some (one_entry types u x.0 e m x.2 is))
 
--- and was never met
-pub not_known : {elaborated : List TypeValue} {types : TypeTable} (low high : ℤ) → MatchesTypes elaborated types
-    → ordinal_number low high types ≡ None → IsTrue (list_any (same_type (type.Ordinal low high)) elaborated)
-    → ⊥
-not_known {types = types} low high m none t = let k = m.known (type.Ordinal low high) t in not_there types low high k.0 none k.1
+-- a kind that a first type has is numbered
+among_first : (k : Kind) (before : TypeTable) (e : TypeEntry) (after : TypeTable) → IsTrue (same_kind k e.kind)
+    → (n : ℕ) × (kind_number k ((before ++ e ∷ []) ++ after) ≡ Some n)
+among_first k before e after t =
+    let is_this = λ (x : TypeEntry). same_kind k x.kind in
+    let n = position_from-new is_this before e t in (n.0, position_from-more is_this (before ++ e ∷ []) after n.0 n.1)
 
 -- a first type has a number
 first_known : (low high : ℤ) (rest : TypeTable)
     → IsTrue (list_any (same_type (type.Ordinal low high)) meaning.first_types)
-    → (n : ℕ) × (ordinal_number low high (first_types ++ rest) ≡ Some n)
+    → (n : ℕ) × (kind_number (Ord low high) (first_types ++ rest) ≡ Some n)
 first_known low high rest h =
     elim (either (is_this integer_entry) (is_this char_entry || (is_this boolean_entry || (false || false))) h) [
-      | inl t ↦ among [] integer_entry (char_entry ∷ boolean_entry ∷ text_entry ∷ pointer_entry ∷ rest) t
+      | inl t ↦ among_first (Ord low high) [] integer_entry (char_entry ∷ boolean_entry ∷ text_entry ∷ pointer_entry ∷ rest) t
       | inr others ↦
           elim (either (is_this char_entry) (is_this boolean_entry || (false || false)) others) [
-            | inl t ↦ among (integer_entry ∷ []) char_entry (boolean_entry ∷ text_entry ∷ pointer_entry ∷ rest) t
+            | inl t ↦ among_first (Ord low high) (integer_entry ∷ []) char_entry (boolean_entry ∷ text_entry ∷ pointer_entry ∷ rest) t
             | inr others ↦
                 elim (either (is_this boolean_entry) (false || false) others) [
-                  | inl t ↦ among (integer_entry ∷ char_entry ∷ []) boolean_entry (text_entry ∷ pointer_entry ∷ rest) t
+                  | inl t ↦ among_first (Ord low high) (integer_entry ∷ char_entry ∷ []) boolean_entry (text_entry ∷ pointer_entry ∷ rest) t
                   | inr t ↦ absurd cc
                 ]
           ]
     ]
   where
     is_this : TypeEntry → Bool
-    is_this e = is_ordinal low high e.kind
+    is_this e = same_kind (Ord low high) e.kind
 
-    among : (before : List TypeEntry) (e : TypeEntry) (after : List TypeEntry) → IsTrue (is_this e)
-        → (n : ℕ) × (ordinal_number low high ((before ++ e ∷ []) ++ after) ≡ Some n)
-    among before e after t = let k = position_from-new is_this before e t in (k.0, position_from-more is_this (before ++ e ∷ []) after k.0 k.1)
-
--- a type without a number is none of the first ones, and so it has a word
-pub new_word : {elaborated : List TypeValue} {types : TypeTable} (low high : ℤ) → MatchesTypes elaborated types
-    → ordinal_number low high types ≡ None → words_of_type (type.Ordinal low high) ≡ 1
-new_word {types = types} low high m none = go (list_any (same_type (type.Ordinal low high)) meaning.first_types) first
+-- a type value whose kind has no number is none of the first ones, and so it has its words
+pub new_words : {elaborated : List TypeValue} {types : TypeTable} (u : TypeValue) (e : TypeEntry) → MatchesTypes elaborated types
+    → IsEntryOf types u e → kind_number e.kind types ≡ None → words_of_type u ≡ words_of_kind e.kind
+new_words {types = types} (type.Ordinal low high) e m is none = go (list_any (same_type (type.Ordinal low high)) meaning.first_types) first ∙ ap (λ (x : TypeEntry). words_of_kind x.kind) (sym is)
   where
     first : IsTrue (list_any (same_type (type.Ordinal low high)) meaning.first_types) → ⊥
     first t =
         let prefix = m.first in
         let k = first_known low high prefix.rest t in
-        let e : ◌≡◌ {A = Option ℕ} None (Some k.0) = sym none ∙ (ap (ordinal_number low high) prefix.is ∙ k.1) in cc
+        let same : kind_number (Ord low high) types ≡ None = ap (λ (x : TypeEntry). kind_number x.kind types) (sym is) ∙ none in
+        let e : ◌≡◌ {A = Option ℕ} None (Some k.0) = sym same ∙ (ap (kind_number (Ord low high)) prefix.is ∙ k.1) in cc
 
     go : (b : Bool) → (IsTrue b → ⊥) → ◌≡◌ {A = ℕ} (if b then 0 else 1) 1
     go true f = absurd (f refl)
     go false f = refl
-
--- a number keeps its type in a longer table
-pub described-longer : (types longer : TypeTable) (n : ℕ) (t : TypeValue) → IsPrefix types longer
-    → Describes types n t → Describes longer n t
-described-longer types longer n (type.Ordinal low high) p h = slice_get-prefix types longer n (ordinal_entry low high) p h
-described-longer types longer n type.Text p h = slice_get-prefix types longer n text_entry p h
+new_words {types = types} type.Text e m is none =
+    let prefix = m.first in
+    let k = among_first Text (integer_entry ∷ char_entry ∷ boolean_entry ∷ []) text_entry (pointer_entry ∷ prefix.rest) refl in
+    let same : kind_number Text types ≡ None = ap (λ (x : TypeEntry). kind_number x.kind types) (sym is) ∙ none in
+    let e : ◌≡◌ {A = Option ℕ} None (Some k.0) = sym same ∙ (ap (kind_number Text) prefix.is ∙ k.1) in absurd (nothing e)
+  where
+    nothing : {n : ℕ} → ◌≡◌ {A = Option ℕ} None (Some n) → ⊥
+    nothing e = cc
+new_words (type.Array low high of) e m is none = ap (λ (x : TypeEntry). words_of_kind x.kind) (sym is.1)
 
 -- the type gets a new number
-pub types-added : (r : Resources) {types : TypeTable} (low high : ℤ) → MatchesTypes r.types types
-    → ordinal_number low high types ≡ None
-    → MatchesTypes (met (type.Ordinal low high) r).types (types ++ ordinal_entry low high ∷ [])
-types-added r {types = types} low high m none =
+pub types-added : (r : Resources) {types : TypeTable} (u : TypeValue) (new : TypeEntry) → MatchesTypes r.types types
+    → IsEntryOf types u new → kind_number new.kind types ≡ None → MatchesTypes (met u r).types (types ++ new ∷ [])
+types-added r {types = types} u new m is none =
     record {
       first = prefix_then m.first longer;
-      sized = λ n e at_n. sized n e (slice_get-push types new e n at_n);
+      sized = λ n e at_n. sized_in n e (slice_get-push types new e n at_n);
       shared = λ j k e at_j at_k. shared j k e (slice_get-push types new e j at_j) (slice_get-push types new e k at_k);
-      known = λ t h. known t (met_among low high t r h);
+      known = λ t h. known t (met_among u t r h);
     }
   where
-    new : TypeEntry
-    new = ordinal_entry low high
+    longer : IsPrefix types (types ++ new ∷ [])
+    longer = record { rest = new ∷ []; is = refl }
 
-    longer : IsPrefix types (types ++ ordinal_entry low high ∷ [])
-    longer = record { rest = ordinal_entry low high ∷ []; is = refl }
+    keeps : (n : ℕ) (e : TypeEntry) → slice_get types n ≡ Some e → slice_get (types ++ new ∷ []) n ≡ Some e
+    keeps n e h = slice_get-prefix types (types ++ new ∷ []) n e longer h
 
-    sized : (n : ℕ) (e : TypeEntry) → (slice_get types n ≡ Some e) ⊎ ((n ≡ length types) × (e ≡ ordinal_entry low high))
-        → e.size ≡ size_of_kind e.kind
-    sized n e (inl h) = m.sized n e h
-    sized n e (inr h) = subst (λ (x : TypeEntry). x.size ≡ size_of_kind x.kind) (sym h.1) refl
+    sized_in : (n : ℕ) (e : TypeEntry) → (slice_get types n ≡ Some e) ⊎ ((n ≡ length types) × (e ≡ new))
+        → HasSize (types ++ new ∷ []) e.kind e.size
+    sized_in n e (inl h) = has_size-longer types (types ++ new ∷ []) e.kind e.size keeps (m.sized n e h)
+    sized_in n e (inr h) =
+        subst (λ (x : TypeEntry). HasSize (types ++ new ∷ []) x.kind x.size) (sym h.1)
+        (has_size-longer types (types ++ new ∷ []) new.kind new.size keeps (entry_sized types u new is))
 
     shared : (j k : ℕ) (e : TypeEntry)
-        → (slice_get types j ≡ Some e) ⊎ ((j ≡ length types) × (e ≡ ordinal_entry low high))
-        → (slice_get types k ≡ Some e) ⊎ ((k ≡ length types) × (e ≡ ordinal_entry low high)) → j ≡ k
+        → (slice_get types j ≡ Some e) ⊎ ((j ≡ length types) × (e ≡ new))
+        → (slice_get types k ≡ Some e) ⊎ ((k ≡ length types) × (e ≡ new)) → j ≡ k
     shared j k e (inl a) (inl b) = m.shared j k e a b
     shared j k e (inr a) (inr b) = a.0 ∙ sym b.0
-    shared j k e (inl a) (inr b) = absurd (not_there types low high j none (a ∙ ap Some b.1))
-    shared j k e (inr a) (inl b) = absurd (not_there types low high k none (b ∙ ap Some a.1))
+    shared j k e (inl a) (inr b) = absurd (not_there types new j none (a ∙ ap Some b.1))
+    shared j k e (inr a) (inl b) = absurd (not_there types new k none (b ∙ ap Some a.1))
 
-    known : (t : TypeValue) → IsTrue (same_type t (type.Ordinal low high)) ⊎ IsTrue (list_any (same_type t) r.types)
-        → (n : ℕ) × Describes (types ++ ordinal_entry low high ∷ []) n t
-    known t (inl same) = (length types, subst (λ x. Describes (types ++ ordinal_entry low high ∷ []) (length types) x) (sym (same_ordinal low high t same)) (slice_get-pushed types (ordinal_entry low high)))
-    known t (inr h) = let k = m.known t h in (k.0, described-longer types (types ++ ordinal_entry low high ∷ []) k.0 t longer k.1)
+    known : (t : TypeValue) → IsTrue (same_type t u) ⊎ IsTrue (list_any (same_type t) r.types)
+        → (n : ℕ) × Describes (types ++ new ∷ []) n t
+    known t (inl same) = (
+      length types,
+      subst (λ x. Describes (types ++ new ∷ []) (length types) x) (sym (types_are t u same))
+          (entry_describes (types ++ new ∷ []) (length types) u new (slice_get-pushed types new) (entry-longer types (types ++ new ∷ []) u new longer is)),
+    )
+    known t (inr h) = let k = m.known t h in (k.0, described-longer types (types ++ new ∷ []) k.0 t longer k.1)
 
 -- the store goes on matching with a longer table of types
 pub matches_store-types : {injection : Injection} {allocations : List Allocation} {segments : Segments} {types longer : TypeTable}

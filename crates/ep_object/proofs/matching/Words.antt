@@ -1,26 +1,157 @@
 -- Words that hold values.
-use Rattle.std.proofs.Common.{◌≡◌, ℕ, ℤ, true, List, [], ◌∷◌, Option, Some, None, slice_get, slice_set, sym, ap, subst}
+use Rattle.std.proofs.Common.{◌≡◌, ℕ, ℤ, zero, suc, ◌+◌, ◌*◌, ◌≤◌, ◌<◌, ◌⊎◌, inl, inr, Bool, true, false, cond, ltb, List, [], ◌∷◌, ◌++◌, Option, Some, None, slice_get, slice_set, refl, sym, ap, ◌∙◌, subst, arith}
+use Rattle.std.proofs.Math.Nat.{mul-le-mul_right}
+use Rattle.std.proofs.lemmas.Bool.Decides.{nat_tests}
 use Rattle.std.proofs.lemmas.Option.{same_Some}
+use native.Mathlib.Decide.{ℕ_discrete}
 use Rattle.ep_outside.specs.Known.{IsPrefix}
-use Rattle.ep_object.specs.Matching.{Injection, Part, part_along, all_of, Words, OrdinalAt, HasAt}
+use Rattle.ep_object.specs.Matching.{Injection, Part, part_behind, part_of, part_along, all_of, Words, OrdinalAt, HasAt}
 use Rattle.ep_object.specs.State.{undefined}
-use Rattle.ep_object.proofs.matching.Elements.{slice_get-set-same}
-use Rattle.ep_typed.specs.Steps.{Value, Undefined, is_within, value_along, value_with, type_along}
+use Rattle.ep_object.proofs.matching.Elements.{slice_get-set-same, slice_get-set-other}
+use Rattle.ep_typed.specs.Bounds.{count_of}
+use Rattle.ep_typed.specs.Steps.{Value, Undefined, component_of, values_with, with_component, value_along, value_with, type_along}
 use Rattle.ep_typed.specs.Steps as meaning
-use Rattle.ep_typed.specs.declared.value.TypeValue.{TypeValue}
-use Rattle.ep_typed.specs.declared.value.TypeValue.TheVariants as type
+use Rattle.ep_typed.specs.TypeValues as type
+use Rattle.ep_typed.specs.TypeValues.{TypeValue, component_type, is_within, size_of}
+use Rattle.ep_typed.specs.Valid.{IsTypeValue}
+
+-- ---- components that stand side by side
+
+-- one of so many components ends where the next one begins, or before
+pub ends_before : (k n size : ℕ) → k < n → k * size + size ≤ n * size
+ends_before k n size less = omega (arith, mul-le-mul_right size less)
+
+-- a test of numbers
+less_is : (k n : ℕ) → ltb k n ≡ true → k < n
+less_is k n e = grind (arith, nat_tests)
+
+pub less_true : (k n : ℕ) → k < n → ltb k n ≡ true
+less_true k n h = grind (arith, nat_tests)
+
+-- where a part is that a component is
+pub record IsComponent (low high : ℤ) (of : TypeValue) (k : ℕ) (p : Part) : Type 0 where
+  pub less : k < count_of low high
+  pub is : p ≡ record { offset = k * size_of of; type_value = of }
+
+-- a component of an array
+pub array_part : (low high : ℤ) (of : TypeValue) (k : ℕ) (p : Part) → part_of (type.Array low high of) k ≡ Some p
+    → IsComponent low high of k p
+array_part low high of k p h = go (ltb k (count_of low high)) refl h
+  where
+    go : (b : Bool) → ltb k (count_of low high) ≡ b → cond b (Some (record { offset = k * size_of of; type_value = of })) None ≡ Some p
+        → IsComponent low high of k p
+    go true e found = record { less = less_is k (count_of low high) e; is = sym (same_Some (record { offset = k * size_of of; type_value = of }) p found) }
+    go false e found = cc
+
+-- ---- paths
 
 -- nothing is at a path behind no part
 nowhere : (path : List ℕ) {p : Part} → part_along None path ≡ Some p → ⊥
 nowhere [] h = cc
 nowhere (k ∷ path) h = cc
 
--- words go on holding a value where more allocations are made
+-- the first step of a path leads to a component
+pub record Steps (t : TypeValue) (offset k : ℕ) (path : List ℕ) (p : Part) : Type 0 where
+  pub part : Part
+  pub is : part_of t k ≡ Some part
+  pub rest : part_along (Some (record { offset = offset + part.offset; type_value = part.type_value })) path ≡ Some p
+
+pub first_step : (t : TypeValue) (offset k : ℕ) (path : List ℕ) (p : Part)
+    → part_along (Some (record { offset = offset; type_value = t })) (k ∷ path) ≡ Some p → Steps t offset k path p
+first_step t offset k path p h = go (part_of t k) refl h
+  where
+    go : (o : Option Part) → part_of t k ≡ o → part_along (part_behind offset o) path ≡ Some p → Steps t offset k path p
+    go None e found = absurd (nowhere path found)
+    go (Some part) e found = record { part = part; is = e; rest = found }
+
+-- a component lies within its type
+component_within : (t : TypeValue) (k : ℕ) (p : Part) → part_of t k ≡ Some p → p.offset + size_of p.type_value ≤ size_of t
+component_within (type.Ordinal low high) k p h = cc
+component_within type.Text k p h = cc
+component_within (type.Array low high of) k p h =
+    let c = array_part low high of k p h in
+    subst (λ (q : Part). q.offset + size_of q.type_value ≤ count_of low high * size_of of) (sym c.is) (ends_before k (count_of low high) (size_of of) c.less)
+
+-- a part lies within that in which it is
+pub part_within : (path : List ℕ) (t : TypeValue) (offset : ℕ) (p : Part)
+    → part_along (Some (record { offset = offset; type_value = t })) path ≡ Some p
+    → (offset ≤ p.offset) × (p.offset + size_of p.type_value ≤ offset + size_of t)
+part_within [] t offset p leads =
+    subst (λ (q : Part). (offset ≤ q.offset) × (q.offset + size_of q.type_value ≤ offset + size_of t)) (same_Some (record { offset = offset; type_value = t }) p leads) (omega arith, omega arith)
+part_within (k ∷ path) t offset p leads =
+    let x = first_step t offset k path p leads in
+    let part : Part = x.part in
+    let inner = part_within path part.type_value (offset + part.offset) p x.rest in
+    let outer = component_within t k part x.is in
+    (omega (arith, inner.0), omega (arith, inner.1, outer))
+
+-- a path that leads on from where another one leads
+pub part_along-on : (path : List ℕ) (o : Option Part) (k : ℕ) (p : Part) → part_along o path ≡ Some p
+    → part_along o (path ++ k ∷ []) ≡ part_behind p.offset (part_of p.type_value k)
+part_along-on [] o k p leads = ap (λ (q : Option Part). part_along q (k ∷ [])) leads
+part_along-on (i ∷ path) None k p leads = cc
+part_along-on (i ∷ path) (Some q) k p leads = part_along-on path (part_behind q.offset (part_of q.type_value i)) k p leads
+
+-- the type of a component
+component_type-is : (t : TypeValue) (k : ℕ) (p : Part) → part_of t k ≡ Some p → component_type t k ≡ Some p.type_value
+component_type-is (type.Ordinal low high) k p h = cc
+component_type-is type.Text k p h = cc
+component_type-is (type.Array low high of) k p h =
+    let c = array_part low high of k p h in
+    ap (λ b. cond b (Some of) None) (less_true k (count_of low high) c.less) ∙ ap (λ (q : Part). Some q.type_value) (sym c.is)
+
+-- the type at a path is that of the part
+type_is-from : (path : List ℕ) (t : TypeValue) (offset : ℕ) (p : Part)
+    → part_along (Some (record { offset = offset; type_value = t })) path ≡ Some p → type_along (Some t) path ≡ Some p.type_value
+type_is-from [] t offset p leads = ap (λ (q : Part). Some q.type_value) (same_Some (record { offset = offset; type_value = t }) p leads)
+type_is-from (k ∷ path) t offset p leads =
+    let x = first_step t offset k path p leads in
+    let part : Part = x.part in
+    ap (λ o. type_along o path) (component_type-is t k part x.is) ∙ type_is-from path part.type_value (offset + part.offset) p x.rest
+
+pub type_is-along : (t : TypeValue) (path : List ℕ) (p : Part) → part_along (Some (all_of t)) path ≡ Some p
+    → type_along (Some t) path ≡ Some p.type_value
+type_is-along t path p leads = type_is-from path t 0 p leads
+
+-- ---- words that go on holding a value
+
+-- where more allocations are made
 pub has_at-longer : {injection longer : Injection} → IsPrefix injection longer
     → (t : TypeValue) (value : Value) (words : Words) (offset : ℕ)
     → HasAt injection t value words offset → HasAt longer t value words offset
 has_at-longer larger (type.Ordinal low high) value words offset h = h
 has_at-longer larger type.Text value words offset h = h
+has_at-longer larger (type.Array low high of) value words offset h =
+    λ k less. has_at-longer larger of (component_of value k) words (offset + k * size_of of) (h k less)
+
+-- words from an offset on that are the same as others
+abbrev pub AreSame : Words → Words → ℕ → ℕ → Type 0
+AreSame words later offset size = (i : ℕ) → offset ≤ i → i < offset + size → later i ≡ words i
+
+-- where they are the same
+pub has_at-same : (injection : Injection) (t : TypeValue) (value : Value) (words later : Words) (offset : ℕ)
+    → AreSame words later offset (size_of t) → HasAt injection t value words offset → HasAt injection t value later offset
+has_at-same injection (type.Ordinal low high) value words later offset same h =
+    subst (λ w. OrdinalAt low high value w) (sym (same offset (omega arith) (omega arith))) h
+has_at-same injection type.Text value words later offset same h =
+    subst (λ w. HasAt injection type.Text value (λ i. w) 0) (sym (same offset (omega arith) (omega arith))) h
+has_at-same injection (type.Array low high of) value words later offset same h =
+    λ k less.
+    let ends = ends_before k (count_of low high) (size_of of) less in
+    has_at-same injection of (component_of value k) words later (offset + k * size_of of) (λ i from before. same i (omega (arith, from)) (omega (arith, before, ends))) (h k less)
+
+-- words of which each is the undefined one hold the undefined value
+pub has_undefined : (injection : Injection) (t : TypeValue) (words : Words) (offset : ℕ) → IsTypeValue t
+    → ((i : ℕ) → offset ≤ i → i < offset + size_of t → words i ≡ Some undefined) → HasAt injection t Undefined words offset
+has_undefined injection (type.Ordinal low high) words offset valid each =
+    record { low_fits = valid.1; high_fits = valid.2; is = each offset (omega arith) (omega arith) }
+has_undefined injection type.Text words offset valid each = absurd valid
+has_undefined injection (type.Array low high of) words offset valid each =
+    λ k less.
+    let ends = ends_before k (count_of low high) (size_of of) less in
+    has_undefined injection of words (offset + k * size_of of) valid.1 (λ i from before. each i (omega (arith, from)) (omega (arith, before, ends)))
+
+-- ---- words of one type
 
 -- a value of an ordinal type has a word
 pub ordinal_word : {low high : ℤ} (value : Value) {word : Option ℤ} → OrdinalAt low high value word
@@ -29,13 +160,12 @@ ordinal_word Undefined h = (undefined, h.is)
 ordinal_word (meaning.Word w) h = let x = h.is in (w, x.0)
 ordinal_word (meaning.Components of) h = absurd h.is
 
--- A value has a first word. Each type has one so far.
-pub first_word : (injection : Injection) (t : TypeValue) (value : Value) (words : Words) (offset : ℕ)
-    → HasAt injection t value words offset → (w : ℤ) × (words offset ≡ Some w)
-first_word injection (type.Ordinal low high) value words offset h = ordinal_word value h
-first_word injection type.Text Undefined words offset h = (undefined, h)
-first_word injection type.Text (meaning.Word w) words offset h = absurd h
-first_word injection type.Text (meaning.Components of) words offset h = absurd h
+-- a file variable has a word
+pub file_word : (injection : Injection) (value : Value) (words : Words) (offset : ℕ)
+    → HasAt injection type.Text value words offset → (w : ℤ) × (words offset ≡ Some w)
+file_word injection Undefined words offset h = (undefined, h)
+file_word injection (meaning.Word w) words offset h = absurd h
+file_word injection (meaning.Components of) words offset h = absurd h
 
 -- ---- what is stored over a value of an ordinal type
 
@@ -55,32 +185,115 @@ ordinal-undefined value words offset h =
     let old = ordinal_word value h in
     record { low_fits = h.low_fits; high_fits = h.high_fits; is = slice_get-set-same words offset undefined old.0 old.1 }
 
--- ---- parts
+-- ---- parts of what words hold
+
+-- the words of a component hold it
+component_has : (injection : Injection) (t : TypeValue) (k : ℕ) (value : Value) (words : Words) (offset : ℕ) (p : Part)
+    → part_of t k ≡ Some p → HasAt injection t value words offset
+    → HasAt injection p.type_value (component_of value k) words (offset + p.offset)
+component_has injection (type.Ordinal low high) k value words offset p is h = cc
+component_has injection type.Text k value words offset p is h = cc
+component_has injection (type.Array low high of) k value words offset p is h =
+    let c = array_part low high of k p is in
+    subst (λ (q : Part). HasAt injection q.type_value (component_of value k) words (offset + q.offset)) (sym c.is) (h k c.less)
 
 -- the words at a path hold the value there
+has_from : (injection : Injection) (path : List ℕ) (t : TypeValue) (value : Value) (words : Words) (offset : ℕ) (p : Part)
+    → part_along (Some (record { offset = offset; type_value = t })) path ≡ Some p → HasAt injection t value words offset
+    → HasAt injection p.type_value (value_along value path) words p.offset
+has_from injection [] t value words offset p leads h =
+    subst (λ (q : Part). HasAt injection q.type_value value words q.offset) (same_Some (record { offset = offset; type_value = t }) p leads) h
+has_from injection (k ∷ path) t value words offset p leads h =
+    let x = first_step t offset k path p leads in
+    let part : Part = x.part in
+    has_from injection path part.type_value (component_of value k) words (offset + part.offset) p x.rest (component_has injection t k value words offset part x.is h)
+
 pub has_along : (injection : Injection) (t : TypeValue) (path : List ℕ) (value : Value) (words : Words) (p : Part)
     → part_along (Some (all_of t)) path ≡ Some p → HasAt injection t value words 0
     → HasAt injection p.type_value (value_along value path) words p.offset
-has_along injection t [] value words p leads h =
-    let e : all_of t ≡ p = same_Some (all_of t) p leads in
-    subst (λ (x : Part). HasAt injection x.type_value value words x.offset) e h
-has_along injection (type.Ordinal low high) (k ∷ path) value words p leads h = absurd (nowhere path leads)
-has_along injection type.Text (k ∷ path) value words p leads h = absurd (nowhere path leads)
+has_along injection t path value words p leads h = has_from injection path t value words 0 p leads h
+
+-- ---- words with other ones for a part
+
+-- the value that is put for a number is found there, and for another number what was there
+with-same : (of : ℕ → Value) (k : ℕ) (value : Value) → values_with of k value k ≡ value
+with-same of zero value = refl
+with-same of (suc k) value = with-same (λ j. of (suc j)) k value
+
+with-other : (of : ℕ → Value) (k : ℕ) (value : Value) (i : ℕ) → (k ≡ i → ⊥) → values_with of k value i ≡ of i
+with-other of zero value zero other = absurd (other refl)
+with-other of zero value (suc i) other = refl
+with-other of (suc k) value zero other = refl
+with-other of (suc k) value (suc i) other = with-other (λ j. of (suc j)) k value i (λ e. other (ap suc e))
+
+-- the words outside of a part are the same
+abbrev pub AreSameBut : Words → Words → Part → Type 0
+AreSameBut words later p = (i : ℕ) → (i < p.offset) ⊎ (p.offset + size_of p.type_value ≤ i) → later i ≡ words i
+
+-- a component of an array that is another one is apart from it
+apart : (i k size : ℕ) → (k ≡ i → ⊥) → (i * size + size ≤ k * size) ⊎ (k * size + size ≤ i * size)
+apart i k size other = go (ltb i k) refl
+  where
+    go : (b : Bool) → ltb i k ≡ b → (i * size + size ≤ k * size) ⊎ (k * size + size ≤ i * size)
+    go true e = inl (ends_before i k size (less_is i k e))
+    go false e = inr (ends_before k i size (let not_less : k ≤ i = grind (arith, nat_tests) in omega (arith, not_less, other)))
+
+-- words that hold another value of a component of an array, and else what they were, hold the array with that one
+array_with : (injection : Injection) (low high : ℤ) (of : TypeValue) (k : ℕ) (value changed : Value) (words later : Words) (offset : ℕ) (p : Part)
+    → AreSameBut words later p → (offset + k * size_of of ≤ p.offset) × (p.offset + size_of p.type_value ≤ offset + k * size_of of + size_of of)
+    → HasAt injection (type.Array low high of) value words offset → HasAt injection of changed later (offset + k * size_of of)
+    → HasAt injection (type.Array low high of) (with_component value k changed) later offset
+array_with injection low high of k value changed words later offset p same inside h this = each
+  where
+    outside : (i j : ℕ) → offset + i * size_of of ≤ j → j < offset + i * size_of of + size_of of
+        → (i * size_of of + size_of of ≤ k * size_of of) ⊎ (k * size_of of + size_of of ≤ i * size_of of)
+        → (j < p.offset) ⊎ (p.offset + size_of p.type_value ≤ j)
+    outside i j from before (inl b) = inl (omega (arith, before, b, inside.0))
+    outside i j from before (inr b) = inr (omega (arith, from, b, inside.1))
+
+    own : (i : ℕ) → k ≡ i → HasAt injection of (values_with (component_of value) k changed i) later (offset + i * size_of of)
+    own i e =
+        subst (λ j. HasAt injection of (values_with (component_of value) k changed j) later (offset + j * size_of of)) e
+        (subst (λ v. HasAt injection of v later (offset + k * size_of of)) (sym (with-same (component_of value) k changed)) this)
+
+    others : (i : ℕ) → i < count_of low high → (k ≡ i → ⊥)
+        → HasAt injection of (values_with (component_of value) k changed i) later (offset + i * size_of of)
+    others i less e =
+        subst (λ v. HasAt injection of v later (offset + i * size_of of)) (sym (with-other (component_of value) k changed i e))
+        (has_at-same injection of (component_of value i) words later (offset + i * size_of of) (λ j from before. same j (outside i j from before (apart i k (size_of of) e))) (h i less))
+
+    each : (i : ℕ) → i < count_of low high → HasAt injection of (values_with (component_of value) k changed i) later (offset + i * size_of of)
+    each i less = elim (ℕ_discrete k i) [ yes e ↦ own i e | no e ↦ others i less e ]
+
+no_part : {q : Part} → ◌≡◌ {A = Option Part} None (Some q) → ⊥
+no_part e = cc
 
 -- where words are put that hold another value of the part, all of them hold the value with that one
+has_with-from : (injection : Injection) (path : List ℕ) (t : TypeValue) (value other : Value) (words later : Words) (offset : ℕ) (p : Part)
+    → part_along (Some (record { offset = offset; type_value = t })) path ≡ Some p → AreSameBut words later p
+    → HasAt injection t value words offset → HasAt injection p.type_value other later p.offset
+    → HasAt injection t (value_with value path other) later offset
+has_with-from injection [] t value other words later offset p leads same h new =
+    subst (λ (q : Part). HasAt injection q.type_value other later q.offset) (sym (same_Some (record { offset = offset; type_value = t }) p leads)) new
+has_with-from injection (k ∷ path) (type.Ordinal low high) value other words later offset p leads same h new =
+    let x = first_step (type.Ordinal low high) offset k path p leads in absurd (no_part x.is)
+has_with-from injection (k ∷ path) type.Text value other words later offset p leads same h new =
+    let x = first_step type.Text offset k path p leads in absurd (no_part x.is)
+has_with-from injection (k ∷ path) (type.Array low high of) value other words later offset p leads same h new =
+    let x = first_step (type.Array low high of) offset k path p leads in
+    let here = array_part low high of k x.part x.is in
+    let rest : part_along (Some (record { offset = offset + k * size_of of; type_value = of })) path ≡ Some p = subst (λ (q : Part). part_along (Some (record { offset = offset + q.offset; type_value = q.type_value })) path ≡ Some p) here.is x.rest in
+    array_with injection low high of k value (value_with (component_of value k) path other) words later offset p same (part_within path of (offset + k * size_of of) p rest) h
+    (has_with-from injection path of (component_of value k) other words later (offset + k * size_of of) p rest same (h k here.less) new)
+
 pub has_with : (injection : Injection) (t : TypeValue) (path : List ℕ) (value other : Value) (words later : Words) (p : Part)
-    → part_along (Some (all_of t)) path ≡ Some p → HasAt injection t value words 0
+    → part_along (Some (all_of t)) path ≡ Some p → AreSameBut words later p → HasAt injection t value words 0
     → HasAt injection p.type_value other later p.offset
     → HasAt injection t (value_with value path other) later 0
-has_with injection t [] value other words later p leads h k =
-    let e : all_of t ≡ p = same_Some (all_of t) p leads in
-    subst (λ (x : Part). HasAt injection x.type_value other later x.offset) (sym e) k
-has_with injection (type.Ordinal low high) (i ∷ path) value other words later p leads h k = absurd (nowhere path leads)
-has_with injection type.Text (i ∷ path) value other words later p leads h k = absurd (nowhere path leads)
+has_with injection t path value other words later p leads same h new = has_with-from injection path t value other words later 0 p leads same h new
 
--- the type at a path is that of the part
-pub type_is-along : (t : TypeValue) (path : List ℕ) (p : Part) → part_along (Some (all_of t)) path ≡ Some p
-    → type_along (Some t) path ≡ Some p.type_value
-type_is-along t [] p leads = ap (λ (x : Part). Some x.type_value) (same_Some (all_of t) p leads)
-type_is-along (type.Ordinal low high) (k ∷ path) p leads = absurd (nowhere path leads)
-type_is-along type.Text (k ∷ path) p leads = absurd (nowhere path leads)
+-- a word that is put somewhere leaves the others as they were
+pub set-same_but : (words : List ℤ) (z : ℤ) (p : Part) → size_of p.type_value ≡ 1
+    → AreSameBut (slice_get words) (slice_get (slice_set words p.offset z)) p
+set-same_but words z p one i (inl before) = slice_get-set-other words p.offset i z (λ e. absurd (omega (arith, before, e)))
+set-same_but words z p one i (inr behind) = slice_get-set-other words p.offset i z (λ e. absurd (omega (arith, behind, one, e)))

@@ -8,6 +8,7 @@ use Rattle.ep_object.specs.Activations.{OwnSlot, AreMade, InActivation}
 use Rattle.ep_object.specs.Calls.{argument_at}
 use Rattle.ep_object.specs.Follows.{Facts, After, point, Follows, Fragment, Lasts, IsSameCall, IsStillCall, StillRuns, IsNotLeft, Lands}
 use Rattle.ep_object.specs.Matching.{Memory, at, Injection, IsIn, IsRepresentedWhere, IsSpot, Describes, Slots, own_slot, slot_of_frame, MatchesSlot, HasOwnType, Matches, Grown}
+use Rattle.ep_object.specs.Places.{fresh_segment}
 use Rattle.ep_object.specs.Operands.{Operand, Word, weight}
 use Rattle.ep_object.specs.Operands as operand
 use Rattle.ep_object.specs.Frames.{slots_over}
@@ -22,7 +23,6 @@ use Rattle.ep_object.proofs.matching.Awaiting.{arguments_in, without_argument}
 use Rattle.ep_object.proofs.matching.Elements.{slice_get-set-same, slice_get-set-other}
 use Rattle.ep_object.proofs.matching.Growing.{grown_refl, grown_trans, not_left-here, still_runs-trans, still_routine, unit_in-still}
 use Rattle.ep_object.proofs.matching.Levels.{level-same}
-use Rattle.ep_object.proofs.matching.NewVariables.{new_segment}
 use Rattle.ep_object.proofs.matching.OwnVariables.{bound_own-same, bound_own-other}
 use Rattle.ep_object.proofs.matching.Standing.{slice_get-some, one_type, allocated}
 use Rattle.ep_object.proofs.rows.ChangeRows.{store_does, store_fails, type_is}
@@ -34,8 +34,8 @@ use Rattle.ep_typed.specs.Steps.{Component, whole, Call, named_in, Allocation, C
 use Rattle.ep_typed.specs.Steps as meaning
 use Rattle.ep_typed.specs.Valid.{Declarations, variables_up}
 use Rattle.ep_typed.specs.declared.unit.UnitVariable.{UnitVariable}
-use Rattle.ep_typed.specs.declared.value.TypeValue.{TypeValue}
-use Rattle.ep_typed.specs.declared.value.TypeValue.TheVariants as type
+use Rattle.ep_typed.specs.TypeValues.{TypeValue}
+use Rattle.ep_typed.specs.TypeValues as type
 use Rattle.ep_object.specs.declared.op.TheConstants as op
 use Rattle.ep_typed.specs.declared.run_error.TheConstants as run_error
 
@@ -269,7 +269,7 @@ module _ (declared : Declarations) (G : Image) (untouched : Slots) (first : Inje
       → slice_get G.instructions (place - 1) ≡ Some (instr op.SLOT (pos k) 0 line) → 1 ≤ place
       → slice_get G.instructions place ≡ Some (instr op.ARG (pos k) 0 line) → slice_get G.instructions (place + 1) ≡ Some (instr op.STORE (pos 0) 0 line)
       → argument_at frame.arguments k ≡ Some (Word z) → own_slot memory.frames k ≡ Some (Some p)
-      → IsSpot injection memory.types (whole (length injection)) p → slice_get memory.segments p.segment ≡ Some (Some (new_segment number)) → Describes memory.types p.type_number (type.Ordinal low high) → 3 ≤ d
+      → IsSpot injection memory.types (whole (length injection)) p → slice_get memory.segments p.segment ≡ Some (Some (fresh_segment number 1)) → Describes memory.types p.type_number (type.Ordinal low high) → 3 ≤ d
       → Fragment declared G Here n (point injection memory (place - 1) below) (initialized unit line (type.Ordinal low high) z) (place + 1 + 1) (λ a. Taken untouched injection memory left below) d (λ a. d - 3)
   value_taken n d low high z number p has_slot later has_arg has_store there slot spot stands described enough =
       fragment_waits {d1 = d - 1} (λ s matches. slot_pushes G (place - 1) line k 0 below frame.slots memory s.trace has_slot (own_slots memory frame others frames) p (sym (ap (λ cs. slot_of_frame (slots_over cs None) k) frames) ∙ slot)) (omega (arith, enough))
@@ -282,7 +282,7 @@ module _ (declared : Declarations) (G : Image) (untouched : Slots) (first : Inje
       newest_of s h = let injected = h.injected in subst (λ m. IsSpot injection memory.types (whole m) p) injected.made spot
 
       living : (s : meaning.State) → Matches declared G injection s lighter → has_ended (length s.allocations) s ≡ false
-      living s h = let q = newest_of s h in lives_where (length s.allocations) p.segment (new_segment number) h q.is_in stands
+      living s h = let q = newest_of s h in lives_where (length s.allocations) p.segment (fresh_segment number 1) h q.is_in stands
 
       its_type : (s : meaning.State) → Matches declared G injection s lighter → type_at (whole (length s.allocations)) s ≡ Some (type.Ordinal low high)
       its_type s h = type_is declared G (place + 1) line below low high z (whole (length s.allocations)) p has_store injection lighter (newest_of s h) described s h (living s h)

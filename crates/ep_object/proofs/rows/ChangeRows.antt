@@ -1,5 +1,6 @@
 -- What the rows lead to that change variables and that write, where the machine matches.
-use Rattle.std.proofs.Common.{◌≡◌, ℕ, ℤ, pos, ◌+◌, Bool, true, false, cond, List, ◌∷◌, ◌++◌, length, Some, slice_get, slice_set, refl, sym, ap, ◌∙◌}
+use Rattle.std.proofs.Common.{◌≡◌, ℕ, ℤ, pos, ◌+◌, Bool, true, false, cond, List, ◌∷◌, ◌++◌, length, Some, slice_get, slice_set, refl, sym, ap, ◌∙◌, subst}
+use Rattle.std.proofs.lemmas.Option.{same_Some}
 use Rattle.ep_object.specs.Follows.{Facts, Lasts, Bare, Inside}
 use Rattle.ep_object.specs.Matching.{Memory, at, Injection, IsSpot, Describes, HasAt, Represents, Matches, Slots}
 use Rattle.ep_object.specs.Operands.{Operand, Word, Text}
@@ -16,14 +17,14 @@ use Rattle.ep_object.proofs.following.Fragments.{Does, FailsWith}
 use Rattle.ep_object.proofs.matching.Growing.{slice_get-prefix, grown_refl, same_routine-refl, inside_here}
 use Rattle.ep_object.proofs.rows.Rows.{instr, in_one, outcome_at}
 use Rattle.ep_object.proofs.matching.Standing.{StandsOrdinal, ordinal_stands, allocated, place_ended, represents_living}
-use Rattle.ep_object.proofs.matching.Words.{first_word, has_with, type_is-along, ordinal_word, ordinal-stored, ordinal-undefined}
+use Rattle.ep_object.proofs.matching.Words.{file_word, has_with, set-same_but, type_is-along, ordinal_word, ordinal-stored, ordinal-undefined}
 use Rattle.ep_object.proofs.rows.TextRows.{written-same}
 use Rattle.ep_typed.specs.Events.{Trace}
 use Rattle.ep_typed.specs.Printing.{piece_events}
 use Rattle.ep_typed.specs.Steps.{Component, Value, Undefined, Allocation, value_along, value_with, type_along, is_among, type_in, type_at, ended_in, has_ended, is_within, assigned, with_events}
 use Rattle.ep_typed.specs.Steps as meaning
 use Rattle.ep_typed.specs.Valid.{Declarations}
-use Rattle.ep_typed.specs.declared.value.TypeValue.TheVariants as type
+use Rattle.ep_typed.specs.TypeValues as type
 use Rattle.ep_object.specs.declared.op.TheConstants as op
 use Rattle.ep_typed.specs.declared.run_error.TheConstants as run_error
 
@@ -41,7 +42,8 @@ module _ (declared : Declarations) (G : Image) (place line : ℕ) (below : List 
       let a = allocated injection s 2 2 injected.made outside.output in
       let r : Represents injection memory.segments memory.types 2 a.0 = represents_living injection memory.segments memory.types 2 a.0 (sym (ap ended_in a.1) ∙ outside.lives) (store.represented 2 2 a.0 outside.output a.1) in
       let types = matches.types in
-      let w = first_word injection (a.0).type_value (a.0).value (slice_get r.words) 0 r.holds in
+      let is_text : (a.0).type_value ≡ type.Text = same_Some (a.0).type_value type.Text (sym (ap type_in a.1) ∙ injected.typed 2 type.Text outside.file) in
+      let w = file_word injection (a.0).value (slice_get r.words) 0 (subst (λ t. HasAt injection t (a.0).value (slice_get r.words) 0) is_text r.holds) in
       record {
         injection = injection;
         memory = memory;
@@ -96,7 +98,7 @@ module _ (declared : Declarations) (G : Image) (place line : ℕ) (below : List 
         let inside : is_within (type.Ordinal low high) z ≡ true = ap (λ t. is_among t z) (sym type_is) ∙ within in
         let words : List ℤ = slice_set r.words p.offset z in
         let old = ordinal_word (value_along a.value v.path) here.word in
-        let holds : HasAt injection a.type_value (value_with a.value v.path (meaning.Word z)) (slice_get words) 0 = has_with injection a.type_value v.path a.value (meaning.Word z) (slice_get r.words) (slice_get words) (record { offset = p.offset; type_value = type.Ordinal low high }) here.leads r.holds (ordinal-stored z (value_along a.value v.path) r.words p.offset here.word inside) in
+        let holds : HasAt injection a.type_value (value_with a.value v.path (meaning.Word z)) (slice_get words) 0 = has_with injection a.type_value v.path a.value (meaning.Word z) (slice_get r.words) (slice_get words) (record { offset = p.offset; type_value = type.Ordinal low high }) here.leads (set-same_but r.words z (record { offset = p.offset; type_value = type.Ordinal low high }) refl) r.holds (ordinal-stored z (value_along a.value v.path) r.words p.offset here.word inside) in
         record {
           injection = injection;
           memory = storing memory p.segment r.type_number words;
@@ -149,7 +151,7 @@ module _ (declared : Declarations) (G : Image) (place line : ℕ) (below : List 
       let r : Represents injection memory.segments memory.types p.segment a = x.represents in
       let words : List ℤ = slice_set r.words p.offset undefined in
       let old = ordinal_word (value_along a.value v.path) x.word in
-      let holds : HasAt injection a.type_value (value_with a.value v.path Undefined) (slice_get words) 0 = has_with injection a.type_value v.path a.value Undefined (slice_get r.words) (slice_get words) (record { offset = p.offset; type_value = type.Ordinal low high }) x.leads r.holds (ordinal-undefined (value_along a.value v.path) r.words p.offset x.word) in
+      let holds : HasAt injection a.type_value (value_with a.value v.path Undefined) (slice_get words) 0 = has_with injection a.type_value v.path a.value Undefined (slice_get r.words) (slice_get words) (record { offset = p.offset; type_value = type.Ordinal low high }) x.leads (set-same_but r.words undefined (record { offset = p.offset; type_value = type.Ordinal low high }) refl) r.holds (ordinal-undefined (value_along a.value v.path) r.words p.offset x.word) in
       record {
         injection = injection;
         memory = storing memory p.segment r.type_number words;

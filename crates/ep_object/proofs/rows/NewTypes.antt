@@ -1,37 +1,42 @@
 -- A type is elaborated: the machine goes on matching, or ends for want of room where it was lost.
-use Rattle.std.proofs.Common.{length-append, append-nil, ltb, ◌≡◌, ℕ, ℤ, pos, ◌+◌, ◌⊎◌, inl, inr, Bool, true, false, IsTrue, List, [], ◌∷◌, ◌++◌, length, Option, Some, None, slice_get, refl, sym, ap, ◌∙◌, arith, cond}
+use Rattle.std.proofs.Common.{length-append, append-nil, leb, ltb, ◌≡◌, ℕ, ℤ, pos, ◌+◌, ◌⊎◌, inl, inr, Bool, true, false, IsTrue, List, [], ◌∷◌, ◌++◌, length, Option, Some, None, slice_get, refl, sym, ap, ◌∙◌, arith, cond}
 use Rattle.std.specs.Prelude.{int_le, ◌&&◌}
+use Rattle.std.proofs.lemmas.Bool.{lt-ltb}
+use Rattle.std.proofs.lemmas.Bool.Decides.{nat_tests}
+use Rattle.std.proofs.lemmas.Option.{slice_get_within}
 use Rattle.ep_object.specs.Matching.{Memory, at, Injection, Describes, MatchesCounts, Matches, Slots, Grown}
 use Rattle.ep_object.specs.Follows.{GivesUp, SameRoutine, Facts, Lasts, Inside}
 use Rattle.ep_object.specs.Operands.{Operand, Word}
-use Rattle.ep_object.specs.Runs.{outcome, outcome_of, after, unit_in, run, tick_of, and_then}
-use Rattle.ep_object.specs.State.{State, Going, Running, live_limit, type_limit}
-use Rattle.ep_object.specs.Types.{interned, ordinal_number, ordinal_entry}
+use Rattle.ep_object.specs.Runs.{Outcome, outcome, outcome_of, after}
+use Rattle.ep_object.specs.State.{State, TypeTable, Going, Running, live_limit, size_limit, type_limit}
+use Rattle.ep_object.specs.Types.{Numbered, interned, interned_as, kind_number, words_of_kind, ordinal_entry, array_entry, array_of, bounds_of, entry_in, entry_of, numbered_entry}
 use Rattle.ep_object.specs.Table.{typing, with_typing}
-use Rattle.ep_object.specs.Effects.{mapped, Fails, Continues}
+use Rattle.ep_object.specs.Effects.{mapped, having, Fails, Continues}
 use Rattle.ep_object.specs.declared.code.Instr.{Instr}
 use Rattle.ep_object.specs.declared.state.TypeEntry.{TypeEntry}
+use Rattle.ep_object.proofs.Grows.{is_prefix}
+use Rattle.ep_object.proofs.following.Bind.{gives_up}
+use Rattle.ep_object.proofs.matching.Described.{IsEntryOf, described_entry, entry_describes, entry-longer, entry_size}
 use Rattle.ep_object.proofs.matching.Growing.{grown_refl, same_routine-refl}
 use Rattle.ep_object.proofs.matching.Elements.{slice_get-pushed}
 use Rattle.ep_typed.specs.Steps.{Resources, held, words_of_type, met, watched, same_type, Allocation, with_type}
 use Rattle.ep_typed.specs.Steps as meaning
 use Rattle.ep_typed.specs.Valid.{Declarations}
-use Rattle.ep_typed.specs.Events.{Trace}
 use Rattle.ep_object.specs.declared.code.Image.{Image}
-use Rattle.ep_typed.specs.declared.value.TypeValue.{TypeValue}
-use Rattle.ep_typed.specs.declared.value.TypeValue.TheVariants as type
+use Rattle.ep_typed.specs.TypeValues.{TypeValue, size_of}
+use Rattle.ep_typed.specs.TypeValues as type
 use Rattle.ep_object.specs.declared.op.TheConstants as op
 use Rattle.ep_typed.specs.declared.run_error.TheConstants as run_error
 use Rattle.ep_object.proofs.following.Fragments.{Does}
 use Rattle.ep_object.proofs.rows.Rows.{instr}
-use Rattle.ep_object.proofs.matching.TypeTables.{described-found, not_known, new_word, types-found, types-added, matches-types, grown-types}
-use Rattle.ep_object.proofs.matching.Counts.{met-typed, met-held, met_types-le, met_new, met_lost, live_bounded}
+use Rattle.ep_object.proofs.matching.TypeTables.{described-found, not_known, new_words, types-found, types-added, matches-types, grown-types}
+use Rattle.ep_object.proofs.matching.Counts.{met-typed, met-held, met_types-le, met_new, met_lost, met_large, live_bounded}
 
 -- the memory with one more type
 abbrev pub with_entry : TypeEntry → Memory → Memory
-with_entry e memory = record memory { types = memory.types ++ e ∷ []; live = memory.live + 1 }
+with_entry e memory = record memory { types = memory.types ++ e ∷ []; live = memory.live + words_of_kind e.kind }
 
--- what TOrd leads to: the type's number on top, and the state that has met the type
+-- what a row on types leads to: the type's number on top, and the state that has met the type
 pub record Elaborates (untouched : Slots) (declared : Declarations) (G : Image) (injection : Injection)
     (memory : Memory) (place : ℕ) (below : List Operand) (t : TypeValue) (k : State)
     (s : meaning.State) : Type 0 where
@@ -43,105 +48,86 @@ pub record Elaborates (untouched : Slots) (declared : Declarations) (G : Image) 
   pub grown : Grown untouched injection memory injection final
   pub routine : SameRoutine untouched memory.frames final.frames
 
--- `TOrd`
-abbrev pub ordinal_instr : ℕ → Instr
-ordinal_instr line = record { op = op.T_ORD; a = pos 0; b = 0; line = line }
+-- what an instruction leads to that makes a type of this entry
+abbrev interns : Image → Instr → State → TypeEntry → List Operand → Option ℕ → Going
+interns G i k e below o = after G i k (mapped (with_typing k) (interned_as o e below (typing k)))
 
--- the state before it
-abbrev pub before_type : ℕ → ℤ → ℤ → List Operand → Memory → Trace → State
-before_type place low high below memory trace = at place (Word high ∷ Word low ∷ below) memory trace
-
-abbrev fits_one_more : State → Bool
-fits_one_more k = ltb (length k.types) type_limit && ltb k.live live_limit
+abbrev fits_one_more : State → TypeEntry → Bool
+fits_one_more k e = ltb (length k.types) type_limit && leb (k.live + words_of_kind e.kind) live_limit
 
 -- what it leads to where the type has no number yet
 abbrev adds : Image → Instr → State → TypeEntry → List Operand → Bool → Going
-adds G i k e below b = after G i k (mapped (with_typing k) (cond b (Continues (record { operands = Word (pos (length k.types)) ∷ below; types = k.types ++ e ∷ []; live = k.live + 1 })) (Fails run_error.STORAGE_LIMIT)))
-
-module _ (G : Image) (place line : ℕ) (low high : ℤ) (below : List Operand) (memory : Memory) (trace : Trace) where
-  -- by what number the type has
-  ordinal_outcome : IsTrue (int_le low high) → (o : Option ℕ) → ordinal_number low high memory.types ≡ o
-      → slice_get G.instructions place ≡ Some (ordinal_instr line)
-      → outcome G (before_type place low high below memory trace) ≡ record { weight = 0; to = after G (ordinal_instr line) (before_type place low high below memory trace) (mapped (with_typing (before_type place low high below memory trace)) (interned o (ordinal_entry low high) below (typing (before_type place low high below memory trace)))) }
-  ordinal_outcome ordered o is fetch =
-      let k = before_type place low high below memory trace in
-      ap (λ x. outcome_of G x k) fetch
-      ∙ ap (λ b. record { weight = 0; to = after G (ordinal_instr line) k (mapped (with_typing k) (cond b (interned (ordinal_number low high memory.types) (ordinal_entry low high) below (typing k)) (Fails run_error.OUTSIDE_DOMAIN))) }) ordered
-      ∙ ap (λ x. record { weight = 0; to = after G (ordinal_instr line) k (mapped (with_typing k) (interned x (ordinal_entry low high) below (typing k))) }) is
+adds G i k e below b = after G i k (mapped (with_typing k) (cond b (Continues (record { operands = Word (pos (length k.types)) ∷ below; types = k.types ++ e ∷ []; live = k.live + words_of_kind e.kind })) (Fails run_error.STORAGE_LIMIT)))
 
 -- The type is met, or the machine ends for want of storage where room is lost.
-pub elaborates : {untouched : Slots} {declared : Declarations} {G : Image} {injection : Injection} {memory : Memory} (place line : ℕ) (low high : ℤ) (below : List Operand) (s : meaning.State)
-    → IsTrue (int_le low high) → slice_get G.instructions place ≡ Some (ordinal_instr line)
+elaborates : {untouched : Slots} {declared : Declarations} {G : Image} {injection : Injection} {memory : Memory} (place : ℕ) (i : Instr) (operands below : List Operand) (t : TypeValue) (e : TypeEntry) (s : meaning.State)
+    → IsEntryOf memory.types t e
+    → outcome G (at place operands memory s.trace) ≡ record { weight = 0; to = interns G i (at place operands memory s.trace) e below (kind_number e.kind memory.types) }
     → Matches declared G injection s memory
-    → Elaborates untouched declared G injection memory place below (type.Ordinal low high) (before_type place low high below memory s.trace) s ⊎ GivesUp G (before_type place low high below memory s.trace) 0 1 (meaning.with_type (type.Ordinal low high) s)
-elaborates {untouched} {declared} {G} {injection} {memory} place line low high below s ordered fetch m = by_number (ordinal_number low high memory.types) refl
+    → Elaborates untouched declared G injection memory place below t (at place operands memory s.trace) s ⊎ GivesUp G (at place operands memory s.trace) 0 1 (meaning.with_type t s)
+elaborates {untouched} {declared} {G} {injection} {memory} place i operands below t e s is leads m = by_number (kind_number e.kind memory.types) refl
   where
+    from : State
+    from = at place operands memory s.trace
+
     numbers : MatchesCounts injection s.resources memory.segments memory.types memory.live
     numbers = m.counts
 
-    -- one more type was added, and one word is counted for it
-    counts_added : ordinal_number low high memory.types ≡ None
-        → MatchesCounts injection (met (type.Ordinal low high) s.resources) memory.segments (memory.types ++ ordinal_entry low high ∷ []) (memory.live + 1)
+    leads_as : (o : Option ℕ) → kind_number e.kind memory.types ≡ o
+        → outcome G (at place operands memory s.trace) ≡ record { weight = 0; to = interns G i (at place operands memory s.trace) e below o }
+    leads_as o found = leads ∙ ap (λ x. record { weight = 0; to = interns G i (at place operands memory s.trace) e below x }) found
+
+    -- one more type was added, and its words are counted for it
+    counts_added : kind_number e.kind memory.types ≡ None
+        → MatchesCounts injection (met t s.resources) memory.segments (memory.types ++ e ∷ []) (memory.live + words_of_kind e.kind)
     counts_added none =
-        let new = met_new (type.Ordinal low high) s.resources (not_known low high m.types none) in
-        let same = met-held (type.Ordinal low high) s.resources in
+        let new = met_new t s.resources (not_known t e m.types is none) in
+        let same = met-held t s.resources in
         record {
-          words = omega (arith, numbers.words, new.1, new_word low high m.types none, same.0);
+          words = omega (arith, numbers.words, new.1, new_words t e m.types is none, same.0);
           hidden = omega (arith, numbers.hidden, same.1);
-          number = omega (arith, numbers.number, new.0, length-append memory.types (ordinal_entry low high ∷ []));
+          number = omega (arith, numbers.number, new.0, length-append memory.types (e ∷ []));
         }
 
     -- nothing was added
-    counts_found : MatchesCounts injection (met (type.Ordinal low high) s.resources) memory.segments memory.types memory.live
+    counts_found : MatchesCounts injection (met t s.resources) memory.segments memory.types memory.live
     counts_found =
-        let same = met-held (type.Ordinal low high) s.resources in
+        let same = met-held t s.resources in
         record {
-          words = omega (arith, numbers.words, met-typed (type.Ordinal low high) s.resources, same.0);
+          words = omega (arith, numbers.words, met-typed t s.resources, same.0);
           hidden = omega (arith, numbers.hidden, same.1);
-          number = omega (arith, numbers.number, met_types-le (type.Ordinal low high) s.resources);
+          number = omega (arith, numbers.number, met_types-le t s.resources);
         }
 
-    added : (b : Bool) → fits_one_more (before_type place low high below memory s.trace) ≡ b
-        → ordinal_number low high memory.types ≡ None
-        → Elaborates untouched declared G injection memory place below (type.Ordinal low high) (before_type place low high below memory s.trace) s ⊎ GivesUp G (before_type place low high below memory s.trace) 0 1 (meaning.with_type (type.Ordinal low high) s)
+    added : (b : Bool) → fits_one_more (at place operands memory s.trace) e ≡ b → kind_number e.kind memory.types ≡ None
+        → Elaborates untouched declared G injection memory place below t (at place operands memory s.trace) s ⊎ GivesUp G (at place operands memory s.trace) 0 1 (meaning.with_type t s)
     added true fits none =
         inl (record {
           number = length memory.types;
-          final = with_entry (ordinal_entry low high) memory;
-          does = ordinal_outcome G place line low high below memory s.trace ordered None none fetch ∙ ap (λ b. record { weight = 0; to = adds G (ordinal_instr line) (before_type place low high below memory s.trace) (ordinal_entry low high) below b }) fits;
-          matches = matches-types (met (type.Ordinal low high) s.resources) (memory.types ++ ordinal_entry low high ∷ []) (memory.live + 1) (record { rest = ordinal_entry low high ∷ []; is = refl }) (types-added s.resources low high m.types none)
-              (counts_added none) m;
-          described = slice_get-pushed memory.types (ordinal_entry low high);
-          grown = grown-types injection memory (memory.types ++ ordinal_entry low high ∷ []) (memory.live + 1) (record { rest = ordinal_entry low high ∷ []; is = refl });
+          final = with_entry e memory;
+          does = leads_as None none ∙ ap (λ b. record { weight = 0; to = adds G i (at place operands memory s.trace) e below b }) fits;
+          matches = matches-types (met t s.resources) (memory.types ++ e ∷ []) (memory.live + words_of_kind e.kind) (record { rest = e ∷ []; is = refl }) (types-added s.resources t e m.types is none) (counts_added none) m;
+          described = entry_describes (memory.types ++ e ∷ []) (length memory.types) t e (slice_get-pushed memory.types e) (entry-longer memory.types (memory.types ++ e ∷ []) t e (record { rest = e ∷ []; is = refl }) is);
+          grown = grown-types injection memory (memory.types ++ e ∷ []) (memory.live + words_of_kind e.kind) (record { rest = e ∷ []; is = refl });
           routine = same_routine-refl memory.frames;
         })
     added false full none =
-        inr (record {
-          lost = met_lost (length memory.types) memory.live (type.Ordinal low high) s.resources (not_known low high m.types none) full numbers.number (live_bounded numbers) (new_word low high m.types none);
-          ticks = 1;
-          fast = omega arith;
-          number = run_error.STORAGE_LIMIT;
-          is_limit = inl refl;
-          unit = unit_in G memory.frames;
-          line = line;
-          trace = s.trace;
-          runs = ap (λ o. and_then (tick_of 0 (before_type place low high below memory s.trace) o) (run G 0)) (ordinal_outcome G place line low high below memory s.trace ordered None none fetch ∙ ap (λ b. record { weight = 0; to = adds G (ordinal_instr line) (before_type place low high below memory s.trace) (ordinal_entry low high) below b }) full);
-          begins = record { rest = []; is = sym (append-nil s.trace) };
-        })
+        inr (gives_up (leads_as None none ∙ ap (λ b. record { weight = 0; to = adds G i (at place operands memory s.trace) e below b }) full) (inl refl) (is_prefix s.trace)
+        (met_lost (length memory.types) memory.live (words_of_kind e.kind) t s.resources (not_known t e m.types is none) full numbers.number (live_bounded numbers) (new_words t e m.types is none)))
 
-    by_number : (o : Option ℕ) → ordinal_number low high memory.types ≡ o
-        → Elaborates untouched declared G injection memory place below (type.Ordinal low high) (before_type place low high below memory s.trace) s ⊎ GivesUp G (before_type place low high below memory s.trace) 0 1 (meaning.with_type (type.Ordinal low high) s)
+    by_number : (o : Option ℕ) → kind_number e.kind memory.types ≡ o
+        → Elaborates untouched declared G injection memory place below t (at place operands memory s.trace) s ⊎ GivesUp G (at place operands memory s.trace) 0 1 (meaning.with_type t s)
     by_number (Some n) found =
         inl (record {
           number = n;
           final = memory;
-          does = ordinal_outcome G place line low high below memory s.trace ordered (Some n) found fetch;
-          matches = matches-types (met (type.Ordinal low high) s.resources) memory.types memory.live (record { rest = []; is = sym (append-nil memory.types) }) (types-found s.resources low high n m.types found) counts_found m;
-          described = described-found low high n m.types found;
+          does = leads_as (Some n) found;
+          matches = matches-types (met t s.resources) memory.types memory.live (record { rest = []; is = sym (append-nil memory.types) }) (types-found s.resources t e n m.types is found) counts_found m;
+          described = described-found t e n m.types is found;
           grown = grown_refl injection memory;
           routine = same_routine-refl memory.frames;
         })
-    by_number None none = added (fits_one_more (before_type place low high below memory s.trace)) refl none
+    by_number None none = added (fits_one_more (at place operands memory s.trace) e) refl none
 
 -- the type value is given, and the number of a type that describes it is on top
 pub record TypeOnTop (t : TypeValue) (below : List Operand) (given : TypeValue) (injection : Injection)
@@ -151,24 +137,88 @@ pub record TypeOnTop (t : TypeValue) (below : List Operand) (given : TypeValue) 
   pub is : operands ≡ Word (pos number) ∷ below
   pub described : Describes memory.types number t
 
+-- what an instruction does that makes the type, or ends for want of storage
+abbrev pub Makes : Slots → Declarations → Image → Facts → ℕ → List Operand → List Operand → TypeValue → Injection → Memory → meaning.State → Type 0
+Makes untouched declared G Here place operands below t injection memory s =
+    Does declared G Here (at place operands memory s.trace) 0 (place + 1) (Inside untouched injection memory (TypeOnTop t below t)) (with_type t s)
+    ⊎ GivesUp G (at place operands memory s.trace) 0 1 (with_type t s)
+
+elaborated : {untouched : Slots} {Here : Facts} {declared : Declarations} {G : Image} {place : ℕ} {operands below : List Operand} {t : TypeValue}
+    → Lasts untouched Here → (injection : Injection) (memory : Memory) (s : meaning.State) → Here injection s memory
+    → Elaborates untouched declared G injection memory place below t (at place operands memory s.trace) s ⊎ GivesUp G (at place operands memory s.trace) 0 1 (with_type t s)
+    → Makes untouched declared G Here place operands below t injection memory s
+elaborated {below = below} {t = t} lasts injection memory s known (inl x) =
+    inl (record {
+      injection = injection;
+      memory = x.final;
+      operands = Word (pos x.number) ∷ below;
+      does = x.does;
+      matches = x.matches;
+      here = lasts.by injection injection s (with_type t s) memory x.final (record { grown = x.grown; routine = x.routine; calls = refl }) known;
+      post = record { grown = x.grown; routine = x.routine; operands_are = record { type_is = refl; number = x.number; is = refl; described = x.described } };
+    })
+elaborated lasts injection memory s known (inr x) = inr x
+
 -- `TOrd`, over its bounds
 pub ord_does : {untouched : Slots} {Here : Facts} (declared : Declarations) (G : Image) (place line : ℕ) (below : List Operand) (low high : ℤ)
     → IsTrue (int_le low high) → slice_get G.instructions place ≡ Some (instr op.T_ORD (pos 0) 0 line)
     → Lasts untouched Here → (injection : Injection) (memory : Memory) (s : meaning.State)
     → Matches declared G injection s memory → Here injection s memory
-    → Does declared G Here (at place (Word high ∷ Word low ∷ below) memory s.trace) 0 (place + 1) (Inside untouched injection memory (TypeOnTop (type.Ordinal low high) below (type.Ordinal low high))) (with_type (type.Ordinal low high) s) ⊎ GivesUp G (at place (Word high ∷ Word low ∷ below) memory s.trace) 0 1 (with_type (type.Ordinal low high) s)
-ord_does {untouched = untouched} {Here = Here} declared G place line below low high ordered has lasts injection memory s matches known = go (elaborates place line low high below s ordered has matches)
+    → Makes untouched declared G Here place (Word high ∷ Word low ∷ below) below (type.Ordinal low high) injection memory s
+ord_does declared G place line below low high ordered has lasts injection memory s matches known =
+    let i = instr op.T_ORD (pos 0) 0 line in
+    let k = at place (Word high ∷ Word low ∷ below) memory s.trace in
+    let e = ordinal_entry low high in
+    elaborated lasts injection memory s known
+    (elaborates place i (Word high ∷ Word low ∷ below) below (type.Ordinal low high) e s refl
+    (ap (λ x. outcome_of G x k) has ∙ ap (λ b. record { weight = 0; to = after G i k (mapped (with_typing k) (cond b (interned e below (typing k)) (Fails run_error.OUTSIDE_DOMAIN))) }) ordered) matches)
+
+-- the number of a type that is in the table
+numbered_there : (types : TypeTable) (n : ℕ) (e : TypeEntry) → slice_get types n ≡ Some e
+    → entry_of types (pos n) ≡ Some (record { number = n; entry = e })
+numbered_there types n e there =
+    ap (λ b. entry_in types (cond b (Some n) None)) (lt-ltb n (length types) (slice_get_within types n e there)) ∙ ap (numbered_entry n) there
+
+-- `TArr`, over the numbers of its index type and the type of its components
+pub arr_does : {untouched : Slots} {Here : Facts} (declared : Declarations) (G : Image) (place line : ℕ) (below : List Operand) (low high : ℤ) (of : TypeValue) (index component : ℕ)
+    → slice_get G.instructions place ≡ Some (instr op.T_ARR (pos 0) 0 line)
+    → Lasts untouched Here → (injection : Injection) (memory : Memory) (s : meaning.State)
+    → Describes memory.types index (type.Ordinal low high) → Describes memory.types component of
+    → Matches declared G injection s memory → Here injection s memory
+    → Makes untouched declared G Here place (Word (pos component) ∷ Word (pos index) ∷ below) below (type.Array low high of) injection memory s
+arr_does {untouched = untouched} {Here = Here} declared G place line below low high of index component has lasts injection memory s index_is component_is matches known =
+    go (leb (size_of (type.Array low high of)) size_limit) refl
   where
-    go : Elaborates untouched declared G injection memory place below (type.Ordinal low high) (at place (Word high ∷ Word low ∷ below) memory s.trace) s ⊎ GivesUp G (at place (Word high ∷ Word low ∷ below) memory s.trace) 0 1 (with_type (type.Ordinal low high) s)
-        → Does declared G Here (at place (Word high ∷ Word low ∷ below) memory s.trace) 0 (place + 1) (Inside untouched injection memory (TypeOnTop (type.Ordinal low high) below (type.Ordinal low high))) (with_type (type.Ordinal low high) s) ⊎ GivesUp G (at place (Word high ∷ Word low ∷ below) memory s.trace) 0 1 (with_type (type.Ordinal low high) s)
-    go (inl x) =
-        inl (record {
-          injection = injection;
-          memory = x.final;
-          operands = Word (pos x.number) ∷ below;
-          does = x.does;
-          matches = x.matches;
-          here = lasts.by injection injection s (with_type (type.Ordinal low high) s) memory x.final (record { grown = x.grown; routine = x.routine; calls = refl }) known;
-          post = record { grown = x.grown; routine = x.routine; operands_are = record { type_is = refl; number = x.number; is = refl; described = x.described } };
-        })
-    go (inr x) = inr x
+    i : Instr
+    i = instr op.T_ARR (pos 0) 0 line
+
+    operands : List Operand
+    operands = Word (pos component) ∷ Word (pos index) ∷ below
+
+    k : State
+    k = at place operands memory s.trace
+
+    e : TypeEntry
+    e = array_entry low high component (size_of (type.Array low high of))
+
+    -- what it leads to, by whether a variable may have so many words
+    leads : (b : Bool) → leb (size_of (type.Array low high of)) size_limit ≡ b
+        → outcome G k ≡ record { weight = 0; to = after G i k (mapped (with_typing k) (cond b (interned e below (typing k)) (Fails run_error.STORAGE_LIMIT))) }
+    leads b fits =
+        let c = described_entry memory.types component of component_is in
+        ap (λ x. outcome_of G x k) has
+        ∙ ap (λ o. row_to o (entry_of memory.types (pos component))) (numbered_there memory.types index (ordinal_entry low high) index_is)
+        ∙ ap (λ o. row_to (Some (record { number = index; entry = ordinal_entry low high })) o) (numbered_there memory.types component c.0 c.1)
+        ∙ ap (λ size. sized_to size) (entry_size memory.types of c.0 c.2)
+        ∙ ap (λ x. record { weight = 0; to = after G i k (mapped (with_typing k) (cond x (interned e below (typing k)) (Fails run_error.STORAGE_LIMIT))) }) fits
+      where
+        sized_to : ℕ → Outcome
+        sized_to size = record { weight = 0; to = after G i k (mapped (with_typing k) (array_of low high component size below (typing k))) }
+
+        row_to : Option Numbered → Option Numbered → Outcome
+        row_to x y = record { weight = 0; to = after G i k (mapped (with_typing k) (having x (λ n. having (bounds_of n.entry.kind) (λ b. having y (λ c. array_of b.0 b.1 c.number c.entry.size below (typing k)))))) }
+
+    go : (b : Bool) → leb (size_of (type.Array low high of)) size_limit ≡ b
+        → Makes untouched declared G Here place operands below (type.Array low high of) injection memory s
+    go true fits = elaborated lasts injection memory s known (elaborates place i operands below (type.Array low high of) e s (component, refl, component_is) (leads true fits) matches)
+    go false large = inr (gives_up (leads false large) (inl refl) (is_prefix s.trace) (met_large (type.Array low high of) s.resources (grind (arith, nat_tests))))

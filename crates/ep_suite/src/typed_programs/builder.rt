@@ -17,6 +17,18 @@ pub(crate) enum Step {
     Own(u32),
     /// The value of a variable of the routine so many levels up.
     Above(u32, u32),
+    /// The place of a variable of `main`.
+    Place(u32),
+    /// The place of a variable of the routine.
+    OwnPlace(u32),
+    /// The component of the last place that the last value is the index of.
+    Index,
+    /// The value at the last place.
+    Load,
+    /// An assignment of a value to the last place.
+    Store(Line),
+    /// The last place, which is given to a variable parameter of the next call.
+    PassedPlace,
     /// A value that is given to a value parameter of the next call.
     Given,
     /// A variable of `main` that is given to a variable parameter of the next call.
@@ -85,6 +97,7 @@ impl From<NameRefusal> for Unbuilt {
 pub(crate) struct Builder {
     alloc: Global,
     pub(crate) expressions: List<Boxed<TypedExpr>>,
+    places: List<TypedPlace>,
     items: List<WriteItem>,
     actuals: List<Actual>,
     pub(crate) statements: List<TypedStmt>,
@@ -96,6 +109,7 @@ impl Builder {
         let mut builder = Builder {
             alloc,
             expressions: List::new(alloc),
+            places: List::new(alloc),
             items: List::new(alloc),
             actuals: List::new(alloc),
             statements: List::new(alloc),
@@ -121,6 +135,12 @@ impl Builder {
             Step::Above(levels, number) => {
                 self.push(TypedExpr::Read(TypedPlace::Own(levels, number)))
             }
+            Step::Place(number) => self.variable_place(number),
+            Step::OwnPlace(number) => Ok(self.places.push(TypedPlace::Own(0, number))?),
+            Step::Index => self.index(),
+            Step::Load => self.load(),
+            Step::Store(line) => self.store(line),
+            Step::PassedPlace => self.pass_place(),
             Step::Given => self.given(),
             Step::Passed(number) => self.passed(number),
             Step::PassedOwn(number) => self.pass(Actual::Variable(TypedPlace::Own(0, number))),
@@ -217,6 +237,37 @@ impl Builder {
     fn place(&self, number: u32) -> Result<TypedPlace, Unbuilt> {
         let unit = Name::from_bytes(self.alloc, b"main")?;
         Ok(TypedPlace::Variable(unit, number))
+    }
+
+    fn variable_place(&mut self, number: u32) -> Result<(), Unbuilt> {
+        let place = self.place(number)?;
+        Ok(self.places.push(place)?)
+    }
+
+    /// The last place.
+    fn last_place(&mut self) -> Result<TypedPlace, Unbuilt> {
+        self.places.pop().ok_or(Unbuilt::Lacking)
+    }
+
+    fn index(&mut self) -> Result<(), Unbuilt> {
+        let index = self.expression()?;
+        let array = Boxed::new(self.alloc, self.last_place()?)?;
+        Ok(self.places.push(TypedPlace::Indexed(array, index))?)
+    }
+
+    fn load(&mut self) -> Result<(), Unbuilt> {
+        let place = self.last_place()?;
+        self.push(TypedExpr::Read(place))
+    }
+
+    fn store(&mut self, line: Line) -> Result<(), Unbuilt> {
+        let place = self.last_place()?;
+        self.assign_to(line, place)
+    }
+
+    fn pass_place(&mut self) -> Result<(), Unbuilt> {
+        let place = self.last_place()?;
+        self.pass(Actual::Variable(place))
     }
 
     fn variable(&mut self, number: u32) -> Result<(), Unbuilt> {

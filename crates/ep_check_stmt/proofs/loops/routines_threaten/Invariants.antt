@@ -1,10 +1,10 @@
 use Rattle.std.proofs.Common.{◌≡◌, drop, map}
 use Rattle.std.specs.List.{list_any}
-use Rattle.ep_typed.specs.Viewed.{place_of}
+use Rattle.ep_check_stmt.specs.Answers.{entire_of}
 use Rattle.ep_check_stmt.specs.RoutineForms.{routine_form}
 use Rattle.ep_check_stmt.specs.Statements.{stmt_threat}
 use Rattle.ep_check_stmt.proofs.loops.routines_threaten.Given as goal
 
 abbrev pub invariant-loop-routine : goal.invariant-loop-routine
 invariant-loop-routine l =
-    list_any (λ r. stmt_threat (map routine_form l.routines) (place_of l.place) r.block) (map routine_form (drop l.routine-index l.routines)) ≡ list_any (λ r. stmt_threat (map routine_form l.routines) (place_of l.place) r.block) (map routine_form l.routines)
+    list_any (λ r. stmt_threat (map routine_form l.routines) (entire_of l.variable) r.block) (map routine_form (drop l.routine-index l.routines)) ≡ list_any (λ r. stmt_threat (map routine_form l.routines) (entire_of l.variable) r.block) (map routine_form l.routines)

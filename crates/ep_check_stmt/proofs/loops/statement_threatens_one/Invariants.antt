@@ -1,10 +1,11 @@
 use Rattle.std.proofs.Common.{◌≡◌, drop, map}
 use Rattle.std.specs.List.{list_any}
-use Rattle.ep_typed.specs.Viewed.{place_of, stmt_of}
+use Rattle.ep_typed.specs.Viewed.{stmt_of}
+use Rattle.ep_check_stmt.specs.Answers.{entire_of}
 use Rattle.ep_check_stmt.specs.RoutineForms.{routine_form}
 use Rattle.ep_check_stmt.specs.Statements.{stmt_threat}
 use Rattle.ep_check_stmt.proofs.loops.statement_threatens_one.Given as goal
 
 abbrev pub invariant-loop-control : goal.invariant-loop-control
 invariant-loop-control l =
-    list_any (λ v. stmt_threat (map routine_form l.routines) v (stmt_of l.s)) (map place_of (drop l.control-index l.controls)) ≡ list_any (λ v. stmt_threat (map routine_form l.routines) v (stmt_of l.s)) (map place_of l.controls)
+    list_any (λ v. stmt_threat (map routine_form l.routines) v (stmt_of l.s)) (map entire_of (drop l.control-index l.controls)) ≡ list_any (λ v. stmt_threat (map routine_form l.routines) v (stmt_of l.s)) (map entire_of l.controls)

@@ -3,8 +3,18 @@ use Rattle.ep_typed.specs.Trees.{actuals}
 use Rattle.ep_typed.specs.Viewed.{actual_of}
 use Rattle.ep_typed.specs.declared.tree.Actual.{size-Actual}
 use Rattle.ep_typed.specs.declared.tree.TypedExpr.{size-TypedExpr}
+use Rattle.ep_typed.specs.declared.tree.TypedPlace.{size-TypedPlace}
 use Rattle.ep_gen_expr.specs.Growth.{AppendsActuals}
 use Rattle.ep_gen_expr.proofs.expressions.+expression.Given as goal
+
+abbrev pub decreases-place_code : goal.decreases-place_code
+decreases-place_code l = 4 * size-TypedPlace l.p.now
+
+abbrev pub decreases-index_code : goal.decreases-index_code
+decreases-index_code l = 4 * max (size-TypedPlace l.array.now) (size-TypedExpr l.index.now) + 1
+
+abbrev pub decreases-read_code : goal.decreases-read_code
+decreases-read_code l = 4 * size-TypedPlace l.place.now + 1
 
 abbrev pub decreases-expression_code : goal.decreases-expression_code
 decreases-expression_code l = 4 * size-TypedExpr l.e.now

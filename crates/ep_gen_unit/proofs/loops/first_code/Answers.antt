@@ -4,4 +4,4 @@ use Rattle.ep_gen_unit.proofs.ForForms.{appends_first}
 use Rattle.ep_gen_unit.proofs.loops.first_code.Goals as goal
 
 pub returns : goal.returns
-returns c = on_ok c.assign_read-2.result (appends_first c.args.code.now c.args.line (control_of c.args.control.now) c.in_ok-read_code.ensures c.in_ok-assign_read.ensures) c.assign_read-2.ensures
+returns c = on_ok c.assign_read-2.result (appends_first c.args.code.now c.args.line (control_of c.args.control.now) c.in_ok-entire_value_code.ensures c.in_ok-assign_read.ensures) c.assign_read-2.ensures

@@ -3,9 +3,9 @@ use Rattle.std.specs.Option.{option_map}
 use Rattle.ep_tree.specs.declared.statement.Statement.TheVariants as statement
 use Rattle.ep_tree.specs.declared.statement.Statement.TheViews.{the_lemmas}
 use Rattle.ep_built.specs.Built.{arm_unbuilt, first_in, statement_unbuilt}
-use Rattle.ep_typed.specs.Viewed.{arm_of, expr_of, other_of, place_of, stmt_of}
+use Rattle.ep_typed.specs.Viewed.{arm_of, expr_of, other_of, stmt_of}
 use Rattle.ep_check_expr.specs.Judgements.{Accepts}
-use Rattle.ep_check_stmt.specs.Answers.{AnswersRow, context_of, counted_of, head_of, labels_of, passed, selector_of}
+use Rattle.ep_check_stmt.specs.Answers.{AnswersRow, context_of, counted_of, entire_of, head_of, labels_of, passed, selector_of}
 use Rattle.ep_check_stmt.specs.Cases.{selector_judged}
 use Rattle.ep_check_stmt.specs.Statements.{arm_judged, arm_row, arms_in_order, at_item, control_judged, expr_item, other_judged, statement_judged}
 use Rattle.ep_check_stmt.proofs.CaseParts.{all_arms, arms_more, case_is, less_arms, more_arms, rest_judged, selector_falls}
@@ -24,18 +24,18 @@ statements-loop-s-preserved t c =
         built = rest;
         same =
             rw (w.waits-is, w.found-is, w.in_ok-push-in-Passes.ensures.ok, statements_more, w.into_inner.ensures)
-            (more_together (statement_judged (context_of c.args.self.now)) (λ s. s (map place_of c.args.controls.now)) c.args.all.now c.loop-s.s-index c.s-item.result c.loop-s-test.true c.s-item.is (map stmt_of c.loop-s.found) c.loop-s.waits (stmt_of w.in-Passes.form) (c.in_ok-form.ensures ∙ ap (passed stmt_of) w.in-Passes.is) c.loop-s.invariant.same);
+            (more_together (statement_judged (context_of c.args.self.now)) (λ s. s (map entire_of c.args.controls.now)) c.args.all.now c.loop-s.s-index c.s-item.result c.loop-s-test.true c.s-item.is (map stmt_of c.loop-s.found) c.loop-s.waits (stmt_of w.in-Passes.form) (c.in_ok-form.ensures ∙ ap (passed stmt_of) w.in-Passes.is) c.loop-s.invariant.same);
       }
       | statements-in-Waits w ↦ record {
         built = rest;
         same =
             rw (w.waits-is, w.found-is, w.or-waits.ensures)
-            (less_together (statement_judged (context_of c.args.self.now)) (λ s. s (map place_of c.args.controls.now)) c.args.all.now c.loop-s.s-index c.s-item.result c.loop-s-test.true c.s-item.is (map stmt_of c.loop-s.found) c.loop-s.waits w.in-Waits.line (c.in_ok-form.ensures ∙ ap (passed stmt_of) w.in-Waits.is) c.loop-s.invariant.same);
+            (less_together (statement_judged (context_of c.args.self.now)) (λ s. s (map entire_of c.args.controls.now)) c.args.all.now c.loop-s.s-index c.s-item.result c.loop-s-test.true c.s-item.is (map stmt_of c.loop-s.found) c.loop-s.waits w.in-Waits.line (c.in_ok-form.ensures ∙ ap (passed stmt_of) w.in-Waits.is) c.loop-s.invariant.same);
       }
     ]
 
 pub statements-returns-in-None : goal.statements-returns-in-None
-statements-returns-in-None t c = all_together (statement_judged (context_of c.args.self.now)) (λ s. s (map place_of c.args.controls.now)) c.args.all.now c.loop-s.s-index (map stmt_of c.loop-s.found) c.loop-s.waits c.loop-s-test.false c.in-None.is c.loop-s.invariant.same
+statements-returns-in-None t c = all_together (statement_judged (context_of c.args.self.now)) (λ s. s (map entire_of c.args.controls.now)) c.args.all.now c.loop-s.s-index (map stmt_of c.loop-s.found) c.loop-s.waits c.loop-s-test.false c.in-None.is c.loop-s.invariant.same
 
 pub statement-returns-in-Assignment : goal.statement-returns-in-Assignment
 statement-returns-in-Assignment t c =
@@ -86,19 +86,19 @@ arms-loop-a-preserved t c =
         built = rest;
         same =
             rw (w.waits-is, w.found-is, w.in_ok-push-in-Passes.ensures.ok, arms_more, w.into_inner.ensures)
-            (more_arms (arm_judged (context_of c.args.self.now)) (arm_row c.args.self.now.scopes.now c.args.line c.args.host (map place_of c.args.controls.now)) c.args.all.now c.loop-a.a-index c.a-item.result c.loop-a-test.true c.a-item.is (map arm_of c.loop-a.found) c.loop-a.waits (arm_of w.in-Passes.form) (c.in_ok-form.ensures ∙ ap (passed arm_of) w.in-Passes.is) c.loop-a.invariant.same);
+            (more_arms (arm_judged (context_of c.args.self.now)) (arm_row c.args.self.now.scopes.now c.args.line c.args.host (map entire_of c.args.controls.now)) c.args.all.now c.loop-a.a-index c.a-item.result c.loop-a-test.true c.a-item.is (map arm_of c.loop-a.found) c.loop-a.waits (arm_of w.in-Passes.form) (c.in_ok-form.ensures ∙ ap (passed arm_of) w.in-Passes.is) c.loop-a.invariant.same);
       }
       | arms-in-Waits w ↦ record {
         built = rest;
         same =
             rw (w.waits-is, w.found-is, w.or-waits.ensures)
-            (less_arms (arm_judged (context_of c.args.self.now)) (arm_row c.args.self.now.scopes.now c.args.line c.args.host (map place_of c.args.controls.now)) c.args.all.now c.loop-a.a-index c.a-item.result c.loop-a-test.true c.a-item.is (map arm_of c.loop-a.found) c.loop-a.waits w.in-Waits.line (c.in_ok-form.ensures ∙ ap (passed arm_of) w.in-Waits.is) c.loop-a.invariant.same);
+            (less_arms (arm_judged (context_of c.args.self.now)) (arm_row c.args.self.now.scopes.now c.args.line c.args.host (map entire_of c.args.controls.now)) c.args.all.now c.loop-a.a-index c.a-item.result c.loop-a-test.true c.a-item.is (map arm_of c.loop-a.found) c.loop-a.waits w.in-Waits.line (c.in_ok-form.ensures ∙ ap (passed arm_of) w.in-Waits.is) c.loop-a.invariant.same);
       }
     ]
 
 pub arms-returns-in-None : goal.arms-returns-in-None
 arms-returns-in-None t c =
-    all_arms (arm_judged (context_of c.args.self.now)) (arm_row c.args.self.now.scopes.now c.args.line c.args.host (map place_of c.args.controls.now)) c.args.all.now c.loop-a.a-index (map arm_of c.loop-a.found) c.loop-a.waits c.loop-a-test.false c.in-None.is c.loop-a.invariant.same
+    all_arms (arm_judged (context_of c.args.self.now)) (arm_row c.args.self.now.scopes.now c.args.line c.args.host (map entire_of c.args.controls.now)) c.args.all.now c.loop-a.a-index (map arm_of c.loop-a.found) c.loop-a.waits c.loop-a-test.false c.in-None.is c.loop-a.invariant.same
 
 pub statement-returns-in-Err : goal.statement-returns-in-Err
 statement-returns-in-Err t c =
@@ -109,14 +109,14 @@ pub statement-returns-after-other-2 : goal.statement-returns-after-other-2
 statement-returns-after-other-2 t c =
     let line = c.in-Case.line in
     let chosen : selector_judged c.args.self.now.scopes.now c.in-Case.e (map labels_of c.in-Case.arms) ≡ Accepts (selector_of c.in-Ok.selector) = rw (c.get-in-Case.ensures, c.items.ensures) at c.in-Ok.ensures in
-    let rest : AnswersRow other_of c.match-other-2.rest (other_judged (rest_judged (context_of c.args.self.now) (map place_of c.args.controls.now) c.in-Case.other)) =
+    let rest : AnswersRow other_of c.match-other-2.rest (other_judged (rest_judged (context_of c.args.self.now) (map entire_of c.args.controls.now) c.in-Case.other)) =
     elim c.match-other-2.branch [
       | statement-in-None-other w ↦ rw (w.rest-is, w.in-None-other.is) w.no_otherwise-rest.ensures
       | statement-in-Some-other w ↦ rw (w.rest-is, w.in-Some-other.is) (w.otherwise_form-rest.ensures _ (rw w.items-in-Some-other.ensures at w.statements.ensures))
     ] in
-    let form : AnswersRow expr_of c.item_at-in-Case.result (at_item line (expr_item (context_of c.args.self.now) (map place_of c.args.controls.now) (Accepts (option_map expr_of c.in-Ok.selector.form)))) =
+    let form : AnswersRow expr_of c.item_at-in-Case.result (at_item line (expr_item (context_of c.args.self.now) (map entire_of c.args.controls.now) (Accepts (option_map expr_of c.in-Ok.selector.form)))) =
     rw c.item_at-in-Case.ensures
     (item_answers expr_of line c.unless_value_threatens-form.result _
     (c.unless_value_threatens-form.ensures (Accepts (option_map expr_of c.in-Ok.selector.form)) (ap (λ f. Accepts (option_map expr_of f)) (sym c.into_form.ensures)))) in
     rw (c.in-Case.is, case_is, chosen)
-    (c.case_form.ensures _ (arms_in_order (map (arm_row c.args.self.now.scopes.now line c.in-Ok.selector.host (map place_of c.args.controls.now)) (map (arm_judged (context_of c.args.self.now)) c.in-Case.arms))) (other_judged (rest_judged (context_of c.args.self.now) (map place_of c.args.controls.now) c.in-Case.other)) form (rw c.items-in-Case.ensures at c.arms-inner.ensures) rest)
+    (c.case_form.ensures _ (arms_in_order (map (arm_row c.args.self.now.scopes.now line c.in-Ok.selector.host (map entire_of c.args.controls.now)) (map (arm_judged (context_of c.args.self.now)) c.in-Case.arms))) (other_judged (rest_judged (context_of c.args.self.now) (map entire_of c.args.controls.now) c.in-Case.other)) form (rw c.items-in-Case.ensures at c.arms-inner.ensures) rest)

@@ -2,7 +2,7 @@ use Rattle.std.proofs.Common.{w64}
 use Rattle.std.proofs.lemmas.Int.{to_z-of_z}
 use Rattle.ep_gen_expr.proofs.Forms.{on_ok}
 use Rattle.ep_gen_unit.proofs.ProgramForms.{grows_ordinal}
-use Rattle.ep_gen_unit.proofs.program.push_ordinal.Goals as goal
+use Rattle.ep_gen_unit.proofs.types.push_ordinal.Goals as goal
 
 pub returns : goal.returns
 returns c =

@@ -1,0 +1,101 @@
+-- The type values of valid places.
+use Rattle.std.proofs.Common.{◌≡◌, Some, List, subst}
+use Rattle.std.specs.Bool.{⊤}
+use Rattle.ep_gen_expr.specs.Following.{HasPlaceType, IsValidPlace}
+use Rattle.ep_object.specs.Scene.{HaveValidTypes, HaveValidOwnTypes}
+use Rattle.ep_typed.proofs.Denoters.{types_are_instances, instances_are_one}
+use Rattle.ep_typed.proofs.Typed.{HasParts, typed_instance, typed_of_host, typed_parts}
+use Rattle.ep_typed.specs.Denoters.{ArrayParts, array_of, host_of, type_of}
+use Rattle.ep_typed.specs.Hosts.{Host}
+use Rattle.ep_typed.specs.Trees.{Denoter, Place, Variable, Own, Standard, Indexed, Expr}
+use Rattle.ep_typed.specs.TypeValues.{TypeValue}
+use Rattle.ep_typed.specs.Valid.{Declarations, Ordinal, IsTyped, IsTypeOf, IsExpr, IsPlace, IsPlaceWhere, IsVariableOf}
+use Rattle.ep_typed.specs.Viewed.{denoter_of}
+use Rattle.ep_typed.specs.declared.unit.UnitType.{UnitType}
+
+-- the denoter is that of an array, of whose components this holds and of whose index type the index is
+abbrev pub IsArrayWhere : Declarations → (List UnitType → Denoter → Type 0) → Expr → List UnitType → Denoter → Type 0
+IsArrayWhere declared Holds x types d =
+    (a : ArrayParts) × (array_of types d ≡ Some a) × Holds types a.component × ((h : Host) × (host_of types a.index ≡ Some h) × IsExpr declared (Ordinal h) x)
+
+-- what holds of the denoter of a place may be less
+place_less : (declared : Declarations) (Holds Less : List UnitType → Denoter → Type 0) → ((types : List UnitType) (d : Denoter) → Holds types d → Less types d) → (q : Place) → IsPlaceWhere declared Holds q → IsPlaceWhere declared Less q
+place_less declared Holds Less less (Variable unit k) (v, is_declared, holds) = (v, is_declared, less (declared.types unit) (denoter_of v.denoter) holds)
+place_less declared Holds Less less (Own up k) (v, is_declared, holds) = (v, is_declared, less declared.routine_types (denoter_of v.denoter) holds)
+place_less declared Holds Less less (Standard file) is = absurd is
+place_less declared Holds Less less (Indexed q x) is =
+    place_less declared (IsArrayWhere declared Holds x) (IsArrayWhere declared Less x) (λ types d holds. (holds.0, holds.1, less types (holds.0).component holds.2, holds.3)) q is
+
+-- a place of whose denoter something holds is valid
+pub valid_place : (declared : Declarations) (Holds : List UnitType → Denoter → Type 0) (q : Place) → IsPlaceWhere declared Holds q → IsValidPlace declared q
+valid_place declared Holds q is = place_less declared Holds (λ types d. ⊤) (λ types d holds. tt) q is
+
+-- the type value of a place, and the denoter that has it, of which this holds
+pub record IsTypedPlace (declared : Declarations) (Holds : List UnitType → Denoter → Type 0) (q : Place) : Type 0 where
+  pub valid : IsValidPlace declared q
+  pub type_value : TypeValue
+  pub has_type : HasPlaceType declared q type_value
+  pub types : List UnitType
+  pub denoter : Denoter
+  pub holds : Holds types denoter
+  pub typed : IsTyped types denoter type_value
+
+-- the type value of a place, which is of the host
+pub record IsOrdinalPlace (declared : Declarations) (q : Place) (h : Host) : Type 0 where
+  pub valid : IsValidPlace declared q
+  pub type_value : TypeValue
+  pub has_type : HasPlaceType declared q type_value
+  pub of_host : IsTypeOf h type_value
+
+module _ (declared : Declarations) (types_valid : HaveValidTypes declared) (own_valid : HaveValidOwnTypes declared) where
+  -- a valid place has a type value
+  pub typed_place : (Holds : List UnitType → Denoter → Type 0) (q : Place) → IsPlaceWhere declared Holds q → IsTypedPlace declared Holds q
+  typed_place Holds (Variable unit k) (v, is_declared, holds) =
+      let valid = types_valid unit k v is_declared in
+      record {
+        valid = (v, is_declared, tt);
+        type_value = valid.type_value;
+        has_type = (v, is_declared, typed_instance (declared.types unit) (denoter_of v.denoter) valid.type_value valid.typed);
+        types = declared.types unit;
+        denoter = denoter_of v.denoter;
+        holds = holds;
+        typed = valid.typed;
+      }
+  typed_place Holds (Own up k) (v, is_declared, holds) =
+      let valid = own_valid up k v is_declared in
+      record {
+        valid = (v, is_declared, tt);
+        type_value = valid.type_value;
+        has_type = (v, is_declared, typed_instance declared.routine_types (denoter_of v.denoter) valid.type_value valid.typed);
+        types = declared.routine_types;
+        denoter = denoter_of v.denoter;
+        holds = holds;
+        typed = valid.typed;
+      }
+  typed_place Holds (Standard file) is = absurd is
+  typed_place Holds (Indexed q x) is =
+      let v = typed_place (IsArrayWhere declared Holds x) q is in
+      let holds : IsArrayWhere declared Holds x v.types v.denoter = v.holds in
+      let parts : HasParts v.types holds.0 v.type_value = typed_parts v.types v.denoter v.type_value holds.0 v.typed holds.1 in
+      record {
+        valid = valid_place declared Holds (Indexed q x) is;
+        type_value = parts.of;
+        has_type = (parts.low, parts.high, subst (λ t. HasPlaceType declared q t) parts.is v.has_type);
+        types = v.types;
+        denoter = (holds.0).component;
+        holds = holds.2;
+        typed = parts.component;
+      }
+
+  -- a place of a host has a type value of the host
+  pub ordinal_place : (h : Host) (q : Place) → IsPlace declared h q → IsOrdinalPlace declared q h
+  ordinal_place h q is =
+      let v = typed_place (λ types d. host_of types d ≡ Some h) q is in
+      record { valid = v.valid; type_value = v.type_value; has_type = v.has_type; of_host = typed_of_host v.types v.denoter v.type_value h v.typed v.holds }
+
+  -- a variable of a type value has that
+  pub variable_type : (t : TypeValue) (q : Place) → IsVariableOf declared t q → HasPlaceType declared q t
+  variable_type t q is =
+      let v = typed_place (λ types d. type_of types d ≡ Some t) q is in
+      let same : v.type_value ≡ t = instances_are_one v.types v.denoter v.type_value t (typed_instance v.types v.denoter v.type_value v.typed) (types_are_instances v.types v.denoter t v.holds) in
+      subst (λ u. HasPlaceType declared q u) same v.has_type

@@ -1,0 +1,51 @@
+-- The code of a type, from that of its parts.
+use Rattle.std.proofs.Common.{◌≡◌, ℕ, zero, suc, ◌-◌, ◌<◌, ◌≤◌, true, false, ltb, List, [], ◌∷◌, ◌++◌, length, map, Some, None, slice_get, get_or, refl, sym, subst, arith, rules}
+use Rattle.std.specs.Bool.{◌==◌}
+use Rattle.std.proofs.lemmas.List.{nil_from_length}
+use Rattle.std.proofs.lemmas.Option.{slice_get_past, slice_get_read}
+use Rattle.ep_gen_expr.specs.ExprCode.{bare}
+use Rattle.ep_gen_expr.specs.Growth.{Grows}
+use Rattle.ep_gen_expr.specs.declared.code.Code.{Code}
+use Rattle.ep_gen_expr.proofs.Forms.{grows_at, grows_none}
+use Rattle.ep_gen_unit.specs.TypeCode.{code_within, found_code}
+use Rattle.ep_typed.specs.Trees as tree
+use Rattle.ep_typed.specs.Viewed.{bound_of, denoter_of}
+use Rattle.ep_typed.specs.declared.denoter.Bound.{Bound}
+use Rattle.ep_typed.specs.declared.unit.UnitType.{UnitType}
+use Rattle.ep_object.specs.declared.op.TheConstants as op
+
+-- a test of `get` that was passed, and one that was not
+pub found : {X : Type 0} (xs : List X) (i : ℕ) (x : X) → true ≡ ltb i (length xs) → x ≡ get_or xs i x → slice_get xs i ≡ Some x
+found xs i x less is =
+    let within : i < length xs = search rules in slice_get_read xs (length xs) i x refl within is
+
+missing : {X : Type 0} (xs : List X) (i : ℕ) → false ≡ ltb i (length xs) → slice_get xs i ≡ None
+missing xs i past =
+    let behind : length xs ≤ i = search rules in slice_get_past xs i behind
+
+-- a list of which a test says that it is empty
+empty : {X : Type 0} (xs : List X) → true ≡ (length xs == 0) → xs ≡ []
+empty xs is =
+    let none : length xs ≡ 0 = search rules in nil_from_length xs none
+
+module _ (types : List UnitType) (a : Code) where
+  -- no definition has the name
+  pub no_definition : (left k : ℕ) (tuple : List Bound) → true ≡ (length tuple == 0) → false ≡ ltb k (length types) → Grows a a (code_within types a.line (suc left) (tree.Named k (map bound_of tuple)))
+  no_definition left k tuple none past =
+      subst (λ bs. Grows a a (code_within types a.line (suc left) (tree.Named k (map bound_of bs)))) (sym (empty tuple none))
+      (subst (λ o. Grows a a (found_code (code_within types a.line left) o)) (sym (missing types k past)) (grows_none a))
+
+  -- the definition behind the name
+  pub by_definition : {b : Code} (left k : ℕ) (tuple : List Bound) (t : UnitType) → 1 ≤ left → true ≡ (length tuple == 0) → slice_get types k ≡ Some t → Grows a b (code_within types a.line (suc (left - 1)) (denoter_of t.entry.denoter)) → Grows a b (code_within types a.line (suc left) (tree.Named k (map bound_of tuple)))
+  by_definition zero k tuple t le none is grows = absurd (omega (arith, le))
+  by_definition {b = b} (suc left) k tuple t le none is grows =
+      subst (λ bs. Grows a b (code_within types a.line (suc (suc left)) (tree.Named k (map bound_of bs)))) (sym (empty tuple none))
+      (subst (λ o. Grows a b (found_code (code_within types a.line (suc left)) o)) (sym is) (subst (λ n. Grows a b (code_within types a.line (suc n) (denoter_of t.entry.denoter))) one_less grows))
+    where
+      one_less : suc left - 1 ≡ left
+      one_less = omega arith
+
+  -- the parts of an array, and then the array
+  pub by_parts : {b c d : Code} (left : ℕ) (index component : tree.Denoter) → Grows a b (code_within types a.line (suc left) index) → Grows b c (code_within types b.line (suc left) component) → Grows c d (bare c.line op.T_ARR ∷ []) → Grows a d (code_within types a.line (suc left) (tree.Array index component))
+  by_parts left index component p q r =
+      grows_at (λ line. code_within types line (suc left) component ++ bare line op.T_ARR ∷ []) p (grows_at (λ line. bare line op.T_ARR ∷ []) q r)

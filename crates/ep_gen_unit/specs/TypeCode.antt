@@ -1,0 +1,42 @@
+-- The code that elaborates types, which leaves the type's number. It has the order of the elaboration: the parts of an array
+-- in the order of the text, and then the array.
+use Rattle.std.specs.Prelude.{ℕ, ℤ, zero, suc, List, [], ◌∷◌, ◌++◌, length, slice_get, Option, Some, None}
+use Rattle.ep_gen_expr.specs.ExprCode.{bare, push}
+use Rattle.ep_object.specs.declared.code.Instr.{Instr}
+use Rattle.ep_typed.specs.Denoters.{definition_of, enumeration_type, required_type, subrange_type}
+use Rattle.ep_typed.specs.Trees.{Denoter, Required, Named, Subrange, Enumeration, Array}
+use Rattle.ep_typed.specs.TypeValues as type
+use Rattle.ep_typed.specs.TypeValues.{TypeValue}
+use Rattle.ep_typed.specs.declared.unit.UnitType.{UnitType}
+use Rattle.ep_object.specs.declared.op.TheConstants as op
+
+-- the bounds of an ordinal type, and the type
+abbrev pub ordinal_code : ℕ → ℤ → ℤ → List Instr
+ordinal_code line low high = push line low ∷ push line high ∷ bare line op.T_ORD ∷ []
+
+-- the code of a type that is made of no others; what has no type value has no meaning and no code
+abbrev pub simple_code : ℕ → Option TypeValue → List Instr
+simple_code line (Some (type.Ordinal low high)) = ordinal_code line low high
+simple_code line _ = []
+
+abbrev pub found_code : (Denoter → List Instr) → Option UnitType → List Instr
+found_code find None = []
+found_code find (Some t) = find (definition_of t)
+
+module _ (types : List UnitType) (line : ℕ) where
+  -- the code of a denoter, by that of the definition where it is a name
+  abbrev pub step_code : (Denoter → List Instr) → Denoter → List Instr
+  step_code find (Required r) = simple_code line (Some (required_type r))
+  step_code find (Named index []) = found_code find (slice_get types index)
+  step_code find (Named index (b ∷ bs)) = []
+  step_code find (Subrange host low high) = simple_code line (subrange_type low high)
+  step_code find (Enumeration names) = simple_code line (enumeration_type names)
+  step_code find (Array index component) = step_code find index ++ (step_code find component ++ bare line op.T_ARR ∷ [])
+
+  -- at most so many names are followed
+  abbrev pub code_within : ℕ → Denoter → List Instr
+  code_within zero d = []
+  code_within (suc n) d = step_code (code_within n) d
+
+  abbrev pub type_code : Denoter → List Instr
+  type_code = code_within (suc (length types))

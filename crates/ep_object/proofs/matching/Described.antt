@@ -1,0 +1,137 @@
+-- Which entry of a table of types describes a type value.
+use Rattle.std.proofs.Common.{◌≡◌, ℕ, ℤ, ◌*◌, List, Some, slice_get, refl, sym, ap, ◌∙◌, subst}
+use Rattle.std.proofs.lemmas.Option.{same_Some}
+use Rattle.ep_object.specs.Matching.{Describes, HasSize, MatchesTypes}
+use Rattle.ep_object.specs.State.{TypeTable, text_entry}
+use Rattle.ep_object.specs.Types.{ordinal_entry, array_entry}
+use Rattle.ep_object.specs.declared.state.Kind.{Kind}
+use Rattle.ep_object.specs.declared.state.Kind.TheVariants as kind
+use Rattle.ep_object.specs.declared.state.TypeEntry.{TypeEntry}
+use Rattle.ep_object.proofs.matching.Growing.{described-longer}
+use Rattle.ep_outside.specs.Known.{IsPrefix}
+use Rattle.ep_typed.specs.Bounds.{count_of}
+use Rattle.ep_typed.specs.TypeValues as type
+use Rattle.ep_typed.specs.TypeValues.{TypeValue, size_of}
+
+-- the entry is that of the type value, in a table that has the types of its components
+abbrev pub IsEntryOf : TypeTable → TypeValue → TypeEntry → Type 0
+IsEntryOf types (type.Ordinal low high) e = e ≡ ordinal_entry low high
+IsEntryOf types type.Text e = e ≡ text_entry
+IsEntryOf types (type.Array low high of) e =
+    (c : ℕ) × (e ≡ array_entry low high c (size_of (type.Array low high of))) × Describes types c of
+
+-- what describes a type value is its entry
+pub described_entry : (types : TypeTable) (n : ℕ) (t : TypeValue) → Describes types n t
+    → (e : TypeEntry) × (slice_get types n ≡ Some e) × IsEntryOf types t e
+described_entry types n (type.Ordinal low high) h = (ordinal_entry low high, h, refl)
+described_entry types n type.Text h = (text_entry, h, refl)
+described_entry types n (type.Array low high of) h =
+    (array_entry low high h.0 (size_of (type.Array low high of)), h.1, (h.0, refl, h.2))
+
+-- and the other way
+pub entry_describes : (types : TypeTable) (n : ℕ) (t : TypeValue) (e : TypeEntry) → slice_get types n ≡ Some e
+    → IsEntryOf types t e → Describes types n t
+entry_describes types n (type.Ordinal low high) e there h = there ∙ ap Some h
+entry_describes types n type.Text e there h = there ∙ ap Some h
+entry_describes types n (type.Array low high of) e there h = (h.0, there ∙ ap Some h.1, h.2)
+
+-- it has the size of the type value
+pub entry_size : (types : TypeTable) (t : TypeValue) (e : TypeEntry) → IsEntryOf types t e → e.size ≡ size_of t
+entry_size types (type.Ordinal low high) e h = ap (λ (x : TypeEntry). x.size) h
+entry_size types type.Text e h = ap (λ (x : TypeEntry). x.size) h
+entry_size types (type.Array low high of) e h = ap (λ (x : TypeEntry). x.size) h.1
+
+-- in a longer table too
+pub entry-longer : (types longer : TypeTable) (t : TypeValue) (e : TypeEntry) → IsPrefix types longer
+    → IsEntryOf types t e → IsEntryOf longer t e
+entry-longer types longer (type.Ordinal low high) e p h = h
+entry-longer types longer type.Text e p h = h
+entry-longer types longer (type.Array low high of) e p h = (h.0, h.1, described-longer types longer h.0 of p h.2)
+
+-- its size is the one that its kind has
+pub entry_sized : (types : TypeTable) (t : TypeValue) (e : TypeEntry) → IsEntryOf types t e → HasSize types e.kind e.size
+entry_sized types (type.Ordinal low high) e h = subst (λ (x : TypeEntry). HasSize types x.kind x.size) (sym h) refl
+entry_sized types type.Text e h = subst (λ (x : TypeEntry). HasSize types x.kind x.size) (sym h) refl
+entry_sized types (type.Array low high of) e h =
+    let c = described_entry types h.0 of h.2 in
+    subst (λ (x : TypeEntry). HasSize types x.kind x.size) (sym h.1) (c.0, c.1, ap (λ n. count_of low high * n) (sym (entry_size types of c.0 c.2)))
+
+-- a kind has one size
+pub one_size : (types : TypeTable) (k : Kind) (size other : ℕ) → HasSize types k size → HasSize types k other → size ≡ other
+one_size types (kind.Ord low high) size other a b = a ∙ sym b
+one_size types kind.Pointer size other a b = a ∙ sym b
+one_size types kind.Text size other a b = a ∙ sym b
+one_size types (kind.Array low high c) size other a b =
+    let same : a.0 ≡ b.0 = same_Some a.0 b.0 (sym a.1 ∙ b.1) in
+    a.2 ∙ (ap (λ (e : TypeEntry). count_of low high * e.size) same ∙ sym b.2)
+
+-- in a longer table too
+pub has_size-longer : (types longer : TypeTable) (k : Kind) (size : ℕ)
+    → ((n : ℕ) (e : TypeEntry) → slice_get types n ≡ Some e → slice_get longer n ≡ Some e)
+    → HasSize types k size → HasSize longer k size
+has_size-longer types longer (kind.Ord low high) size keeps h = h
+has_size-longer types longer kind.Pointer size keeps h = h
+has_size-longer types longer kind.Text size keeps h = h
+has_size-longer types longer (kind.Array low high c) size keeps h = (h.0, keeps c h.0 h.1, h.2)
+
+-- ---- a number is that of one type value, and a type value has one number
+
+same_bounds_of : {a b c d : ℤ} → kind.Ord a b ≡ kind.Ord c d → (a ≡ c) × (b ≡ d)
+same_bounds_of e = (cc, cc)
+
+same_array : {a b c d : ℤ} {m n : ℕ} → kind.Array a b m ≡ kind.Array c d n → (a ≡ c) × (b ≡ d) × (m ≡ n)
+same_array e = (cc, cc, cc)
+
+-- an entry is that of one type value
+pub entry_of_one : (types : TypeTable) (t u : TypeValue) (e : TypeEntry) → IsEntryOf types t e → IsEntryOf types u e → t ≡ u
+entry_of_one types (type.Ordinal l h) (type.Ordinal m k) e a b =
+    let s = same_bounds_of (sym (ap (λ (x : TypeEntry). x.kind) a) ∙ ap (λ (x : TypeEntry). x.kind) b) in
+    λ i. type.Ordinal (s.0 i) (s.1 i)
+entry_of_one types (type.Ordinal l h) type.Text e a b =
+    let s : kind.Ord l h ≡ kind.Text = sym (ap (λ (x : TypeEntry). x.kind) a) ∙ ap (λ (x : TypeEntry). x.kind) b in cc
+entry_of_one types (type.Ordinal l h) (type.Array m k of) e a b =
+    let s : kind.Ord l h ≡ kind.Array m k b.0 = sym (ap (λ (x : TypeEntry). x.kind) a) ∙ ap (λ (x : TypeEntry). x.kind) b.1 in cc
+entry_of_one types type.Text (type.Ordinal m k) e a b =
+    let s : kind.Text ≡ kind.Ord m k = sym (ap (λ (x : TypeEntry). x.kind) a) ∙ ap (λ (x : TypeEntry). x.kind) b in cc
+entry_of_one types type.Text type.Text e a b = refl
+entry_of_one types type.Text (type.Array m k of) e a b =
+    let s : kind.Text ≡ kind.Array m k b.0 = sym (ap (λ (x : TypeEntry). x.kind) a) ∙ ap (λ (x : TypeEntry). x.kind) b.1 in cc
+entry_of_one types (type.Array l h of) (type.Ordinal m k) e a b =
+    let s : kind.Array l h a.0 ≡ kind.Ord m k = sym (ap (λ (x : TypeEntry). x.kind) a.1) ∙ ap (λ (x : TypeEntry). x.kind) b in cc
+entry_of_one types (type.Array l h of) type.Text e a b =
+    let s : kind.Array l h a.0 ≡ kind.Text = sym (ap (λ (x : TypeEntry). x.kind) a.1) ∙ ap (λ (x : TypeEntry). x.kind) b in cc
+entry_of_one types (type.Array l h of) (type.Array m k other) e a b =
+    let s = same_array (sym (ap (λ (x : TypeEntry). x.kind) a.1) ∙ ap (λ (x : TypeEntry). x.kind) b.1) in
+    let p = described_entry types b.0 of (subst (λ n. Describes types n of) s.2 a.2) in
+    let q = described_entry types b.0 other b.2 in
+    let same : q.0 ≡ p.0 = same_Some q.0 p.0 (sym q.1 ∙ p.1) in
+    let c : of ≡ other = entry_of_one types of other p.0 p.2 (subst (λ x. IsEntryOf types other x) same q.2) in
+    λ i. type.Array (s.0 i) (s.1 i) (c i)
+
+-- and a number too
+pub describes_one : (types : TypeTable) (n : ℕ) (t u : TypeValue) → Describes types n t → Describes types n u → t ≡ u
+describes_one types n t u p q =
+    let a = described_entry types n t p in
+    let b = described_entry types n u q in
+    let same : b.0 ≡ a.0 = same_Some b.0 a.0 (sym b.1 ∙ a.1) in
+    entry_of_one types t u a.0 a.2 (subst (λ e. IsEntryOf types u e) same b.2)
+
+-- a type value has one entry, and one number
+pub one_entry : {elaborated : List TypeValue} (types : TypeTable) (t : TypeValue) (e f : TypeEntry)
+    → MatchesTypes elaborated types → IsEntryOf types t e → IsEntryOf types t f → e ≡ f
+one_entry types (type.Ordinal low high) e f m a b = a ∙ sym b
+one_entry types type.Text e f m a b = a ∙ sym b
+one_entry types (type.Array low high of) e f m a b =
+    let p = described_entry types a.0 of a.2 in
+    let q = described_entry types b.0 of b.2 in
+    let same : q.0 ≡ p.0 = one_entry types of q.0 p.0 m q.2 p.2 in
+    let c : a.0 ≡ b.0 = m.shared a.0 b.0 p.0 p.1 (q.1 ∙ ap Some same) in
+    a.1 ∙ (ap (λ n. array_entry low high n (size_of (type.Array low high of))) c ∙ sym b.1)
+
+pub one_number : {elaborated : List TypeValue} (types : TypeTable) (t : TypeValue) (m n : ℕ)
+    → MatchesTypes elaborated types → Describes types m t → Describes types n t → m ≡ n
+one_number types t m n matches p q =
+    let a = described_entry types m t p in
+    let b = described_entry types n t q in
+    let same : b.0 ≡ a.0 = one_entry types t b.0 a.0 matches b.2 a.2 in
+    matches.shared m n a.0 a.1 (b.1 ∙ ap Some same)

@@ -1,0 +1,113 @@
+-- What holds of the type values of valid denoters.
+use Rattle.std.proofs.Common.{◌≡◌, ℕ, ℤ, pos, zero, suc, ◌+◌, IsTrue, List, [], ◌∷◌, length, Option, Some, None, slice_get, refl, sym, ap, ◌∙◌, subst, arith}
+use Rattle.std.specs.Prelude.{int_le}
+use Rattle.std.proofs.lemmas.Bool.Decides.{nat_tests}
+use Rattle.std.proofs.lemmas.Option.{same_Some}
+use Rattle.ep_typed.specs.Denoters.{ArrayParts, IsInstance, array_step, array_of, array_within, definition_of, found_of, host_of, host_step, host_within, enumeration_host, required_type}
+use Rattle.ep_typed.specs.Denoters as instance
+use Rattle.ep_typed.specs.Hosts.{Host, is_of_host}
+use Rattle.ep_typed.specs.Hosts as host
+use Rattle.ep_typed.specs.Trees.{Denoter, Required, Named, Subrange, Enumeration, Array}
+use Rattle.ep_typed.specs.TypeValues as type
+use Rattle.ep_typed.specs.TypeValues.{TypeValue}
+use Rattle.ep_typed.specs.Valid.{IsTyped, required, named, subrange, enumeration, array, IsTypeOf, IsTypeValue}
+use Rattle.ep_typed.specs.declared.denoter.RequiredType.TheVariants as simple
+use Rattle.ep_typed.specs.declared.unit.UnitType.{UnitType}
+
+from_zero : (n : ℕ) → IsTrue (int_le (pos 0) (pos n))
+from_zero n = grind (arith, nat_tests)
+
+-- the first and the last constant of an enumeration are of its host
+first_of : (n : ℕ) → IsTrue (is_of_host (host.Enumeration n) (pos 0))
+first_of n = grind (arith, nat_tests)
+
+last_of : (n : ℕ) → IsTrue (is_of_host (host.Enumeration n) (pos n))
+last_of n = grind (arith, nat_tests)
+
+module _ (types : List UnitType) where
+  -- a valid denoter has its type value
+  pub typed_instance : (d : Denoter) (v : TypeValue) → IsTyped types d v → IsInstance types d v
+  typed_instance d v (required r) = instance.required r
+  typed_instance d v (named index t at h) = instance.named index t at (typed_instance (definition_of t) v h)
+  typed_instance d v (subrange of low high h has within) = instance.subrange of low high
+  typed_instance d v (enumeration first others fits) = instance.enumeration first others
+  typed_instance d v (array index component low high of i c) =
+      instance.array index component low high of (typed_instance index (type.Ordinal low high) i) (typed_instance component of c)
+
+  -- and that is not empty, and has bounds that are integers
+  pub typed_value : (d : Denoter) (v : TypeValue) → IsTyped types d v → IsTypeValue v
+  typed_value d v (required simple.Integer) = (refl, refl, refl)
+  typed_value d v (required simple.Char) = (refl, refl, refl)
+  typed_value d v (required simple.Boolean) = (refl, refl, refl)
+  typed_value d v (named index t at h) = typed_value (definition_of t) v h
+  typed_value d v (subrange of low high h has within) = (within.0, within.3, within.4)
+  typed_value d v (enumeration first others fits) = (from_zero (length others), refl, fits)
+  typed_value d v (array index component low high of i c) = (typed_value index (type.Ordinal low high) i, typed_value component of c)
+
+  -- the host that is found where so many names are followed is found where more are
+  host_found-more : (find more : Denoter → Option Host) → ((d : Denoter) (h : Host) → find d ≡ Some h → more d ≡ Some h)
+      → (o : Option UnitType) (h : Host) → found_of find o ≡ Some h → found_of more o ≡ Some h
+  host_found-more find more keeps None h e = e
+  host_found-more find more keeps (Some t) h e = keeps (definition_of t) h e
+
+  host_step-more : (find more : Denoter → Option Host) → ((d : Denoter) (h : Host) → find d ≡ Some h → more d ≡ Some h)
+      → (d : Denoter) (h : Host) → host_step types find d ≡ Some h → host_step types more d ≡ Some h
+  host_step-more find more keeps (Required simple.Integer) h e = e
+  host_step-more find more keeps (Required simple.Char) h e = e
+  host_step-more find more keeps (Required simple.Boolean) h e = e
+  host_step-more find more keeps (Named index []) h e = host_found-more find more keeps (slice_get types index) h e
+  host_step-more find more keeps (Named index (b ∷ bs)) h e = e
+  host_step-more find more keeps (Subrange of low high) h e = host_step-more find more keeps of h e
+  host_step-more find more keeps (Enumeration names) h e = e
+  host_step-more find more keeps (Array index component) h e = e
+
+  host_within-more : (n : ℕ) (d : Denoter) (h : Host) → host_within types n d ≡ Some h → host_within types (suc n) d ≡ Some h
+  host_within-more zero d h e = cc
+  host_within-more (suc n) d h e = host_step-more (host_within types n) (host_within types (suc n)) (host_within-more n) d h e
+
+  host_within-so_many : (k m n : ℕ) (d : Denoter) (h : Host) → m ≡ k + n → host_within types n d ≡ Some h → host_within types m d ≡ Some h
+  host_within-so_many zero m n d h is e = ap (λ i. host_within types i d) (omega (arith, is)) ∙ e
+  host_within-so_many (suc k) zero n d h is e = absurd (omega (arith, is))
+  host_within-so_many (suc k) (suc m) n d h is e = host_within-more m d h (host_within-so_many k m n d h (omega (arith, is)) e)
+
+  -- however many names are followed, at most one host is found
+  one_host : (m n : ℕ) (d : Denoter) (g h : Host) → host_within types m d ≡ Some g → host_within types n d ≡ Some h → g ≡ h
+  one_host m n d g h a b =
+      same_Some g h (sym (host_within-so_many n (m + n) m d g (omega arith) a) ∙ host_within-so_many m (m + n) n d h refl b)
+
+  -- the type value of a valid denoter is a type of its host, where it has one
+  typed_of_within : (n : ℕ) (d : Denoter) (v : TypeValue) (h : Host) → IsTyped types d v → host_within types n d ≡ Some h → IsTypeOf h v
+  typed_of_within zero d v h x e = cc
+  typed_of_within (suc n) d v h (required simple.Integer) e = subst (λ k. IsTypeOf k (required_type simple.Integer)) (same_Some host.Integer h e) (refl, refl, refl, refl, refl)
+  typed_of_within (suc n) d v h (required simple.Char) e = subst (λ k. IsTypeOf k (required_type simple.Char)) (same_Some host.Char h e) (refl, refl, refl, refl, refl)
+  typed_of_within (suc n) d v h (required simple.Boolean) e = subst (λ k. IsTypeOf k (required_type simple.Boolean)) (same_Some host.Boolean h e) (refl, refl, refl, refl, refl)
+  typed_of_within (suc n) d v h (named index t at x) e = typed_of_within n (definition_of t) v h x (sym (ap (found_of (host_within types n)) at) ∙ e)
+  typed_of_within (suc n) d v h (subrange of low high g has within) e =
+      subst (λ k. IsTypeOf k (type.Ordinal low high)) (one_host (suc (length types)) (suc n) of g h has e) within
+  typed_of_within (suc n) d v h (enumeration first others fits) e =
+      subst (λ k. IsTypeOf k (type.Ordinal (pos 0) (pos (length others)))) (same_Some (host.Enumeration (length others)) h e) (from_zero (length others), first_of (length others), last_of (length others), refl, fits)
+  typed_of_within (suc n) d v h (array index component low high of i c) e = cc
+
+  pub typed_of_host : (d : Denoter) (v : TypeValue) (h : Host) → IsTyped types d v → host_of types d ≡ Some h → IsTypeOf h v
+  typed_of_host d v h x e = typed_of_within (suc (length types)) d v h x e
+
+  -- the parts of a valid denoter of an array are valid
+  pub record HasParts (a : ArrayParts) (v : TypeValue) : Type 0 where
+    pub low : ℤ
+    pub high : ℤ
+    pub of : TypeValue
+    pub is : v ≡ type.Array low high of
+    pub index : IsTyped types a.index (type.Ordinal low high)
+    pub component : IsTyped types a.component of
+
+  parts_within : (n : ℕ) (d : Denoter) (v : TypeValue) (a : ArrayParts) → IsTyped types d v → array_within types n d ≡ Some a → HasParts a v
+  parts_within zero d v a x e = cc
+  parts_within (suc n) d v a (required r) e = cc
+  parts_within (suc n) d v a (named index t at x) e = parts_within n (definition_of t) v a x (sym (ap (found_of (array_within types n)) at) ∙ e)
+  parts_within (suc n) d v a (subrange of low high g has within) e = cc
+  parts_within (suc n) d v a (enumeration first others fits) e = cc
+  parts_within (suc n) d v a (array index component low high of i c) e =
+      subst (λ (b : ArrayParts). HasParts b (type.Array low high of)) (same_Some (record { index = index; component = component }) a e) (record { low = low; high = high; of = of; is = refl; index = i; component = c })
+
+  pub typed_parts : (d : Denoter) (v : TypeValue) (a : ArrayParts) → IsTyped types d v → array_of types d ≡ Some a → HasParts a v
+  typed_parts d v a x e = parts_within (suc (length types)) d v a x e
