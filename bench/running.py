@@ -17,7 +17,8 @@ import time
 import program
 
 RUNS = 3
-# a program: its name, its text in Pascal, and in Python; `fpc` gets 64-bit integers by a type of that name
+# a program: its name, its text in Pascal, and in Python; `fpc` gets 64-bit integers by a type of that name. An array is a list
+# in Python, where a negative index counts from the end.
 PROGRAMS = (
     (
         "a counting loop",
@@ -136,6 +137,248 @@ def ackermann(m, n):
         return ackermann(m - 1, 1)
     return ackermann(m - 1, ackermann(m, n - 1))
 print(ackermann(2, 150))
+""",
+    ),
+    (
+        "primes by a sieve",
+        """program p(output);
+const n = 200000;
+var prime: array [2..n] of Boolean;
+  i, j, turn, found: integer;
+begin
+  for turn := 1 to 10 do begin
+    for i := 2 to n do prime[i] := true;
+    found := 0;
+    for i := 2 to n do
+      if prime[i] then begin
+        found := found + 1;
+        j := i * i;
+        while j <= n do begin prime[j] := false; j := j + i end
+      end
+  end;
+  writeln(found: 1)
+end.""",
+        """def main():
+    n = 200000
+    prime = [False] * (n + 1)
+    for turn in range(1, 11):
+        for i in range(2, n + 1):
+            prime[i] = True
+        found = 0
+        for i in range(2, n + 1):
+            if prime[i]:
+                found = found + 1
+                j = i * i
+                while j <= n:
+                    prime[j] = False
+                    j = j + i
+    print(found)
+main()
+""",
+    ),
+    (
+        "a product of matrices",
+        """program p(output);
+const n = 120;
+type matrix = array [1..n, 1..n] of integer;
+var a, b, c: matrix;
+  i, j, total: integer;
+procedure multiply(var x, y, z: matrix);
+var i, j, k, total: integer;
+begin
+  for i := 1 to n do
+    for j := 1 to n do begin
+      total := 0;
+      for k := 1 to n do total := total + x[i, k] * y[k, j];
+      z[i, j] := total
+    end
+end;
+begin
+  for i := 1 to n do
+    for j := 1 to n do begin
+      a[i, j] := (i + 2 * j) mod 10;
+      b[i, j] := (3 * i + j) mod 10
+    end;
+  multiply(a, b, c);
+  total := 0;
+  for i := 1 to n do
+    for j := 1 to n do total := (31 * total + c[i, j]) mod 1000003;
+  writeln(total: 1)
+end.""",
+        """n = 120
+def multiply(x, y, z):
+    for i in range(1, n + 1):
+        for j in range(1, n + 1):
+            total = 0
+            for k in range(1, n + 1):
+                total = total + x[i][k] * y[k][j]
+            z[i][j] = total
+def main():
+    a = [[0] * (n + 1) for i in range(n + 1)]
+    b = [[0] * (n + 1) for i in range(n + 1)]
+    c = [[0] * (n + 1) for i in range(n + 1)]
+    for i in range(1, n + 1):
+        for j in range(1, n + 1):
+            a[i][j] = (i + 2 * j) % 10
+            b[i][j] = (3 * i + j) % 10
+    multiply(a, b, c)
+    total = 0
+    for i in range(1, n + 1):
+        for j in range(1, n + 1):
+            total = (31 * total + c[i][j]) % 1000003
+    print(total)
+main()
+""",
+    ),
+    (
+        "a bubble sort",
+        """program p(output);
+const n = 1200;
+type numbers = array [1..n] of integer;
+var a: numbers;
+  i, seed, total: integer;
+procedure sort(var x: numbers);
+var i, j, kept: integer;
+begin
+  for i := n - 1 downto 1 do
+    for j := 1 to i do
+      if x[j] > x[j + 1] then begin
+        kept := x[j];
+        x[j] := x[j + 1];
+        x[j + 1] := kept
+      end
+end;
+begin
+  seed := 1;
+  for i := 1 to n do begin
+    seed := (1103515245 * seed + 12345) mod 2147483648;
+    a[i] := seed
+  end;
+  sort(a);
+  total := 0;
+  for i := 1 to n do total := (31 * total + a[i]) mod 1000003;
+  writeln(total: 1)
+end.""",
+        """n = 1200
+def sort(x):
+    for i in range(n - 1, 0, -1):
+        for j in range(1, i + 1):
+            if x[j] > x[j + 1]:
+                kept = x[j]
+                x[j] = x[j + 1]
+                x[j + 1] = kept
+def main():
+    a = [0] * (n + 1)
+    seed = 1
+    for i in range(1, n + 1):
+        seed = (1103515245 * seed + 12345) % 2147483648
+        a[i] = seed
+    sort(a)
+    total = 0
+    for i in range(1, n + 1):
+        total = (31 * total + a[i]) % 1000003
+    print(total)
+main()
+""",
+    ),
+    (
+        "eight queens",
+        """program p(output);
+const n = 8;
+var free: array [1..n] of Boolean;
+  up: array [2..2 * n] of Boolean;
+  down: array [1 - n..n - 1] of Boolean;
+  i, turn, found: integer;
+function ways(column: integer): integer;
+var row, count: integer;
+begin
+  count := 0;
+  for row := 1 to n do
+    if free[row] and_then up[row + column] and_then down[row - column] then
+      if column = n then count := count + 1
+      else begin
+        free[row] := false; up[row + column] := false; down[row - column] := false;
+        count := count + ways(column + 1);
+        free[row] := true; up[row + column] := true; down[row - column] := true
+      end;
+  ways := count
+end;
+begin
+  for i := 1 to n do free[i] := true;
+  for i := 2 to 2 * n do up[i] := true;
+  for i := 1 - n to n - 1 do down[i] := true;
+  found := 0;
+  for turn := 1 to 40 do found := found + ways(1);
+  writeln(found: 1)
+end.""",
+        """n = 8
+free = [False] * (n + 1)
+up = [False] * (2 * n + 1)
+down = [False] * (2 * n - 1)
+def ways(column):
+    count = 0
+    for row in range(1, n + 1):
+        if free[row] and up[row + column] and down[row - column]:
+            if column == n:
+                count = count + 1
+            else:
+                free[row] = False
+                up[row + column] = False
+                down[row - column] = False
+                count = count + ways(column + 1)
+                free[row] = True
+                up[row + column] = True
+                down[row - column] = True
+    return count
+def main():
+    for i in range(1, n + 1):
+        free[i] = True
+    for i in range(2, 2 * n + 1):
+        up[i] = True
+    for i in range(1 - n, n):
+        down[i] = True
+    found = 0
+    for turn in range(1, 41):
+        found = found + ways(1)
+    print(found)
+main()
+""",
+    ),
+    (
+        "a knapsack",
+        """program p(output);
+const most = 5000;
+var best: array [0..most] of integer;
+  i, room, seed, weight, worth: integer;
+begin
+  for room := 0 to most do best[room] := 0;
+  seed := 1;
+  for i := 1 to 200 do begin
+    seed := (1103515245 * seed + 12345) mod 2147483648;
+    weight := 1 + seed div 65536 mod 100;
+    seed := (1103515245 * seed + 12345) mod 2147483648;
+    worth := 1 + seed div 65536 mod 100;
+    for room := most downto weight do
+      if best[room - weight] + worth > best[room] then best[room] := best[room - weight] + worth
+  end;
+  writeln(best[most]: 1)
+end.""",
+        """def main():
+    most = 5000
+    best = [0] * (most + 1)
+    for room in range(0, most + 1):
+        best[room] = 0
+    seed = 1
+    for i in range(1, 201):
+        seed = (1103515245 * seed + 12345) % 2147483648
+        weight = 1 + seed // 65536 % 100
+        seed = (1103515245 * seed + 12345) % 2147483648
+        worth = 1 + seed // 65536 % 100
+        for room in range(most, weight - 1, -1):
+            if best[room - weight] + worth > best[room]:
+                best[room] = best[room - weight] + worth
+    print(best[most])
+main()
 """,
     ),
 )

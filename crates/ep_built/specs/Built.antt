@@ -10,12 +10,13 @@
 -- - the type definition, for discriminants
 -- - the type denoter, for an initial state
 -- - the type denoter without its initial state, for `bindable`
--- - the type itself, for what is no name, no subrange and no enumeration, for a name with a tuple, and for a name that is not built
--- - the statement, for an assignment to something else than a name that is built, for a call with other selectors than one pair of parentheses, for a call of a name that is not built, for a `for` with bounds whose control variable has a name that is not built, for a `for` over the members of a set, and for what is no assignment, call, compound, empty, `if`, `case`, `while`, `repeat` or `for` statement
+-- - the type itself, for `packed`, for what is no name, no subrange, no enumeration and no structure, for a name with a tuple, and for a name that is not built
+-- - the structure, for a record and for a set
+-- - the statement, for an assignment to something else than a name that is built, alone or with index selectors, for a call with other selectors than one pair of parentheses, for a call of a name that is not built, for a `for` with bounds whose control variable has a name that is not built, for a `for` over the members of a set, and for what is no assignment, call, compound, empty, `if`, `case`, `while`, `repeat` or `for` statement
 -- - the structured value, with the name of its type or without
 -- - the expression, the simple expression or the term, for an operator that is not built
 -- - the factor, for `nil`, for a set, and for a character string of another length than one that is not the whole value of an argument of a `write` or `writeln` statement
--- - the access, for a name that is not built, and for other selectors than one pair of parentheses.
+-- - the access, for a name that is not built, and for selectors that are neither one pair of parentheses nor index selectors alone.
 --
 -- An identifier that is spelled as a required one counts as the required one, also where the text declares it anew. Only uses of names count, and not their declarations.
 use Rattle.std.specs.Prelude.{ℕ, pos, int_le, Bool, true, false, if◌then◌else◌, ◌&&◌, ◌||◌, not, is_none, is_some, length, ◌==◌, List, [], ◌∷◌, map, codes, Option, Some, None}
@@ -44,10 +45,11 @@ use Rattle.ep_tree.specs.declared.expression.Multiplier.{Multiplier, fold-Multip
 use Rattle.ep_tree.specs.declared.expression.Simple.{Simple, fold-Simple}
 use Rattle.ep_tree.specs.declared.expression.Term.{Term, fold-Term}
 use Rattle.ep_tree.specs.declared.expression.Values.{Values, fold-Values}
-use Rattle.ep_tree.specs.declared.types.Core.TheOpen.{Core-F, Plain-F, TypeDenoter-F}
-use Rattle.ep_tree.specs.declared.types.Core.{Core, out-Core}
-use Rattle.ep_tree.specs.declared.types.Plain.{Plain, out-Plain}
-use Rattle.ep_tree.specs.declared.types.TypeDenoter.{TypeDenoter, out-TypeDenoter}
+use Rattle.ep_tree.specs.declared.types.Core.TheOpen.{Core-F, FieldSection-F, Fields-F, Plain-F, Structure-F, TypeDenoter-F, Variant-F, VariantPart-F}
+use Rattle.ep_tree.specs.declared.types.Core.{Core, fold-Core}
+use Rattle.ep_tree.specs.declared.types.Plain.{Plain, fold-Plain}
+use Rattle.ep_tree.specs.declared.types.Structure.{Structure, fold-Structure}
+use Rattle.ep_tree.specs.declared.types.TypeDenoter.{TypeDenoter, fold-TypeDenoter}
 use Rattle.ep_tree.specs.declared.declaration.ConstantDefinition.{ConstantDefinition}
 use Rattle.ep_tree.specs.declared.declaration.FormalSection.{FormalSection}
 use Rattle.ep_tree.specs.declared.declaration.FormalType.{FormalType}
@@ -159,30 +161,57 @@ built_formal_type _ = false
 abbrev pub built_section : FormalSection → Bool
 built_section s = built_formal_type s.of
 
--- a type is a name without a tuple, a subrange or an enumeration
+-- a type is a name without a tuple, a subrange, an enumeration or a structure that is not `packed`
 abbrev pub built_core : {A B C D E F G H : Type 0} → Core-F A B C D E F G H → Bool
 built_core (Core-F.Named line name tuple) = (length tuple == 0) && built_type_name name
 built_core (Core-F.Range line low high) = true
 built_core (Core-F.Enumeration line names) = true
+built_core (Core-F.Structured line packed structure) = not packed
 built_core _ = false
 
--- a selector is a pair of parentheses
-abbrev pub built_selector : {A B C D E F G H I J K L M N : Type 0} → Selector-F A B C D E F G H I J K L M N → Bool
-built_selector (Selector-F.Arguments line arguments) = true
-built_selector _ = false
+-- a structure is an array (ISO 10206, 6.4.3.2)
+abbrev pub built_structure : {A B C D E F G H : Type 0} → Structure-F A B C D E F G H → Bool
+built_structure (Structure-F.Array line indexes component) = true
+built_structure _ = false
 
--- what is assigned to is a name that is built
+-- what a selector is to its access
+pub data SelectorForm : Type 0 where
+  Indexes : SelectorForm
+  Parentheses : SelectorForm
+  Other : SelectorForm
+
+-- the form of a selector, by what it has
+abbrev pub form_of_selector : {A B C D E F G H I J K L M N : Type 0} → Selector-F A B C D E F G H I J K L M N → SelectorForm
+form_of_selector (Selector-F.Index line indexes) = Indexes
+form_of_selector (Selector-F.Arguments line arguments) = Parentheses
+form_of_selector _ = Other
+
+-- the form of a selector
+abbrev pub selector_form : Selector → SelectorForm
+selector_form selector = form_of_selector (out-Selector selector)
+
+-- whether a selector is an index selector (ISO 10206, 6.5.3.2)
+abbrev pub is_index : SelectorForm → Bool
+is_index Indexes = true
+is_index _ = false
+
+-- whether a selector is a pair of parentheses
+abbrev pub is_call : SelectorForm → Bool
+is_call Parentheses = true
+is_call _ = false
+
+-- what is assigned to is a name that is built, alone or with index selectors
 abbrev pub built_target : Access → Bool
-built_target a = (length (out-Access a).selectors == 0) && not (is_later (out-Access a).name)
+built_target a = list_all is_index (map selector_form (out-Access a).selectors) && not (is_later (out-Access a).name)
 
 -- the control variable of a `for` with bounds has a name that is built
 abbrev pub built_control : List ℕ → Bool
 built_control name = not (is_later name)
 
--- a call has at most one selector, and it is built
+-- a call has at most one selector, a pair of parentheses
 abbrev pub built_call_selectors : List Selector → Bool
 built_call_selectors [] = true
-built_call_selectors (selector ∷ []) = built_selector (out-Selector selector)
+built_call_selectors (selector ∷ []) = is_call (selector_form selector)
 built_call_selectors _ = false
 
 -- a call is one of a name that is built, with such selectors
@@ -233,11 +262,14 @@ built_factor (Factor-F.Parenthesized line inner) = true
 built_factor (Factor-F.Not line inner) = true
 built_factor _ = false
 
--- an access is a name that is built, alone or called (ISO 10206, 6.8.5); of each selector it is given whether it is built
-abbrev pub built_access : List ℕ → List Bool → Bool
-built_access name [] = not (is_later name)
-built_access name (selector ∷ []) = selector && not (is_later name)
-built_access name _ = false
+-- whether selectors are one pair of parentheses
+abbrev pub are_one_call : List SelectorForm → Bool
+are_one_call (form ∷ []) = is_call form
+are_one_call _ = false
+
+-- an access is a name that is built, called (ISO 10206, 6.8.5), alone or with index selectors
+abbrev pub built_access : List ℕ → List SelectorForm → Bool
+built_access name forms = (are_one_call forms || list_all is_index forms) && not (is_later name)
 
 -- `"[" values "]"` without the name of a type
 abbrev pub brackets_are_built : Bool
@@ -264,7 +296,7 @@ abbrev pub at_node : Bool → ℕ → Found → Found
 at_node true line inner = inner
 at_node false line inner = Some line
 
--- what belongs to the node around it, an operator with what follows it or a selector: whether it is built, and the first line in it
+-- what belongs to the node around it, an operator with what follows it: whether it is built, and the first line in it
 abbrev pub Belonging : Type 0
 Belonging = Bool × Found
 
@@ -287,8 +319,16 @@ abbrev pub all_are_built : List Belonging → Bool
 all_are_built [] = true
 all_are_built (part ∷ parts) = is_built part && all_are_built parts
 
--- the first line in them
-abbrev pub lines_in : List Belonging → Found
+-- a selector, for its access: its form, and the first line in it
+abbrev pub Selecting : Type 0
+Selecting = SelectorForm × Found
+
+-- its form
+abbrev pub form_told : Selecting → SelectorForm
+form_told selecting = selecting.0
+
+-- the first line in such parts
+abbrev pub lines_in : {A : Type 0} → List (A × Found) → Found
 lines_in [] = None
 lines_in (part ∷ parts) = option_or part.1 (lines_in parts)
 
@@ -299,17 +339,17 @@ Placed = ℕ × Found
 -- ---- expressions and component values: each step says which lines of its parts come first
 
 -- an expression, or the brackets before their values
-abbrev pub at_component_value : ComponentValue-F Found Found Found Belonging Placed Belonging Found Belonging Found Found Belonging Found Found Found → Found
+abbrev pub at_component_value : ComponentValue-F Found Found Found Selecting Placed Belonging Found Belonging Found Found Belonging Found Found Found → Found
 at_component_value (ComponentValue-F.Expression e) = e
 at_component_value (ComponentValue-F.Bracketed line values) = at_node brackets_are_built line values
 
 -- the labels before their value, and a tag's value before those of its variant
-abbrev pub at_element : Element-F Found Found Found Belonging Placed Belonging Found Belonging Found Found Belonging Found Found Found → Found
+abbrev pub at_element : Element-F Found Found Found Selecting Placed Belonging Found Belonging Found Found Belonging Found Found Found → Found
 at_element (Element-F.Labelled line labels value) = option_or (first_in labels) value
 at_element (Element-F.Variant line tag selector values) = option_or selector (first_if values)
 
 -- the first line inside a factor
-abbrev pub in_factor : Factor-F Found Found Found Belonging Placed Belonging Found Belonging Found Found Belonging Found Found Found → Found
+abbrev pub in_factor : Factor-F Found Found Found Selecting Placed Belonging Found Belonging Found Found Belonging Found Found Found → Found
 in_factor (Factor-F.Access access) = access.1
 in_factor (Factor-F.Number line number) = None
 in_factor (Factor-F.Text line text) = None
@@ -320,7 +360,7 @@ in_factor (Factor-F.Set line labels) = first_in labels
 in_factor (Factor-F.Structured line name values) = values
 
 -- the line of a factor
-abbrev pub factor_line : Factor-F Found Found Found Belonging Placed Belonging Found Belonging Found Found Belonging Found Found Found → ℕ
+abbrev pub factor_line : Factor-F Found Found Found Selecting Placed Belonging Found Belonging Found Found Belonging Found Found Found → ℕ
 factor_line (Factor-F.Access access) = access.0
 factor_line (Factor-F.Number line number) = line
 factor_line (Factor-F.Text line text) = line
@@ -331,129 +371,134 @@ factor_line (Factor-F.Set line labels) = line
 factor_line (Factor-F.Structured line name values) = line
 
 -- a factor before what stands in it
-abbrev pub at_factor : Factor-F Found Found Found Belonging Placed Belonging Found Belonging Found Found Belonging Found Found Found → Found
+abbrev pub at_factor : Factor-F Found Found Found Selecting Placed Belonging Found Belonging Found Found Belonging Found Found Found → Found
 at_factor f = at_node (built_factor f) (factor_line f) (in_factor f)
 
 -- the first line inside a selector
-abbrev pub in_selector : Selector-F Found Found Found Belonging Placed Belonging Found Belonging Found Found Belonging Found Found Found → Found
+abbrev pub in_selector : Selector-F Found Found Found Selecting Placed Belonging Found Belonging Found Found Belonging Found Found Found → Found
 in_selector (Selector-F.Field line name) = None
 in_selector (Selector-F.Index line indexes) = first_in indexes
 in_selector (Selector-F.Dereference line) = None
 in_selector (Selector-F.Arguments line arguments) = first_in arguments
 
 -- a selector, for its access
-abbrev pub at_selector : Selector-F Found Found Found Belonging Placed Belonging Found Belonging Found Found Belonging Found Found Found → Belonging
-at_selector s = (built_selector s, in_selector s)
+abbrev pub at_selector : Selector-F Found Found Found Selecting Placed Belonging Found Belonging Found Found Belonging Found Found Found → Selecting
+at_selector s = (form_of_selector s, in_selector s)
 
 -- an access before its selectors
-abbrev pub at_access : Access-F Found Found Found Belonging Placed Belonging Found Belonging Found Found Belonging Found Found Found → Placed
-at_access a = (a.line, at_node (built_access a.name (map is_built a.selectors)) a.line (lines_in a.selectors))
+abbrev pub at_access : Access-F Found Found Found Selecting Placed Belonging Found Belonging Found Found Belonging Found Found Found → Placed
+at_access a = (a.line, at_node (built_access a.name (map form_told a.selectors)) a.line (lines_in a.selectors))
 
 -- an adding operator with its term, for the simple expression
-abbrev pub at_addend : Addend-F Found Found Found Belonging Placed Belonging Found Belonging Found Found Belonging Found Found Found → Belonging
+abbrev pub at_addend : Addend-F Found Found Found Selecting Placed Belonging Found Belonging Found Found Belonging Found Found Found → Belonging
 at_addend a = (built_adding a.operator, a.term)
 
 -- the value of an argument before its width
-abbrev pub at_argument : Argument-F Found Found Found Belonging Placed Belonging Found Belonging Found Found Belonging Found Found Found → Found
+abbrev pub at_argument : Argument-F Found Found Found Selecting Placed Belonging Found Belonging Found Found Belonging Found Found Found → Found
 at_argument a = option_or a.value (first_if a.width)
 
 -- a relational operator with what follows it, for the expression
-abbrev pub at_comparison : Comparison-F Found Found Found Belonging Placed Belonging Found Belonging Found Found Belonging Found Found Found → Belonging
+abbrev pub at_comparison : Comparison-F Found Found Found Selecting Placed Belonging Found Belonging Found Found Belonging Found Found Found → Belonging
 at_comparison c = (built_relation c.operator, c.right)
 
 -- an expression before its two sides
-abbrev pub at_expression : Expression-F Found Found Found Belonging Placed Belonging Found Belonging Found Found Belonging Found Found Found → Found
+abbrev pub at_expression : Expression-F Found Found Found Selecting Placed Belonging Found Belonging Found Found Belonging Found Found Found → Found
 at_expression e = at_node (is_built_if e.right) e.line (option_or e.left (line_if e.right))
 
 -- the one expression of a label before the other
-abbrev pub at_label : Label-F Found Found Found Belonging Placed Belonging Found Belonging Found Found Belonging Found Found Found → Found
+abbrev pub at_label : Label-F Found Found Found Selecting Placed Belonging Found Belonging Found Found Belonging Found Found Found → Found
 at_label l = option_or l.low (first_if l.high)
 
 -- a multiplying operator with its factor, for the term
-abbrev pub at_multiplier : Multiplier-F Found Found Found Belonging Placed Belonging Found Belonging Found Found Belonging Found Found Found → Belonging
+abbrev pub at_multiplier : Multiplier-F Found Found Found Selecting Placed Belonging Found Belonging Found Found Belonging Found Found Found → Belonging
 at_multiplier m = (built_multiplying m.operator, m.factor)
 
 -- a simple expression before its terms
-abbrev pub at_simple : Simple-F Found Found Found Belonging Placed Belonging Found Belonging Found Found Belonging Found Found Found → Found
+abbrev pub at_simple : Simple-F Found Found Found Selecting Placed Belonging Found Belonging Found Found Belonging Found Found Found → Found
 at_simple s = at_node (all_are_built s.more) s.line (option_or s.first (lines_in s.more))
 
 -- a term before its factors
-abbrev pub at_term : Term-F Found Found Found Belonging Placed Belonging Found Belonging Found Found Belonging Found Found Found → Found
+abbrev pub at_term : Term-F Found Found Found Selecting Placed Belonging Found Belonging Found Found Belonging Found Found Found → Found
 at_term t = at_node (all_are_built t.more) t.line (option_or t.first (lines_in t.more))
 
 -- the elements before the value of `otherwise`
-abbrev pub at_values : Values-F Found Found Found Belonging Placed Belonging Found Belonging Found Found Belonging Found Found Found → Found
+abbrev pub at_values : Values-F Found Found Found Selecting Placed Belonging Found Belonging Found Found Belonging Found Found Found → Found
 at_values v = option_or (first_in v.elements) (first_if v.otherwise)
 
 -- the first line in a component value
 abbrev pub component_value_unbuilt : ComponentValue → Found
-component_value_unbuilt = fold-ComponentValue Found Found Found Belonging Placed Belonging Found Belonging Found Found Belonging Found Found Found at_component_value at_element at_factor at_selector at_access at_addend at_argument at_comparison at_expression at_label at_multiplier at_simple at_term at_values
+component_value_unbuilt = fold-ComponentValue Found Found Found Selecting Placed Belonging Found Belonging Found Found Belonging Found Found Found at_component_value at_element at_factor at_selector at_access at_addend at_argument at_comparison at_expression at_label at_multiplier at_simple at_term at_values
 
 -- the first line in an element
 abbrev pub element_unbuilt : Element → Found
-element_unbuilt = fold-Element Found Found Found Belonging Placed Belonging Found Belonging Found Found Belonging Found Found Found at_component_value at_element at_factor at_selector at_access at_addend at_argument at_comparison at_expression at_label at_multiplier at_simple at_term at_values
+element_unbuilt = fold-Element Found Found Found Selecting Placed Belonging Found Belonging Found Found Belonging Found Found Found at_component_value at_element at_factor at_selector at_access at_addend at_argument at_comparison at_expression at_label at_multiplier at_simple at_term at_values
 
 -- the first line in a factor
 abbrev pub factor_unbuilt : Factor → Found
-factor_unbuilt = fold-Factor Found Found Found Belonging Placed Belonging Found Belonging Found Found Belonging Found Found Found at_component_value at_element at_factor at_selector at_access at_addend at_argument at_comparison at_expression at_label at_multiplier at_simple at_term at_values
+factor_unbuilt = fold-Factor Found Found Found Selecting Placed Belonging Found Belonging Found Found Belonging Found Found Found at_component_value at_element at_factor at_selector at_access at_addend at_argument at_comparison at_expression at_label at_multiplier at_simple at_term at_values
 
 -- what a selector tells its access
-abbrev pub selector_belonging : Selector → Belonging
-selector_belonging = fold-Selector Found Found Found Belonging Placed Belonging Found Belonging Found Found Belonging Found Found Found at_component_value at_element at_factor at_selector at_access at_addend at_argument at_comparison at_expression at_label at_multiplier at_simple at_term at_values
+abbrev pub selector_belonging : Selector → Selecting
+selector_belonging = fold-Selector Found Found Found Selecting Placed Belonging Found Belonging Found Found Belonging Found Found Found at_component_value at_element at_factor at_selector at_access at_addend at_argument at_comparison at_expression at_label at_multiplier at_simple at_term at_values
 
 -- the line of an access, and the first line in it
 abbrev pub placed_access : Access → Placed
-placed_access = fold-Access Found Found Found Belonging Placed Belonging Found Belonging Found Found Belonging Found Found Found at_component_value at_element at_factor at_selector at_access at_addend at_argument at_comparison at_expression at_label at_multiplier at_simple at_term at_values
+placed_access = fold-Access Found Found Found Selecting Placed Belonging Found Belonging Found Found Belonging Found Found Found at_component_value at_element at_factor at_selector at_access at_addend at_argument at_comparison at_expression at_label at_multiplier at_simple at_term at_values
 
 -- what an adding operator with its term tells the simple expression
 abbrev pub addend_belonging : Addend → Belonging
-addend_belonging = fold-Addend Found Found Found Belonging Placed Belonging Found Belonging Found Found Belonging Found Found Found at_component_value at_element at_factor at_selector at_access at_addend at_argument at_comparison at_expression at_label at_multiplier at_simple at_term at_values
+addend_belonging = fold-Addend Found Found Found Selecting Placed Belonging Found Belonging Found Found Belonging Found Found Found at_component_value at_element at_factor at_selector at_access at_addend at_argument at_comparison at_expression at_label at_multiplier at_simple at_term at_values
 
 -- the first line in an argument
 abbrev pub argument_unbuilt : Argument → Found
-argument_unbuilt = fold-Argument Found Found Found Belonging Placed Belonging Found Belonging Found Found Belonging Found Found Found at_component_value at_element at_factor at_selector at_access at_addend at_argument at_comparison at_expression at_label at_multiplier at_simple at_term at_values
+argument_unbuilt = fold-Argument Found Found Found Selecting Placed Belonging Found Belonging Found Found Belonging Found Found Found at_component_value at_element at_factor at_selector at_access at_addend at_argument at_comparison at_expression at_label at_multiplier at_simple at_term at_values
 
 -- what a relational operator with its second side tells the expression
 abbrev pub comparison_belonging : Comparison → Belonging
-comparison_belonging = fold-Comparison Found Found Found Belonging Placed Belonging Found Belonging Found Found Belonging Found Found Found at_component_value at_element at_factor at_selector at_access at_addend at_argument at_comparison at_expression at_label at_multiplier at_simple at_term at_values
+comparison_belonging = fold-Comparison Found Found Found Selecting Placed Belonging Found Belonging Found Found Belonging Found Found Found at_component_value at_element at_factor at_selector at_access at_addend at_argument at_comparison at_expression at_label at_multiplier at_simple at_term at_values
 
 -- the first line in an expression
 abbrev pub expression_unbuilt : Expression → Found
-expression_unbuilt = fold-Expression Found Found Found Belonging Placed Belonging Found Belonging Found Found Belonging Found Found Found at_component_value at_element at_factor at_selector at_access at_addend at_argument at_comparison at_expression at_label at_multiplier at_simple at_term at_values
+expression_unbuilt = fold-Expression Found Found Found Selecting Placed Belonging Found Belonging Found Found Belonging Found Found Found at_component_value at_element at_factor at_selector at_access at_addend at_argument at_comparison at_expression at_label at_multiplier at_simple at_term at_values
 
 -- the first line in a label
 abbrev pub label_unbuilt : Label → Found
-label_unbuilt = fold-Label Found Found Found Belonging Placed Belonging Found Belonging Found Found Belonging Found Found Found at_component_value at_element at_factor at_selector at_access at_addend at_argument at_comparison at_expression at_label at_multiplier at_simple at_term at_values
+label_unbuilt = fold-Label Found Found Found Selecting Placed Belonging Found Belonging Found Found Belonging Found Found Found at_component_value at_element at_factor at_selector at_access at_addend at_argument at_comparison at_expression at_label at_multiplier at_simple at_term at_values
 
 -- what a multiplying operator with its factor tells the term
 abbrev pub multiplier_belonging : Multiplier → Belonging
-multiplier_belonging = fold-Multiplier Found Found Found Belonging Placed Belonging Found Belonging Found Found Belonging Found Found Found at_component_value at_element at_factor at_selector at_access at_addend at_argument at_comparison at_expression at_label at_multiplier at_simple at_term at_values
+multiplier_belonging = fold-Multiplier Found Found Found Selecting Placed Belonging Found Belonging Found Found Belonging Found Found Found at_component_value at_element at_factor at_selector at_access at_addend at_argument at_comparison at_expression at_label at_multiplier at_simple at_term at_values
 
 -- the first line in a simple expression
 abbrev pub simple_unbuilt : Simple → Found
-simple_unbuilt = fold-Simple Found Found Found Belonging Placed Belonging Found Belonging Found Found Belonging Found Found Found at_component_value at_element at_factor at_selector at_access at_addend at_argument at_comparison at_expression at_label at_multiplier at_simple at_term at_values
+simple_unbuilt = fold-Simple Found Found Found Selecting Placed Belonging Found Belonging Found Found Belonging Found Found Found at_component_value at_element at_factor at_selector at_access at_addend at_argument at_comparison at_expression at_label at_multiplier at_simple at_term at_values
 
 -- the first line in a term
 abbrev pub term_unbuilt : Term → Found
-term_unbuilt = fold-Term Found Found Found Belonging Placed Belonging Found Belonging Found Found Belonging Found Found Found at_component_value at_element at_factor at_selector at_access at_addend at_argument at_comparison at_expression at_label at_multiplier at_simple at_term at_values
+term_unbuilt = fold-Term Found Found Found Selecting Placed Belonging Found Belonging Found Found Belonging Found Found Found at_component_value at_element at_factor at_selector at_access at_addend at_argument at_comparison at_expression at_label at_multiplier at_simple at_term at_values
 
 -- the first line in the values of a structured value
 abbrev pub values_unbuilt : Values → Found
-values_unbuilt = fold-Values Found Found Found Belonging Placed Belonging Found Belonging Found Found Belonging Found Found Found at_component_value at_element at_factor at_selector at_access at_addend at_argument at_comparison at_expression at_label at_multiplier at_simple at_term at_values
+values_unbuilt = fold-Values Found Found Found Selecting Placed Belonging Found Belonging Found Found Belonging Found Found Found at_component_value at_element at_factor at_selector at_access at_addend at_argument at_comparison at_expression at_label at_multiplier at_simple at_term at_values
 
 -- the first line in an access
 abbrev pub access_unbuilt : Access → Found
 access_unbuilt a = (placed_access a).1
 
--- ---- types. Nothing inside a tuple or a structured type is reached while none of their forms is built.
+-- ---- types. Nothing inside a tuple, a record or a set is reached while none of their forms is built.
+
+-- what is known of a node that is not reached
+abbrev pub Skipped : Type 0
+Skipped = Unit {0}
 
 -- the first line inside a type
-abbrev pub in_core : {A B C D E F G H : Type 0} → Core-F A B C D E F G H → Found
+abbrev pub in_core : Core-F Found Found Skipped Skipped Found Found Skipped Skipped → Found
 in_core (Core-F.Range line low high) = option_or (expression_unbuilt low) (expression_unbuilt high)
+in_core (Core-F.Structured line packed structure) = structure
 in_core _ = None
 
 -- the line of a type
-abbrev pub core_line : {A B C D E F G H : Type 0} → Core-F A B C D E F G H → ℕ
+abbrev pub core_line : Core-F Found Found Skipped Skipped Found Found Skipped Skipped → ℕ
 core_line (Core-F.Named line name tuple) = line
 core_line (Core-F.Range line low high) = line
 core_line (Core-F.Enumeration line names) = line
@@ -462,17 +507,62 @@ core_line (Core-F.Structured line packed structure) = line
 core_line (Core-F.Restricted line name) = line
 core_line (Core-F.TypeOf line name) = line
 
+-- a type before what stands in it
+abbrev pub at_core : Core-F Found Found Skipped Skipped Found Found Skipped Skipped → Found
+at_core c = at_node (built_core c) (core_line c) (in_core c)
+
+-- the index types before the type of the components
+abbrev pub in_structure : Structure-F Found Found Skipped Skipped Found Found Skipped Skipped → Found
+in_structure (Structure-F.Array line indexes component) = option_or (first_in indexes) component
+in_structure _ = None
+
+-- the line of a structure
+abbrev pub structure_line : Structure-F Found Found Skipped Skipped Found Found Skipped Skipped → ℕ
+structure_line (Structure-F.Array line indexes component) = line
+structure_line (Structure-F.Record line fields) = line
+structure_line (Structure-F.Set line base) = line
+
+-- a structure before what stands in it
+abbrev pub at_structure : Structure-F Found Found Skipped Skipped Found Found Skipped Skipped → Found
+at_structure s = at_node (built_structure s) (structure_line s) (in_structure s)
+
+-- fields, which are not reached
+abbrev pub at_field_section : FieldSection-F Found Found Skipped Skipped Found Found Skipped Skipped → Skipped
+at_field_section s = tt
+
+abbrev pub at_fields : Fields-F Found Found Skipped Skipped Found Found Skipped Skipped → Skipped
+at_fields f = tt
+
+-- a type denoter without its initial state before its type
+abbrev pub at_plain : Plain-F Found Found Skipped Skipped Found Found Skipped Skipped → Found
+at_plain p = at_node (built_plain p) p.line p.core
+
+-- a type denoter before what stands in it
+abbrev pub at_type_denoter : TypeDenoter-F Found Found Skipped Skipped Found Found Skipped Skipped → Found
+at_type_denoter t = at_node (built_type_denoter t) t.line t.plain
+
+-- variants, which are not reached
+abbrev pub at_variant : Variant-F Found Found Skipped Skipped Found Found Skipped Skipped → Skipped
+at_variant v = tt
+
+abbrev pub at_variant_part : VariantPart-F Found Found Skipped Skipped Found Found Skipped Skipped → Skipped
+at_variant_part p = tt
+
 -- the first line in a type
 abbrev pub core_unbuilt : Core → Found
-core_unbuilt c = at_node (built_core (out-Core c)) (core_line (out-Core c)) (in_core (out-Core c))
+core_unbuilt = fold-Core Found Found Skipped Skipped Found Found Skipped Skipped at_core at_structure at_field_section at_fields at_plain at_type_denoter at_variant at_variant_part
+
+-- the first line in a structure
+abbrev pub structure_unbuilt : Structure → Found
+structure_unbuilt = fold-Structure Found Found Skipped Skipped Found Found Skipped Skipped at_core at_structure at_field_section at_fields at_plain at_type_denoter at_variant at_variant_part
 
 -- the first line in a type denoter without its initial state
 abbrev pub plain_unbuilt : Plain → Found
-plain_unbuilt p = at_node (built_plain (out-Plain p)) (out-Plain p).line (core_unbuilt (out-Plain p).core)
+plain_unbuilt = fold-Plain Found Found Skipped Skipped Found Found Skipped Skipped at_core at_structure at_field_section at_fields at_plain at_type_denoter at_variant at_variant_part
 
 -- the first line in a type denoter
 abbrev pub type_denoter_unbuilt : TypeDenoter → Found
-type_denoter_unbuilt t = at_node (built_type_denoter (out-TypeDenoter t)) (out-TypeDenoter t).line (plain_unbuilt (out-TypeDenoter t).plain)
+type_denoter_unbuilt = fold-TypeDenoter Found Found Skipped Skipped Found Found Skipped Skipped at_core at_structure at_field_section at_fields at_plain at_type_denoter at_variant at_variant_part
 
 -- ---- statements
 

@@ -27,8 +27,8 @@ use Rattle.ep_check_expr.specs.Expressions.{judged, judged_value, simple_judged,
 use Rattle.ep_check_expr.specs.Judgements.{Accepts, Typed, when_accepted}
 use Rattle.ep_check_expr.specs.Names.{parenthesized}
 use Rattle.ep_check_expr.specs.Operators.{signed, negated, added, multiplied}
-use Rattle.ep_check_expr.proofs.Nodes.{expression-judged, compared-judged, second-judged, access-judged, simple-judged, addend-judged, term-judged, multiplier-judged, argument-judged, wide-judged}
-use Rattle.ep_check_expr.proofs.Parts.{AreOperands, IsSelected, AreSelected, when_accepted-fits, chained-fits, comparison_of-fits, string_judged-fits, access_judged-fits}
+use Rattle.ep_check_expr.proofs.Nodes.{access_expression, access-alone, expression-judged, compared-judged, second-judged, access-judged, simple-judged, addend-judged, term-judged, multiplier-judged, argument-judged, wide-judged}
+use Rattle.ep_check_expr.proofs.Parts.{AreIndexes, AreOperands, IsSelected, AreSelected, when_accepted-fits, chained-fits, comparison_of-fits, string_judged-fits, access_judged-fits}
 use Rattle.ep_check_expr.proofs.Keeping.{AreGiven, IsKept, Satisfies}
 
 module _ (Q : Typed → Type 0) (scopes : List Region) (kept : IsKept Q scopes) where
@@ -133,6 +133,10 @@ module _ (Q : Typed → Type 0) (scopes : List Region) (kept : IsKept Q scopes) 
   arguments-fit [] = tt
   arguments-fit (a ∷ more) = (a.1, arguments-fit more)
 
+  indexes-fit : (more : List ValidExpression) → AreIndexes Q (map (judged scopes) (map (λ e. e.0) more))
+  indexes-fit [] = tt
+  indexes-fit (e ∷ more) = (e.1, indexes-fit more)
+
   selectors-fit : (more : List ValidSelector) → AreSelected Q (map (selected scopes) (map (λ e. e.0) more))
   selectors-fit [] = tt
   selectors-fit (s ∷ more) = (s.1, selectors-fit more)
@@ -150,7 +154,7 @@ module _ (Q : Typed → Type 0) (scopes : List Region) (kept : IsKept Q scopes) 
 
   selector-fits : (s : Selector-F AnyValue AnyElement ValidFactor ValidSelector ValidAccess ValidAddend ValidArgument ValidComparison ValidExpression AnyLabel ValidMultiplier ValidSimple ValidTerm AnyValues) → HasArguments (roll-Selector (selector_layer s))
   selector-fits (Selector-F.Field at name) = rw fold-roll-Selector tt
-  selector-fits (Selector-F.Index at indexes) = rw fold-roll-Selector tt
+  selector-fits (Selector-F.Index at indexes) = rw fold-roll-Selector (indexes-fit indexes)
   selector-fits (Selector-F.Dereference at) = rw fold-roll-Selector tt
   selector-fits (Selector-F.Arguments at arguments) = rw fold-roll-Selector (arguments-fit arguments)
 
@@ -205,6 +209,10 @@ module _ (Q : Typed → Type 0) (scopes : List Region) (kept : IsKept Q scopes) 
       (λ x y is. subst (λ z. IsSimple (roll-Simple z)) is (simple-fits y.line y.sign y.first y.more))
       (λ x y is. subst (λ z. IsTerm (roll-Term z)) is (term-fits y.line y.first y.more))
       (λ x y is. tt)
+
+  -- and every access, which is an expression by itself
+  pub accesses-fit : (a : Access) → Satisfies Q (name_judged scopes a)
+  accesses-fit a = subst (Satisfies Q) (access-alone scopes a) (expressions-fit (access_expression a))
 
   value_of : (v : ComponentValue-F ComponentValue Element Factor Selector Access Addend Argument Comparison Expression Label Multiplier Simple Term Values) → Satisfies Q (judged_value scopes (roll-ComponentValue v))
   value_of (ComponentValue-F.Expression e) = rw fold-roll-ComponentValue (expressions-fit e)

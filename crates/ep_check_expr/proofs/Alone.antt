@@ -21,16 +21,12 @@ use Rattle.ep_tree.specs.declared.expression.Values.{Values}
 use Rattle.ep_tree.specs.declared.operator.Sign.{Sign}
 use Rattle.ep_scope.specs.Scopes.{Region}
 use Rattle.ep_check_expr.specs.Expressions.{Field, access_judged, addend_judged, chained, factor_judged, judged, multiplier_judged, name_judged, selected, simple_judged, term_judged}
-use Rattle.ep_check_expr.specs.Judgements.{Judged, Accepts, Breaks, Typed, when_accepted}
+use Rattle.ep_check_expr.specs.Judgements.{when_accepted}
 use Rattle.ep_check_expr.specs.Names.{qualified_value}
 use Rattle.ep_check_expr.specs.Operators.{added, multiplied, signed}
 use Rattle.ep_check_expr.specs.Qualified.{field_alone, only_field, qualified_name}
 use Rattle.ep_check_expr.proofs.Folds.{simple_judged-is, term_judged-is}
-use Rattle.ep_check_expr.proofs.Nodes.{access-judged, expression-judged}
-
-unsigned : (J : Judged Typed) → when_accepted (signed None) J ≡ J
-unsigned (Accepts x) = refl
-unsigned (Breaks rules) = refl
+use Rattle.ep_check_expr.proofs.Nodes.{access-judged, expression-judged, unsigned}
 
 -- the layers of factors and selectors
 access-layer : (l : Factor-F ComponentValue Element Factor Selector Access Addend Argument Comparison Expression Label Multiplier Simple Term Values) (a : Access) → access_in l ≡ Some a → l ≡ Factor-F.Access a

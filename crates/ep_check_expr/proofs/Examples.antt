@@ -11,10 +11,11 @@ use Rattle.ep_tree.specs.declared.expression.Term.{Term}
 use Rattle.ep_tree.specs.declared.operator.AddingOperator.TheVariants as adding
 use Rattle.ep_tree.specs.declared.operator.MultiplyingOperator.TheVariants as multiplying
 use Rattle.ep_tree.specs.declared.operator.RelationalOperator.TheVariants as relation
-use Rattle.ep_typed.specs.Trees.{Accessed, Callee, Constant, Evaluated, Function, Own, Read, Two, Step, Variable, next_actual, no_actual}
+use Rattle.ep_typed.specs.Trees.{Accessed, Callee, Constant, Evaluated, Function, Indexed, Own, Place, Read, Two, Step, Variable, next_actual, no_actual}
 use Rattle.ep_typed.specs.declared.operations.Binary.TheVariants as binary
 use Rattle.ep_typed.specs.declared.value.Value.TheVariants as value
 use Rattle.ep_scope.specs.Scopes.{Region}
+use Rattle.ep_scope.specs.declared.array.ArrayType.{ArrayType}
 use Rattle.ep_scope.specs.declared.kind.Host.{Host}
 use Rattle.ep_scope.specs.declared.kind.Host.TheVariants as host
 use Rattle.ep_scope.specs.declared.kind.Kind.TheVariants as kind
@@ -29,11 +30,12 @@ use Rattle.ep_scope.specs.declared.thing.Declaration.{Declaration}
 use Rattle.ep_scope.specs.declared.thing.Declaration.TheVariants as declaration
 use Rattle.ep_scope.specs.declared.thing.Thing.{Thing}
 use Rattle.ep_scope.specs.declared.thing.Thing.TheVariants as thing
-use Rattle.ep_check_expr.proofs.Nodes.{expression-judged, comparison-judged, simple-judged, addend-judged, term-judged, multiplier-judged, name-judged, arguments-judged, argument-judged, wide-judged, number-judged, parenthesized-judged, string-judged}
+use Rattle.ep_check_expr.proofs.Nodes.{expression-judged, comparison-judged, simple-judged, addend-judged, term-judged, multiplier-judged, name-judged, indexes-judged, arguments-judged, argument-judged, wide-judged, number-judged, parenthesized-judged, string-judged}
 use Rattle.ep_check_expr.specs.declared.access.Access.TheVariants as access
+use Rattle.ep_check_expr.specs.Arguments.{given_to}
 use Rattle.ep_check_expr.specs.Constants.{constant_expression, bound_judged}
 use Rattle.ep_check_expr.specs.Expressions.{judged}
-use Rattle.ep_check_expr.specs.Judgements.{Accepts, Breaks}
+use Rattle.ep_check_expr.specs.Judgements.{Accepts, Breaks, when_accepted}
 use Rattle.ep_check_expr.specs.Operators.{integer}
 
 -- an expression of one factor
@@ -71,6 +73,10 @@ equality x y = expression_node 1 (simple_of x) (Some (comparison_node relation.E
 abbrev call : List ℕ → List Argument → Factor
 call f arguments = factor.Access (access_node 1 f (selector.Arguments 1 arguments ∷ []))
 
+-- with indexes
+abbrev indexed : List ℕ → List Expression → Factor
+indexed a indexes = factor.Access (access_node 1 a (selector.Index 1 indexes ∷ []))
+
 abbrev plain : Factor → Argument
 plain x = argument_node 1 (bare x) None
 
@@ -89,18 +95,40 @@ declares number what = declares_at 0 number what
 
 -- a formal parameter of type integer
 abbrev integer_parameter : FormalMode → FormalParameter
-integer_parameter how = record { name = codes "n"; mode = how; section = 0; of = type_name.Required simple.Integer; host = host.Integer }
+integer_parameter how = record { name = codes "n"; mode = how; section = 0; of = type_name.Required simple.Integer; kind = integer }
 
 -- a function of an integer, whose result is a color
 abbrev function_of : FormalMode → Declaration
-function_of how = declaration.Function (integer_parameter how ∷ []) (type_name.Entry 0) color
+function_of how = declaration.Function (integer_parameter how ∷ []) (type_name.Entry 0) (kind.Ordinal color)
 
--- red, of the colors, the integer x, f with a value parameter, g with a variable parameter, and h without any
+-- an array of integers by colors, and one of such arrays by Booleans
+abbrev row : ArrayType
+row = record { number = 3; index = color; component = type_name.Required simple.Integer; kind = integer }
+
+abbrev table : ArrayType
+table = record { number = 4; index = host.Boolean; component = type_name.Entry 3; kind = kind.Array 3 }
+
+-- a function of such an array, whose result is a color
+abbrev row_parameter : FormalMode → FormalParameter
+row_parameter how = record { name = codes "n"; mode = how; section = 0; of = type_name.Entry 3; kind = kind.Array 3 }
+
+abbrev function_of_row : FormalMode → Declaration
+function_of_row how = declaration.Function (row_parameter how ∷ []) (type_name.Entry 0) (kind.Ordinal color)
+
+-- a function with these formal parameters, whose result is such an array
+abbrev giving_row : List FormalParameter → Declaration
+giving_row parameters = declaration.Function parameters (type_name.Entry 3) (kind.Array 3)
+
+-- red, of the colors, the integer x, f with a value parameter, g with a variable parameter, h without any, the arrays a and b,
+-- r with a value parameter and s without any, which give arrays, and k and l, which take one as f and g take an integer
 abbrev scope : List Region
 scope = record {
   entries = (codes "red", declares 0 (declaration.Constant (kind.Ordinal color) (value.Word (pos 0)))) ∷ (codes "x", declares 0 (declaration.Variable (type_name.Required simple.Integer) integer))
-      ∷ (codes "f", declares 0 (function_of mode.Value)) ∷ (codes "g", declares 1 (function_of mode.Variable)) ∷ (codes "h", declares 2 (declaration.Function [] (type_name.Required simple.Integer) host.Integer)) ∷ [];
+      ∷ (codes "f", declares 0 (function_of mode.Value)) ∷ (codes "g", declares 1 (function_of mode.Variable)) ∷ (codes "h", declares 2 (declaration.Function [] (type_name.Required simple.Integer) integer))
+      ∷ (codes "a", declares 6 (declaration.Variable (type_name.Entry 3) (kind.Array 3))) ∷ (codes "b", declares 7 (declaration.Variable (type_name.Entry 4) (kind.Array 4)))
+      ∷ (codes "r", declares 3 (giving_row (integer_parameter mode.Value ∷ []))) ∷ (codes "s", declares 4 (giving_row [])) ∷ (codes "k", declares 5 (function_of_row mode.Value)) ∷ (codes "l", declares 6 (function_of_row mode.Variable)) ∷ [];
   qualified = [];
+  arrays = row ∷ table ∷ [];
 } ∷ []
 
 -- a function of the program
@@ -113,8 +141,8 @@ integer_variable = declaration.Own (type_name.Required simple.Integer) integer p
 
 -- In the block of a routine in a routine, of which the outer one has the integer y and the function i, and the inner one the integer z.
 abbrev inside : List Region
-inside = record { entries = (codes "z", declares_at 2 4 integer_variable) ∷ []; qualified = [] }
-    ∷ record { entries = (codes "y", declares_at 1 3 integer_variable) ∷ (codes "i", declares_at 1 5 (declaration.Function [] (type_name.Required simple.Integer) host.Integer)) ∷ []; qualified = [] } ∷ scope
+inside = record { entries = (codes "z", declares_at 2 4 integer_variable) ∷ []; qualified = []; arrays = [] }
+    ∷ record { entries = (codes "y", declares_at 1 3 integer_variable) ∷ (codes "i", declares_at 1 5 (declaration.Function [] (type_name.Required simple.Integer) integer)) ∷ []; qualified = []; arrays = [] } ∷ scope
 
 -- y + z, by the levels between
 levels_between : judged inside (sum (name (codes "y")) (name (codes "z"))) ≡ Accepts (record { form = Some (Two binary.Add (Read (Own 1 3)) (Read (Own 0 4))); kind = integer; depth = 3; access = access.Value })
@@ -210,3 +238,92 @@ constant_call = simp (expression-judged, simple-judged, term-judged, name-judged
 -- a bound that varies
 varying_bound : bound_judged scope (bare (name (codes "x"))) ≡ Breaks (rule.BOUND_CONSTANT ∷ rule.CONSTANT ∷ [])
 varying_bound = simp (expression-judged, simple-judged, term-judged, name-judged) refl
+
+-- the place of a[red]
+abbrev red_of_a : Place
+red_of_a = Indexed (Variable (codes "p") 6) (Constant (pos 0))
+
+-- a[red]
+component : judged scope (bare (indexed (codes "a") (bare (name (codes "red")) ∷ [])))
+    ≡ Accepts (record { form = Some (Read red_of_a); kind = integer; depth = 3; access = access.Variable (type_name.Required simple.Integer) protection.Unprotected })
+component = simp (expression-judged, simple-judged, term-judged, name-judged, indexes-judged) refl
+
+-- b[true, red]
+component_of_component : judged scope (bare (indexed (codes "b") (bare (name (codes "true")) ∷ bare (name (codes "red")) ∷ [])))
+    ≡ Accepts (record { form = Some (Read (Indexed (Indexed (Variable (codes "p") 7) (Constant (pos 1))) (Constant (pos 0)))); kind = integer; depth = 4; access = access.Variable (type_name.Required simple.Integer) protection.Unprotected })
+component_of_component = simp (expression-judged, simple-judged, term-judged, name-judged, indexes-judged) refl
+
+-- b[true][red]
+selectors_in_a_row : judged scope (bare (factor.Access (access_node 1 (codes "b") (selector.Index 1 (bare (name (codes "true")) ∷ []) ∷ selector.Index 1 (bare (name (codes "red")) ∷ []) ∷ []))))
+    ≡ judged scope (bare (indexed (codes "b") (bare (name (codes "true")) ∷ bare (name (codes "red")) ∷ [])))
+selectors_in_a_row = simp (expression-judged, simple-judged, term-judged, name-judged, indexes-judged) refl
+
+-- b[true], which is an array
+array_of_arrays : judged scope (bare (indexed (codes "b") (bare (name (codes "true")) ∷ [])))
+    ≡ Accepts (record { form = Some (Read (Indexed (Variable (codes "p") 7) (Constant (pos 1)))); kind = kind.Array 3; depth = 3; access = access.Variable (type_name.Entry 3) protection.Unprotected })
+array_of_arrays = simp (expression-judged, simple-judged, term-judged, name-judged, indexes-judged) refl
+
+-- a[1], where the index is a color
+other_index : judged scope (bare (indexed (codes "a") (bare (number 1) ∷ []))) ≡ Breaks (rule.INDEX ∷ [])
+other_index = simp (expression-judged, simple-judged, term-judged, name-judged, indexes-judged, number-judged) refl
+
+-- x[1], which is no array
+no_array : judged scope (bare (indexed (codes "x") (bare (number 1) ∷ []))) ≡ Breaks (rule.INDEX ∷ [])
+no_array = simp (expression-judged, simple-judged, term-judged, name-judged, indexes-judged, number-judged) refl
+
+-- y[y], which is not declared
+undeclared_both : judged scope (bare (indexed (codes "y") (bare (name (codes "y")) ∷ []))) ≡ Breaks (rule.UNDECLARED ∷ rule.UNDECLARED ∷ [])
+undeclared_both = simp (expression-judged, simple-judged, term-judged, name-judged, indexes-judged) refl
+
+-- a + 1
+sum_of_array : judged scope (sum (name (codes "a")) (number 1)) ≡ Breaks (rule.OPERANDS ∷ [])
+sum_of_array = simp (expression-judged, simple-judged, addend-judged, term-judged, name-judged, number-judged) refl
+
+-- g(a[red])
+component_for_variable : judged scope (bare (call (codes "g") (plain (indexed (codes "a") (bare (name (codes "red")) ∷ [])) ∷ [])))
+    ≡ Accepts (record { form = Some (Function (of_program 1) (next_actual (Accessed red_of_a) no_actual)); kind = kind.Ordinal color; depth = 4; access = access.Value })
+component_for_variable = simp (expression-judged, simple-judged, term-judged, name-judged, indexes-judged, arguments-judged, argument-judged) refl
+
+-- f(a)
+array_for_integer : judged scope (bare (call (codes "f") (plain (name (codes "a")) ∷ []))) ≡ Breaks (rule.ASSIGNMENT ∷ [])
+array_for_integer = simp (expression-judged, simple-judged, term-judged, name-judged, arguments-judged, argument-judged) refl
+
+-- a, where a constant is asked for
+constant_array : constant_expression scope (bare (name (codes "a"))) ≡ Breaks (rule.CONSTANT ∷ [])
+constant_array = simp (expression-judged, simple-judged, term-judged, name-judged) refl
+
+-- r(3), an array, which has no code yet
+array_given : judged scope (bare (call (codes "r") (plain (number 3) ∷ []))) ≡ Accepts (record { form = None; kind = kind.Array 3; depth = 2; access = access.Value })
+array_given = simp (expression-judged, simple-judged, term-judged, name-judged, arguments-judged, argument-judged, number-judged) refl
+
+-- r(3), where an integer is assigned to
+given_array_assigned : when_accepted (λ t. given_to (λ x. x) integer t.kind t.form) (judged scope (bare (call (codes "r") (plain (number 3) ∷ [])))) ≡ Breaks (rule.ASSIGNMENT ∷ [])
+given_array_assigned = rw array_given refl
+
+-- r(s)
+given_array_for_integer : judged scope (bare (call (codes "r") (plain (name (codes "s")) ∷ []))) ≡ Breaks (rule.ASSIGNMENT ∷ [])
+given_array_for_integer = simp (expression-judged, simple-judged, term-judged, name-judged, arguments-judged, argument-judged) refl
+
+-- s[red], which is no variable
+component_given : judged scope (bare (indexed (codes "s") (bare (name (codes "red")) ∷ []))) ≡ Accepts (record { form = None; kind = integer; depth = 3; access = access.Value })
+component_given = simp (expression-judged, simple-judged, term-judged, name-judged, indexes-judged) refl
+
+-- s[1], where the index is a color
+other_index_given : judged scope (bare (indexed (codes "s") (bare (number 1) ∷ []))) ≡ Breaks (rule.INDEX ∷ [])
+other_index_given = simp (expression-judged, simple-judged, term-judged, name-judged, indexes-judged, number-judged) refl
+
+-- h[1], which gives no array
+no_array_given : judged scope (bare (indexed (codes "h") (bare (number 1) ∷ []))) ≡ Breaks (rule.INDEX ∷ [])
+no_array_given = simp (expression-judged, simple-judged, term-judged, name-judged, indexes-judged, number-judged) refl
+
+-- k(s)
+given_array_for_value : judged scope (bare (call (codes "k") (plain (name (codes "s")) ∷ []))) ≡ Accepts (record { form = None; kind = kind.Ordinal color; depth = 2; access = access.Value })
+given_array_for_value = simp (expression-judged, simple-judged, term-judged, name-judged, arguments-judged, argument-judged) refl
+
+-- l(s)
+given_array_for_variable : judged scope (bare (call (codes "l") (plain (name (codes "s")) ∷ []))) ≡ Breaks (rule.VARIABLE_NEEDED ∷ [])
+given_array_for_variable = simp (expression-judged, simple-judged, term-judged, name-judged, arguments-judged, argument-judged) refl
+
+-- s, where a constant is asked for
+constant_given_array : constant_expression scope (bare (name (codes "s"))) ≡ Breaks (rule.CONSTANT ∷ [])
+constant_given_array = simp (expression-judged, simple-judged, term-judged, name-judged) refl

@@ -1,7 +1,7 @@
 -- What is given for formal parameters, gathered from one argument after another.
 use Rattle.std.proofs.Common.{◌≡◌, ◌<◌, ◌≤◌, ℕ, true, suc, ◌+◌, max, List, [], ◌∷◌, ◌++◌, map, drop, length, get_or, Option, Some, None, refl, sym, ap, ap₂, ◌∙◌, append_assoc, arith}
 use Rattle.ep_typed.specs.Trees.{Actual, Callee}
-use Rattle.ep_scope.specs.declared.kind.Host.{Host}
+use Rattle.ep_scope.specs.declared.kind.Kind.{Kind}
 use Rattle.ep_scope.specs.declared.parameter.FormalParameter.{FormalParameter}
 use Rattle.ep_check_expr.proofs.Breaking.{IsIn, both-first, both-second, when_accepted-part}
 use Rattle.ep_check_expr.proofs.Calls.{unless_faults-in}
@@ -80,6 +80,6 @@ module _ {X : Type 0} (view : X → Given) (ps : List FormalParameter) (all : Li
       taken_part (Breaks rules) h = h
 
 -- a function that has parameters, without arguments
-pub without_arguments : (callee : Callee) (ps : List FormalParameter) (h : Host) → 1 ≤ length ps → breaks 37 (function_called callee ps h []) ≡ true
-without_arguments callee [] h e = let none : ⊥ = omega (arith, e) in absurd none
-without_arguments callee (p ∷ ps) h e = refl
+pub without_arguments : (callee : Callee) (ps : List FormalParameter) (k : Kind) → 1 ≤ length ps → breaks 37 (function_called callee ps k []) ≡ true
+without_arguments callee [] k e = let none : ⊥ = omega (arith, e) in absurd none
+without_arguments callee (p ∷ ps) k e = refl

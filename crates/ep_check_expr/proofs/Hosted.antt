@@ -1,5 +1,5 @@
 -- The host of what the rules accept is a required type, or that of something that the scopes declare.
-use Rattle.std.proofs.Common.{ℕ, ℤ, Bool, true, false, ◌&&◌, nat_le, List, [], ◌∷◌, Option, Some, None, inl, inr, refl}
+use Rattle.std.proofs.Common.{◌≡◌, ◌==◌, ◌∙◌, ℕ, ℤ, Bool, true, false, ◌&&◌, nat_le, List, [], ◌∷◌, Option, Some, None, inl, inr, refl, sym, subst}
 use Rattle.std.specs.Prelude.{⊤, if◌then◌else◌}
 use Rattle.std.specs.Str.{bytes_eq}
 use Rattle.ep_tree.specs.declared.operator.AddingOperator.{AddingOperator}
@@ -15,8 +15,9 @@ use Rattle.ep_typed.specs.declared.operations.Unary.{Unary}
 use Rattle.ep_typed.specs.declared.operations.Binary.{Binary}
 use Rattle.ep_typed.specs.declared.operations.ShortOperation.{ShortOperation}
 use Rattle.ep_scope.specs.Required.{look_up, required_of}
-use Rattle.ep_scope.specs.Scopes.{Entries, Region, Meant, Declares, Requires, Nothing, as_required, as_thing, depth_in, look_up_if, look_up_in, meant, meant_in, or_outside, unless_hidden}
+use Rattle.ep_scope.specs.Scopes.{Entries, Region, Meant, Declares, Requires, Nothing, array_among, array_in, array_or, as_required, as_thing, depth_in, look_up_if, look_up_in, meant, meant_in, or_outside, unless_hidden}
 use Rattle.ep_scope.specs.Scopes as meaning
+use Rattle.ep_scope.specs.declared.array.ArrayType.{ArrayType}
 use Rattle.ep_scope.specs.declared.kind.Host.{Host}
 use Rattle.ep_scope.specs.declared.kind.Host.TheVariants as host
 use Rattle.ep_scope.specs.declared.kind.Kind.{Kind}
@@ -37,10 +38,12 @@ use Rattle.ep_check_expr.specs.Arguments.{Taken, arguments_judged, callee_at, fu
 use Rattle.ep_check_expr.specs.Expressions.{spelled}
 use Rattle.ep_check_expr.specs.Functions.{Given, applied_one, applied_two, ordinal_by, other_argument, step_typed, stepped_by, one}
 use Rattle.ep_check_expr.specs.Hosts.{typed_host}
+use Rattle.ep_check_expr.specs.Indexing.{component_depth, component_typed}
 use Rattle.ep_check_expr.specs.Judgements.{Judged, Accepts, Breaks, Typed, unbuilt, when_accepted}
 use Rattle.ep_check_expr.specs.Names.{call_declared, leaf, value_declared, value_named, value_required}
-use Rattle.ep_check_expr.specs.Operators.{added, are_compatible, arithmetic, binary_typed, boolean, compared, comparison, integer, is_boolean, is_integer, is_string, logical, misfit, multiplied, short_circuit, short_typed, sign_of, signed, unary_typed, unbuilt_typed, within_depth}
-use Rattle.ep_check_expr.specs.Origins.{DeclaresHost, EntriesHaveHost, HasHost, InterfacesHaveHost, IsKnownHost, IsKnownKind, ScopesHaveHost, ThingHasHost}
+use Rattle.ep_check_expr.specs.Operators.{added, are_compatible, arithmetic, binary_typed, boolean, character, compared, comparison, integer, is_boolean, is_integer, is_string, logical, misfit, multiplied, short_circuit, short_typed, sign_of, signed, unary_typed, unbuilt_typed, within_depth}
+use Rattle.ep_check_expr.specs.Origins.{ArraysHaveHost, DeclaresHost, EntriesHaveHost, HasHost, InterfacesHaveHost, IsKnownHost, IsKnownKind, ScopesHaveHost, ThingHasHost}
+use Rattle.ep_check_expr.proofs.Indexed.{index-given}
 use Rattle.ep_check_expr.proofs.Keeping.{IsCalled, IsKept, Satisfies, if-satisfies}
 
 -- ---- names
@@ -104,7 +107,7 @@ meant_comes [] name = required_comes (ScopesHaveHost []) (required_of name)
 meant_comes (r ∷ rs) name =
     outside_comes (ScopesHaveHost (r ∷ rs)) (look_up r.entries name) (meant rs name)
     (thing_wider (EntriesHaveHost r.entries) (ScopesHaveHost (r ∷ rs)) (look_up r.entries name) (λ h p. inl p) (entry_comes r.entries name))
-    (meant_wider (ScopesHaveHost rs) (ScopesHaveHost (r ∷ rs)) (meant rs name) (λ h p. inr (inr p)) (meant_comes rs name))
+    (meant_wider (ScopesHaveHost rs) (ScopesHaveHost (r ∷ rs)) (meant rs name) (λ h p. inr (inr (inr p))) (meant_comes rs name))
 
 meant_in_comes : (scopes : List Region) (interface name : List ℕ) → MeantComes (ScopesHaveHost scopes) (meant_in scopes interface name)
 meant_in_comes [] interface name = tt
@@ -112,7 +115,27 @@ meant_in_comes (r ∷ rs) interface name =
     hidden_comes (ScopesHaveHost (r ∷ rs)) (look_up r.entries interface) (or_outside (look_up_in r interface name) (meant_in rs interface name))
     (outside_comes (ScopesHaveHost (r ∷ rs)) (look_up_in r interface name) (meant_in rs interface name)
     (thing_wider (InterfacesHaveHost r.qualified) (ScopesHaveHost (r ∷ rs)) (look_up_in r interface name) (λ h p. inr (inl p)) (interface_comes r.qualified interface name))
-    (meant_wider (ScopesHaveHost rs) (ScopesHaveHost (r ∷ rs)) (meant_in rs interface name) (λ h p. inr (inr p)) (meant_in_comes rs interface name)))
+    (meant_wider (ScopesHaveHost rs) (ScopesHaveHost (r ∷ rs)) (meant_in rs interface name) (λ h p. inr (inr (inr p))) (meant_in_comes rs interface name)))
+
+-- ---- array types
+
+-- the host of the components of an array type is one of those that array types have
+among_comes : (n : ℕ) (arrays : List ArrayType) (a : ArrayType) (h : Host) → array_among n arrays ≡ Some a → HasHost a.kind h → ArraysHaveHost arrays h
+among_comes n [] a h e p = cc
+among_comes n (b ∷ more) a h e p = chosen (b.number == n) (λ later. among_comes n more a h later p) e
+  where
+    chosen : (c : Bool) → (array_among n more ≡ Some a → ArraysHaveHost more h) → (if c then Some b else array_among n more) ≡ Some a → ArraysHaveHost (b ∷ more) h
+    chosen true later e = let is : b ≡ a = cc in inl (subst (λ x. HasHost x.kind h) (sym is) p)
+    chosen false later e = inr (later e)
+
+-- so it is one that the scopes have
+array_comes : (n : ℕ) (scopes : List Region) (a : ArrayType) (h : Host) → array_in scopes n ≡ Some a → HasHost a.kind h → ScopesHaveHost scopes h
+array_comes n [] a h e p = cc
+array_comes n (r ∷ rs) a h e p = found (array_among n r.arrays) refl (λ later. array_comes n rs a h later p) e
+  where
+    found : (o : Option ArrayType) → array_among n r.arrays ≡ o → (array_in rs n ≡ Some a → ScopesHaveHost rs h) → array_or o (array_in rs n) ≡ Some a → ScopesHaveHost (r ∷ rs) h
+    found None is later e = inr (inr (inr (later e)))
+    found (Some b) is later e = inr (inr (inl (among_comes n r.arrays a h (is ∙ e) p)))
 
 -- ---- rules
 
@@ -126,15 +149,16 @@ module _ (scopes : List Region) where
 
   kind_comes : (k : Kind) → ((h : Host) → HasHost k h → ScopesHaveHost scopes h) → IsKnownKind scopes k
   kind_comes (kind.Ordinal h) f = inr (f h refl)
+  kind_comes (kind.Array n) f = tt
   kind_comes kind.Text f = tt
   kind_comes kind.File f = tt
 
   depth_comes : (form : Option Expr) (k : Kind) (depth : ℕ) → IsKnownKind scopes k → Comes (within_depth form k depth)
   depth_comes form k depth p = if-satisfies IsKnown (nat_le depth 1000) (Accepts (record { form = form; kind = k; depth = depth; access = access.Value })) (Breaks (rule.TOO_DEEP ∷ [])) (λ e. p) tt
 
-  function_comes : (callee : Callee) (h : Host) (J : Judged Taken) → IsKnownHost scopes h → Comes (when_accepted (function_typed callee h) J)
-  function_comes callee h (Accepts t) p = depth_comes _ (kind.Ordinal h) _ p
-  function_comes callee h (Breaks rules) p = tt
+  function_comes : (callee : Callee) (k : Kind) (J : Judged Taken) → IsKnownKind scopes k → Comes (when_accepted (function_typed callee k) J)
+  function_comes callee k (Accepts t) p = depth_comes _ k _ p
+  function_comes callee k (Breaks rules) p = tt
 
   declared_comes : (depth : ℕ) (d : Declared) (what : Declaration) → ((h : Host) → DeclaresHost what h → ScopesHaveHost scopes h) → Comes (value_declared depth d what)
   declared_comes depth d (declaration.Constant k v) f = kind_comes k f
@@ -142,7 +166,7 @@ module _ (scopes : List Region) where
   declared_comes depth d (declaration.Variable of k) f = kind_comes k f
   declared_comes depth d (declaration.Own of k guarded) f = kind_comes k f
   declared_comes depth d (declaration.Procedure parameters) f = tt
-  declared_comes depth d (declaration.Function parameters of h) f = function_comes (callee_at depth d) h (arguments_judged parameters []) (inr (f h refl))
+  declared_comes depth d (declaration.Function parameters of k) f = function_comes (callee_at depth d) k (arguments_judged parameters []) (kind_comes k f)
 
   call_comes : (depth : ℕ) (d : Declared) (what : Declaration) (gs : List Given) → ((h : Host) → DeclaresHost what h → ScopesHaveHost scopes h) → Comes (call_declared depth d what gs)
   call_comes depth d (declaration.Constant k v) gs f = tt
@@ -150,7 +174,7 @@ module _ (scopes : List Region) where
   call_comes depth d (declaration.Variable of k) gs f = tt
   call_comes depth d (declaration.Own of k guarded) gs f = tt
   call_comes depth d (declaration.Procedure parameters) gs f = tt
-  call_comes depth d (declaration.Function parameters of h) gs f = function_comes (callee_at depth d) h (arguments_judged parameters gs) (inr (f h refl))
+  call_comes depth d (declaration.Function parameters of k) gs f = function_comes (callee_at depth d) k (arguments_judged parameters gs) (kind_comes k f)
 
   called_comes : (m : Meant) → MeantComes (ScopesHaveHost scopes) m → IsCalled (depth_in scopes) IsKnown m
   called_comes (Declares d) c = λ gs p. call_comes (depth_in scopes) d d.what gs c
@@ -228,11 +252,13 @@ module _ (scopes : List Region) where
 
   ordinal_comes : (k : Kind) (x : Typed) → Comes (ordinal_by k x)
   ordinal_comes (kind.Ordinal h) x = depth_comes _ integer _ (inl tt)
+  ordinal_comes (kind.Array n) x = tt
   ordinal_comes kind.Text x = tt
   ordinal_comes kind.File x = tt
 
   stepped_comes : (k : Kind) (down : Bool) (x count : Typed) → IsKnownKind scopes k → Comes (stepped_by k down x count)
   stepped_comes (kind.Ordinal h) down x count p = if-satisfies IsKnown (is_integer count.kind) (step_typed down h x count) other_argument (λ e. depth_comes _ (kind.Ordinal h) _ p) tt
+  stepped_comes (kind.Array n) down x count p = tt
   stepped_comes kind.Text down x count p = tt
   stepped_comes kind.File down x count p = tt
 
@@ -254,6 +280,10 @@ module _ (scopes : List Region) where
   two_comes function.Ordinal x y p = tt
   two_comes function.Character x y p = tt
 
+  component_comes : (n : ℕ) (a : ArrayType) (x i : Typed) → array_in scopes n ≡ Some a → Comes (component_typed a x i)
+  component_comes n a x i e =
+      if-satisfies IsKnown (nat_le (component_depth x.depth i.depth) 1000) (Accepts _) (Breaks (rule.TOO_DEEP ∷ [])) (λ d. kind_comes a.kind (λ h p. array_comes n scopes a h e p)) tt
+
   -- each rule gives a known host for known ones
   pub knowledge_is_kept : IsKept IsKnown scopes
   knowledge_is_kept = record {
@@ -263,6 +293,7 @@ module _ (scopes : List Region) where
     named = λ name. named_comes name (meant scopes name) (meant_comes scopes name);
     within = λ interface name. named_comes name (meant_in scopes interface name) (meant_in_comes scopes interface name);
     called = λ name. called_comes (meant scopes name) (meant_comes scopes name);
+    indexes = λ x i p q. index-given IsKnown scopes x.kind x i (λ n a is e same. component_comes n a x i e) (depth_comes _ character _ (inl tt));
     parenthesizes = λ x p. p;
     signs = signed_comes;
     negates = λ x p. unary_comes (is_boolean x.kind) _ boolean x misfit (inl tt) tt;

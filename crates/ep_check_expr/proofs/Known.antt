@@ -1,5 +1,5 @@
 -- What is known of a valid form as a constant is a value of its host.
-use Rattle.std.proofs.Common.{◌≡◌, ℕ, ℤ, pos, negsuc, zero, suc, ◌%◌, Bool, true, false, Option, Some, None, IsTrue, refl, sym, ap, ◌∙◌, subst, arith}
+use Rattle.std.proofs.Common.{◌≡◌, ℕ, ℤ, pos, negsuc, zero, suc, ◌%◌, Bool, true, false, List, Option, Some, None, IsTrue, refl, sym, ap, ◌∙◌, subst, arith}
 use Rattle.std.proofs.lemmas.Bool.Decides.{nat_tests}
 use Rattle.std.specs.Prelude.{⊤, if◌then◌else◌, ◌-ℤ◌, unsigned_abs}
 use Rattle.ep_typed.specs.Hosts.{Host, least, greatest, is_of_host}
@@ -14,10 +14,11 @@ use Rattle.ep_typed.specs.declared.operations.Binary.{Binary}
 use Rattle.ep_typed.specs.declared.operations.Binary.TheVariants as binary
 use Rattle.ep_typed.specs.declared.operations.ShortOperation.{ShortOperation}
 use Rattle.ep_typed.specs.declared.run_error.TheConstants as run_error
+use Rattle.ep_scope.specs.declared.array.ArrayType.{ArrayType}
 use Rattle.ep_scope.specs.declared.kind.Host as scope
 use Rattle.ep_scope.specs.declared.kind.Kind.TheVariants as kind
 use Rattle.ep_scope.specs.declared.kind.Kind.{Kind}
-use Rattle.ep_check_expr.specs.Agreement.{IsHost, IsConstantOf, IsFormOf}
+use Rattle.ep_check_expr.specs.Agreement.{IsHost, IsConstantOf, IsFormOf, TypeValues}
 use Rattle.ep_check_expr.specs.Constants.{constant_of, constant_folded}
 use Rattle.ep_check_expr.specs.Hosts.{typed_host}
 use Rattle.ep_check_expr.specs.Judgements.{Judged, Accepts, Breaks}
@@ -208,14 +209,14 @@ abbrev pub IsJudgedConstant : Judged ConstantForm → Type 0
 IsJudgedConstant (Accepts c) = IsConstantOf c.kind c.value
 IsJudgedConstant (Breaks rules) = ⊤
 
-module _ (declared : Declarations) where
+module _ (declared : Declarations) (types : TypeValues) (arrays : List ArrayType) where
   folded-constant : (h : scope.Host) (x : Expr) (r : Folded) → folded x ≡ r → IsHost h → IsExpr declared (valid.Ordinal (typed_host h)) x → IsJudgedConstant (constant_folded (kind.Ordinal h) r)
   folded-constant h x (Known z) e s v = (s, known-of_host declared x (typed_host h) z v e)
   folded-constant h x Varies e s v = tt
   folded-constant h x Errs e s v = tt
 
   -- a valid form is a constant of its kind, if it is one
-  pub constant-fits : (k : Kind) (form : Option Expr) → IsFormOf declared k form → IsJudgedConstant (constant_of k form)
+  pub constant-fits : (k : Kind) (form : Option Expr) → IsFormOf declared types arrays k form → IsJudgedConstant (constant_of k form)
   constant-fits (kind.Ordinal h) None s = (s, zero_of_host (typed_host h))
   constant-fits (kind.Ordinal h) (Some (Text bytes)) s = let e = s.1 in cc
   constant-fits (kind.Ordinal h) (Some (Constant z)) s = folded-constant h (Constant z) (Known z) refl s.0 s.1
@@ -225,6 +226,15 @@ module _ (declared : Declarations) where
   constant-fits (kind.Ordinal h) (Some (Short operation x y)) s = folded-constant h (Short operation x y) (folded (Short operation x y)) refl s.0 s.1
   constant-fits (kind.Ordinal h) (Some (Step down low high x y)) s = folded-constant h (Step down low high x y) (folded (Step down low high x y)) refl s.0 s.1
   constant-fits (kind.Ordinal h) (Some (Function callee given)) s = tt
+  constant-fits (kind.Array n) None s = tt
+  constant-fits (kind.Array n) (Some (Text bytes)) s = let e = s.1 in cc
+  constant-fits (kind.Array n) (Some (Constant z)) s = let e = s.1 in cc
+  constant-fits (kind.Array n) (Some (Read place)) s = tt
+  constant-fits (kind.Array n) (Some (One operation x)) s = let e = s.1 in cc
+  constant-fits (kind.Array n) (Some (Two operation x y)) s = let e = s.1 in cc
+  constant-fits (kind.Array n) (Some (Short operation x y)) s = let e = s.1 in cc
+  constant-fits (kind.Array n) (Some (Step down low high x y)) s = let e = s.1 in cc
+  constant-fits (kind.Array n) (Some (Function callee given)) s = tt
   constant-fits kind.Text None s = tt
   constant-fits kind.Text (Some (Text bytes)) s = tt
   constant-fits kind.Text (Some (Constant z)) s = let e = s.1 in cc

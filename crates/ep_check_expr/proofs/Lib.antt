@@ -10,10 +10,13 @@ pub mod Hosted
 pub mod Known
 pub mod Meant
 pub mod Nodes
+pub mod Places
+pub mod Indexed
 pub mod Parts
 pub mod Reading
 pub mod Rows
 pub mod SameHost
+pub mod Selectors
 pub mod SameType
 pub mod Sound
 pub mod Gathering

@@ -1,8 +1,9 @@
 -- What the rules say of the nodes of expressions by their parts: an equation for each node.
-use Rattle.std.proofs.Common.{◌≡◌, ℕ, ℤ, List, map, Option, Some, None, sym, ap, ◌∙◌}
+use Rattle.std.proofs.Common.{◌≡◌, ℕ, ℤ, List, [], map, Option, Some, None, refl, sym, ap, ◌∙◌}
 use Rattle.ep_scope.specs.Scopes.{Region}
 use Rattle.ep_tree.specs.Nodes.{expression_node, comparison_node, simple_node, addend_node, term_node, multiplier_node, access_node, argument_node}
 use Rattle.ep_tree.specs.declared.expression.ComponentValue.TheFolds.{fold-roll-Factor, fold-roll-Selector, fold-roll-Access, fold-roll-Addend, fold-roll-Argument, fold-roll-Comparison, fold-roll-Expression, fold-roll-Multiplier, fold-roll-Simple, fold-roll-Term}
+use Rattle.ep_tree.specs.declared.expression.Access.{Access}
 use Rattle.ep_tree.specs.declared.expression.Addend.{Addend}
 use Rattle.ep_tree.specs.declared.expression.Argument.{Argument, out-Argument, roll-out-Argument}
 use Rattle.ep_tree.specs.declared.expression.Comparison.{Comparison}
@@ -19,10 +20,19 @@ use Rattle.ep_tree.specs.declared.operator.MultiplyingOperator.{MultiplyingOpera
 use Rattle.ep_tree.specs.declared.operator.RelationalOperator.{RelationalOperator}
 use Rattle.ep_tree.specs.declared.operator.Sign.{Sign}
 use Rattle.ep_scope.specs.declared.kind.Host.TheVariants as host
-use Rattle.ep_check_expr.specs.Expressions.{Arguments, chained, spelled, string_judged, access_judged, judged, simple_judged, term_judged, factor_judged, addend_judged, multiplier_judged, comparison_judged, name_judged, selected, given}
-use Rattle.ep_check_expr.specs.Judgements.{Accepts, both, when_accepted}
+use Rattle.ep_check_expr.specs.Expressions.{Arguments, Indexes, chained, spelled, string_judged, access_judged, judged, simple_judged, term_judged, factor_judged, addend_judged, multiplier_judged, comparison_judged, name_judged, selected, given}
+use Rattle.ep_check_expr.specs.Judgements.{Judged, Accepts, Breaks, Typed, both, when_accepted}
 use Rattle.ep_check_expr.specs.Names.{parenthesized}
 use Rattle.ep_check_expr.specs.Operators.{signed, added, multiplied, compared}
+
+-- an access by itself
+abbrev pub access_expression : Access → Expression
+access_expression a = expression_node 1 (simple_node 1 None (term_node 1 (factor.Access a) []) []) None
+
+-- without a sign
+pub unsigned : (J : Judged Typed) → when_accepted (signed None) J ≡ J
+unsigned (Accepts x) = refl
+unsigned (Breaks rules) = refl
 
 module _ (scopes : List Region) where
   pub expression-judged : (at : ℕ) (l : Simple) → judged scopes (expression_node at l None) ≡ simple_judged scopes l
@@ -58,6 +68,9 @@ module _ (scopes : List Region) where
   pub arguments-judged : (at : ℕ) (more : List Argument) → selected scopes (selector.Arguments at more) ≡ Arguments (map (given scopes) more)
   arguments-judged at more = ap (selected scopes) (sym (selector.rolls-Arguments at more)) ∙ simp fold-roll-Selector
 
+  pub indexes-judged : (at : ℕ) (more : List Expression) → selected scopes (selector.Index at more) ≡ Indexes (map (judged scopes) more)
+  indexes-judged at more = ap (selected scopes) (sym (selector.rolls-Index at more)) ∙ simp fold-roll-Selector
+
   pub argument-judged : (at : ℕ) (e : Expression) → given scopes (argument_node at e None) ≡ record { value = judged scopes e; width = None }
   argument-judged at e = simp fold-roll-Argument
 
@@ -80,3 +93,9 @@ module _ (scopes : List Region) where
 
   pub string-judged : (at : ℕ) (b : List ℕ) → factor_judged scopes (factor.Text at b) ≡ string_judged b
   string-judged at b = ap (factor_judged scopes) (sym (factor.rolls-Text at b)) ∙ simp fold-roll-Factor
+
+  -- an expression that is an access
+  pub access-alone : (a : Access) → judged scopes (access_expression a) ≡ name_judged scopes a
+  access-alone a =
+      expression-judged 1 (simple_node 1 None (term_node 1 (factor.Access a) []) []) ∙ (simple-judged 1 None (term_node 1 (factor.Access a) []) []
+      ∙ (unsigned (term_judged scopes (term_node 1 (factor.Access a) [])) ∙ (term-judged 1 (factor.Access a) [] ∙ (ap (factor_judged scopes) (sym (factor.rolls-Access a)) ∙ simp fold-roll-Factor))))

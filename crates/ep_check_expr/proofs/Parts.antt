@@ -1,14 +1,16 @@
 -- A form has a property that the rules keep where its parts have it: chains of operands, calls with arguments, and accesses.
-use Rattle.std.proofs.Common.{ℕ, pos, List, [], ◌∷◌, ◌++◌, length}
+use Rattle.std.proofs.Common.{ℕ, pos, List, [], ◌∷◌, ◌++◌, length, Option, Some, None}
 use Rattle.std.specs.Prelude.{⊤}
+use Rattle.std.specs.Option.{option_map}
 use Rattle.ep_tree.specs.declared.operator.RelationalOperator.{RelationalOperator}
 use Rattle.ep_scope.specs.Scopes.{Region, Meant, Declares, Requires, Nothing, depth_in, meant, meant_in}
 use Rattle.ep_scope.specs.Scopes as meaning
 use Rattle.ep_scope.specs.declared.required.Function.{Function}
 use Rattle.ep_scope.specs.declared.required.Required.{Required}
 use Rattle.ep_scope.specs.declared.required.Required.TheVariants as required
-use Rattle.ep_check_expr.specs.Expressions.{Operand, Selected, Field, Arguments, Other, chained, string_judged, access_judged}
+use Rattle.ep_check_expr.specs.Expressions.{Operand, Selected, Field, Indexes, Arguments, Other, chained, string_judged, access_judged, indexed_if_all, indexes_of}
 use Rattle.ep_check_expr.specs.Functions.{Given, all_faults, accepted, accepted_first, called, number_faults, takes, unless_faults, applied}
+use Rattle.ep_check_expr.specs.Indexing.{indexed, indexed_all}
 use Rattle.ep_check_expr.specs.Judgements.{Judged, Accepts, Breaks, Typed, both, when_accepted}
 use Rattle.ep_check_expr.specs.Names.{call_required, call_named, no_field, is_nothing, constituent_value, value_named}
 use Rattle.ep_check_expr.specs.Operators.{compared}
@@ -24,9 +26,15 @@ module _ (Q : Typed → Type 0) where
   AreOperands [] = ⊤
   AreOperands (o ∷ os) = Satisfies Q o.operand × AreOperands os
 
-  -- all arguments that follow a name have it
+  -- all indexes have it
+  abbrev pub AreIndexes : List (Judged Typed) → Type 0
+  AreIndexes [] = ⊤
+  AreIndexes (i ∷ is) = Satisfies Q i × AreIndexes is
+
+  -- all indexes and arguments that follow a name have it
   abbrev pub IsSelected : Selected → Type 0
   IsSelected (Field name) = ⊤
+  IsSelected (Indexes is) = AreIndexes is
   IsSelected (Arguments gs) = AreGiven Q gs
   IsSelected Other = ⊤
 
@@ -38,6 +46,27 @@ module _ (Q : Typed → Type 0) where
   abbrev AreForms : List Typed → Type 0
   AreForms [] = ⊤
   AreForms (x ∷ xs) = Q x × AreForms xs
+
+  -- where there are indexes alone
+  abbrev AreIndexesIf : Option (List (Judged Typed)) → Type 0
+  AreIndexesIf None = ⊤
+  AreIndexesIf (Some is) = AreIndexes is
+
+  -- those of one selector after another
+  indexes-joined : (is js : List (Judged Typed)) → AreIndexes is → AreIndexes js → AreIndexes (is ++ js)
+  indexes-joined [] js p q = q
+  indexes-joined (i ∷ is) js p q = (p.0, indexes-joined is js p.1 q)
+
+  more-indexes : (is : List (Judged Typed)) (o : Option (List (Judged Typed))) → AreIndexes is → AreIndexesIf o → AreIndexesIf (option_map (λ js. is ++ js) o)
+  more-indexes is None p q = tt
+  more-indexes is (Some js) p q = indexes-joined is js p q
+
+  indexes_of-fit : (ss : List Selected) → AreSelected ss → AreIndexesIf (indexes_of ss)
+  indexes_of-fit [] p = tt
+  indexes_of-fit (Indexes is ∷ more) p = more-indexes is (indexes_of more) p.0 (indexes_of-fit more p.1)
+  indexes_of-fit (Field name ∷ more) p = tt
+  indexes_of-fit (Arguments gs ∷ more) p = tt
+  indexes_of-fit (Other ∷ more) p = tt
 
   -- a form of one part
   pub when_accepted-fits : (f : Typed → Judged Typed) → ((x : Typed) → Q x → Satisfies Q (f x)) → (a : Judged Typed) → Satisfies Q a → Satisfies Q (when_accepted f a)
@@ -118,12 +147,21 @@ module _ (Q : Typed → Type 0) where
     constituent_value-fits : (depth : ℕ) (interface name : List ℕ) (alone within : Meant) → Satisfies Q (value_named depth name within) → Satisfies Q (constituent_value depth interface name alone within)
     constituent_value-fits depth interface name alone within p = if-satisfies Q (is_nothing within) (no_field interface alone) (value_named depth name within) (λ e. no_field-fits interface alone) p
 
+    -- a value with indexes
+    indexed_all-fits : (x : Judged Typed) (is : List (Judged Typed)) → Satisfies Q x → AreIndexes is → Satisfies Q (indexed_all scopes x is)
+    indexed_all-fits x [] p q = p
+    indexed_all-fits x (i ∷ is) p q = indexed_all-fits (both (indexed scopes) x i) is (both-fits (indexed scopes) kept.indexes x i p q.0) q.1
+
+    indexed_if_all-fits : (x : Judged Typed) (o : Option (List (Judged Typed))) → Satisfies Q x → AreIndexesIf o → Satisfies Q (indexed_if_all scopes x o)
+    indexed_if_all-fits x None p q = tt
+    indexed_if_all-fits x (Some is) p q = indexed_all-fits x is p q
+
     -- a name with what follows it
     pub access_judged-fits : (name : List ℕ) (ss : List Selected) → AreSelected ss → Satisfies Q (access_judged scopes name ss)
     access_judged-fits name [] p = kept.named name
     access_judged-fits name (Arguments gs ∷ []) p = call_named-fits (depth_in scopes) name (meant scopes name) gs (kept.called name) p.0
     access_judged-fits name (Field field ∷ []) p = constituent_value-fits (depth_in scopes) name field (meant scopes name) (meant_in scopes name field) (kept.within name field)
-    access_judged-fits name (Other ∷ []) p = tt
+    access_judged-fits name (Indexes is ∷ ss) p = indexed_if_all-fits (value_named (depth_in scopes) name (meant scopes name)) (indexes_of (Indexes is ∷ ss)) (kept.named name) (indexes_of-fit (Indexes is ∷ ss) p)
+    access_judged-fits name (Other ∷ ss) p = tt
     access_judged-fits name (Arguments gs ∷ s ∷ ss) p = tt
     access_judged-fits name (Field field ∷ s ∷ ss) p = tt
-    access_judged-fits name (Other ∷ s ∷ ss) p = tt

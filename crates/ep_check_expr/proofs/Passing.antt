@@ -1,28 +1,31 @@
 -- Arguments that the rules accept are valid for the formal parameters of the routine.
-use Rattle.std.proofs.Common.{◌≡◌, ℕ, suc, Bool, true, false, nat_le, List, [], ◌∷◌, ◌++◌, Option, Some, None, refl, sym, ◌∙◌, ap, subst}
+use Rattle.std.proofs.Common.{◌≡◌, ◌==◌, ℕ, suc, Bool, true, false, nat_le, List, [], ◌∷◌, ◌++◌, Option, Some, None, refl, sym, ◌∙◌, ap, subst}
 use Rattle.std.specs.Prelude.{⊤, if◌then◌else◌}
 use Rattle.std.specs.Option.{option_map}
 use Rattle.ep_typed.specs.Trees as tree
-use Rattle.ep_typed.specs.Trees.{Actual, Callee, Expr, Place, actuals}
+use Rattle.ep_typed.specs.Trees.{Actual, Callee, Expr, actuals}
 use Rattle.ep_typed.specs.Valid as valid
 use Rattle.ep_typed.specs.Valid.{Declarations, IsExpr, IsGiven}
+use Rattle.ep_typed.specs.Viewed.{denoter_of}
 use Rattle.ep_typed.specs.declared.interface.Formal.{Formal}
 use Rattle.ep_typed.specs.declared.interface.FormalMode.{FormalMode}
 use Rattle.ep_typed.specs.declared.interface.FormalMode.TheVariants as mode
 use Rattle.ep_typed.specs.declared.unit.UnitType.{UnitType}
 use Rattle.ep_scope.specs.Kinds.{same_host}
 use Rattle.ep_scope.specs.Parameters.{same_type}
+use Rattle.ep_scope.specs.declared.array.ArrayType.{ArrayType}
 use Rattle.ep_scope.specs.declared.kind.Host.{Host}
 use Rattle.ep_scope.specs.declared.kind.Host.TheVariants as host
 use Rattle.ep_scope.specs.declared.kind.Kind.{Kind}
 use Rattle.ep_scope.specs.declared.kind.Kind.TheVariants as kind
 use Rattle.ep_scope.specs.declared.parameter.FormalParameter.{FormalParameter}
+use Rattle.ep_scope.specs.declared.parameter.Protection.{Protection}
 use Rattle.ep_scope.specs.declared.parameter.TypeName.{TypeName}
 use Rattle.ep_scope.specs.declared.rule.TheConstants as rule
 use Rattle.ep_check_expr.specs.declared.access.Access.{Access}
 use Rattle.ep_check_expr.specs.declared.access.Access.TheVariants as access
-use Rattle.ep_check_expr.specs.Agreement.{AreActuals, AreParameters, IsAccessOf, IsFormOf, IsFunctionOf, IsOfType, IsParameter, TypeValues}
-use Rattle.ep_check_expr.specs.Arguments.{Taken, accessed, actual_taken, argument_judged, argument_taken, arguments_judged, function_called, function_typed, given_to, joined, one_taken, threatened, value_taken, variable_taken}
+use Rattle.ep_check_expr.specs.Agreement.{AreActuals, AreParameters, HasKind, IsAccessOf, IsFormOf, IsFunctionOf, IsParameter, TypeValues}
+use Rattle.ep_check_expr.specs.Arguments.{Taken, accessed, actual_taken, argument_judged, argument_taken, arguments_judged, call_form, function_called, function_typed, given_to, joined, one_taken, threatened, value_taken, variable_taken}
 use Rattle.ep_check_expr.specs.Functions.{Given, given_faults, unless_faults}
 use Rattle.ep_check_expr.specs.Hosts.{typed_host}
 use Rattle.ep_check_expr.specs.Judgements.{Judged, Accepts, Breaks, Typed}
@@ -51,18 +54,25 @@ unless_faults-satisfies Q (r ∷ rs) J h = tt
 
 -- ---- values that are given
 
-module _ (declared : Declarations) {A : Type 0} (P : A → Type 0) (form : Expr → A) (h : Host) (fits : (x : Expr) → IsExpr declared (valid.Ordinal (typed_host h)) x → P (form x)) where
-  given_form : (g : Host) (value : Option Expr) → same_host h g ≡ true → IsFormOf declared (kind.Ordinal g) value → IfForm P (option_map form value)
+module _ (declared : Declarations) (types : TypeValues) (arrays : List ArrayType) {A : Type 0} (P : A → Type 0) (form : Expr → A) (h : Host) (fits : (x : Expr) → IsExpr declared (valid.Ordinal (typed_host h)) x → P (form x)) where
+  given_form : (g : Host) (value : Option Expr) → same_host h g ≡ true → IsFormOf declared types arrays (kind.Ordinal g) value → IfForm P (option_map form value)
   given_form g None s f = tt
   given_form g (Some x) s f = fits x (subst (λ k. IsExpr declared (valid.Ordinal k) x) (host_same h g s) f.1)
 
-  given_if : (same : Bool) (g : Host) (value : Option Expr) → same_host h g ≡ same → IsFormOf declared (kind.Ordinal g) value → Satisfies (IfForm P) (if same then Accepts (option_map form value) else Breaks (rule.ASSIGNMENT ∷ []))
+  given_if : (same : Bool) (g : Host) (value : Option Expr) → same_host h g ≡ same → IsFormOf declared types arrays (kind.Ordinal g) value → Satisfies (IfForm P) (if same then Accepts (option_map form value) else Breaks (rule.ASSIGNMENT ∷ []))
   given_if true g value s f = given_form g value s f
   given_if false g value s f = tt
 
   -- what is made of a value that is given has the property, where its making gives it that
-  pub given-fits : (from : Kind) (value : Option Expr) → IsFormOf declared from value → Satisfies (IfForm P) (given_to form (kind.Ordinal h) from value)
+  pub given-fits : (from : Kind) (value : Option Expr) → IsFormOf declared types arrays from value → Satisfies (IfForm P) (given_to form (kind.Ordinal h) from value)
   given-fits (kind.Ordinal g) value f = given_if (same_host h g) g value refl f
+  given-fits (kind.Array n) value f = array_fits h value
+    where
+      array_fits : (h : Host) (value : Option Expr) → Satisfies (IfForm P) (given_to form (kind.Ordinal h) (kind.Array n) value)
+      array_fits host.Char value = tt
+      array_fits host.Integer value = tt
+      array_fits host.Boolean value = tt
+      array_fits (host.Enumeration e) value = tt
   given-fits kind.Text value f = text_fits h value
     where
       text_fits : (h : Host) (value : Option Expr) → Satisfies (IfForm P) (given_to form (kind.Ordinal h) kind.Text value)
@@ -78,10 +88,10 @@ module _ (declared : Declarations) {A : Type 0} (P : A → Type 0) (form : Expr 
       file_fits host.Boolean value = tt
       file_fits (host.Enumeration e) value = tt
 
-module _ (declared : Declarations) (types : TypeValues) where
+module _ (declared : Declarations) (types : TypeValues) (arrays : List ArrayType) where
   -- a valid form of its kind, read of a variable of its type where it is the bare name of one
   abbrev pub IsForm : Typed → Type 0
-  IsForm t = IsFormOf declared t.kind t.form × IsAccessOf declared types t.access t.form
+  IsForm t = IsFormOf declared types arrays t.kind t.form × IsAccessOf declared types t.access t.form
 
   module _ (list : List UnitType) where
     module _ (p : FormalParameter) (f : Formal) (is : IsParameter types list p f) where
@@ -91,21 +101,42 @@ module _ (declared : Declarations) (types : TypeValues) where
 
       -- ---- variables that are given
 
-      taken_if : (same : Bool) (of : TypeName) (form : Option Expr) (place : Place) → same_type p.of of ≡ same → form ≡ Some (tree.Read place) → IsOfType declared types place of
+      taken_form : (of : TypeName) (guarded : Protection) (form : Option Expr) → same_type p.of of ≡ true → IsAccessOf declared types (access.Variable of guarded) form → IfForm IsVariable (accessed form)
+      taken_form of guarded None s x = tt
+      taken_form of guarded (Some e) s x = subst (λ z. IfForm IsVariable (accessed (Some z))) (sym x.1) (x.2.0, is.has_type ∙ (ap types (type_same p.of of s) ∙ x.2.1), x.2.2)
+
+      taken_if : (same : Bool) (of : TypeName) (guarded : Protection) (form : Option Expr) → same_type p.of of ≡ same → IsAccessOf declared types (access.Variable of guarded) form
           → Satisfies (IfForm IsVariable) (if same then Accepts (accessed form) else Breaks (rule.VARIABLE_ARGUMENT ∷ []))
-      taken_if true of form place s e x = subst (λ z. IfForm IsVariable (accessed z)) (sym e) (x.0, is.has_type ∙ (ap types (type_same p.of of s) ∙ x.1), x.2)
-      taken_if false of form place s e x = tt
+      taken_if true of guarded form s x = taken_form of guarded form s x
+      taken_if false of guarded form s x = tt
 
       variable-fits : (a : Access) (form : Option Expr) → IsAccessOf declared types a form → Satisfies (IfForm IsVariable) (variable_taken p.of a form)
-      variable-fits (access.Variable of guarded) form x = taken_if (same_type p.of of) of form x.0 refl x.1 x.2
+      variable-fits (access.Variable of guarded) form x = taken_if (same_type p.of of) of guarded form refl x
       variable-fits access.File form x = tt
       variable-fits access.Constant form x = tt
       variable-fits access.Value form x = tt
 
       -- ---- arguments
 
-      value-fits : (v : Typed) → IsForm v → Satisfies (IfForm (IsGiven declared list mode.Value f)) (value_taken p.host v)
-      value-fits v x = given-fits declared (IsGiven declared list mode.Value f) tree.Evaluated p.host (λ e q. (typed_host p.host, is.has_host, q)) v.kind v.form x.0
+      -- a value for a parameter of an array type is not built
+      array-given : (m : ℕ) (from : Kind) (form : Option Expr) → Satisfies (IfForm (IsGiven declared list mode.Value f)) (given_to tree.Evaluated (kind.Array m) from form)
+      array-given m (kind.Ordinal h) form = tt
+      array-given m (kind.Array n) form = nothing-given (m == n)
+        where
+          nothing-given : (same : Bool) → Satisfies (IfForm (IsGiven declared list mode.Value f)) (if same then Accepts None else Breaks (rule.ASSIGNMENT ∷ []))
+          nothing-given true = tt
+          nothing-given false = tt
+      array-given m kind.Text form = tt
+      array-given m kind.File form = tt
+
+      kind-given : (k : Kind) → HasKind list (denoter_of f.denoter) k → (v : Typed) → IsForm v → Satisfies (IfForm (IsGiven declared list mode.Value f)) (value_taken k v)
+      kind-given (kind.Ordinal h) has v x = given-fits declared types arrays (IsGiven declared list mode.Value f) tree.Evaluated h (λ e q. (typed_host h, has.1, q)) v.kind v.form x.0
+      kind-given (kind.Array m) has v x = array-given m v.kind v.form
+      kind-given kind.Text has v x = absurd has
+      kind-given kind.File has v x = absurd has
+
+      value-fits : (v : Typed) → IsForm v → Satisfies (IfForm (IsGiven declared list mode.Value f)) (value_taken p.kind v)
+      value-fits v x = kind-given p.kind is.has_kind v x
 
       -- what is protected is given alike
       protected_value : (x : Option Actual) → IfForm (IsGiven declared list mode.Value f) x → IfForm (IsGiven declared list mode.ProtectedValue f) x
@@ -120,7 +151,7 @@ module _ (declared : Declarations) (types : TypeValues) where
 
       actual-fits : (m : FormalMode) (v : Typed) → IsForm v → Satisfies (IfForm (IsGiven declared list m f)) (actual_taken m p v)
       actual-fits mode.Value v x = value-fits v x
-      actual-fits mode.ProtectedValue v x = weaker-satisfies (IfForm (IsGiven declared list mode.Value f)) (IfForm (IsGiven declared list mode.ProtectedValue f)) (value_taken p.host v) protected_value (value-fits v x)
+      actual-fits mode.ProtectedValue v x = weaker-satisfies (IfForm (IsGiven declared list mode.Value f)) (IfForm (IsGiven declared list mode.ProtectedValue f)) (value_taken p.kind v) protected_value (value-fits v x)
       actual-fits mode.Variable v x =
           both-satisfies (IfForm IsVariable) Any (IfForm IsVariable) (λ actual done. Accepts actual) (variable_taken p.of v.access v.form) (threatened v.access) (variable-fits v.access v.form x.1) (any-satisfies (threatened v.access)) (λ a done y z. y)
       actual-fits mode.ProtectedVariable v x = weaker-satisfies (IfForm IsVariable) (IfForm (IsGiven declared list mode.ProtectedVariable f)) (variable_taken p.of v.access v.form) protected_variable (variable-fits v.access v.form x.1)
@@ -159,13 +190,17 @@ module _ (declared : Declarations) (types : TypeValues) where
 
   -- ---- function designators
 
-  function-form : (callee : Callee) (ps : List FormalParameter) (h : Host) (s : IsFunctionOf declared types callee ps h) (xs : Option (List Actual))
-      → AreActuals declared (declared.types callee.unit) s.0.formals xs → IsFormOf declared (kind.Ordinal h) (option_map (λ zs. tree.Function callee (actuals zs)) xs)
-  function-form callee ps h s None x = s.3
-  function-form callee ps h s (Some xs) x = (s.3, (typed_host h, refl, s.0, s.1, s.2, x))
+  -- what is built of a call is valid; an array is not built
+  function-form : (callee : Callee) (ps : List FormalParameter) (k : Kind) (s : IsFunctionOf declared types arrays callee ps k) (xs : Option (List Actual))
+      → AreActuals declared (declared.types callee.unit) s.0.formals xs → IsFormOf declared types arrays k (call_form callee k xs)
+  function-form callee ps (kind.Ordinal h) s None x = s.2.1
+  function-form callee ps (kind.Ordinal h) s (Some xs) x = (s.2.1, (typed_host h, refl, s.0, s.1, s.2.0, x))
+  function-form callee ps (kind.Array n) s xs x = (declared.types callee.unit, s.2.3)
+  function-form callee ps kind.Text s xs x = absurd s.2
+  function-form callee ps kind.File s xs x = absurd s.2
 
   -- a call of a function that is accepted is valid
-  pub function_called-fits : (callee : Callee) (ps : List FormalParameter) (h : Host) (gs : List Given) → IsFunctionOf declared types callee ps h → AreGiven IsForm gs → Satisfies IsForm (function_called callee ps h gs)
-  function_called-fits callee ps h gs s k =
-      then-satisfies (IsTaken (declared.types callee.unit) s.0.formals) IsForm (function_typed callee h) (arguments_judged ps gs) (arguments-fit (declared.types callee.unit) ps s.0.formals gs s.4 k)
-      (λ t x. if-satisfies IsForm (nat_le (suc t.depth) limit.DEPTH) (Accepts _) (Breaks (rule.TOO_DEEP ∷ [])) (λ e. (function-form callee ps h s t.actuals x, tt)) tt)
+  pub function_called-fits : (callee : Callee) (ps : List FormalParameter) (k : Kind) (gs : List Given) → IsFunctionOf declared types arrays callee ps k → AreGiven IsForm gs → Satisfies IsForm (function_called callee ps k gs)
+  function_called-fits callee ps k gs s given =
+      then-satisfies (IsTaken (declared.types callee.unit) s.0.formals) IsForm (function_typed callee k) (arguments_judged ps gs) (arguments-fit (declared.types callee.unit) ps s.0.formals gs s.3 given)
+      (λ t x. if-satisfies IsForm (nat_le (suc t.depth) limit.DEPTH) (Accepts _) (Breaks (rule.TOO_DEEP ∷ [])) (λ e. (function-form callee ps k s t.actuals x, tt)) tt)

@@ -1,27 +1,40 @@
 -- What is the bare name of a variable is read of a place.
-use Rattle.std.proofs.Common.{◌≡◌, ℕ, List, [], Option, refl, subst, sym, ◌∙◌}
+use Rattle.std.proofs.Common.{◌≡◌, ℕ, nat_le, List, [], ◌∷◌, Option, Some, None, Result, Ok, Err, refl, subst, sym, ◌∙◌}
+use Rattle.std.specs.Prelude.{IfOk}
+use Rattle.std.specs.Option.{option_map}
+use Rattle.ep_tree.specs.declared.expression.Access as syntax
 use Rattle.ep_tree.specs.declared.expression.Argument.{Argument, out-Argument}
-use Rattle.ep_typed.specs.Trees.{Callee, Expr, Variable}
+use Rattle.ep_typed.specs.Trees.{Callee, Expr, Constant, Text, Read, One, Two, Short, Step, Function, Indexed, Variable}
+use Rattle.ep_typed.specs.Viewed.{expr_of}
 use Rattle.ep_scope.specs.Scopes.{Region, Meant, Declares, Requires, Nothing, depth_in, meant, meant_in}
 use Rattle.ep_scope.specs.Scopes as meaning
-use Rattle.ep_scope.specs.declared.kind.Host.{Host}
+use Rattle.ep_scope.specs.declared.array.ArrayType.{ArrayType}
 use Rattle.ep_scope.specs.declared.kind.Host.TheVariants as host
 use Rattle.ep_scope.specs.declared.kind.Kind.{Kind}
+use Rattle.ep_scope.specs.declared.parameter.TypeName.{TypeName}
 use Rattle.ep_scope.specs.declared.required.Required.{Required}
 use Rattle.ep_scope.specs.declared.required.Required.TheVariants as required
 use Rattle.ep_scope.specs.declared.required.RequiredConstant.TheVariants as constant
+use Rattle.ep_scope.specs.declared.rule.TheConstants as rule
 use Rattle.ep_scope.specs.declared.thing.Declaration.{Declaration}
 use Rattle.ep_scope.specs.declared.thing.Declaration.TheVariants as declaration
 use Rattle.ep_scope.specs.declared.thing.Declared.{Declared}
+use Rattle.ep_check_expr.specs.declared.access.Access.{Access}
 use Rattle.ep_check_expr.specs.declared.access.Access.TheVariants as access
-use Rattle.ep_check_expr.specs.Arguments.{IsReading, Taken, arguments_judged, callee_at, function_typed, own_place}
-use Rattle.ep_check_expr.specs.Expressions.{given}
+use Rattle.ep_check_expr.specs.declared.forms.TheConstants as limit
+use Rattle.ep_check_expr.specs.declared.forms.Refusal.{Refusal}
+use Rattle.ep_check_expr.specs.declared.forms.Typed as code
+use Rattle.ep_check_expr.specs.Answers.{AnswersTyped, typed_of}
+use Rattle.ep_check_expr.specs.Arguments.{IsReading, IsReadingIf, Taken, arguments_judged, callee_at, function_typed, own_place}
+use Rattle.ep_check_expr.specs.Expressions.{given, name_judged}
 use Rattle.ep_check_expr.specs.Functions.{Given}
+use Rattle.ep_check_expr.specs.Indexing.{component_access, component_depth, component_form, component_typed}
 use Rattle.ep_check_expr.specs.Judgements.{Judged, Accepts, Breaks, Typed, when_accepted}
 use Rattle.ep_check_expr.specs.Names.{call_declared, value_declared, value_named, value_required}
-use Rattle.ep_check_expr.proofs.Accepted.{expressions-fit}
+use Rattle.ep_check_expr.proofs.Accepted.{accesses-fit, expressions-fit}
+use Rattle.ep_check_expr.proofs.Indexed.{index-given}
 use Rattle.ep_check_expr.proofs.Plain.{deep-plain, spelled-plain, signed-plain, negated-plain, added-plain, multiplied-plain, compared-plain, applied_one-plain, applied_two-plain}
-use Rattle.ep_check_expr.proofs.Keeping.{IsCalled, IsKept, Satisfies}
+use Rattle.ep_check_expr.proofs.Keeping.{IsCalled, IsKept, Satisfies, if-satisfies}
 use Rattle.ep_check_expr.proofs.Nodes.{given-value}
 
 abbrev IsPlaced : Typed → Type 0
@@ -30,9 +43,9 @@ IsPlaced t = IsReading t.access t.form
 plain : (form : Option Expr) (k : Kind) (depth : ℕ) → IsPlaced (record { form = form; kind = k; depth = depth; access = access.Value })
 plain form k depth = tt
 
-function-placed : (callee : Callee) (h : Host) (J : Judged Taken) → Satisfies IsPlaced (when_accepted (function_typed callee h) J)
-function-placed callee h (Accepts t) = deep-plain IsPlaced plain _ _ _
-function-placed callee h (Breaks rules) = tt
+function-placed : (callee : Callee) (k : Kind) (J : Judged Taken) → Satisfies IsPlaced (when_accepted (function_typed callee k) J)
+function-placed callee k (Accepts t) = deep-plain IsPlaced plain _ _ _
+function-placed callee k (Breaks rules) = tt
 
 declared-placed : (depth : ℕ) (d : Declared) (what : Declaration) → Satisfies IsPlaced (value_declared depth d what)
 declared-placed depth d (declaration.Constant k v) = tt
@@ -40,7 +53,7 @@ declared-placed depth d (declaration.«Type» of h) = tt
 declared-placed depth d (declaration.Variable of k) = (Variable d.unit d.number, refl)
 declared-placed depth d (declaration.Own of k guarded) = (own_place depth d, refl)
 declared-placed depth d (declaration.Procedure parameters) = tt
-declared-placed depth d (declaration.Function parameters of h) = function-placed (callee_at depth d) h (arguments_judged parameters [])
+declared-placed depth d (declaration.Function parameters of k) = function-placed (callee_at depth d) k (arguments_judged parameters [])
 
 called-placed : (depth : ℕ) (d : Declared) (what : Declaration) (gs : List Given) → Satisfies IsPlaced (call_declared depth d what gs)
 called-placed depth d (declaration.Constant k v) gs = tt
@@ -48,7 +61,7 @@ called-placed depth d (declaration.«Type» of h) gs = tt
 called-placed depth d (declaration.Variable of k) gs = tt
 called-placed depth d (declaration.Own of k guarded) gs = tt
 called-placed depth d (declaration.Procedure parameters) gs = tt
-called-placed depth d (declaration.Function parameters of h) gs = function-placed (callee_at depth d) h (arguments_judged parameters gs)
+called-placed depth d (declaration.Function parameters of k) gs = function-placed (callee_at depth d) k (arguments_judged parameters gs)
 
 required-placed : (r : Required) → Satisfies IsPlaced (value_required r)
 required-placed (required.Constant constant.MaxInt) = tt
@@ -71,6 +84,31 @@ call-placed depth (meaning.Standard file) = tt
 call-placed depth (Requires r) = tt
 call-placed depth Nothing = tt
 
+-- a component that is built is read of its place
+component-placed : (x i : Option Expr) → IsReadingIf (component_form x i)
+component-placed None i = tt
+component-placed (Some (Read place)) None = tt
+component-placed (Some (Read place)) (Some x) = (Indexed place x, refl)
+component-placed (Some (Constant z)) i = tt
+component-placed (Some (Text bytes)) i = tt
+component-placed (Some (One operation x)) i = tt
+component-placed (Some (Two operation x y)) i = tt
+component-placed (Some (Short operation x y)) i = tt
+component-placed (Some (Step down low high x y)) i = tt
+component-placed (Some (Function callee given)) i = tt
+
+-- so is what is a variable
+access-placed : (component : TypeName) (a : Access) (form : Option Expr) → IsReadingIf form → IsReading (component_access component a) form
+access-placed component (access.Variable of guarded) form r = r
+access-placed component access.File form r = tt
+access-placed component access.Constant form r = tt
+access-placed component access.Value form r = tt
+
+-- a component is read of a place where it is a variable
+index-placed : (a : ArrayType) (x i : Typed) → Satisfies IsPlaced (component_typed a x i)
+index-placed a x i =
+    if-satisfies IsPlaced (nat_le (component_depth x.depth i.depth) limit.DEPTH) (Accepts _) (Breaks (rule.TOO_DEEP ∷ [])) (λ e. access-placed a.component x.access (component_form x.form i.form) (component-placed x.form i.form)) tt
+
 -- each rule keeps it
 placing_is_kept : (scopes : List Region) → IsKept IsPlaced scopes
 placing_is_kept scopes = record {
@@ -80,6 +118,7 @@ placing_is_kept scopes = record {
   named = λ name. named-placed (depth_in scopes) name (meant scopes name);
   within = λ interface name. named-placed (depth_in scopes) name (meant_in scopes interface name);
   called = λ name. call-placed (depth_in scopes) (meant scopes name);
+  indexes = λ x i p q. index-given IsPlaced scopes x.kind x i (λ n a is e same. index-placed a x i) (deep-plain IsPlaced plain _ _ _);
   parenthesizes = λ x p. tt;
   signs = signed-plain IsPlaced plain;
   negates = λ x p. negated-plain IsPlaced plain x;
@@ -93,3 +132,12 @@ placing_is_kept scopes = record {
 -- so is the value of an argument that is accepted
 pub argument-reads : (scopes : List Region) (a : Argument) (t : Typed) → (given scopes a).value ≡ Accepts t → IsReading t.access t.form
 argument-reads scopes a t h = subst (Satisfies IsPlaced) (sym (given-value scopes a) ∙ h) (expressions-fit IsPlaced scopes (placing_is_kept scopes) (out-Argument a).value)
+
+-- and an access that is accepted
+pub access-reads : (scopes : List Region) (a : syntax.Access) (t : Typed) → name_judged scopes a ≡ Accepts t → IsReading t.access t.form
+access-reads scopes a t h = subst (Satisfies IsPlaced) h (accesses-fit IsPlaced scopes (placing_is_kept scopes) a)
+
+-- so is what a call answers of one
+pub access-answers : (scopes : List Region) (a : syntax.Access) (r : Result code.Typed Refusal) → AnswersTyped r (name_judged scopes a) → IfOk r (λ t. IsReading t.access (option_map expr_of t.form))
+access-answers scopes a (Ok t) h = access-reads scopes a (typed_of t) h
+access-answers scopes a (Err e) h = tt

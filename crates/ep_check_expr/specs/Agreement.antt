@@ -1,19 +1,21 @@
 -- Declarations that hold what scopes declare, under which typed forms are valid.
-use Rattle.std.specs.Prelude.{◌≡◌, ℕ, pos, List, [], ◌∷◌, Option, Some, None, IsTrue, int_le, ⊤}
-use Rattle.ep_typed.specs.Denoters.{host_of, type_of}
+use Rattle.std.specs.Prelude.{◌≡◌, ℕ, pos, All, List, [], ◌∷◌, ◌++◌, Option, Some, None, IsTrue, int_le, ⊤}
+use Rattle.ep_typed.specs.Denoters.{ArrayParts, array_of, host_of, type_of}
 use Rattle.ep_typed.specs.Hosts.{greatest, is_of_host}
 use Rattle.ep_typed.specs.Operations.{maxint}
-use Rattle.ep_typed.specs.Trees.{Callee, Place, Variable, Expr, Constant, Text, Read, One, Two, Short, Step, Function, Actual, actuals}
-use Rattle.ep_typed.specs.Valid.{Declarations, AreGiven, IsCallee, IsFunction, IsPlace, IsExpr, IsProcedure, IsVariableOf}
+use Rattle.ep_typed.specs.Trees.{Denoter, Named, Callee, Place, Variable, Expr, Constant, Text, Read, One, Two, Short, Step, Function, Actual, actuals}
+use Rattle.ep_typed.specs.Valid.{Declarations, AreGiven, IsCallee, IsFunction, IsPlace, IsPlaceWhere, IsExpr, IsProcedure, IsVariableOf}
 use Rattle.ep_typed.specs.Valid as valid
 use Rattle.ep_typed.specs.Viewed.{denoter_of}
 use Rattle.ep_typed.specs.declared.interface.Formal.{Formal}
 use Rattle.ep_typed.specs.declared.interface.RoutineEntry.{RoutineEntry}
+use Rattle.ep_typed.specs.declared.interface.RoutineResult.{RoutineResult}
 use Rattle.ep_typed.specs.declared.unit.UnitType.{UnitType}
 use Rattle.ep_typed.specs.TypeValues.{TypeValue}
 use Rattle.ep_typed.specs.declared.value.Value.{Value}
 use Rattle.ep_typed.specs.declared.value.Value.TheVariants as value
 use Rattle.ep_scope.specs.Scopes.{Entries, Region, depth_in}
+use Rattle.ep_scope.specs.declared.array.ArrayType.{ArrayType}
 use Rattle.ep_scope.specs.declared.kind.Host.{Host}
 use Rattle.ep_scope.specs.declared.kind.Kind.{Kind}
 use Rattle.ep_scope.specs.declared.kind.Kind.TheVariants as kind
@@ -34,10 +36,18 @@ use Rattle.ep_check_expr.specs.Judgements.{Typed}
 abbrev pub IsHost : Host → Type 0
 IsHost h = IsTrue (int_le (greatest (typed_host h)) (pos maxint))
 
--- the constant is of its kind
+-- those of the host of the kind are, where it has one
+abbrev pub IsKind : Kind → Type 0
+IsKind (kind.Ordinal h) = IsHost h
+IsKind (kind.Array n) = ⊤
+IsKind kind.Text = ⊤
+IsKind kind.File = ⊤
+
+-- the constant is of its kind; none is of an array type so far
 abbrev pub IsConstantOf : Kind → Value → Type 0
 IsConstantOf (kind.Ordinal h) (value.Word z) = IsHost h × IsTrue (is_of_host (typed_host h) z)
 IsConstantOf (kind.Ordinal h) (value.Text bytes) = ⊥
+IsConstantOf (kind.Array n) v = ⊥
 IsConstantOf kind.Text (value.Word z) = ⊥
 IsConstantOf kind.Text (value.Text bytes) = ⊤
 IsConstantOf kind.File v = ⊥
@@ -57,10 +67,36 @@ IsFile (Function callee given) = ⊥
 abbrev pub TypeValues : Type 0
 TypeValues = TypeName → Option TypeValue
 
+-- ---- kinds of denoters, under the list of types in which they name
+
+-- the denoter is that of the array type of this number
+abbrev pub IsArrayDenoter : List UnitType → Denoter → ℕ → Type 0
+IsArrayDenoter list d n = (p : ArrayParts) × (array_of list d ≡ Some p) × (array_of list (Named n []) ≡ Some p)
+
+-- the denoter is one of the kind; none is of a string type or of a file type so far
+abbrev pub HasKind : List UnitType → Denoter → Kind → Type 0
+HasKind list d (kind.Ordinal h) = IsHost h × (host_of list d ≡ Some (typed_host h))
+HasKind list d (kind.Array n) = IsArrayDenoter list d n
+HasKind list d kind.Text = ⊥
+HasKind list d kind.File = ⊥
+
+-- the list has the array type under its number, with an index type of its host and components of their kind and type
+abbrev pub HoldsArray : TypeValues → List UnitType → ArrayType → Type 0
+HoldsArray types list a =
+    (p : ArrayParts) × (array_of list (Named a.number []) ≡ Some p) × IsHost a.index × (host_of list p.index ≡ Some (typed_host a.index)) × HasKind list p.component a.kind
+    × ((v : TypeValue) × (types a.component ≡ Some v) × (type_of list p.component ≡ Some v))
+
+-- the array types of the scopes in view
+abbrev pub arrays_of : List Region → List ArrayType
+arrays_of [] = []
+arrays_of (r ∷ rs) = r.arrays ++ arrays_of rs
+
+-- ---- formal parameters
+
 -- a formal parameter of a routine, of a unit with this list of types, as its scope says it
 pub record IsParameter (types : TypeValues) (list : List UnitType) (p : FormalParameter) (f : Formal) : Type 0 where
   pub mode : f.mode ≡ p.mode
-  pub has_host : host_of list (denoter_of f.denoter) ≡ Some (typed_host p.host)
+  pub has_kind : HasKind list (denoter_of f.denoter) p.kind
   pub has_type : type_of list (denoter_of f.denoter) ≡ types p.of
 
 -- one for each, in order
@@ -75,16 +111,26 @@ module _ (declared : Declarations) where
   AreActuals list fs None = ⊤
   AreActuals list fs (Some given) = AreGiven declared list fs (actuals given)
 
-  -- the place is that of a variable that is declared, with a type of this host; there are no variables of string types so far
+-- where each type has one type value wherever it is named, and these array types are in view
+module _ (declared : Declarations) (types : TypeValues) (arrays : List ArrayType) where
+  -- the place is that of an array of this number, under a list of types that holds the array types
+  abbrev pub IsArrayAt : ℕ → Place → Type 0
+  IsArrayAt n place = IsPlaceWhere declared (λ list d. HasKind list d (kind.Array n) × All (HoldsArray types list) arrays) place
+
+  -- the place is that of a variable that is declared, with a type of this kind; there are no variables of string types so far
   abbrev pub IsStoredIn : Place → Kind → Type 0
   IsStoredIn place (kind.Ordinal h) = IsHost h × IsPlace declared (typed_host h) place
+  IsStoredIn place (kind.Array n) = IsArrayAt n place
   IsStoredIn place kind.Text = ⊥
   IsStoredIn place kind.File = ⊤
 
-  -- the form is a valid expression of the kind
+  -- The form is a valid expression of the kind. An array is read of its place, which is no expression by itself; where its
+  -- form is not built, some list of types holds the array types.
   abbrev pub IsFormOf : Kind → Option Expr → Type 0
   IsFormOf (kind.Ordinal h) None = IsHost h
   IsFormOf (kind.Ordinal h) (Some x) = IsHost h × IsExpr declared (valid.Ordinal (typed_host h)) x
+  IsFormOf (kind.Array n) None = (list : List UnitType) × All (HoldsArray types list) arrays
+  IsFormOf (kind.Array n) (Some x) = (place : Place) × (x ≡ Read place) × IsArrayAt n place
   IsFormOf kind.Text None = ⊤
   IsFormOf kind.Text (Some x) = IsExpr declared valid.Bytes x
   IsFormOf kind.File None = ⊥
@@ -95,9 +141,10 @@ module _ (declared : Declarations) (types : TypeValues) where
   abbrev pub IsOfType : Place → TypeName → Type 0
   IsOfType place t = (v : TypeValue) × (types t ≡ Some v) × IsVariableOf declared v place
 
-  -- what is the bare name of a variable of this type is read of its place
+  -- what is a variable of this type is read of its place, where it is built
   abbrev pub IsAccessOf : Access → Option Expr → Type 0
-  IsAccessOf (access.Variable of guarded) form = (place : Place) × (form ≡ Some (Read place)) × IsOfType place of
+  IsAccessOf (access.Variable of guarded) None = ⊤
+  IsAccessOf (access.Variable of guarded) (Some x) = (place : Place) × (x ≡ Read place) × IsOfType place of
   IsAccessOf access.File form = ⊤
   IsAccessOf access.Constant form = ⊤
   IsAccessOf access.Value form = ⊤
@@ -106,20 +153,28 @@ module _ (declared : Declarations) (types : TypeValues) where
   abbrev pub IsProcedureOf : Callee → List FormalParameter → Type 0
   IsProcedureOf callee ps = (r : RoutineEntry) × IsCallee declared callee r × IsProcedure r × AreParameters types (declared.types callee.unit) ps r.formals
 
-  -- a function with these formal parameters and a result of this host is called so
-  abbrev pub IsFunctionOf : Callee → List FormalParameter → Host → Type 0
-  IsFunctionOf callee ps h =
-      (r : RoutineEntry) × IsCallee declared callee r × IsFunction (declared.types callee.unit) (typed_host h) r × IsHost h × AreParameters types (declared.types callee.unit) ps r.formals
+module _ (declared : Declarations) (types : TypeValues) (arrays : List ArrayType) where
+  -- The heading of a function whose result is of this kind, in a unit with this list of types, which holds the array types where it is an array. None is of a string type or of a file type so far.
+  abbrev pub IsFunctionWith : List UnitType → Kind → RoutineEntry → Type 0
+  IsFunctionWith list (kind.Ordinal h) r = IsFunction list (typed_host h) r × IsHost h
+  IsFunctionWith list (kind.Array n) r = (result : RoutineResult) × (r.result ≡ Some result) × HasKind list (denoter_of result.denoter) (kind.Array n) × All (HoldsArray types list) arrays
+  IsFunctionWith list kind.Text r = ⊥
+  IsFunctionWith list kind.File r = ⊥
+
+  -- a function with these formal parameters and a result of this kind is called so
+  abbrev pub IsFunctionOf : Callee → List FormalParameter → Kind → Type 0
+  IsFunctionOf callee ps k =
+      (r : RoutineEntry) × IsCallee declared callee r × IsFunctionWith (declared.types callee.unit) k r × AreParameters types (declared.types callee.unit) ps r.formals
 
 -- for code that so many routines are around
-module _ (declared : Declarations) (types : TypeValues) (depth : ℕ) where
+module _ (declared : Declarations) (types : TypeValues) (arrays : List ArrayType) (depth : ℕ) where
   abbrev pub IsDeclaration : Declared → Declaration → Type 0
   IsDeclaration d (declaration.Constant kind value) = IsConstantOf kind value
-  IsDeclaration d (declaration.«Type» of host) = IsHost host
-  IsDeclaration d (declaration.Variable of kind) = IsStoredIn declared (Variable d.unit d.number) kind × IsOfType declared types (Variable d.unit d.number) of
-  IsDeclaration d (declaration.Own of kind guarded) = IsStoredIn declared (own_place depth d) kind × IsOfType declared types (own_place depth d) of
+  IsDeclaration d (declaration.«Type» of kind) = IsKind kind
+  IsDeclaration d (declaration.Variable of kind) = IsStoredIn declared types arrays (Variable d.unit d.number) kind × IsOfType declared types (Variable d.unit d.number) of
+  IsDeclaration d (declaration.Own of kind guarded) = IsStoredIn declared types arrays (own_place depth d) kind × IsOfType declared types (own_place depth d) of
   IsDeclaration d (declaration.Procedure parameters) = IsProcedureOf declared types (callee_at depth d) parameters
-  IsDeclaration d (declaration.Function parameters of host) = IsFunctionOf declared types (callee_at depth d) parameters host
+  IsDeclaration d (declaration.Function parameters of kind) = IsFunctionOf declared types arrays (callee_at depth d) parameters kind
 
   abbrev pub IsThing : Thing → Type 0
   IsThing (thing.Declared d) = IsDeclaration d d.what
@@ -140,17 +195,17 @@ module _ (declared : Declarations) (types : TypeValues) (depth : ℕ) where
 
 -- alike, where each type has one type value wherever it is named
 abbrev pub Agrees : Declarations → List Region → Type 0
-Agrees declared scopes = (types : TypeValues) × AgreesBy declared types (depth_in scopes) scopes
+Agrees declared scopes = (types : TypeValues) × AgreesBy declared types (arrays_of scopes) (depth_in scopes) scopes
 
 -- under all declarations that hold what the scopes declare, the typed form is valid
 abbrev pub IsSound : List Region → Typed → Type 0
-IsSound scopes t = (declared : Declarations) → Agrees declared scopes → IsFormOf declared t.kind t.form
+IsSound scopes t = (declared : Declarations) (types : TypeValues) → AgreesBy declared types (arrays_of scopes) (depth_in scopes) scopes → IsFormOf declared types (arrays_of scopes) t.kind t.form
 
--- alike, what is the bare name of a variable is read of the place of a variable of its type
+-- alike, what is a variable is read of the place of a variable of its type
 abbrev pub IsSoundAccess : List Region → Typed → Type 0
-IsSoundAccess scopes t = (declared : Declarations) (types : TypeValues) → AgreesBy declared types (depth_in scopes) scopes → IsAccessOf declared types t.access t.form
+IsSoundAccess scopes t = (declared : Declarations) (types : TypeValues) → AgreesBy declared types (arrays_of scopes) (depth_in scopes) scopes → IsAccessOf declared types t.access t.form
 
 -- alike, what is given is valid for the formal parameters of each routine that has these
 abbrev pub IsSoundTaken : List Region → List FormalParameter → Taken → Type 0
 IsSoundTaken scopes ps t =
-    (declared : Declarations) (types : TypeValues) → AgreesBy declared types (depth_in scopes) scopes → (list : List UnitType) (fs : List Formal) → AreParameters types list ps fs → AreActuals declared list fs t.actuals
+    (declared : Declarations) (types : TypeValues) → AgreesBy declared types (arrays_of scopes) (depth_in scopes) scopes → (list : List UnitType) (fs : List Formal) → AreParameters types list ps fs → AreActuals declared list fs t.actuals

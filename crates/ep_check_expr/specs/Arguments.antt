@@ -1,5 +1,5 @@
 -- What the static rules say of values that are given to variables, and of the arguments of a call of a procedure or function of a unit (ISO 10206, 6.4.6, 6.7.3 and 6.8.5).
-use Rattle.std.specs.Prelude.{◌≡◌, ⊤, ℕ, zero, suc, ◌-◌, max, List, [], ◌∷◌, ◌++◌, Option, Some, None, if◌then◌else◌}
+use Rattle.std.specs.Prelude.{◌≡◌, ⊤, ℕ, zero, suc, ◌-◌, ◌==◌, max, List, [], ◌∷◌, ◌++◌, Option, Some, None, if◌then◌else◌}
 use Rattle.std.specs.Option.{option_map}
 use Rattle.ep_typed.specs.Trees as tree
 use Rattle.ep_typed.specs.Trees.{Actual, Callee, Expr, Place, actuals}
@@ -7,7 +7,6 @@ use Rattle.ep_typed.specs.declared.interface.FormalMode.{FormalMode}
 use Rattle.ep_typed.specs.declared.interface.FormalMode.TheVariants as mode
 use Rattle.ep_scope.specs.Kinds.{same_host}
 use Rattle.ep_scope.specs.Parameters.{same_type}
-use Rattle.ep_scope.specs.declared.kind.Host.{Host}
 use Rattle.ep_scope.specs.declared.kind.Host.TheVariants as host
 use Rattle.ep_scope.specs.declared.kind.Kind.{Kind}
 use Rattle.ep_scope.specs.declared.kind.Kind.TheVariants as kind
@@ -40,31 +39,41 @@ callee_at depth d = record { unit = d.unit; number = d.number; levels = callee_l
 
 -- ---- values that are given (ISO 10206, 6.4.6)
 
--- What is made of a value that is given to something of a kind, whose hosts are the same; a text that is given to a char is not built.
+-- What is made of a value that is given to something of a kind: of an ordinal type whose host is the same, or of the same array type. A text that is given to a char is not built, and no array either.
 abbrev pub given_to : {A : Type 0} → (Expr → A) → Kind → Kind → Option Expr → Judged (Option A)
 given_to form (kind.Ordinal h) (kind.Ordinal g) value = if same_host h g then Accepts (option_map form value) else Breaks (rule.ASSIGNMENT ∷ [])
 given_to form (kind.Ordinal host.Char) kind.Text value = Accepts None
+given_to form (kind.Array m) (kind.Array n) value = if m == n then Accepts None else Breaks (rule.ASSIGNMENT ∷ [])
 given_to form kind.File from value = Breaks (rule.FILE_TYPE ∷ rule.ASSIGNMENT ∷ [])
 given_to form to kind.File value = Breaks (rule.FILE_TYPE ∷ rule.ASSIGNMENT ∷ [])
 given_to form to from value = Breaks (rule.ASSIGNMENT ∷ [])
 
--- a value parameter of this host takes a value (ISO 10206, 6.7.3.2)
-abbrev pub value_taken : Host → Typed → Judged (Option Actual)
-value_taken h v = given_to tree.Evaluated (kind.Ordinal h) v.kind v.form
+-- a value parameter of this kind takes a value (ISO 10206, 6.7.3.2)
+abbrev pub value_taken : Kind → Typed → Judged (Option Actual)
+value_taken k v = given_to tree.Evaluated k v.kind v.form
 
 -- ---- variables that are given (ISO 10206, 6.7.3.3)
 
--- what is the bare name of a variable is read of a place
+-- what is read of a place, where it is built
+abbrev pub IsReadingIf : Option Expr → Type 0
+IsReadingIf None = ⊤
+IsReadingIf (Some x) = (place : Place) × (x ≡ tree.Read place)
+
+-- so is what is a variable
 abbrev pub IsReading : Access → Option Expr → Type 0
-IsReading (access.Variable of guarded) form = (place : Place) × (form ≡ Some (tree.Read place))
+IsReading (access.Variable of guarded) form = IsReadingIf form
 IsReading access.File form = ⊤
 IsReading access.Constant form = ⊤
 IsReading access.Value form = ⊤
 
+-- the place that is read
+abbrev pub place_read : Option Expr → Option Place
+place_read (Some (tree.Read place)) = Some place
+place_read _ = None
+
 -- the variable whose value is read
 abbrev pub accessed : Option Expr → Option Actual
-accessed (Some (tree.Read place)) = Some (tree.Accessed place)
-accessed _ = None
+accessed form = option_map tree.Accessed (place_read form)
 
 -- a variable parameter takes a variable of its type; none has the type of text files so far
 abbrev pub variable_taken : TypeName → Access → Option Expr → Judged (Option Actual)
@@ -104,8 +113,8 @@ joined x y = record { actuals = map_both (λ xs ys. xs ++ ys) x.actuals y.actual
 
 -- a value for a formal parameter that is given in this way
 abbrev pub actual_taken : FormalMode → FormalParameter → Typed → Judged (Option Actual)
-actual_taken mode.Value p v = value_taken p.host v
-actual_taken mode.ProtectedValue p v = value_taken p.host v
+actual_taken mode.Value p v = value_taken p.kind v
+actual_taken mode.ProtectedValue p v = value_taken p.kind v
 actual_taken mode.Variable p v = both (λ actual done. Accepts actual) (variable_taken p.of v.access v.form) (threatened v.access)
 actual_taken mode.ProtectedVariable p v = variable_taken p.of v.access v.form
 
@@ -125,10 +134,17 @@ arguments_judged ps gs = Breaks (rule.ARGUMENTS ∷ [])
 
 -- ---- function designators (ISO 10206, 6.8.5)
 
--- a function, with a result of this host, is called
-abbrev pub function_typed : Callee → Host → Taken → Judged Typed
-function_typed callee h given = within_depth (option_map (λ xs. tree.Function callee (actuals xs)) given.actuals) (kind.Ordinal h) (suc given.depth)
+-- what is built of a call of a function with a result of this kind: where it is ordinal, the call, and so far nothing else
+abbrev pub call_form : Callee → Kind → Option (List Actual) → Option Expr
+call_form callee (kind.Ordinal h) given = option_map (λ xs. tree.Function callee (actuals xs)) given
+call_form callee (kind.Array n) given = None
+call_form callee kind.Text given = None
+call_form callee kind.File given = None
+
+-- a function with a result of this kind is called
+abbrev pub function_typed : Callee → Kind → Taken → Judged Typed
+function_typed callee k given = within_depth (call_form callee k given.actuals) k (suc given.depth)
 
 -- and has these formal parameters
-abbrev pub function_called : Callee → List FormalParameter → Host → List Given → Judged Typed
-function_called callee ps h gs = when_accepted (function_typed callee h) (arguments_judged ps gs)
+abbrev pub function_called : Callee → List FormalParameter → Kind → List Given → Judged Typed
+function_called callee ps k gs = when_accepted (function_typed callee k) (arguments_judged ps gs)

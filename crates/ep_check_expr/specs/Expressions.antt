@@ -1,5 +1,6 @@
 -- What the static rules say of each expression, by its parts: one clause for each production (ISO 10206, 6.8.1).
-use Rattle.std.specs.Prelude.{ℕ, ℤ, pos, List, [], ◌∷◌, Option, Some, None, if◌then◌else◌}
+use Rattle.std.specs.Prelude.{ℕ, ℤ, pos, List, [], ◌∷◌, ◌++◌, Option, Some, None, if◌then◌else◌}
+use Rattle.std.specs.Option.{option_map}
 use Rattle.ep_tree.specs.declared.operator.RelationalOperator.{RelationalOperator}
 use Rattle.ep_tree.specs.declared.operator.AddingOperator.{AddingOperator}
 use Rattle.ep_tree.specs.declared.operator.MultiplyingOperator.{MultiplyingOperator}
@@ -24,6 +25,7 @@ use Rattle.ep_scope.specs.declared.kind.Kind.TheVariants as kind
 use Rattle.ep_check_expr.specs.declared.access.Access.TheVariants as access
 use Rattle.ep_check_expr.specs.Functions.{Given}
 use Rattle.ep_check_expr.specs.Hosts.{typed_host}
+use Rattle.ep_check_expr.specs.Indexing.{indexed_all}
 use Rattle.ep_check_expr.specs.Judgements.{Judged, Accepts, Typed, unbuilt, when_accepted, both}
 use Rattle.ep_check_expr.specs.Names.{leaf, parenthesized, value_named, call_named, qualified_value}
 use Rattle.ep_check_expr.specs.Operators.{signed, negated, added, multiplied, compared}
@@ -58,8 +60,17 @@ chained rule first (o ∷ os) = chained rule (both (rule o.operator) first o.ope
 -- what follows the name of an access
 pub data Selected : Type 0 where
   Field : (name : List ℕ) → Selected
+  Indexes : (indexes : List (Judged Typed)) → Selected
   Arguments : (given : List Given) → Selected
   Other : Selected
+
+-- the indexes of selectors that have nothing else: `a[i, j]` is `a[i][j]` (ISO 10206, 6.5.3.2)
+abbrev pub indexes_of : List Selected → Option (List (Judged Typed))
+indexes_of [] = Some []
+indexes_of (Indexes is ∷ more) = option_map (λ js. is ++ js) (indexes_of more)
+indexes_of (Field name ∷ more) = None
+indexes_of (Arguments given ∷ more) = None
+indexes_of (Other ∷ more) = None
 
 -- a number or a character as the text spells it, which is a value of its host: no text has a number above `maxint` (ISO 10206, 6.1.7 and 6.4.2.2)
 abbrev pub spelled : Host → ℤ → Judged Typed
@@ -76,12 +87,16 @@ compared_if left None = left
 compared_if left (Some right) = both (compared right.operator) left right.operand
 
 module _ (scopes : List Region) where
-  -- a name, a name with arguments, or a name that an interface has
+  -- what has these selectors, which are built where they are indexes alone
+  abbrev pub indexed_if_all : Judged Typed → Option (List (Judged Typed)) → Judged Typed
+  indexed_if_all x None = unbuilt
+  indexed_if_all x (Some is) = indexed_all scopes x is
+
+  -- a name with arguments, a name that an interface has, or a name, alone or with indexes
   abbrev pub access_judged : List ℕ → List Selected → Judged Typed
-  access_judged name [] = value_named (depth_in scopes) name (meant scopes name)
   access_judged name (Arguments given ∷ []) = call_named (depth_in scopes) name (meant scopes name) given
   access_judged name (Field field ∷ []) = qualified_value scopes name field
-  access_judged name _ = unbuilt
+  access_judged name selectors = indexed_if_all (value_named (depth_in scopes) name (meant scopes name)) (indexes_of selectors)
 
   -- the results of the parts of a node
   abbrev pub at_component_value : ComponentValue-F Result Skipped Result Selected Result Addition Given Relation Result Skipped Multiplication Result Result Skipped → Judged Typed
@@ -103,7 +118,7 @@ module _ (scopes : List Region) where
 
   abbrev pub at_selector : Selector-F Result Skipped Result Selected Result Addition Given Relation Result Skipped Multiplication Result Result Skipped → Selected
   at_selector (Selector-F.Field line name) = Field name
-  at_selector (Selector-F.Index line indexes) = Other
+  at_selector (Selector-F.Index line indexes) = Indexes indexes
   at_selector (Selector-F.Dereference line) = Other
   at_selector (Selector-F.Arguments line arguments) = Arguments arguments
 

@@ -1,5 +1,6 @@
 -- The laws of typed forms: what the rules accept is valid wherever the declarations hold what the scopes declare, and of a host that is known.
 use Rattle.std.specs.Prelude.{◌≡◌, List, map}
+use Rattle.ep_tree.specs.declared.expression.Access.{Access}
 use Rattle.ep_tree.specs.declared.expression.Argument.{Argument}
 use Rattle.ep_tree.specs.declared.expression.ComponentValue.{ComponentValue}
 use Rattle.ep_tree.specs.declared.expression.Expression.{Expression}
@@ -8,7 +9,7 @@ use Rattle.ep_scope.specs.declared.parameter.FormalParameter.{FormalParameter}
 use Rattle.ep_check_expr.specs.Agreement.{IsSound, IsSoundAccess, IsSoundTaken}
 use Rattle.ep_check_expr.specs.Arguments.{Taken, arguments_judged}
 use Rattle.ep_check_expr.specs.Constants.{IsSoundConstant, constant_judged, bound_judged, label_judged}
-use Rattle.ep_check_expr.specs.Expressions.{given, judged, judged_value}
+use Rattle.ep_check_expr.specs.Expressions.{given, judged, judged_value, name_judged}
 use Rattle.ep_check_expr.specs.Judgements.{Accepts, Typed}
 use Rattle.ep_check_expr.specs.Origins.{IsKnownKind}
 use Rattle.ep_check_expr.specs.declared.constants.ConstantForm.{ConstantForm}
@@ -17,9 +18,13 @@ use Rattle.ep_check_expr.specs.declared.constants.ConstantForm.{ConstantForm}
 abbrev pub ExpressionsAreSound : Type 0
 ExpressionsAreSound = (scopes : List Region) (e : Expression) (t : Typed) → judged scopes e ≡ Accepts t → IsSound scopes t
 
--- and is read of a variable of its type where it is the bare name of one
+-- and is read of a variable of its type where it is one
 abbrev pub AccessesAreSound : Type 0
 AccessesAreSound = (scopes : List Region) (e : Expression) (t : Typed) → judged scopes e ≡ Accepts t → IsSoundAccess scopes t
+
+-- an access that is accepted, as that of what is assigned to, has a valid form, and is read of a variable of its type where it is one
+abbrev pub VariablesAreSound : Type 0
+VariablesAreSound = (scopes : List Region) (a : Access) (t : Typed) → name_judged scopes a ≡ Accepts t → IsSound scopes t × IsSoundAccess scopes t
 
 -- arguments that are accepted are valid for formal parameters
 abbrev pub ArgumentsAreSound : Type 0

@@ -6,6 +6,7 @@ pub mod Expressions
 pub mod Folding
 pub mod Functions
 pub mod Hosts
+pub mod Indexing
 pub mod Judgements
 pub mod Laws
 pub mod Names

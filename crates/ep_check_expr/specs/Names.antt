@@ -50,7 +50,7 @@ value_declared depth d (declaration.«Type» of host) = Breaks (rule.OTHER_THING
 value_declared depth d (declaration.Variable of kind) = reading (Read (Variable d.unit d.number)) kind (access.Variable of protection.Unprotected)
 value_declared depth d (declaration.Own of kind guarded) = reading (Read (own_place depth d)) kind (access.Variable of guarded)
 value_declared depth d (declaration.Procedure parameters) = Breaks (rule.PROCEDURE ∷ rule.OTHER_THING ∷ [])
-value_declared depth d (declaration.Function parameters of host) = function_called (callee_at depth d) parameters host []
+value_declared depth d (declaration.Function parameters of kind) = function_called (callee_at depth d) parameters kind []
 
 -- the required constants (ISO 10206, 6.4.2.2)
 abbrev pub constant_required : RequiredConstant → Judged Typed
@@ -93,7 +93,7 @@ call_required (required.Procedure p) gs = Breaks (rule.PROCEDURE ∷ rule.OTHER_
 
 -- what is declared with arguments is a function (ISO 10206, 6.8.5)
 abbrev pub call_declared : ℕ → Declared → Declaration → List Given → Judged Typed
-call_declared depth d (declaration.Function parameters of host) gs = function_called (callee_at depth d) parameters host gs
+call_declared depth d (declaration.Function parameters of kind) gs = function_called (callee_at depth d) parameters kind gs
 call_declared depth d (declaration.Procedure parameters) gs = Breaks (rule.PROCEDURE ∷ rule.OTHER_THING ∷ all_faults gs)
 call_declared depth d (declaration.Constant kind value) gs = Breaks (rule.OTHER_THING ∷ all_faults gs)
 call_declared depth d (declaration.«Type» of host) gs = Breaks (rule.OTHER_THING ∷ all_faults gs)

@@ -1,6 +1,7 @@
 -- Where the host of an expression comes from: it is a required type, or the host of something that the scopes declare.
 use Rattle.std.specs.Prelude.{◌≡◌, ℕ, List, [], ◌∷◌, ◌⊎◌, ⊤}
 use Rattle.ep_scope.specs.Scopes.{Entries, Region}
+use Rattle.ep_scope.specs.declared.array.ArrayType.{ArrayType}
 use Rattle.ep_scope.specs.declared.kind.Host.{Host}
 use Rattle.ep_scope.specs.declared.kind.Host.TheVariants as host
 use Rattle.ep_scope.specs.declared.kind.Kind.{Kind}
@@ -20,17 +21,18 @@ IsRequiredHost (host.Enumeration e) = ⊥
 -- the kind is ordinal with this host
 abbrev pub HasHost : Kind → Host → Type 0
 HasHost (kind.Ordinal g) h = g ≡ h
+HasHost (kind.Array n) h = ⊥
 HasHost kind.Text h = ⊥
 HasHost kind.File h = ⊥
 
 -- a constant or variable of the host is declared, or a type or the result of a function with it
 abbrev pub DeclaresHost : Declaration → Host → Type 0
 DeclaresHost (declaration.Constant k v) h = HasHost k h
-DeclaresHost (declaration.«Type» of g) h = g ≡ h
+DeclaresHost (declaration.«Type» of k) h = HasHost k h
 DeclaresHost (declaration.Variable of k) h = HasHost k h
 DeclaresHost (declaration.Own of k guarded) h = HasHost k h
 DeclaresHost (declaration.Procedure parameters) h = ⊥
-DeclaresHost (declaration.Function parameters of g) h = g ≡ h
+DeclaresHost (declaration.Function parameters of k) h = HasHost k h
 
 abbrev pub ThingHasHost : Thing → Host → Type 0
 ThingHasHost (thing.Declared d) h = DeclaresHost d.what h
@@ -45,16 +47,22 @@ abbrev pub InterfacesHaveHost : List (List ℕ × Entries) → Host → Type 0
 InterfacesHaveHost [] h = ⊥
 InterfacesHaveHost (e ∷ es) h = EntriesHaveHost e.1 h ⊎ InterfacesHaveHost es h
 
+-- the components of some array type have it
+abbrev pub ArraysHaveHost : List ArrayType → Host → Type 0
+ArraysHaveHost [] h = ⊥
+ArraysHaveHost (a ∷ more) h = HasHost a.kind h ⊎ ArraysHaveHost more h
+
 abbrev pub ScopesHaveHost : List Region → Host → Type 0
 ScopesHaveHost [] h = ⊥
-ScopesHaveHost (r ∷ rs) h = EntriesHaveHost r.entries h ⊎ (InterfacesHaveHost r.qualified h ⊎ ScopesHaveHost rs h)
+ScopesHaveHost (r ∷ rs) h = EntriesHaveHost r.entries h ⊎ (InterfacesHaveHost r.qualified h ⊎ (ArraysHaveHost r.arrays h ⊎ ScopesHaveHost rs h))
 
 -- the host is required, or the scopes declare something that has it
 abbrev pub IsKnownHost : List Region → Host → Type 0
 IsKnownHost scopes h = IsRequiredHost h ⊎ ScopesHaveHost scopes h
 
--- alike of a kind; texts and files have no host
+-- alike of a kind; arrays, texts and files have no host
 abbrev pub IsKnownKind : List Region → Kind → Type 0
 IsKnownKind scopes (kind.Ordinal h) = IsKnownHost scopes h
+IsKnownKind scopes (kind.Array n) = ⊤
 IsKnownKind scopes kind.Text = ⊤
 IsKnownKind scopes kind.File = ⊤

@@ -1,9 +1,10 @@
--- Expressions that are a name after the name of an interface, `i.a`.
+-- Accesses with one selector, and expressions that are a name after the name of an interface, `i.a`.
 use Rattle.std.specs.Prelude.{ℕ, if◌then◌else◌, is_some, List, [], ◌∷◌, Option, Some, None}
 use Rattle.std.specs.Borrow.{Bor}
 use Rattle.ep_built.specs.Built.{expression_unbuilt}
-use Rattle.ep_tree.specs.Shapes.{bare, when_some, access_in, field_in}
+use Rattle.ep_tree.specs.Shapes.{bare, when_some, access_in, arguments_in, field_in}
 use Rattle.ep_tree.specs.declared.expression.Access.{Access, out-Access}
+use Rattle.ep_tree.specs.declared.expression.Argument.{Argument}
 use Rattle.ep_tree.specs.declared.expression.Expression.{Expression}
 use Rattle.ep_tree.specs.declared.expression.Factor.{out-Factor}
 use Rattle.ep_tree.specs.declared.expression.Selector.{Selector, out-Selector}
@@ -13,6 +14,12 @@ abbrev pub only_field : List Selector → Option (List ℕ)
 only_field [] = None
 only_field (s ∷ []) = field_in (out-Selector s)
 only_field (s ∷ u ∷ more) = None
+
+-- the arguments, where they are the only selector
+abbrev pub only_arguments : List Selector → Option (List Argument)
+only_arguments [] = None
+only_arguments (s ∷ []) = arguments_in (out-Selector s)
+only_arguments (s ∷ u ∷ more) = None
 
 -- the two names of an access
 abbrev pub field_alone : Access → Option (List ℕ × List ℕ)

@@ -1,11 +1,10 @@
 //! Values that are given to variables, and the arguments of a call of a procedure or function of a unit.
 
-ghost use Rattle.std.specs.Prelude.{◌≡◌, ◌++◌, ◌∷◌, [], Some, IfOk, map};
+ghost use Rattle.std.specs.Prelude.{◌≡◌, ◌++◌, ◌∷◌, [], IfOk, map};
 ghost use Rattle.std.specs.Option.{option_map};
-ghost use Rattle.ep_typed.specs.Trees.{Place, Read};
 ghost use Rattle.ep_typed.specs.Viewed.{actual_of, expr_of};
 ghost use Rattle.ep_check_expr.specs.Answers.{AnswersJudged, taken_of, typed_of};
-ghost use Rattle.ep_check_expr.specs.Arguments.{IsReading, accessed, actual_taken, argument_taken, given_to, joined, nothing_taken, threatened, unless_protected, value_taken, variable_taken};
+ghost use Rattle.ep_check_expr.specs.Arguments.{IsReading, IsReadingIf, accessed, actual_taken, argument_taken, given_to, joined, nothing_taken, threatened, unless_protected, value_taken, variable_taken};
 ghost use Rattle.ep_check_expr.specs.Judgements.{Accepts, both, when_accepted};
 ghost use Rattle.ep_check_expr.specs.Operators.{map_both};
 
@@ -43,32 +42,28 @@ pub fn given_value(to: Kind, value: Typed) -> Result<Option<Boxed<TypedExpr>>, R
             Ok(value.into_form())
         }
         (Kind::Ordinal(Host::Char), Kind::Text) => Ok(None),
+        (Kind::Array(left), Kind::Array(right)) if left == right => Ok(None),
         _ => Err(Refusal::Rule(rule::ASSIGNMENT)),
     }
 }
 
-/// The value for a value parameter of this host, where it is built.
-fn value_taken(host: Host, value: Typed) -> Result<Option<Actual>, Refusal>
-    ensures { AnswersJudged (option_map actual_of) result (value_taken host (typed_of value)) }
+/// The value for a value parameter of this kind, where it is built.
+fn value_taken(kind: Kind, value: Typed) -> Result<Option<Actual>, Refusal>
+    ensures { AnswersJudged (option_map actual_of) result (value_taken kind (typed_of value)) }
 {
-    let Some(form) = given_value(Kind::Ordinal(host), value)? else {
+    let Some(form) = given_value(kind, value)? else {
         return Ok(None);
     };
     Ok(Some(Actual::Value(form)))
 }
 
-/// The variable whose value is read.
-fn accessed(value: Typed) -> Actual
-    requires { (place : Place) × (option_map expr_of value.form ≡ Some (Read place)) }
-    ensures { Some (actual_of result) ≡ accessed (option_map expr_of value.form) }
+/// The variable whose value is read, where it is built.
+fn accessed(value: Typed) -> Option<Actual>
+    requires { IsReadingIf (option_map expr_of value.form) }
+    ensures { option_map actual_of result ≡ accessed (option_map expr_of value.form) }
 {
-    let Some(form) = value.into_form() else {
-        unreachable!();
-    };
-    match form.into_inner() {
-        TypedExpr::Read(place) => Actual::Variable(place),
-        _ => unreachable!(),
-    }
+    let place = value.into_place()?;
+    Some(Actual::Variable(place))
 }
 
 /// The variable for a variable parameter of this type.
@@ -80,7 +75,7 @@ fn variable_taken(parameter: TypeName, value: Typed) -> Result<Option<Actual>, R
     match value.access {
         Access::Variable(of, _) => {
             if same_type(parameter, of) {
-                Ok(Some(accessed(value)))
+                Ok(accessed(value))
             } else {
                 Err(Refusal::Rule(rule::VARIABLE_ARGUMENT))
             }
@@ -131,8 +126,8 @@ fn actual_taken(parameter: &FormalParameter, value: Typed) -> Result<Option<Actu
         (actual_taken parameter.now.mode parameter.now (typed_of value)) }
 {
     match parameter.mode {
-        FormalMode::Value => value_taken(parameter.host, value),
-        FormalMode::ProtectedValue => value_taken(parameter.host, value),
+        FormalMode::Value => value_taken(parameter.kind, value),
+        FormalMode::ProtectedValue => value_taken(parameter.kind, value),
         FormalMode::Variable => unprotected_taken(parameter.of, value),
         FormalMode::ProtectedVariable => variable_taken(parameter.of, value),
     }

@@ -3,7 +3,7 @@
 ghost use Rattle.std.specs.Prelude.{◌≡◌, None, false};
 ghost use Rattle.ep_built.specs.Built.{component_value_unbuilt, expression_unbuilt};
 ghost use Rattle.ep_check_expr.specs.Answers.{typed_of, AnswersJudged};
-ghost use Rattle.ep_check_expr.specs.Constants.{as_constant, constant_judged, constant_expression, bound_judged, label_judged, known, stand_in, varies};
+ghost use Rattle.ep_check_expr.specs.Constants.{as_constant, constant_judged, constant_expression, bound_judged, label_judged, known, unbuilt_constant, varies};
 ghost use Rattle.ep_check_expr.specs.Judgements.{Accepts};
 
 use crate::expressions::typed_expression;
@@ -128,7 +128,7 @@ pub(crate) fn as_constant(alloc: Global, t: &Typed) -> Result<ConstantForm, Refu
     ensures { AnswersJudged (λ c. c) result (as_constant (typed_of t.now)) }
 {
     let Some(form) = &t.form else {
-        return Ok(stand_in(alloc, t.kind));
+        return unbuilt_constant(alloc, t.kind);
     };
     match form.get() {
         TypedExpr::Text(bytes) => {
@@ -153,18 +153,19 @@ fn known(kind: Kind, value: Value) -> ConstantForm
     }
 }
 
-/// What stands for the value of a form that is not built.
-fn stand_in(alloc: Global, kind: Kind) -> ConstantForm
-    ensures { result ≡ record { value = stand_in kind; kind = kind; built = false } }
+/// A constant that is not built, with what stands for its value.
+fn unbuilt_constant(alloc: Global, kind: Kind) -> Result<ConstantForm, Refusal>
+    ensures { AnswersJudged (λ c. c) result (unbuilt_constant kind) }
 {
     let value = match kind {
         Kind::Ordinal(_) => Value::Word(0),
+        Kind::Array(_) => return Err(Refusal::Rule(rule::CONSTANT)),
         Kind::Text => Value::Text(Bytes::new(alloc)),
         Kind::File => Value::Text(Bytes::new(alloc)),
     };
-    ConstantForm {
+    Ok(ConstantForm {
         value,
         kind,
         built: false,
-    }
+    })
 }

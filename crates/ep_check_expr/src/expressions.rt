@@ -1,12 +1,16 @@
 //! The walk over expressions: one function for each production, which takes its tree by reference.
 
-ghost use Rattle.std.specs.Prelude.{◌≡◌, ◌∷◌, [], true, None, map};
-ghost use Rattle.ep_built.specs.Built.{component_value_unbuilt, expression_unbuilt, simple_unbuilt, term_unbuilt, factor_unbuilt, access_unbuilt, argument_unbuilt, addend_belonging, multiplier_belonging, selector_belonging, written_unbuilt, written_value_unbuilt, all_are_built, lines_in, first_in};
+ghost use Rattle.std.specs.Prelude.{◌≡◌, true, None, IfOk, map};
+ghost use Rattle.std.specs.List.{list_all};
+ghost use Rattle.std.specs.Option.{option_map};
+ghost use Rattle.ep_built.specs.Built.{component_value_unbuilt, expression_unbuilt, simple_unbuilt, term_unbuilt, factor_unbuilt, access_unbuilt, argument_unbuilt, addend_belonging, multiplier_belonging, form_told, is_index, selector_belonging, written_unbuilt, written_value_unbuilt, all_are_built, lines_in, first_in};
+ghost use Rattle.ep_typed.specs.Viewed.{expr_of};
 ghost use Rattle.ep_scope.specs.Scopes.{depth_in, meant};
 ghost use Rattle.ep_check_expr.specs.Answers.{taken_of, typed_of, AnswersJudged, AnswersTyped, AnswersGiven};
-ghost use Rattle.ep_check_expr.specs.Arguments.{arguments_judged};
-ghost use Rattle.ep_check_expr.specs.Expressions.{chained, judged, judged_value, addend_judged, multiplier_judged, simple_judged, term_judged, factor_judged, name_judged, access_judged, selected, given, string_judged};
+ghost use Rattle.ep_check_expr.specs.Arguments.{IsReading, arguments_judged};
+ghost use Rattle.ep_check_expr.specs.Expressions.{chained, judged, judged_value, addend_judged, multiplier_judged, simple_judged, term_judged, factor_judged, name_judged, indexed_if_all, indexes_of, selected, given, string_judged};
 ghost use Rattle.ep_check_expr.specs.Functions.{applied};
+ghost use Rattle.ep_check_expr.specs.Indexing.{indexed_all};
 ghost use Rattle.ep_check_expr.specs.Judgements.{Accepts};
 ghost use Rattle.ep_check_expr.specs.Names.{call_declared, call_named};
 ghost use Rattle.ep_check_expr.specs.Operators.{added, multiplied};
@@ -14,9 +18,10 @@ ghost use Rattle.ep_check_expr.specs.Operators.{added, multiplied};
 use crate::arguments::Taken;
 use crate::forms::{Refusal, Typed};
 use crate::functions::{applied_to_one, applied_to_two, takes};
+use crate::indexing::indexed;
 use crate::names::{named, undeclared};
 use crate::operators::{added, compared, multiplied, negated, signed};
-use crate::shapes::bare;
+use crate::shapes::{bare, only_arguments};
 use ep_base::Name;
 use ep_scope::{
     Declaration, Declared, FormalParameter, Function, Host, Meaning, Required, Scope, depth_in,
@@ -78,6 +83,16 @@ pub fn typed_value(alloc: Global, tree: &ComponentValue, scopes: &[Scope]) -> Re
         ComponentValue::Expression(e) => typed_expression(alloc, e.get(), scopes),
         ComponentValue::Bracketed(_, _) => unreachable!(),
     }
+}
+
+/// The typed form of an access, as that of what is assigned to, or a rule that fails in it. The forms of the access are all
+/// built. Where it is a variable, it is read of a place.
+pub fn typed_access(alloc: Global, tree: &Access, scopes: &[Scope]) -> Result<Typed, Refusal>
+    requires { access_unbuilt tree.now ≡ None }
+    ensures typed { AnswersTyped result (name_judged scopes.now tree.now) }
+    ensures read { IfOk result (λ t. IsReading t.access (option_map expr_of t.form)) }
+{
+    access(alloc, tree, scopes)
 }
 
 /// `simple = [ sign ] term { adding-operator term }`
@@ -171,37 +186,61 @@ pub(crate) fn string(alloc: Global, bytes: &[u8]) -> Result<Typed, Refusal>
     }
 }
 
-/// `access`, which is a name or a call
+/// `access`, which is a name, called, alone or with indexes
 #[cycle(typed)]
 fn access(alloc: Global, a: &Access, scopes: &[Scope]) -> Result<Typed, Refusal>
     requires built { access_unbuilt a.now ≡ None }
     ensures { AnswersTyped result (name_judged scopes.now a.now) }
 {
-    match a.selectors.items() {
-        [] => named(alloc, &a.name, scopes),
-        [one] => selected(alloc, &a.name, one, scopes),
-        _ => unreachable!(),
+    match only_arguments(a.selectors.items()) {
+        Some(arguments) => call(alloc, &a.name, arguments, scopes),
+        None => {
+            let variable = named(alloc, &a.name, scopes)?;
+            selected(alloc, variable, a.selectors.items(), scopes)
+        }
     }
 }
 
-/// What is selected of a name
+/// `{ "[" expr { "," expr } "]" }`, after what has these indexes
 #[cycle(typed)]
 fn selected(
     alloc: Global,
-    name: &Name,
-    selector: &Selector,
+    first: Typed,
+    all: &[Selector],
     scopes: &[Scope],
 ) -> Result<Typed, Refusal>
-    requires selector { (selector_belonging selector.now).0 ≡ true }
-    requires built { (selector_belonging selector.now).1 ≡ None }
-    ensures { AnswersTyped result (access_judged scopes.now name.now (selected scopes.now selector.now ∷ [])) }
+    requires selectors { list_all is_index (map form_told (map selector_belonging all.now)) ≡ true }
+    requires built { lines_in (map selector_belonging all.now) ≡ None }
+    ensures { AnswersTyped result (indexed_if_all scopes.now (Accepts (typed_of first))
+        (indexes_of (map (selected scopes.now) all.now))) }
 {
-    match selector {
-        Selector::Arguments(_, arguments) => call(alloc, name, arguments.items(), scopes),
-        Selector::Field(_, _) => unreachable!(),
-        Selector::Index(_, _) => unreachable!(),
-        Selector::Dereference(_) => unreachable!(),
+    let mut variable = first;
+    for selector in all {
+        let Selector::Index(_, indexes) = selector else {
+            unreachable!();
+        };
+        variable = with_indexes(alloc, variable, indexes.items(), scopes)?;
     }
+    Ok(variable)
+}
+
+/// `expr { "," expr }` in brackets, after what has these indexes
+#[cycle(typed)]
+fn with_indexes(
+    alloc: Global,
+    first: Typed,
+    all: &[Expression],
+    scopes: &[Scope],
+) -> Result<Typed, Refusal>
+    requires built { first_in (map expression_unbuilt all.now) ≡ None }
+    ensures { AnswersTyped result (indexed_all scopes.now (Accepts (typed_of first)) (map (judged scopes.now) all.now)) }
+{
+    let mut variable = first;
+    for expression in all {
+        let index = typed_expression(alloc, expression, scopes)?;
+        variable = indexed(alloc, variable, index, scopes)?;
+    }
+    Ok(variable)
 }
 
 /// `id "(" arg { "," arg } ")"`
@@ -270,9 +309,9 @@ fn designator(
         (map (given scopes.now) arguments.now)) }
 {
     match &declared.what {
-        Declaration::Function(parameters, _, host) => {
+        Declaration::Function(parameters, _, kind) => {
             let given = typed_arguments(alloc, parameters.items(), arguments, scopes)?;
-            Typed::function(alloc, depth_in(scopes)?, declared, *host, given)
+            Typed::function(alloc, depth_in(scopes)?, declared, *kind, given)
         }
         Declaration::Procedure(_) => Err(Refusal::Rule(rule::PROCEDURE)),
         _ => Err(Refusal::Rule(rule::OTHER_THING)),

@@ -1,10 +1,11 @@
 //! Typed forms under construction.
 
 ghost use Rattle.std.specs.Prelude.{◌≡◌, IsTrue, Some};
+ghost use Rattle.std.specs.Option.{option_map};
 ghost use Rattle.ep_typed.specs.Trees.{Constant};
 ghost use Rattle.ep_scope.specs.declared.kind.Kind.TheVariants as kind;
 ghost use Rattle.ep_check_expr.specs.Answers.{taken_of, typed_of, AnswersTyped, AnswersDepth};
-ghost use Rattle.ep_check_expr.specs.Arguments.{callee_at, function_typed};
+ghost use Rattle.ep_check_expr.specs.Arguments.{IsReadingIf, callee_at, function_typed, place_read};
 ghost use Rattle.ep_check_expr.specs.Expressions.{spelled};
 ghost use Rattle.ep_check_expr.specs.Operators.{unary_typed, binary_typed, short_typed, unbuilt_typed};
 ghost use Rattle.ep_check_expr.specs.Functions.{step_typed};
@@ -91,6 +92,18 @@ impl Typed {
             access: _,
         } = self;
         form
+    }
+
+    /// The place that is read, where the form is built.
+    pub fn into_place(self) -> Option<TypedPlace>
+        requires { IsReadingIf (option_map expr_of self.form) }
+        ensures { option_map place_of result ≡ place_read (option_map expr_of self.form) }
+    {
+        let form = self.into_form()?;
+        match form.into_inner() {
+            TypedExpr::Read(place) => Some(place),
+            _ => unreachable!(),
+        }
     }
 
     /// The same in parentheses, which is a value (ISO 10206, 6.5.1).
@@ -264,27 +277,27 @@ impl Typed {
         })
     }
 
-    /// A call of a function, whose result has this host, in code of a depth.
+    /// A call of a function, whose result is of this kind, in code of a depth. It is built where that is ordinal.
     pub(crate) fn function(
         alloc: Global,
         depth: u32,
         d: &Declared,
-        host: Host,
+        kind: Kind,
         given: Taken,
     ) -> Result<Typed, Refusal>
-        ensures { AnswersTyped result (function_typed (callee_at depth d.now) host (taken_of given)) }
+        ensures { AnswersTyped result (function_typed (callee_at depth d.now) kind (taken_of given)) }
     {
         let nesting = above(given.depth)?;
-        let form = match given.into_actuals() {
-            None => None,
-            Some(actuals) => {
+        let form = match (kind, given.into_actuals()) {
+            (Kind::Ordinal(_), Some(actuals)) => {
                 let callee = callee_at(alloc, depth, d)?;
                 Some(Boxed::new(alloc, TypedExpr::Function(callee, actuals))?)
             }
+            _ => None,
         };
         Ok(Typed {
             form,
-            kind: Kind::Ordinal(host),
+            kind,
             depth: nesting,
             access: Access::Value,
         })

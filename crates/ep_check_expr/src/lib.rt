@@ -4,8 +4,8 @@
 //! that fails in it; `constant_value`, `bound_value` and `label_value` the value of a constant expression;
 //! `typed_arguments` what is given for the formal parameters of a procedure or function of a unit.
 //! specs/Expressions.antt says which typed form an expression has and which rules fail, by one clause for each
-//! production; specs/Operators.antt, specs/Functions.antt, specs/Arguments.antt, specs/Names.antt and specs/Constants.antt
-//! have the rules, on parts that are accepted. By `laws_of_expressions` what they accept is valid.
+//! production; specs/Operators.antt, specs/Functions.antt, specs/Arguments.antt, specs/Indexing.antt, specs/Names.antt
+//! and specs/Constants.antt have the rules, on parts that are accepted. By `laws_of_expressions` what they accept is valid.
 #![tactic(auto)]
 
 mod access;
@@ -16,6 +16,7 @@ mod expressions;
 mod folding;
 mod forms;
 mod functions;
+mod indexing;
 mod laws;
 mod levels;
 mod names;
@@ -26,7 +27,9 @@ pub use access::Access;
 pub use answers::{Broken, ExpressionRefusal, constant, expression};
 pub use arguments::{Taken, given_value, unless_protected};
 pub use constants::{ConstantForm, bound_value, constant_value, label_value};
-pub use expressions::{typed_arguments, typed_expression, typed_value, written_expression};
+pub use expressions::{
+    typed_access, typed_arguments, typed_expression, typed_value, written_expression,
+};
 pub use folding::{Folded, folded_form};
 pub use forms::{DEPTH, Refusal, Typed, greatest, least};
 pub use laws::laws_of_expressions;

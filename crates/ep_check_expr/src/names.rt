@@ -45,12 +45,12 @@ fn function_alone(
     depth: u32,
     d: &Declared,
     parameters: &[FormalParameter],
-    host: Host,
+    kind: Kind,
 ) -> Result<Typed, Refusal>
-    ensures { AnswersTyped result (function_called (callee_at depth d.now) parameters.now host []) }
+    ensures { AnswersTyped result (function_called (callee_at depth d.now) parameters.now kind []) }
 {
     match parameters {
-        [] => Typed::function(alloc, depth, d, host, Taken::nothing(alloc)),
+        [] => Typed::function(alloc, depth, d, kind, Taken::nothing(alloc)),
         _ => Err(Refusal::Rule(rule::ARGUMENTS)),
     }
 }
@@ -72,8 +72,8 @@ fn declared_value(alloc: Global, depth: u32, d: &Declared) -> Result<Typed, Refu
             Typed::read(alloc, own_place(depth, d), *kind, access)
         }
         Declaration::Procedure(_) => Err(Refusal::Rule(rule::PROCEDURE)),
-        Declaration::Function(parameters, _, host) => {
-            function_alone(alloc, depth, d, parameters.items(), *host)
+        Declaration::Function(parameters, _, kind) => {
+            function_alone(alloc, depth, d, parameters.items(), *kind)
         }
     }
 }

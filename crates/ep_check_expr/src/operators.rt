@@ -44,7 +44,7 @@ fn is_string(kind: Kind) -> bool
 }
 
 /// Whether two values are of one ordinal type.
-fn are_compatible(x: Kind, y: Kind) -> bool
+pub(crate) fn are_compatible(x: Kind, y: Kind) -> bool
     ensures { result ≡ are_compatible x y }
 {
     match (x, y) {

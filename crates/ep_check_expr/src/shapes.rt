@@ -1,11 +1,11 @@
-//! Expressions that are one factor and nothing more.
+//! Expressions that are one factor and nothing more, and accesses with one selector.
 
 ghost use Rattle.std.specs.Prelude.{◌≡◌, None};
 ghost use Rattle.std.specs.Option.{option_copied, option_map};
 ghost use Rattle.ep_tree.specs.Shapes.{bare};
 ghost use Rattle.ep_check_expr.specs.Answers.{AnswersTyped};
 ghost use Rattle.ep_check_expr.specs.Expressions.{judged};
-ghost use Rattle.ep_check_expr.specs.Qualified.{field_alone, qualified_name, unjudged, names_of};
+ghost use Rattle.ep_check_expr.specs.Qualified.{field_alone, only_arguments, qualified_name, unjudged, names_of};
 
 use crate::expressions::typed_expression;
 use crate::forms::{Refusal, Typed};
@@ -13,7 +13,7 @@ use crate::names::qualified;
 use ep_base::{Line, Name};
 use ep_built::expression_unbuilt;
 use ep_scope::Scope;
-use ep_tree::{Access, Expression, Factor, Selector};
+use ep_tree::{Access, Argument, Expression, Factor, Selector};
 use std::alloc::Global;
 
 /// The factor of an expression that is nothing more.
@@ -32,6 +32,16 @@ pub(crate) fn bare(e: &Expression) -> Option<&Factor>
         Some(term.first.get())
     } else {
         None
+    }
+}
+
+/// The arguments of an access that has nothing else.
+pub(crate) fn only_arguments(selectors: &[Selector]) -> Option<&[Argument]>
+    ensures { option_copied result ≡ only_arguments selectors.now }
+{
+    match selectors {
+        [Selector::Arguments(_, arguments)] => Some(arguments.items()),
+        _ => None,
     }
 }
 

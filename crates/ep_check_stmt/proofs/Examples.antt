@@ -1,15 +1,20 @@
--- What the rules say of small calls.
+-- What the rules say of small calls and assignments.
 use Rattle.std.proofs.Common.{◌≡◌, ℕ, pos, true, false, List, [], ◌∷◌, Option, Some, None, refl, codes}
 use Rattle.ep_tree.specs.Nodes.{expression_node, simple_node, term_node, access_node, argument_node}
+use Rattle.ep_tree.specs.declared.expression.Access.{Access}
 use Rattle.ep_tree.specs.declared.expression.Argument.{Argument}
+use Rattle.ep_tree.specs.declared.expression.Expression.{Expression}
 use Rattle.ep_tree.specs.declared.expression.Factor.{Factor}
 use Rattle.ep_tree.specs.declared.expression.Factor.TheVariants as factor
+use Rattle.ep_tree.specs.declared.expression.Selector.TheVariants as selector
 use Rattle.ep_typed.specs.Trees as tree
-use Rattle.ep_typed.specs.Trees.{Stmt, Accessed, Assign, Constant, Empty, Evaluated, Own, Procedure, Variable, actuals}
+use Rattle.ep_typed.specs.Trees.{Stmt, Accessed, Assign, Constant, Empty, Evaluated, Indexed, Own, Procedure, Read, Variable, actuals}
 use Rattle.ep_typed.specs.declared.denoter.RequiredType.{RequiredType}
 use Rattle.ep_typed.specs.declared.denoter.RequiredType.TheVariants as simple
 use Rattle.ep_typed.specs.declared.interface.FormalMode.{FormalMode}
 use Rattle.ep_typed.specs.declared.interface.FormalMode.TheVariants as mode
+use Rattle.ep_typed.specs.declared.value.Value.TheVariants as value
+use Rattle.ep_scope.specs.declared.array.ArrayType.{ArrayType}
 use Rattle.ep_scope.specs.declared.kind.Host.{Host}
 use Rattle.ep_scope.specs.declared.kind.Host.TheVariants as host
 use Rattle.ep_scope.specs.declared.kind.Kind.TheVariants as kind
@@ -21,24 +26,33 @@ use Rattle.ep_scope.specs.declared.thing.Declaration.{Declaration}
 use Rattle.ep_scope.specs.declared.thing.Declaration.TheVariants as declaration
 use Rattle.ep_scope.specs.declared.thing.Declared.{Declared}
 use Rattle.ep_scope.specs.declared.thing.Thing.TheVariants as thing
-use Rattle.ep_check_expr.proofs.Nodes.{argument-judged, expression-judged, simple-judged, term-judged, name-judged, number-judged}
-use Rattle.ep_check_expr.specs.Judgements.{Judged, Accepts, Breaks}
+use Rattle.ep_check_expr.proofs.Nodes.{access-judged, argument-judged, expression-judged, indexes-judged, simple-judged, term-judged, name-judged, number-judged}
+use Rattle.ep_check_expr.specs.Expressions.{judged}
+use Rattle.ep_check_expr.specs.Judgements.{Judged, Accepts, Breaks, both}
 use Rattle.ep_check_stmt.specs.RoutineForms.{RoutineForm}
-use Rattle.ep_check_stmt.specs.Statements.{Context, FunctionResult, OfRoutine, OfUnit, declared_called, declared_control, function_target, is_threatened_in, stmt_threat, unless_threatening}
+use Rattle.ep_check_stmt.specs.Statements.{Context, FunctionResult, OfRoutine, OfUnit, assigned, counted_by, declared_called, declared_control, function_target, is_threatened_in, stmt_threat, target_judged, unless_threatening}
+
+-- an expression of one factor
+abbrev bare : Factor → Expression
+bare f = expression_node 1 (simple_node 1 None (term_node 1 f []) []) None
+
+-- a name alone, and a number
+abbrev name_alone : List ℕ → Expression
+name_alone n = bare (factor.Access (access_node 1 n []))
+
+abbrev number_alone : ℕ → Expression
+number_alone n = bare (factor.Number 1 (pos n))
 
 -- arguments of one factor
-abbrev argument : Factor → Argument
-argument f = argument_node 1 (expression_node 1 (simple_node 1 None (term_node 1 f []) []) None) None
-
 abbrev name : List ℕ → Argument
-name n = argument (factor.Access (access_node 1 n []))
+name n = argument_node 1 (name_alone n) None
 
 abbrev number : ℕ → Argument
-number n = argument (factor.Number 1 (pos n))
+number n = argument_node 1 (number_alone n) None
 
 -- a parameter, of a section of its own
 abbrev parameter : List ℕ → FormalMode → ℕ → RequiredType → Host → FormalParameter
-parameter n mode section type h = record { name = n; mode = mode; section = section; of = type_name.Required type; host = h }
+parameter n mode section type h = record { name = n; mode = mode; section = section; of = type_name.Required type; kind = kind.Ordinal h }
 
 -- procedure p(a: integer; var b: integer)
 abbrev parameters : List FormalParameter
@@ -61,6 +75,7 @@ context =
                 (codes "x", thing.Declared (declares 0 (declaration.Variable (type_name.Required simple.Integer) (kind.Ordinal host.Integer))))
                 ∷ (codes "c", thing.Declared (declares 1 (declaration.Variable (type_name.Required simple.Char) (kind.Ordinal host.Char)))) ∷ [];
             qualified = [];
+            arrays = [];
           } ∷ [];
       output = false;
       results = [];
@@ -138,9 +153,9 @@ by_itself = refl
 
 -- in code of two routines, of which the outer one is the function 3, whose result is its variable 0
 abbrev result : FunctionResult
-result = record { function = 3; level = 1; variable = 0; host = host.Integer }
+result = record { function = 3; level = 1; variable = 0; kind = kind.Ordinal host.Integer }
 
-assigned_deeper : function_target 2 (codes "u") (declares 3 x) (result ∷ []) ≡ Accepts (record { place = Own 1 0; kind = kind.Ordinal host.Integer })
+assigned_deeper : function_target 2 (codes "u") (declares 3 x) (result ∷ []) ≡ Accepts (record { place = Some (Own 1 0); kind = kind.Ordinal host.Integer })
 assigned_deeper = refl
 
 other_function : function_target 2 (codes "u") (declares 4 x) (result ∷ []) ≡ Breaks (rule.FUNCTION_ASSIGNED ∷ [])
@@ -155,3 +170,86 @@ assigned_inside = refl
 
 other_assigned : inside 1 ≡ Accepts (Some (Assign 1 (Variable (codes "u") 1) (Constant (pos 3))))
 other_assigned = refl
+
+-- ---- components
+
+-- the colors, of which red is the first and blue the last one
+abbrev color : Host
+color = host.Enumeration (record { number = 0; last = 1 })
+
+-- an array of integers by colors
+abbrev row : ArrayType
+row = record { number = 3; index = color; component = type_name.Required simple.Integer; kind = kind.Ordinal host.Integer }
+
+-- a variable of the array type of a number
+abbrev array : ℕ → Declaration
+array number = declaration.Variable (type_name.Entry number) (kind.Array number)
+
+-- a protected parameter of the type of the row
+abbrev guarded : Declaration
+guarded = declaration.Own (type_name.Entry 3) (kind.Array 3) protection.Protected
+
+-- the integer x, the color red, the row a, b of another array type, and the protected row g
+abbrev rows : Context
+rows =
+    record context {
+      scopes =
+          record {
+            entries =
+                (codes "x", thing.Declared (declares 0 x)) ∷ (codes "red", thing.Declared (declares 0 (declaration.Constant (kind.Ordinal color) (value.Word (pos 0)))))
+                ∷ (codes "a", thing.Declared (declares 2 (array 3))) ∷ (codes "b", thing.Declared (declares 3 (array 4))) ∷ (codes "g", thing.Declared (declares 4 guarded)) ∷ [];
+            qualified = [];
+            arrays = row ∷ [];
+          } ∷ [];
+    }
+
+-- a name with an index
+abbrev indexed : List ℕ → Expression → Access
+indexed n index = access_node 1 n (selector.Index 1 (index ∷ []) ∷ [])
+
+-- the assignment of an expression
+abbrev assigns : Access → Expression → Judged (Option Stmt)
+assigns a e = both (assigned 1) (target_judged rows a) (judged rows.scopes e)
+
+-- a[red] := 1
+component_assigned : assigns (indexed (codes "a") (name_alone (codes "red"))) (number_alone 1) ≡ Accepts (Some (Assign 1 (Indexed (Variable (codes "u") 2) (Constant (pos 0))) (Constant (pos 1))))
+component_assigned = simp (access-judged, indexes-judged, expression-judged, simple-judged, term-judged, name-judged, number-judged) refl
+
+-- a[red] := red
+other_component : assigns (indexed (codes "a") (name_alone (codes "red"))) (name_alone (codes "red")) ≡ Breaks (rule.ASSIGNMENT ∷ [])
+other_component = simp (access-judged, indexes-judged, expression-judged, simple-judged, term-judged, name-judged) refl
+
+-- a[1] := 1, where the index is a color
+other_index : assigns (indexed (codes "a") (number_alone 1)) (number_alone 1) ≡ Breaks (rule.INDEX ∷ [])
+other_index = simp (access-judged, indexes-judged, expression-judged, simple-judged, term-judged, number-judged) refl
+
+-- x[1] := 1, where x is no array
+no_array : assigns (indexed (codes "x") (number_alone 1)) (number_alone 1) ≡ Breaks (rule.INDEX ∷ [])
+no_array = simp (access-judged, indexes-judged, expression-judged, simple-judged, term-judged, number-judged) refl
+
+-- g[red] := 1
+protected_component : assigns (indexed (codes "g") (name_alone (codes "red"))) (number_alone 1) ≡ Breaks (rule.PROTECTED ∷ [])
+protected_component = simp (access-judged, indexes-judged, expression-judged, simple-judged, term-judged, name-judged, number-judged) refl
+
+-- a := a, which has no code yet
+whole_array : assigns (access_node 1 (codes "a") []) (name_alone (codes "a")) ≡ Accepts None
+whole_array = simp (expression-judged, simple-judged, term-judged, name-judged) refl
+
+-- a := b
+other_array : assigns (access_node 1 (codes "a") []) (name_alone (codes "b")) ≡ Breaks (rule.ASSIGNMENT ∷ [])
+other_array = simp (expression-judged, simple-judged, term-judged, name-judged) refl
+
+-- g := a
+protected_array : assigns (access_node 1 (codes "g") []) (name_alone (codes "a")) ≡ Breaks (rule.PROTECTED ∷ [])
+protected_array = simp (expression-judged, simple-judged, term-judged, name-judged) refl
+
+-- no array counts, so none is a control variable, nor is a component of one
+array_does_not_count : counted_by (tree.OfUnit (codes "u") 2) (kind.Array 3) ≡ Breaks (rule.ORDINAL ∷ [])
+array_does_not_count = refl
+
+-- a[v] := 3 threatens a, and not the control variable v
+threatened_array : stmt_threat [] (tree.OfUnit (codes "u") 2) (Assign 1 (Indexed (Variable (codes "u") 2) (Read (Variable (codes "u") 5))) (Constant (pos 3))) ≡ true
+threatened_array = refl
+
+index_is_no_threat : stmt_threat [] (tree.OfUnit (codes "u") 5) (Assign 1 (Indexed (Variable (codes "u") 2) (Read (Variable (codes "u") 5))) (Constant (pos 3))) ≡ false
+index_is_no_threat = refl

@@ -5,6 +5,7 @@ pub mod Examples
 pub mod ForParts
 pub mod Gathered
 pub mod judged
+pub mod Printing
 pub mod Rows
 pub mod Threatening
 pub mod valid

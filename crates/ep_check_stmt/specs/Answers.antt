@@ -73,7 +73,7 @@ AnswersRow view (Err r) row = RefusesRow r row
 
 -- a function in whose block they are
 abbrev pub result_of : FunctionResult → rows.FunctionResult
-result_of r = record { function = r.function; level = r.level; variable = r.variable; host = r.host }
+result_of r = record { function = r.function; level = r.level; variable = r.variable; kind = r.kind }
 
 -- the variables of the block
 abbrev pub locals_of : Locals → rows.Locals
@@ -86,7 +86,7 @@ context_of c = record { unit = c.unit.now; scopes = c.scopes.now; output = c.out
 
 -- what is assigned to
 abbrev pub target_of : Target → rows.Target
-target_of t = record { place = place_of t.place; kind = t.kind }
+target_of t = record { place = option_map place_of t.place; kind = t.kind }
 
 -- an entire variable, of which threats are asked
 abbrev pub entire_of : Entire → tree.Entire

@@ -3,16 +3,25 @@ use Rattle.std.specs.Prelude.{◌≡◌, ℕ, ◌-◌, List, [], ◌∷◌, Some
 use Rattle.ep_tree.specs.declared.statement.Compound.{Compound}
 use Rattle.ep_typed.specs.Auxiliaries.{first_for_of}
 use Rattle.ep_typed.specs.Hosts as host
-use Rattle.ep_typed.specs.Trees.{Stmts, Own, entire}
+use Rattle.ep_typed.specs.Trees.{Place, Stmts, Own, entire}
 use Rattle.ep_typed.specs.Valid.{AreStmts, Declarations, IsPlace}
 use Rattle.ep_scope.specs.Scopes.{depth_in}
+use Rattle.ep_scope.specs.declared.kind.Kind.{Kind}
+use Rattle.ep_scope.specs.declared.kind.Kind.TheVariants as kind
 use Rattle.ep_check_expr.specs.Agreement.{Agrees, IsHost}
 use Rattle.ep_check_expr.specs.Hosts.{typed_host}
 use Rattle.ep_check_stmt.specs.Statements.{Context, FunctionResult, Locals, Passes, compound_judged, initial_variable, last_variable}
 
--- the variable that has a result is there from code of a depth, and of its host
+-- The place is that of a variable for results of this kind. No function has a result of another kind than an ordinal one that is built.
+abbrev pub IsResultAt : Declarations → Kind → Place → Type 0
+IsResultAt declared (kind.Ordinal h) place = IsHost h × IsPlace declared (typed_host h) place
+IsResultAt declared (kind.Array n) place = ⊤
+IsResultAt declared kind.Text place = ⊤
+IsResultAt declared kind.File place = ⊤
+
+-- the variable that has a result is there from code of a depth, and of its kind
 abbrev pub ResultIsThere : Declarations → ℕ → FunctionResult → Type 0
-ResultIsThere declared depth r = IsHost r.host × IsPlace declared (typed_host r.host) (Own (depth - r.level) r.variable)
+ResultIsThere declared depth r = IsResultAt declared r.kind (Own (depth - r.level) r.variable)
 
 abbrev pub ResultsAreThere : Declarations → ℕ → List FunctionResult → Type 0
 ResultsAreThere declared depth [] = ⊤

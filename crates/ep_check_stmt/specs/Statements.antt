@@ -6,6 +6,7 @@ use Rattle.std.specs.List.{list_any}
 use Rattle.std.specs.Option.{option_map}
 use Rattle.std.specs.Str.{bytes_eq}
 use Rattle.ep_tree.specs.declared.expression.Access.{out-Access}
+use Rattle.ep_tree.specs.declared.expression.Access as syntax_access
 use Rattle.ep_tree.specs.declared.expression.Expression.{Expression}
 use Rattle.ep_tree.specs.declared.operator.Direction.{Direction}
 use Rattle.ep_tree.specs.declared.operator.Direction.TheVariants as direction
@@ -40,13 +41,15 @@ use Rattle.ep_scope.specs.declared.rule.TheConstants as rule
 use Rattle.ep_scope.specs.declared.thing.Declaration.{Declaration}
 use Rattle.ep_scope.specs.declared.thing.Declaration.TheVariants as declaration
 use Rattle.ep_scope.specs.declared.thing.Declared.{Declared}
-use Rattle.ep_check_expr.specs.Arguments.{arguments_judged, callee_at, given_to, own_place, unless_protected}
+use Rattle.ep_check_expr.specs.declared.access.Access.{Access}
+use Rattle.ep_check_expr.specs.declared.access.Access.TheVariants as access
+use Rattle.ep_check_expr.specs.Arguments.{arguments_judged, callee_at, given_to, own_place, place_read, unless_protected}
 use Rattle.ep_check_expr.specs.Hosts.{typed_host}
 use Rattle.ep_check_expr.specs.Judgements.{Judged, Accepts, Breaks, Typed, unbuilt, when_accepted, both}
 use Rattle.ep_check_expr.specs.Functions.{Given}
 use Rattle.ep_check_expr.specs.Names.{undeclared}
 use Rattle.ep_check_expr.specs.Operators.{map_both}
-use Rattle.ep_check_expr.specs.Expressions.{given, judged, judged_value}
+use Rattle.ep_check_expr.specs.Expressions.{given, judged, judged_value, name_judged}
 use Rattle.ep_check_stmt.specs.Cases.{CaseSelector, own_ranges, selector_judged}
 use Rattle.ep_check_stmt.specs.RoutineForms.{RoutineForm, formals_at}
 use Rattle.ep_check_stmt.specs.Threats.{expr_threatens, inner_threatens, is_variable, threatens}
@@ -94,17 +97,17 @@ after f (Fails line rules) more = Fails line rules
 
 -- ---- assignments (ISO 10206, 6.9.2.2)
 
--- what can be assigned to
+-- What can be assigned to: its place, where it is built, and its kind. An index that is accepted and not built leaves a component without one.
 pub record Target : Type 0 where
-  pub place : Place
+  pub place : Option Place
   pub kind : Kind
 
--- A function in whose block the statements are, maybe deeper, where its name is assigned to for the result: its number among the routines of the unit, how many routines are around its variables, itself among them, the variable that has the result, and the host of that (ISO 10206, 6.7.2).
+-- A function in whose block the statements are, maybe deeper, where its name is assigned to for the result: its number among the routines of the unit, how many routines are around its variables, itself among them, the variable that has the result, and the kind of that (ISO 10206, 6.7.2).
 pub record FunctionResult : Type 0 where
   pub function : ℕ
   pub level : ℕ
   pub variable : ℕ
-  pub host : Host
+  pub kind : Kind
 
 -- whether what is declared is this function of a unit
 abbrev pub has_result : List ℕ → Declared → FunctionResult → Bool
@@ -114,7 +117,7 @@ has_result unit d r = nat_eq d.number r.function && bytes_eq d.unit unit
 abbrev pub function_target : ℕ → List ℕ → Declared → List FunctionResult → Judged Target
 function_target depth unit d [] = Breaks (rule.FUNCTION_ASSIGNED ∷ [])
 function_target depth unit d (r ∷ rs) =
-    if has_result unit d r then Accepts (record { place = tree.Own (depth - r.level) r.variable; kind = kind.Ordinal r.host }) else function_target depth unit d rs
+    if has_result unit d r then Accepts (record { place = Some (tree.Own (depth - r.level) r.variable); kind = r.kind }) else function_target depth unit d rs
 
 -- the rules that fail where a required identifier is assigned to
 abbrev pub target_rules : Required → List ℕ
@@ -127,8 +130,8 @@ target_rules (required.Procedure p) = rule.OTHER_THING ∷ rule.VARIABLE_NEEDED 
 module _ (depth : ℕ) (unit : List ℕ) (results : List FunctionResult) where
   -- a declared name that is assigned to
   abbrev pub declared_target : Declared → Declaration → Judged Target
-  declared_target d (declaration.Variable of k) = Accepts (record { place = tree.Variable d.unit d.number; kind = k })
-  declared_target d (declaration.Own of k guarded) = when_accepted (λ done. Accepts (record { place = own_place depth d; kind = k })) (unless_protected guarded)
+  declared_target d (declaration.Variable of k) = Accepts (record { place = Some (tree.Variable d.unit d.number); kind = k })
+  declared_target d (declaration.Own of k guarded) = when_accepted (λ done. Accepts (record { place = Some (own_place depth d); kind = k })) (unless_protected guarded)
   declared_target d (declaration.Constant k value) = Breaks (rule.CONSTANT_THREATENED ∷ rule.VARIABLE_NEEDED ∷ [])
   declared_target d (declaration.«Type» of h) = Breaks (rule.OTHER_THING ∷ rule.VARIABLE_NEEDED ∷ [])
   declared_target d (declaration.Procedure parameters) = Breaks (rule.OTHER_THING ∷ rule.VARIABLE_NEEDED ∷ [])
@@ -137,12 +140,20 @@ module _ (depth : ℕ) (unit : List ℕ) (results : List FunctionResult) where
   -- a name that means this
   abbrev pub place_named : List ℕ → Meant → Judged Target
   place_named name (Declares d) = declared_target d d.what
-  place_named name (Standard f) = Accepts (record { place = tree.Standard f; kind = kind.File })
+  place_named name (Standard f) = Accepts (record { place = Some (tree.Standard f); kind = kind.File })
   place_named name (Requires r) = Breaks (target_rules r)
   place_named name Nothing = Breaks (undeclared name)
 
+-- What an access with selectors denotes, as what is assigned to: a variable, whose components are protected where it is (6.5.1). No component is a file.
+abbrev pub variable_target : Access → Option Expr → Kind → Judged Target
+variable_target (access.Variable of guarded) form k = when_accepted (λ done. Accepts (record { place = place_read form; kind = k })) (unless_protected guarded)
+variable_target access.File form k = Accepts (record { place = None; kind = kind.File })
+variable_target access.Constant form k = Breaks (rule.CONSTANT_THREATENED ∷ rule.VARIABLE_NEEDED ∷ [])
+variable_target access.Value form k = Breaks (rule.VARIABLE_NEEDED ∷ [])
+
+-- a value is assigned, which has code where it is built and what is assigned to has a place
 abbrev pub assigned : ℕ → Target → Typed → Judged (Option Stmt)
-assigned line target value = given_to (tree.Assign line target.place) target.kind value.kind value.form
+assigned line target value = when_accepted (λ x. Accepts (map_both (tree.Assign line) target.place x)) (given_to (λ x. x) target.kind value.kind value.form)
 
 -- ---- conditions (ISO 10206, 6.9.3)
 
@@ -161,6 +172,7 @@ printed (kind.Ordinal host.Integer) = Accepts print.Integer
 printed (kind.Ordinal host.Char) = Accepts print.Char
 printed (kind.Ordinal host.Boolean) = Accepts print.Boolean
 printed (kind.Ordinal (host.Enumeration e)) = Breaks (rule.WRITTEN_TYPE ∷ [])
+printed (kind.Array n) = Breaks (rule.WRITTEN_TYPE ∷ [])
 printed kind.Text = Accepts print.Text
 printed kind.File = Breaks (rule.WRITTEN_TYPE ∷ [])
 
@@ -486,10 +498,13 @@ module _ (context : Context) where
   name_called line name None = unbuilt
   name_called line name (Some arguments) = call_judged line name (meant context.scopes name) arguments
 
-  -- a name without selectors is assigned to
-  abbrev pub target_judged : List ℕ → List Selector → Judged Target
-  target_judged name [] = place_named (depth_in context.scopes) context.unit context.results name (meant context.scopes name)
-  target_judged name _ = unbuilt
+  -- what is assigned to: a name, which may be that of a function, or the variable that an access with these selectors denotes
+  abbrev pub target_of_selectors : syntax_access.Access → List Selector → Judged Target
+  target_of_selectors a [] = place_named (depth_in context.scopes) context.unit context.results (out-Access a).name (meant context.scopes (out-Access a).name)
+  target_of_selectors a (s ∷ more) = when_accepted (λ t. variable_target t.access t.form t.kind) (name_judged context.scopes a)
+
+  abbrev pub target_judged : syntax_access.Access → Judged Target
+  target_judged a = target_of_selectors a (out-Access a).selectors
 
   -- an item of a statement inside of `for` statements with these control variables
   abbrev pub stmt_item : List Entire → ℕ → Judged (Option Stmt) → Judgement Stmt
@@ -517,7 +532,7 @@ module _ (context : Context) where
   abbrev pub at_statement : Statement-F (Under Stmt) ArmJudged (Under Stmts) (Under Stmts) → Under Stmt
   at_statement (Statement-F.Empty line) controls = Passes tree.Empty
   at_statement (Statement-F.Assignment line access v) controls =
-      stmt_item controls line (both (assigned line) (target_judged (out-Access access).name (out-Access access).selectors) (judged_value context.scopes v))
+      stmt_item controls line (both (assigned line) (target_judged access) (judged_value context.scopes v))
   at_statement (Statement-F.Call line access) controls = stmt_item controls line (name_called line (out-Access access).name (call_arguments (out-Access access).selectors))
   at_statement (Statement-F.Compound statements) controls = formed tree.Compound (statements controls)
   at_statement (Statement-F.If line e then_part other) controls = if_judged line (condition_judged controls line e) (then_part controls) (else_judged (option_map (λ s. s controls) other))

@@ -2,7 +2,7 @@
 
 ghost use Rattle.std.specs.Prelude.{◌≡◌, ℕ, List, ◌∷◌, None, true, IsTrue, map};
 ghost use Rattle.std.specs.Option.{option_map};
-ghost use Rattle.ep_built.specs.Built.{arm_unbuilt, built_call, built_target, call_unbuilt, component_value_unbuilt, compound_unbuilt, expression_unbuilt, first_if, first_in, statement_unbuilt, written_unbuilt};
+ghost use Rattle.ep_built.specs.Built.{access_unbuilt, arm_unbuilt, built_call, call_unbuilt, component_value_unbuilt, compound_unbuilt, expression_unbuilt, first_if, first_in, statement_unbuilt, written_unbuilt};
 ghost use Rattle.ep_scope.specs.Scopes.{meant};
 ghost use Rattle.ep_tree.specs.declared.expression.Access.{out-Access};
 ghost use Rattle.ep_typed.specs.Trees as tree;
@@ -45,8 +45,8 @@ pub struct FunctionResult {
     pub level: u32,
     /// The number of its variable that has the result.
     pub variable: u32,
-    /// The host of the result.
-    pub host: Host,
+    /// The kind of the result.
+    pub kind: Kind,
 }
 
 /// The variables of a block, with the number of the first of its two auxiliary variables, which stand behind all of them
@@ -87,11 +87,14 @@ fn assigned(
 ) -> Result<Option<Boxed<TypedStmt>>, Refusal>
     ensures { AnswersForm (option_map stmt_of) result (assigned line (target_of target) (typed_of value)) }
 {
-    let Some(form) = given_value(target.kind, value)? else {
-        return Ok(None);
-    };
-    let assignment = TypedStmt::Assign(line, target.into_place(), form);
-    Ok(Some(Boxed::new(alloc, assignment)?))
+    let form = given_value(target.kind, value)?;
+    match (target.into_place(), form) {
+        (Some(place), Some(form)) => {
+            let assignment = TypedStmt::Assign(line, place, form);
+            Ok(Some(Boxed::new(alloc, assignment)?))
+        }
+        _ => Ok(None),
+    }
 }
 
 /// The form of a condition.
@@ -431,13 +434,13 @@ impl<'a> Context<'a> {
         access: &Access,
         value: &ComponentValue,
     ) -> Result<Option<Boxed<TypedStmt>>, Refusal>
-        requires target { built_target access.now ≡ true }
+        requires target { access_unbuilt access.now ≡ None }
         requires value { component_value_unbuilt value.now ≡ None }
         ensures { AnswersForm (option_map stmt_of) result (both (assigned line)
-            (target_judged (context_of self.now) (out-Access access.now).name (out-Access access.now).selectors)
+            (target_judged (context_of self.now) access.now)
             (judged_value self.now.scopes.now value.now)) }
     {
-        let target = self.target(&access.name)?;
+        let target = self.target(access)?;
         let value = typed_value(self.alloc, value, self.scopes)?;
         assigned(self.alloc, line, target, value)
     }

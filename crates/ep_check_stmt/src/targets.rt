@@ -1,20 +1,28 @@
-//! What is assigned to: variables, and the names of functions for their results (ISO 10206, 6.9.2.2).
+//! What is assigned to: variables and their components, and the names of functions for their results (ISO 10206, 6.9.2.2).
 
-ghost use Rattle.std.specs.Prelude.{◌≡◌, IsTrue, map};
+ghost use Rattle.std.specs.Prelude.{◌≡◌, IsTrue, None, map};
+ghost use Rattle.std.specs.Option.{option_map};
+ghost use Rattle.ep_built.specs.Built.{access_unbuilt};
 ghost use Rattle.ep_scope.specs.Scopes.{depth_in, meant};
+ghost use Rattle.ep_typed.specs.Viewed.{expr_of};
+ghost use Rattle.ep_check_expr.specs.Arguments.{IsReading};
+ghost use Rattle.ep_check_expr.specs.Expressions.{name_judged};
+ghost use Rattle.ep_check_expr.specs.Judgements.{when_accepted};
 ghost use Rattle.ep_check_stmt.specs.Answers.{AnswersForm, context_of, fails_among, result_of, target_of};
-ghost use Rattle.ep_check_stmt.specs.Statements.{declared_target, function_target, has_result, place_named, target_rules};
+ghost use Rattle.ep_check_stmt.specs.Statements.{declared_target, function_target, has_result, place_named, target_judged, target_rules, variable_target};
 
 use crate::statements::{Context, FunctionResult};
 use ep_base::Name;
-use ep_check_expr::{Refusal, own_place, undeclared, unless_protected};
+use ep_check_expr::{
+    Access, Refusal, Typed, own_place, typed_access, undeclared, unless_protected,
+};
 use ep_scope::{Declaration, Declared, Kind, Meaning, Required, depth_in, meaning_of, rule};
 use ep_typed::TypedPlace;
 
 /// What is assigned to, and its kind.
 pub(crate) struct Target {
-    /// The place.
-    pub(crate) place: TypedPlace,
+    /// The place, where it is built.
+    pub(crate) place: Option<TypedPlace>,
     /// The kind.
     pub(crate) kind: Kind,
 }
@@ -27,7 +35,7 @@ impl Drop for Target {
 
 impl Target {
     /// The place alone.
-    pub(crate) fn into_place(self) -> TypedPlace
+    pub(crate) fn into_place(self) -> Option<TypedPlace>
         ensures { result ≡ self.place }
     {
         let Target { place, kind: _ } = self;
@@ -54,9 +62,10 @@ fn function_target(
 {
     for function in results {
         if has_result(unit, declared, *function) {
+            let up = depth.saturating_sub(function.level);
             return Ok(Target {
-                place: TypedPlace::Own(depth.saturating_sub(function.level), function.variable),
-                kind: Kind::Ordinal(function.host),
+                place: Some(TypedPlace::Own(up, function.variable)),
+                kind: function.kind,
             });
         }
     }
@@ -75,9 +84,52 @@ fn required_target(required: Required) -> u32
     }
 }
 
+/// What an access with selectors denotes, as what is assigned to.
+fn variable_target(variable: Typed) -> Result<Target, Refusal>
+    requires { IsReading variable.access (option_map expr_of variable.form) }
+    ensures { AnswersForm target_of result
+        (variable_target variable.access (option_map expr_of variable.form) variable.kind) }
+{
+    let kind = variable.kind;
+    match variable.access {
+        Access::Variable(_, protection) => {
+            unless_protected(protection)?;
+            let place = variable.into_place();
+            Ok(Target { place, kind })
+        }
+        Access::File => Ok(Target {
+            place: None,
+            kind: Kind::File,
+        }),
+        Access::Constant => Err(Refusal::Rule(rule::CONSTANT_THREATENED)),
+        Access::Value => Err(Refusal::Rule(rule::VARIABLE_NEEDED)),
+    }
+}
+
 impl Context<'_> {
+    /// A name that is assigned to, or the variable that an access with selectors denotes.
+    pub(crate) fn target(&self, access: &ep_tree::Access) -> Result<Target, Refusal>
+        requires { access_unbuilt access.now ≡ None }
+        ensures { AnswersForm target_of result (target_judged (context_of self.now) access.now) }
+    {
+        match access.selectors.items() {
+            [] => self.named_target(&access.name),
+            _ => self.denoted(access),
+        }
+    }
+
+    /// The variable that an access denotes.
+    fn denoted(&self, access: &ep_tree::Access) -> Result<Target, Refusal>
+        requires { access_unbuilt access.now ≡ None }
+        ensures { AnswersForm target_of result (when_accepted (λ t. variable_target t.access t.form t.kind)
+            (name_judged self.now.scopes.now access.now)) }
+    {
+        let variable = typed_access(self.alloc, access, self.scopes)?;
+        variable_target(variable)
+    }
+
     /// A name that is assigned to.
-    pub(crate) fn target(&self, name: &Name) -> Result<Target, Refusal>
+    fn named_target(&self, name: &Name) -> Result<Target, Refusal>
         ensures { AnswersForm target_of result
             (place_named (depth_in self.now.scopes.now) (context_of self.now).unit (context_of self.now).results
             name.now (meant self.now.scopes.now name.now)) }
@@ -85,7 +137,7 @@ impl Context<'_> {
         match &meaning_of(self.scopes, name) {
             Meaning::Declared(declared) => self.declared_target(declared),
             Meaning::Standard(file) => Ok(Target {
-                place: TypedPlace::Standard(*file),
+                place: Some(TypedPlace::Standard(*file)),
                 kind: Kind::File,
             }),
             Meaning::Required(required) => Err(Refusal::Rule(required_target(*required))),
@@ -102,12 +154,12 @@ impl Context<'_> {
         match &declared.what {
             Declaration::Variable(_, kind) => {
                 let unit = declared.unit.copy(self.alloc)?;
-                let place = TypedPlace::Variable(unit, declared.number);
+                let place = Some(TypedPlace::Variable(unit, declared.number));
                 Ok(Target { place, kind: *kind })
             }
             Declaration::Own(_, kind, protection) => {
                 unless_protected(*protection)?;
-                let place = own_place(depth_in(self.scopes)?, declared);
+                let place = Some(own_place(depth_in(self.scopes)?, declared));
                 Ok(Target { place, kind: *kind })
             }
             Declaration::Constant(_, _) => Err(Refusal::Rule(rule::CONSTANT_THREATENED)),

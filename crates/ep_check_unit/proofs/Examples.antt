@@ -35,11 +35,11 @@ integer = type_name.Required simple.Integer
 
 -- a: integer
 abbrev parameters : List FormalParameter
-parameters = record { name = codes "a"; mode = mode.Value; section = 0; of = integer; host = host.Integer } ∷ []
+parameters = record { name = codes "a"; mode = mode.Value; section = 0; of = integer; kind = kind.Ordinal host.Integer } ∷ []
 
 -- a result of the type integer, with a name or without
 abbrev result : Option (List ℕ) → HeadingResult
-result name = record { name = name; of = integer; host = host.Integer }
+result name = record { name = name; of = integer; kind = kind.Ordinal host.Integer }
 
 -- only that an item is accepted, or which rules fail
 abbrev verdict : {A : Type 0} → Judged A → List ℕ
@@ -118,7 +118,7 @@ heading_renamed : again (Some (result (Some (codes "r")))) [] (codes "f") ≡ ru
 heading_renamed = refl
 
 -- function f: char; begin .. end
-heading_of_another_type : again (Some (record { name = None; of = type_name.Required simple.Char; host = host.Char })) [] (codes "f") ≡ rule.REPEATED_HEADING ∷ []
+heading_of_another_type : again (Some (record { name = None; of = type_name.Required simple.Char; kind = kind.Ordinal host.Char })) [] (codes "f") ≡ rule.REPEATED_HEADING ∷ []
 heading_of_another_type = refl
 
 -- procedure f; begin .. end
@@ -144,7 +144,7 @@ two_variables : own_count inside_f.own ≡ 2
 two_variables = refl
 
 -- f is assigned to
-assigned : (context_of inside_f).results ≡ record { function = 1; level = 1; variable = 1; host = host.Integer } ∷ []
+assigned : (context_of inside_f).results ≡ record { function = 1; level = 1; variable = 1; kind = kind.Ordinal host.Integer } ∷ []
 assigned = refl
 
 -- g is not, whose result has a name
@@ -164,7 +164,7 @@ in_view : is_in_view inside_f.own.result (codes "f") inside_f ≡ true
 in_view = refl
 
 -- var f: integer
-not_in_view : is_in_view inside_f.own.result (codes "f") (with_own_variable 5 (denoter.Required simple.Integer) integer host.Integer (codes "f") inside_f) ≡ false
+not_in_view : is_in_view inside_f.own.result (codes "f") (with_own_variable 5 (denoter.Required simple.Integer) integer (kind.Ordinal host.Integer) (codes "f") inside_f) ≡ false
 not_in_view = refl
 
 -- ---- blocks in blocks
@@ -175,14 +175,14 @@ inside_h = inside (headed_first (codes "h") 4 [] (Some (result None)) inside_f)
 
 -- in the block of h: var x: integer
 abbrev with_x : Block
-with_x = with_own_variable 5 (denoter.Required simple.Integer) integer host.Integer (codes "x") inside_h
+with_x = with_own_variable 5 (denoter.Required simple.Integer) integer (kind.Ordinal host.Integer) (codes "x") inside_h
 
 -- h is in f, and is the routine 3 of the unit
 around_h : option_map (λ r. r.around) (slice_get inside_h.routines 3) ≡ Some (1 ∷ [])
 around_h = refl
 
 -- the level of a name is how many routines are around its declaration
-level_of_unit : look_up before.scopes.inner.entries (codes "f") ≡ Some (thing.Declared (record { unit = codes "u"; number = 1; level = 0; what = declaration.Function parameters integer host.Integer }))
+level_of_unit : look_up before.scopes.inner.entries (codes "f") ≡ Some (thing.Declared (record { unit = codes "u"; number = 1; level = 0; what = declaration.Function parameters integer (kind.Ordinal host.Integer) }))
 level_of_unit = refl
 
 level_in_f : look_up (block_in (headed_first (codes "h") 4 [] None inside_f)).scopes.inner.entries (codes "h") ≡ Some (thing.Declared (record { unit = codes "u"; number = 3; level = 1; what = declaration.Procedure [] }))
@@ -196,7 +196,7 @@ locals_of_h : locals_of with_x ≡ OfRoutine 3 1 2
 locals_of_h = refl
 
 -- both are assigned to there
-both_assigned : (context_of inside_h).results ≡ record { function = 3; level = 2; variable = 0; host = host.Integer } ∷ record { function = 1; level = 1; variable = 1; host = host.Integer } ∷ []
+both_assigned : (context_of inside_h).results ≡ record { function = 3; level = 2; variable = 0; kind = kind.Ordinal host.Integer } ∷ record { function = 1; level = 1; variable = 1; kind = kind.Ordinal host.Integer } ∷ []
 both_assigned = refl
 
 -- ---- results that are given from inside

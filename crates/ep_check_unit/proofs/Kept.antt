@@ -13,8 +13,7 @@ use Rattle.ep_tree.specs.declared.routine.RoutineBody.{RoutineBody, map-RoutineB
 use Rattle.ep_tree.specs.declared.routine.RoutineStart.{RoutineStart}
 use Rattle.ep_tree.specs.declared.routine.RoutineStart.TheVariants as start
 use Rattle.ep_tree.specs.declared.statement.Compound.{Compound}
-use Rattle.ep_tree.specs.declared.types.Core.TheOpen.{Core-F}
-use Rattle.ep_tree.specs.declared.types.Core.{out-Core}
+use Rattle.ep_tree.specs.declared.types.Core.{Core}
 use Rattle.ep_typed.specs.Trees.{Stmts}
 use Rattle.ep_typed.specs.declared.denoter.Denoter.{Denoter}
 use Rattle.ep_typed.specs.declared.tree.StandardFile.{StandardFile}
@@ -36,18 +35,19 @@ use Rattle.ep_scope.specs.declared.thing.Declaration.TheVariants as declaration
 use Rattle.ep_scope.specs.declared.thing.Declared.{Declared}
 use Rattle.ep_scope.specs.declared.thing.Thing.{Thing}
 use Rattle.ep_scope.specs.declared.thing.Thing.TheVariants as thing
-use Rattle.ep_check_expr.specs.Judgements.{Judged, Accepts, Breaks}
+use Rattle.ep_check_expr.specs.Judgements.{Judged, Accepts, Breaks, when_accepted}
 use Rattle.ep_check_expr.specs.Constants.{constant_judged, bound_judged}
 use Rattle.ep_check_expr.specs.Names.{undeclared}
 use Rattle.ep_check_expr.specs.declared.constants.ConstantForm.{ConstantForm}
 use Rattle.ep_check_stmt.proofs.judged.Fits.{Any, Fits, fits_then, fits_both, fits_any}
 use Rattle.ep_check_stmt.specs.Statements.{Judgement, Passes, Waits, Fails, compound_judged}
-use Rattle.ep_check_unit.specs.Declarations.{all_variables_declared, and_then, at_line, common_host, constant_definition, constant_entered, constants_declared, core_of, core_written, declaration_ended, declared_type, entered, enumerated, enumeration, next_enumeration, noted, ordered, range, scopes_of, settled, settled_type, Standing, Stands, Falls, subrange, type_definition, type_definitions, type_entered, type_meant, type_named, type_written, unused, variable_declaration, variable_entered, variables_declared, variables_entered, with_constant, with_name, with_type, is_outermost, with_own_variable, with_unit_variable, with_variable, own_thing, Written}
+use Rattle.ep_check_unit.specs.Declarations.{Part as DenoterPart, all_variables_declared, and_then, array_over, at_line, common_host, constant_definition, constant_entered, constants_declared, core_of, core_part, core_written, declaration_ended, declared_type, entered, enumerated, enumeration, index_host, next_enumeration, noted, ordered, range, scopes_of, settled, settled_part, settled_type, Standing, Stands, Falls, subrange, type_definition, type_definitions, type_entered, type_meant, type_named, type_written, unused, variable_declaration, variable_entered, variables_declared, variables_entered, with_constant, with_name, with_type, is_outermost, with_own_variable, with_unit_variable, with_variable, own_thing, Written}
 use Rattle.ep_check_unit.specs.Functions.{if_given, in_block, is_assigned, is_in_view, own_name_entered, result_entered, routine_declaration, row_gives, same_result}
-use Rattle.ep_check_unit.specs.Routines.{BodyJudged, Headed, PartJudged, all_declared, assigns_among, block_declared, body_closed, body_declared, body_ended, context_of, declared_routine, formals_entered, forwarded, has_body, heading_entered, inside_declared, is_repeated, headed_again, headed_first, headed_over, headed_then, identified_again, identified_over, of_body, of_part, of_routine, part_judged, parts_declared, result_headed, result_judged, routine_body_judged, routine_judged, routine_there, sections_judged, scope_opened, start_headed, start_name, with_routine}
+use Rattle.ep_check_unit.specs.Routines.{BodyJudged, Headed, PartJudged, all_declared, assigns_among, block_declared, body_closed, body_declared, body_ended, context_of, declared_routine, formals_entered, forwarded, has_body, heading_entered, inside_declared, is_repeated, headed_again, headed_first, headed_over, headed_then, identified_again, identified_over, is_built_heading, of_body, of_part, of_routine, part_judged, parts_declared, result_headed, result_judged, routine_body_judged, routine_judged, routine_there, sections_judged, scope_opened, start_headed, start_name, with_routine}
 use Rattle.ep_check_unit.specs.declared.functions.HeadingResult.{HeadingResult}
 use Rattle.ep_check_unit.specs.Units.{parameter_entered, parameters_entered, standard_file}
 use Rattle.ep_check_unit.specs.Blocks.{Block}
+use Rattle.ep_check_unit.proofs.Denoters.{KeptByDenoters, each_denoter, over_part}
 use Rattle.ep_check_unit.specs.declared.block.OwnResult.{OwnResult}
 use Rattle.ep_check_unit.specs.declared.block.OwnVariables.{OwnVariables}
 
@@ -67,6 +67,7 @@ module _ (n : List ℕ) where
 
   with_constant-kept : (name : List ℕ) (k : Kind) (v : Value) (b : Block) → IsOf b → IsOf (with_constant name k v b)
   with_constant-kept name (kind.Ordinal h) v b i = i
+  with_constant-kept name (kind.Array m) v b i = i
   with_constant-kept name kind.Text v b i = i
   with_constant-kept name kind.File v b i = i
 
@@ -112,16 +113,40 @@ module _ (n : List ℕ) where
   enumeration-kept (first ∷ others) b i =
       fits_then IsOf IsIn _ (enumerated (next_enumeration (length others) b) 0 (first ∷ others) b) (enumerated-kept (next_enumeration (length others) b) 0 (first ∷ others) b i) (λ c j. j)
 
-  core_written-kept : {A B C D E F G H : Type 0} (line : ℕ) (core : Core-F A B C D E F G H) (b : Block) → IsOf b → Fits IsIn (core_written line core b)
-  core_written-kept line (Core-F.Named at name tuple) b i = type_named-kept name.first name.second b i
-  core_written-kept line (Core-F.Range at low high) b i =
-      fits_both Any Any IsIn (range line b) (bound_judged (scopes_of b) low) (bound_judged (scopes_of b) high) (fits_any (bound_judged (scopes_of b) low)) (fits_any (bound_judged (scopes_of b) high))
-      (λ x y j k. range-kept line b x y i)
-  core_written-kept line (Core-F.Enumeration at names) b i = enumeration-kept names b i
-  core_written-kept line (Core-F.Pointer at name) b i = tt
-  core_written-kept line (Core-F.Structured at packed structure) b i = tt
-  core_written-kept line (Core-F.Restricted at name) b i = tt
-  core_written-kept line (Core-F.TypeOf at name) b i = tt
+  -- what a part writes is in a block of the same unit
+  abbrev IsKeptPart : DenoterPart → Type 0
+  IsKeptPart p = (line : ℕ) (b : Block) → IsOf b → Fits IsIn (p.written line b)
+
+  settled_if-kept : (is_name : Bool) (line : ℕ) (w : Written) → IsIn w → IsIn (if is_name then w else settled line w)
+  settled_if-kept true line w i = i
+  settled_if-kept false line w i = i
+
+  settled_part-kept : (p : DenoterPart) → IsKeptPart p → (line : ℕ) (b : Block) → IsOf b → Fits IsIn (settled_part p line b)
+  settled_part-kept p h line b i = fits_then IsIn IsIn (λ w. Accepts (if p.is_name then w else settled line w)) (p.written line b) (h line b i) (λ w j. settled_if-kept p.is_name line w j)
+
+  array_written-kept : (index of : DenoterPart) → IsKeptPart index → IsKeptPart of → IsKeptPart (over_part index of)
+  array_written-kept index of h g line b i =
+      fits_then IsIn IsIn (λ w. when_accepted (λ host. when_accepted (λ below. Accepts (array_over w.denoter host below)) (settled_part of line w.block)) (index_host w.kind)) (settled_part index line b) (settled_part-kept index h line b i)
+      (λ w j. fits_then Any IsIn (λ host. when_accepted (λ below. Accepts (array_over w.denoter host below)) (settled_part of line w.block)) (index_host w.kind) (fits_any (index_host w.kind))
+      (λ host k. fits_then IsIn IsIn (λ below. Accepts (array_over w.denoter host below)) (settled_part of line w.block) (settled_part-kept of g line w.block j) (λ below l. l)))
+
+  parts_kept : KeptByDenoters IsKeptPart
+  parts_kept = record {
+    names = λ name line b i. type_named-kept name.first name.second b i;
+    ranges = λ low high line b i.
+        fits_both Any Any IsIn (range line b) (bound_judged (scopes_of b) low) (bound_judged (scopes_of b) high) (fits_any (bound_judged (scopes_of b) low)) (fits_any (bound_judged (scopes_of b) high))
+        (λ x y j k. range-kept line b x y i);
+    enumerations = λ names line b i. enumeration-kept names b i;
+    others = λ line b i. tt;
+    arrays = array_written-kept;
+    structures = λ p h line b i. h line b i;
+  }
+
+  core_written-kept : (line : ℕ) (c : Core) (b : Block) → IsOf b → Fits IsIn (core_written line c b)
+  core_written-kept line c b i = each_denoter IsKeptPart parts_kept c line b i
+
+  settled_type-kept : (line : ℕ) (c : Core) (b : Block) → IsOf b → Fits IsIn (settled_type line c b)
+  settled_type-kept line c b i = settled_part-kept (core_part c) (each_denoter IsKeptPart parts_kept c) line b i
 
   -- ---- items
 
@@ -132,37 +157,27 @@ module _ (n : List ℕ) where
 
   type_definition-kept : (line : ℕ) (d : TypeDefinition) (b : Block) → IsOf b → Fits IsOf (type_definition line d b)
   type_definition-kept line d b i =
-      fits_then IsIn IsOf (type_entered d) (type_written line d.of b) (core_written-kept line (out-Core (core_of d.of)) b i)
-      (λ w j. entered-kept d.name (own_thing w.block (length w.block.types) (declaration.«Type» w.of w.host)) (with_type (Some d.name) d.line w.denoter w.block) j)
+      fits_then IsIn IsOf (type_entered d) (type_written line d.of b) (core_written-kept line (core_of d.of) b i)
+      (λ w j. entered-kept d.name (own_thing w.block (length w.block.types) (declaration.«Type» w.of w.kind)) (with_type (Some d.name) d.line w.denoter w.block) j)
 
   type_definitions-kept : (line : ℕ) (ds : List TypeDefinition) (b : Block) → IsOf b → Fits IsOf (type_definitions line ds b)
   type_definitions-kept line [] b i = i
   type_definitions-kept line (d ∷ ds) b i = fits_then IsOf IsOf (type_definitions line ds) (type_definition line d b) (type_definition-kept line d b i) (λ c j. type_definitions-kept line ds c j)
 
-  settled-kept : {A B C D E F G H : Type 0} (line : ℕ) (core : Core-F A B C D E F G H) (w : Written) → IsIn w → IsIn (settled line core w)
-  settled-kept line (Core-F.Named at name tuple) w i = i
-  settled-kept line (Core-F.Range at low high) w i = i
-  settled-kept line (Core-F.Enumeration at names) w i = i
-  settled-kept line (Core-F.Pointer at name) w i = i
-  settled-kept line (Core-F.Structured at packed structure) w i = i
-  settled-kept line (Core-F.Restricted at name) w i = i
-  settled-kept line (Core-F.TypeOf at name) w i = i
+  placed-kept : (line : ℕ) (d : Denoter) (of : TypeName) (k : Kind) (name : List ℕ) (b : Block) (outermost : Bool) → IsOf b → IsOf (if outermost then with_unit_variable line d of k name b else with_own_variable line d of k name b)
+  placed-kept line d of k name b true i = i
+  placed-kept line d of k name b false i = i
 
-  placed-kept : (line : ℕ) (d : Denoter) (of : TypeName) (h : Host) (name : List ℕ) (b : Block) (outermost : Bool) → IsOf b → IsOf (if outermost then with_unit_variable line d of h name b else with_own_variable line d of h name b)
-  placed-kept line d of h name b true i = i
-  placed-kept line d of h name b false i = i
-
-  variables_entered-kept : (line : ℕ) (d : Denoter) (of : TypeName) (h : Host) (names : List (List ℕ)) (b : Block) → IsOf b → Fits IsOf (variables_entered line d of h names b)
-  variables_entered-kept line d of h [] b i = i
-  variables_entered-kept line d of h (name ∷ names) b i =
-      fits_then IsOf IsOf (variables_entered line d of h names) (variable_entered line d of h name b)
-      (fits_then Any IsOf (λ _. Accepts (with_variable line d of h name b)) (unused name b) (fits_any (unused name b)) (λ a j. placed-kept line d of h name b (is_outermost b.own.enclosing) i)) (λ c j. variables_entered-kept line d of h names c j)
+  variables_entered-kept : (line : ℕ) (d : Denoter) (of : TypeName) (k : Kind) (names : List (List ℕ)) (b : Block) → IsOf b → Fits IsOf (variables_entered line d of k names b)
+  variables_entered-kept line d of k [] b i = i
+  variables_entered-kept line d of k (name ∷ names) b i =
+      fits_then IsOf IsOf (variables_entered line d of k names) (variable_entered line d of k name b)
+      (fits_then Any IsOf (λ _. Accepts (with_variable line d of k name b)) (unused name b) (fits_any (unused name b)) (λ a j. placed-kept line d of k name b (is_outermost b.own.enclosing) i)) (λ c j. variables_entered-kept line d of k names c j)
 
   variable_declaration-kept : (d : VariableDeclaration) (b : Block) → IsOf b → Fits IsOf (variable_declaration d b)
   variable_declaration-kept d b i =
-      fits_then IsIn IsOf (variables_declared d) (settled_type d.line (out-Core (core_of d.of)) b)
-      (fits_then IsIn IsIn (λ w. Accepts (settled d.line (out-Core (core_of d.of)) w)) (core_written d.line (out-Core (core_of d.of)) b) (core_written-kept d.line (out-Core (core_of d.of)) b i) (λ w j. settled-kept d.line (out-Core (core_of d.of)) w j))
-      (λ w j. fits_then IsOf IsOf (λ c. Accepts (declaration_ended c)) (variables_entered d.line w.denoter w.of w.host d.names w.block) (variables_entered-kept d.line w.denoter w.of w.host d.names w.block j) (λ c k. k))
+      fits_then IsIn IsOf (variables_declared d) (settled_type d.line (core_of d.of) b) (settled_type-kept d.line (core_of d.of) b i)
+      (λ w j. fits_then IsOf IsOf (λ c. Accepts (declaration_ended c)) (variables_entered d.line w.denoter w.of w.kind d.names w.block) (variables_entered-kept d.line w.denoter w.of w.kind d.names w.block j) (λ c l. l))
 
   -- ---- parts
 
@@ -194,7 +209,8 @@ module _ (n : List ℕ) where
   headed_first-kept : (name : List ℕ) (line : ℕ) (ps : List FormalParameter) (r : Option HeadingResult) (b : Block) → IsOf b → Fits IsHeaded (headed_first name line ps r b)
   headed_first-kept name line ps r b i =
       let t = own_thing b (length b.routines) (routine_declaration ps r) in
-      fits_then IsOf IsHeaded (λ c. Accepts (record { number = length b.routines; parameters = ps; result = r; block = c })) (entered name t (with_routine name line ps r b)) (entered-kept name t (with_routine name line ps r b) i) (λ c k. k)
+      fits_then IsOf IsHeaded (λ c. Accepts (record { number = length b.routines; parameters = ps; result = r; block = c })) (entered name t (noted (is_built_heading ps r) line (with_routine name line ps r b)))
+      (entered-kept name t (noted (is_built_heading ps r) line (with_routine name line ps r b)) (noted-kept (is_built_heading ps r) line (with_routine name line ps r b) i)) (λ c k. k)
 
   declared_routine-kept : (number : ℕ) (d : Declaration) (b : Block) → IsOf b → Fits IsHeaded (declared_routine number d b)
   declared_routine-kept number (declaration.Procedure ps) b i = i
@@ -249,12 +265,12 @@ module _ (n : List ℕ) where
   formals-kept : (number : ℕ) (ps : List FormalParameter) (b : Block) → IsOf b → Fits IsOf (formals_entered number ps b)
   formals-kept number [] b i = i
   formals-kept number (p ∷ ps) b i =
-      let t = own_thing b number (declaration.Own p.of (kind.Ordinal p.host) (protection_of p.mode)) in
+      let t = own_thing b number (declaration.Own p.of p.kind (protection_of p.mode)) in
       fits_then IsOf IsOf (formals_entered (suc number) ps) (entered p.name t b) (entered-kept p.name t b i) (λ c j. formals-kept (suc number) ps c j)
 
   own_name-kept : (own : OwnResult) (name : Option (List ℕ)) (b : Block) → IsOf b → Fits IsOf (own_name_entered own name b)
   own_name-kept own None b i = i
-  own_name-kept own (Some name) b i = entered-kept name (own_thing b own.variable (declaration.Own own.of (kind.Ordinal own.host) protection.Unprotected)) b i
+  own_name-kept own (Some name) b i = entered-kept name (own_thing b own.variable (declaration.Own own.of own.kind protection.Unprotected)) b i
 
   result-kept : (number variable : ℕ) (r : Option HeadingResult) (b : Block) → IsOf b → Fits IsOf (result_entered number variable r b)
   result-kept number variable None b i = i

@@ -1,7 +1,9 @@
 pub mod Bodies
 pub mod Defined
+pub mod Denoters
 pub mod Examples
 pub mod Forms
+pub mod Indexes
 pub mod Kept
 pub mod Parameters
 pub mod Programs

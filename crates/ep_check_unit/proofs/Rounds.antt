@@ -1,6 +1,6 @@
 -- A loop over items that a definition takes one after another in a block: the refusal of the item that comes next.
 use Rattle.std.proofs.Common.{◌≡◌, ℕ, ◌+◌, ◌<◌, List, ◌∷◌, drop, length, get_or, sym, ap, ◌∙◌, subst}
-use Rattle.ep_check_expr.specs.Judgements.{Judged, when_accepted}
+use Rattle.ep_check_expr.specs.Judgements.{Judged, Accepts, when_accepted}
 use Rattle.ep_check_expr.specs.declared.forms.Refusal.{Refusal}
 use Rattle.ep_check_stmt.specs.Answers.{Refuses}
 use Rattle.ep_check_stmt.specs.Outcomes.{refused_at}
@@ -40,3 +40,9 @@ pub item_falls : {X : Type 0} (line_of : X → ℕ) (all_of : List X → Block �
     → Refuses e (one_of x now) → RefusesItems (refused_at (line_of x) e) (all_of all first)
 item_falls line_of all_of one_of takes all i x first now e h is same f =
     part_falls all_of (λ y b. at_line (line_of y) (one_of y b)) takes all i x first now (refused_at (line_of x) e) h is same (line_refused (line_of x) e (one_of x now) f)
+
+-- what stands after it stands after all before it
+pub item_stands : {X : Type 0} (line_of : X → ℕ) (all_of : List X → Block → Standing) (one_of : X → Block → Judged Block) → Stand all_of (λ x b. at_line (line_of x) (one_of x b))
+    → (all : List X) (i : ℕ) (x : X) (now new : Block) (s : Standing) → i < length all → x ≡ get_or all i x → all_of (drop i all) now ≡ s → one_of x now ≡ Accepts new → all_of (drop (i + 1) all) new ≡ s
+item_stands line_of all_of one_of takes all i x now new s h is same accepted =
+    sym (ap (λ j. and_then (all_of (drop (i + 1) all)) (at_line (line_of x) j)) accepted) ∙ (sym (takes x (drop (i + 1) all) now) ∙ (sym (ap (λ xs. all_of xs now) (next_item all i x h is)) ∙ same))

@@ -1,10 +1,12 @@
 pub mod Denoting
 pub mod Open
 pub mod Holds
+pub mod Agreeing
 pub mod Leading
 pub mod Meant
 pub mod Constants
 pub mod Types
+pub mod Arrays
 pub mod Items
 pub mod Auxiliaries
 pub mod Headings

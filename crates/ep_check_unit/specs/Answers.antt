@@ -3,7 +3,7 @@ use Rattle.std.specs.Prelude.{◌≡◌, ℕ, Bool, true, List, [], ◌∷◌, �
 use Rattle.ep_typed.specs.declared.denoter.Denoter.{Denoter}
 use Rattle.ep_typed.specs.declared.value.Value.{Value}
 use Rattle.ep_scope.specs.declared.kind.Host.{Host}
-use Rattle.ep_check_expr.specs.Judgements.{Judged, Accepts}
+use Rattle.ep_check_expr.specs.Judgements.{Judged, Accepts, when_accepted}
 use Rattle.ep_check_expr.specs.declared.forms.Refusal.{Refusal}
 use Rattle.ep_check_expr.specs.declared.forms.Refusal.TheVariants.{Rule, NoMemory}
 use Rattle.ep_check_stmt.specs.Answers.{Refuses}
@@ -18,6 +18,7 @@ use Rattle.ep_check_stmt.specs.Statements as rows
 use Rattle.ep_check_stmt.specs.declared.statements.Locals.{Locals}
 use Rattle.ep_check_unit.specs.Routines.{Headed}
 use Rattle.ep_check_unit.specs.declared.headings.Heading.{Heading}
+use Rattle.ep_check_unit.specs.declared.types.IndexType.{IndexType}
 use Rattle.ep_check_unit.specs.declared.types.NamedType.{NamedType}
 use Rattle.ep_check_unit.specs.declared.types.Written.{Written}
 
@@ -56,10 +57,25 @@ AnswersGiven line given (Err r) = (s : Standing) → RefusesItems r (if_given li
 
 -- types that are written, in a block
 abbrev pub named_in : Block → NamedType → spec.Written
-named_in b t = record { denoter = spec.type_denoter t.name; of = t.of; host = t.host; block = b }
+named_in b t = record { denoter = spec.type_denoter t.name; of = t.of; kind = t.kind; block = b }
 
 abbrev pub written_in : Block → Written → spec.Written
-written_in b w = record { denoter = w.denoter; of = w.of; host = w.host; block = b }
+written_in b w = record { denoter = w.denoter; of = w.of; kind = w.kind; block = b }
+
+-- an index type, as the denoter of an array has it
+abbrev pub index_of : IndexType → Denoter × Host
+index_of i = (spec.type_denoter i.name, i.host)
+
+-- index types from left to right, each with an entry where it needs one, and the block behind them
+abbrev pub indexes_written : ℕ → List spec.Part → Block → Judged (List (Denoter × Host) × Block)
+indexes_written line [] b = Accepts ([], b)
+indexes_written line (p ∷ ps) b =
+    when_accepted (λ w. when_accepted (λ h. when_accepted (λ r. Accepts ((w.denoter, h) ∷ r.0, r.1)) (indexes_written line ps w.block)) (spec.index_host w.kind)) (spec.settled_part p line b)
+
+-- arrays of these index types over a type, the innermost first, each with an entry of its own
+abbrev pub arrays_below : ℕ → List (Denoter × Host) → spec.Written → spec.Written
+arrays_below line [] w = w
+arrays_below line (i ∷ is) w = spec.settled line (spec.array_over i.0 i.1 (arrays_below line is w))
 
 -- a routine that is declared, in a block
 abbrev pub headed_in : Block → Heading → Headed

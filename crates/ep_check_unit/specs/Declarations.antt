@@ -4,9 +4,10 @@
 use Rattle.std.specs.List.{list_any}
 use Rattle.std.specs.Prelude.{ℕ, nat_eq, ◌==◌, ℤ, pos, suc, int_le, Bool, true, false, ◌&&◌, List, [], ◌∷◌, ◌++◌, length, Option, Some, None, if◌then◌else◌}
 use Rattle.std.specs.Option.{option_or}
-use Rattle.ep_tree.specs.declared.types.Core.TheOpen.{Core-F}
-use Rattle.ep_tree.specs.declared.types.Core.{Core, out-Core}
-use Rattle.ep_tree.specs.declared.types.Plain.{out-Plain}
+use Rattle.ep_tree.specs.declared.types.Core.TheOpen.{Core-F, Structure-F}
+use Rattle.ep_tree.specs.declared.types.Core.{Core, fold-Core}
+use Rattle.ep_tree.specs.declared.types.Plain.{Plain, fold-Plain, out-Plain}
+use Rattle.ep_tree.specs.declared.types.Structure.{Structure, fold-Structure}
 use Rattle.ep_tree.specs.declared.types.TypeDenoter.{TypeDenoter, out-TypeDenoter}
 use Rattle.ep_tree.specs.declared.declaration.ConstantDefinition.{ConstantDefinition}
 use Rattle.ep_tree.specs.declared.declaration.TypeDefinition.{TypeDefinition}
@@ -21,7 +22,8 @@ use Rattle.ep_typed.specs.declared.value.Value.{Value}
 use Rattle.ep_typed.specs.declared.value.Value.TheVariants as value
 use Rattle.ep_scope.specs.Kinds.{same_host}
 use Rattle.ep_scope.specs.Required.{look_up}
-use Rattle.ep_scope.specs.Scopes.{Region, in_view, with_inner, Meant, Declares, Standard, Requires, Nothing, meant, meant_in}
+use Rattle.ep_scope.specs.Scopes.{Region, in_view, with_inner, with_inner_array, Meant, Declares, Standard, Requires, Nothing, meant, meant_in}
+use Rattle.ep_scope.specs.declared.array.ArrayType.{ArrayType}
 use Rattle.ep_scope.specs.declared.kind.Host.{Host}
 use Rattle.ep_scope.specs.declared.kind.Host.TheVariants as host
 use Rattle.ep_scope.specs.declared.kind.Kind.{Kind}
@@ -105,11 +107,11 @@ with_constant name k v b = with_name name (own_thing b (length b.constants) (dec
 abbrev pub constant_entered : List ℕ → Kind → Value → Block → Judged Block
 constant_entered name k v b = when_accepted (λ _. Accepts (with_constant name k v b)) (unused name b)
 
--- a type that is written: its denoter, which type it is, and its host, and what has been declared with it
+-- a type that is written: its denoter, which type it is, and its kind, and what has been declared with it
 pub record Written : Type 0 where
   pub denoter : Denoter
   pub of : TypeName
-  pub host : Host
+  pub kind : Kind
   pub block : Block
 
 abbrev pub misnamed : Judged Written
@@ -117,14 +119,14 @@ misnamed = Breaks (rule.OTHER_THING ∷ [])
 
 -- a type by a name of the unit, which is its entry in the list of types
 abbrev pub declared_type : Declared → Declaration → Block → Judged Written
-declared_type d (declaration.«Type» of h) b = Accepts (record { denoter = denoter.Named d.number []; of = of; host = h; block = b })
+declared_type d (declaration.«Type» of k) b = Accepts (record { denoter = denoter.Named d.number []; of = of; kind = k; block = b })
 declared_type d _ b = misnamed
 
 -- a type by a name that means this (ISO 10206, 6.4.1), or else these rules fail
 abbrev pub type_meant : List ℕ → Meant → Block → Judged Written
 type_meant missing (Declares d) b = declared_type d d.what b
 type_meant missing (Standard file) b = misnamed
-type_meant missing (Requires (required.«Type» r)) b = Accepts (record { denoter = denoter.Required r; of = type_name.Required r; host = required_host r; block = b })
+type_meant missing (Requires (required.«Type» r)) b = Accepts (record { denoter = denoter.Required r; of = type_name.Required r; kind = kind.Ordinal (required_host r); block = b })
 type_meant missing (Requires _) b = misnamed
 type_meant missing Nothing b = Breaks missing
 
@@ -152,7 +154,7 @@ subrange line h low high b =
     record {
       denoter = subrange_denoter h low high;
       of = next_type b;
-      host = h;
+      kind = kind.Ordinal h;
       block = noted (low.built && high.built) line b;
     }
 
@@ -183,24 +185,11 @@ enumerated h ordinal (name ∷ names) b = when_accepted (enumerated h (suc ordin
 
 -- an enumeration (ISO 10206, 6.4.2.3); no text has one without constants, which would be an empty range
 abbrev pub enumeration_of : Host → List (List ℕ) → Block → Judged Written
-enumeration_of h names b = when_accepted (λ c. Accepts (record { denoter = denoter.Enumeration names; of = next_type b; host = h; block = c })) (enumerated h 0 names b)
+enumeration_of h names b = when_accepted (λ c. Accepts (record { denoter = denoter.Enumeration names; of = next_type b; kind = kind.Ordinal h; block = c })) (enumerated h 0 names b)
 
 abbrev pub enumeration : List (List ℕ) → Block → Judged Written
 enumeration [] b = Breaks (rule.EMPTY_RANGE ∷ [])
 enumeration (first ∷ others) b = enumeration_of (next_enumeration (length others) b) (first ∷ others) b
-
--- a type denoter of an item on this line
-abbrev pub core_written : {A B C D E F G H : Type 0} → ℕ → Core-F A B C D E F G H → Block → Judged Written
-core_written line (Core-F.Named at name tuple) b = type_named name.first name.second b
-core_written line (Core-F.Range at low high) b = both (range line b) (bound_judged (scopes_of b) low) (bound_judged (scopes_of b) high)
-core_written line (Core-F.Enumeration at names) b = enumeration names b
-core_written line _ b = unbuilt
-
-abbrev pub core_of : TypeDenoter → Core
-core_of t = (out-Plain (out-TypeDenoter t).plain).core
-
-abbrev pub type_written : ℕ → TypeDenoter → Block → Judged Written
-type_written line t b = core_written line (out-Core (core_of t)) b
 
 -- one entry more of the list of types, of this name and line
 abbrev pub with_type : Option (List ℕ) → ℕ → Denoter → Block → Block
@@ -214,6 +203,93 @@ with_type name line d b =
           } ∷ [];
     }
 
+-- A denoter that is no name becomes an entry without a name, which is named where it is part of another denoter or the type of variables (own).
+abbrev pub settled : ℕ → Written → Written
+settled line w =
+    record {
+      denoter = denoter.Named (length w.block.types) [];
+      of = w.of;
+      kind = w.kind;
+      block = with_type None line w.denoter w.block;
+    }
+
+-- what a denoter comes to in an item on a line, and whether it is a name
+pub record Part : Type 0 where
+  pub is_name : Bool
+  pub written : ℕ → Block → Judged Written
+
+abbrev pub settled_part : Part → ℕ → Block → Judged Written
+settled_part p line b = when_accepted (λ w. Accepts (if p.is_name then w else settled line w)) (p.written line b)
+
+-- an index type is ordinal (ISO 10206, 6.4.3.2)
+abbrev pub index_host : Kind → Judged Host
+index_host (kind.Ordinal h) = Accepts h
+index_host _ = Breaks (rule.ORDINAL ∷ [])
+
+-- an array type more in the innermost scope
+abbrev pub with_array : ArrayType → Block → Block
+with_array a b = record b { scopes = with_inner_array b.scopes a }
+
+-- the array type of an index type with this host, whose components are so
+abbrev pub array_over : Denoter → Host → Written → Written
+array_over index h of =
+    record {
+      denoter = denoter.Array index of.denoter;
+      of = next_type of.block;
+      kind = kind.Array (length of.block.types);
+      block = with_array (record { number = length of.block.types; index = h; component = of.of; kind = of.kind }) of.block;
+    }
+
+-- an array of this index type and these components
+abbrev pub array_written : Part → Part → ℕ → Block → Judged Written
+array_written index of line b =
+    when_accepted (λ i. when_accepted (λ h. when_accepted (λ below. Accepts (array_over i.denoter h below)) (settled_part of line i.block)) (index_host i.kind)) (settled_part index line b)
+
+-- An array of several index types is an array of the first one, whose components are an array of the others (ISO 10206, 6.4.3.2).
+abbrev pub array_part : Part → List Part → Part
+array_part of [] = of
+array_part of (i ∷ is) = record { is_name = false; written = array_written i (array_part of is) }
+
+-- what is not judged
+abbrev pub Passed : Type 0
+Passed = Unit {0}
+
+-- a structure is no name
+abbrev pub structured : Part → Part
+structured p = record { is_name = false; written = p.written }
+
+-- a structure, which is an array
+abbrev pub at_structure : Structure-F Part Part Passed Passed Part Passed Passed Passed → Part
+at_structure (Structure-F.Array at indexes component) = structured (array_part component indexes)
+at_structure _ = record { is_name = false; written = λ line b. unbuilt }
+
+-- a denoter
+abbrev pub at_core : Core-F Part Part Passed Passed Part Passed Passed Passed → Part
+at_core (Core-F.Named at name tuple) = record { is_name = true; written = λ line b. type_named name.first name.second b }
+at_core (Core-F.Range at low high) = record { is_name = false; written = λ line b. both (range line b) (bound_judged (scopes_of b) low) (bound_judged (scopes_of b) high) }
+at_core (Core-F.Enumeration at names) = record { is_name = false; written = λ line b. enumeration names b }
+at_core (Core-F.Structured at packed structure) = structure
+at_core _ = record { is_name = false; written = λ line b. unbuilt }
+
+abbrev pub core_part : Core → Part
+core_part = fold-Core Part Part Passed Passed Part Passed Passed Passed at_core at_structure (λ s. tt) (λ f. tt) (λ p. p.core) (λ t. tt) (λ v. tt) (λ v. tt)
+
+-- that of a structure, and that of a plain denoter
+abbrev pub structure_part : Structure → Part
+structure_part = fold-Structure Part Part Passed Passed Part Passed Passed Passed at_core at_structure (λ s. tt) (λ f. tt) (λ p. p.core) (λ t. tt) (λ v. tt) (λ v. tt)
+
+abbrev pub plain_part : Plain → Part
+plain_part = fold-Plain Part Part Passed Passed Part Passed Passed Passed at_core at_structure (λ s. tt) (λ f. tt) (λ p. p.core) (λ t. tt) (λ v. tt) (λ v. tt)
+
+abbrev pub core_written : ℕ → Core → Block → Judged Written
+core_written line c b = (core_part c).written line b
+
+abbrev pub core_of : TypeDenoter → Core
+core_of t = (out-Plain (out-TypeDenoter t).plain).core
+
+abbrev pub type_written : ℕ → TypeDenoter → Block → Judged Written
+type_written line t b = core_written line (core_of t) b
+
 -- ---- constant definitions (ISO 10206, 6.3.1)
 
 abbrev pub constant_definition : ConstantDefinition → Block → Judged Block
@@ -225,7 +301,7 @@ constant_definition d b =
 -- the entry of a definition, and then its name
 abbrev pub type_entered : TypeDefinition → Written → Judged Block
 type_entered d w =
-    entered d.name (own_thing w.block (length w.block.types) (declaration.«Type» w.of w.host)) (with_type (Some d.name) d.line w.denoter w.block)
+    entered d.name (own_thing w.block (length w.block.types) (declaration.«Type» w.of w.kind)) (with_type (Some d.name) d.line w.denoter w.block)
 
 -- a definition in a type part on this line
 abbrev pub type_definition : ℕ → TypeDefinition → Block → Judged Block
@@ -237,34 +313,24 @@ type_definitions line (d ∷ ds) b = when_accepted (type_definitions line ds) (t
 
 -- ---- variable declarations (ISO 10206, 6.5.1)
 
--- A denoter that is no name becomes an entry without a name, which the variables then name (own).
-abbrev pub settled : {A B C D E F G H : Type 0} → ℕ → Core-F A B C D E F G H → Written → Written
-settled line (Core-F.Named at name tuple) w = w
-settled line _ w =
-    record {
-      denoter = denoter.Named (length w.block.types) [];
-      of = w.of;
-      host = w.host;
-      block = with_type None line w.denoter w.block;
-    }
-
-abbrev pub settled_type : {A B C D E F G H : Type 0} → ℕ → Core-F A B C D E F G H → Block → Judged Written
-settled_type line core b = when_accepted (λ w. Accepts (settled line core w)) (core_written line core b)
+-- the type of the declaration
+abbrev pub settled_type : ℕ → Core → Block → Judged Written
+settled_type line core b = settled_part (core_part core) line b
 
 -- a variable of the declaration that is under way
 abbrev pub new_variable : ℕ → Denoter → List ℕ → Block → UnitVariable
 new_variable line d name b = record { name = name; line = line; declaration = b.declarations; denoter = d; tuple = []; parameter = false }
 
 -- it is one of the unit
-abbrev pub with_unit_variable : ℕ → Denoter → TypeName → Host → List ℕ → Block → Block
-with_unit_variable line d of h name b =
-    with_name name (own_thing b (length b.variables) (declaration.Variable of (kind.Ordinal h)))
+abbrev pub with_unit_variable : ℕ → Denoter → TypeName → Kind → List ℕ → Block → Block
+with_unit_variable line d of k name b =
+    with_name name (own_thing b (length b.variables) (declaration.Variable of k))
     (record b { variables = b.variables ++ new_variable line d name b ∷ [] })
 
 -- it is one of the routine whose block is under way, where it comes behind the formal parameters and the result
-abbrev pub with_own_variable : ℕ → Denoter → TypeName → Host → List ℕ → Block → Block
-with_own_variable line d of h name b =
-    with_name name (own_thing b (own_count b.own) (declaration.Own of (kind.Ordinal h) protection.Unprotected))
+abbrev pub with_own_variable : ℕ → Denoter → TypeName → Kind → List ℕ → Block → Block
+with_own_variable line d of k name b =
+    with_name name (own_thing b (own_count b.own) (declaration.Own of k protection.Unprotected))
     (record b { own = record { parameters = b.own.parameters; result = b.own.result; variables = b.own.variables ++ new_variable line d name b ∷ []; enclosing = b.own.enclosing } })
 
 -- whether the block is that of the unit itself, and of no routine
@@ -273,29 +339,29 @@ is_outermost [] = true
 is_outermost (e ∷ es) = false
 
 -- In the block of a routine a variable is one of the routine, and else one of the unit.
-abbrev pub with_variable : ℕ → Denoter → TypeName → Host → List ℕ → Block → Block
-with_variable line d of h name b = if is_outermost b.own.enclosing then with_unit_variable line d of h name b else with_own_variable line d of h name b
+abbrev pub with_variable : ℕ → Denoter → TypeName → Kind → List ℕ → Block → Block
+with_variable line d of k name b = if is_outermost b.own.enclosing then with_unit_variable line d of k name b else with_own_variable line d of k name b
 
 -- the block with it, where its name is not there
 abbrev pub variable_placed : Block → List ℕ → Block → Judged Block
 variable_placed c name b = when_accepted (λ _. Accepts c) (unused name b)
 
-abbrev pub variable_entered : ℕ → Denoter → TypeName → Host → List ℕ → Block → Judged Block
-variable_entered line d of h name b = variable_placed (with_variable line d of h name b) name b
+abbrev pub variable_entered : ℕ → Denoter → TypeName → Kind → List ℕ → Block → Judged Block
+variable_entered line d of k name b = variable_placed (with_variable line d of k name b) name b
 
-abbrev pub variables_entered : ℕ → Denoter → TypeName → Host → List (List ℕ) → Block → Judged Block
-variables_entered line d of h [] b = Accepts b
-variables_entered line d of h (name ∷ names) b = when_accepted (variables_entered line d of h names) (variable_entered line d of h name b)
+abbrev pub variables_entered : ℕ → Denoter → TypeName → Kind → List (List ℕ) → Block → Judged Block
+variables_entered line d of k [] b = Accepts b
+variables_entered line d of k (name ∷ names) b = when_accepted (variables_entered line d of k names) (variable_entered line d of k name b)
 
 -- one declaration more
 abbrev pub declaration_ended : Block → Block
 declaration_ended b = record b { declarations = suc b.declarations }
 
 abbrev pub variables_declared : VariableDeclaration → Written → Judged Block
-variables_declared d w = when_accepted (λ b. Accepts (declaration_ended b)) (variables_entered d.line w.denoter w.of w.host d.names w.block)
+variables_declared d w = when_accepted (λ b. Accepts (declaration_ended b)) (variables_entered d.line w.denoter w.of w.kind d.names w.block)
 
 abbrev pub variable_declaration : VariableDeclaration → Block → Judged Block
-variable_declaration d b = when_accepted (variables_declared d) (settled_type d.line (out-Core (core_of d.of)) b)
+variable_declaration d b = when_accepted (variables_declared d) (settled_type d.line (core_of d.of) b)
 
 -- ---- parts of a block (ISO 10206, 6.2.1)
 

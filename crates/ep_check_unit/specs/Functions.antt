@@ -8,7 +8,6 @@ use Rattle.ep_typed.specs.Trees.{Stmt, Stmts}
 use Rattle.ep_typed.specs.declared.interface.RoutineResult.{RoutineResult}
 use Rattle.ep_scope.specs.Parameters.{same_type}
 use Rattle.ep_scope.specs.Scopes.{Meant, Declares, meant}
-use Rattle.ep_scope.specs.declared.kind.Kind.TheVariants as kind
 use Rattle.ep_scope.specs.declared.parameter.FormalParameter.{FormalParameter}
 use Rattle.ep_scope.specs.declared.parameter.Protection.TheVariants as protection
 use Rattle.ep_scope.specs.declared.rule.TheConstants as rule
@@ -34,7 +33,7 @@ typed_result (Some r) = Some (record { name = r.name; denoter = type_denoter r.o
 -- what the name of a routine with these formal parameters and this result stands for
 abbrev pub routine_declaration : List FormalParameter → Option HeadingResult → Declaration
 routine_declaration ps None = declaration.Procedure ps
-routine_declaration ps (Some r) = declaration.Function ps r.of r.host
+routine_declaration ps (Some r) = declaration.Function ps r.of r.kind
 
 -- the name of its own that the result of a routine has, where there is one
 abbrev pub result_own_name : Option RoutineResult → Option (List ℕ)
@@ -62,7 +61,7 @@ same_result _ _ = false
 
 -- the result of the function of this number in its block, by the number of the variable that has it
 abbrev pub in_block : ℕ → ℕ → HeadingResult → OwnResult
-in_block number variable r = record { function = number; variable = variable; of = r.of; host = r.host; named = is_some r.name }
+in_block number variable r = record { function = number; variable = variable; of = r.of; kind = r.kind; named = is_some r.name }
 
 abbrev pub own_result : ℕ → ℕ → Option HeadingResult → Option OwnResult
 own_result number variable None = None
@@ -71,7 +70,7 @@ own_result number variable (Some r) = Some (in_block number variable r)
 -- a name of its own stands for the variable that has the result
 abbrev pub own_name_entered : OwnResult → Option (List ℕ) → Block → Judged Block
 own_name_entered own None b = Accepts b
-own_name_entered own (Some name) b = entered name (own_thing b own.variable (declaration.Own own.of (kind.Ordinal own.host) protection.Unprotected)) b
+own_name_entered own (Some name) b = entered name (own_thing b own.variable (declaration.Own own.of own.kind protection.Unprotected)) b
 
 abbrev pub result_entered : ℕ → ℕ → Option HeadingResult → Block → Judged Block
 result_entered number variable None b = Accepts b
@@ -80,7 +79,7 @@ result_entered number variable (Some r) b = own_name_entered (in_block number va
 -- the function to whose name its block assigns, where the result has no name of its own (ISO 10206, 6.9.2.2), with so many routines around its variables
 abbrev pub assigned_function : ℕ → Option OwnResult → Option FunctionResult
 assigned_function level None = None
-assigned_function level (Some r) = if r.named then None else Some (record { function = r.function; level = level; variable = r.variable; host = r.host })
+assigned_function level (Some r) = if r.named then None else Some (record { function = r.function; level = level; variable = r.variable; kind = r.kind })
 
 -- one before the others, where it is one
 abbrev pub function_before : Option FunctionResult → List FunctionResult → List FunctionResult

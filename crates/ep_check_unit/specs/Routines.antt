@@ -1,6 +1,6 @@
 -- What the static rules say of routines, and of all parts of a block (ISO 10206, 6.2.1 and 6.7). The declaration of a routine without its block is an item, on the line of the word `procedure` or `function`.
-use Rattle.std.specs.List.{list_any}
-use Rattle.std.specs.Prelude.{ℕ, suc, Bool, true, false, not, ◌||◌, List, [], ◌∷◌, ◌++◌, map, length, slice_get, slice_set, Option, Some, None, is_none, if◌then◌else◌}
+use Rattle.std.specs.List.{list_all, list_any}
+use Rattle.std.specs.Prelude.{ℕ, suc, Bool, true, false, not, ◌&&◌, ◌||◌, List, [], ◌∷◌, ◌++◌, map, length, slice_get, slice_set, Option, Some, None, is_none, if◌then◌else◌}
 use Rattle.std.specs.Str.{bytes_eq}
 use Rattle.ep_tree.specs.declared.declaration.FormalSection.{FormalSection}
 use Rattle.ep_tree.specs.declared.declaration.FormalType.{FormalType}
@@ -23,7 +23,7 @@ use Rattle.ep_typed.specs.declared.unit.UnitVariable.{UnitVariable}
 use Rattle.ep_scope.specs.Parameters.{protection_of, same_parameters}
 use Rattle.ep_scope.specs.Required.{look_up}
 use Rattle.ep_scope.specs.Scopes.{opened, closed}
-use Rattle.ep_scope.specs.declared.kind.Host.{Host}
+use Rattle.ep_scope.specs.declared.kind.Kind.{Kind}
 use Rattle.ep_scope.specs.declared.kind.Kind.TheVariants as kind
 use Rattle.ep_scope.specs.declared.parameter.FormalParameter.{FormalParameter}
 use Rattle.ep_scope.specs.declared.parameter.TypeName.{TypeName}
@@ -75,14 +75,14 @@ abbrev pub parameter_added : FormalParameter → List FormalParameter → Judged
 parameter_added p before = if is_parameter p.name before then Breaks (rule.TWICE ∷ []) else Accepts (before ++ p ∷ [])
 
 -- the parameters of these names, of a section with this number
-abbrev pub parameters_added : FormalMode → ℕ → TypeName → Host → List (List ℕ) → List FormalParameter → Judged (List FormalParameter)
-parameters_added m section of h [] before = Accepts before
-parameters_added m section of h (name ∷ names) before =
-    when_accepted (parameters_added m section of h names) (parameter_added (record { name = name; mode = m; section = section; of = of; host = h }) before)
+abbrev pub parameters_added : FormalMode → ℕ → TypeName → Kind → List (List ℕ) → List FormalParameter → Judged (List FormalParameter)
+parameters_added m section of k [] before = Accepts before
+parameters_added m section of k (name ∷ names) before =
+    when_accepted (parameters_added m section of k names) (parameter_added (record { name = name; mode = m; section = section; of = of; kind = k }) before)
 
 abbrev pub section_judged : List ℕ → ℕ → FormalSection → Block → List FormalParameter → Judged (List FormalParameter)
 section_judged routine section s b before =
-    when_accepted (λ w. parameters_added (section_mode s.protected s.variable) section w.of w.host s.names before) (section_type routine before s.of b)
+    when_accepted (λ w. parameters_added (section_mode s.protected s.variable) section w.of w.kind s.names before) (section_type routine before s.of b)
 
 -- all sections from this number on
 abbrev pub sections_judged : List ℕ → ℕ → List FormalSection → Block → List FormalParameter → Judged (List FormalParameter)
@@ -110,17 +110,34 @@ pub record Headed : Type 0 where
   pub result : Option HeadingResult
   pub block : Block
 
+-- a value parameter or a result of an array type is not built
+abbrev pub is_built_kind : Kind → Bool
+is_built_kind (kind.Array n) = false
+is_built_kind _ = true
+
+abbrev pub is_built_formal : FormalMode → Kind → Bool
+is_built_formal mode.Value k = is_built_kind k
+is_built_formal mode.ProtectedValue k = is_built_kind k
+is_built_formal _ k = true
+
+abbrev pub is_built_result : Option HeadingResult → Bool
+is_built_result None = true
+is_built_result (Some r) = is_built_kind r.kind
+
+abbrev pub is_built_heading : List FormalParameter → Option HeadingResult → Bool
+is_built_heading ps r = list_all (λ p. is_built_formal p.mode p.kind) ps && is_built_result r
+
 -- Its first declaration. The name is there before the block of the routine is, so the routine may call itself.
 abbrev pub headed_first : List ℕ → ℕ → List FormalParameter → Option HeadingResult → Block → Judged Headed
 headed_first name line ps r b =
     when_accepted (λ c. Accepts (record { number = length b.routines; parameters = ps; result = r; block = c }))
-    (entered name (own_thing b (length b.routines) (routine_declaration ps r)) (with_routine name line ps r b))
+    (entered name (own_thing b (length b.routines) (routine_declaration ps r)) (noted (is_built_heading ps r) line (with_routine name line ps r b)))
 
 -- The routine that is declared under a name already; a name that stands for something else is declared twice. Only its first heading says which name of its own the result of a function has.
 abbrev pub declared_routine : ℕ → Declaration → Block → Judged Headed
 declared_routine number (declaration.Procedure ps) b = Accepts (record { number = number; parameters = ps; result = None; block = b })
-declared_routine number (declaration.Function ps of h) b =
-    Accepts (record { number = number; parameters = ps; result = Some (record { name = own_name_at (slice_get b.routines number); of = of; host = h }); block = b })
+declared_routine number (declaration.Function ps of k) b =
+    Accepts (record { number = number; parameters = ps; result = Some (record { name = own_name_at (slice_get b.routines number); of = of; kind = k }); block = b })
 declared_routine number (declaration.Constant k v) b = Breaks (rule.TWICE ∷ [])
 declared_routine number (declaration.«Type» of h) b = Breaks (rule.TWICE ∷ [])
 declared_routine number (declaration.Variable of k) b = Breaks (rule.TWICE ∷ [])
@@ -155,7 +172,7 @@ procedure_headed is_forward line name sections b =
 
 -- the result of a function; in the heading the function's name hides what it means outside
 abbrev pub result_judged : List ℕ → Option (List ℕ) → QualifiedName → Block → Judged HeadingResult
-result_judged function own of b = when_accepted (λ w. Accepts (record { name = own; of = w.of; host = w.host })) (parameter_type function [] of.first of.second b)
+result_judged function own of b = when_accepted (λ w. Accepts (record { name = own; of = w.of; kind = w.kind })) (parameter_type function [] of.first of.second b)
 
 -- a function by its formal parameters
 abbrev pub result_headed : Bool → ℕ → List ℕ → Option (List ℕ) → QualifiedName → Block → List FormalParameter → Judged Headed
@@ -217,7 +234,7 @@ scope_opened h b = record b { scopes = opened b.scopes; own = own_variables h.nu
 -- the formal parameters as variables, from this number on
 abbrev pub formals_entered : ℕ → List FormalParameter → Block → Judged Block
 formals_entered number [] b = Accepts b
-formals_entered number (p ∷ ps) b = when_accepted (formals_entered (suc number) ps) (entered p.name (own_thing b number (declaration.Own p.of (kind.Ordinal p.host) (protection_of p.mode))) b)
+formals_entered number (p ∷ ps) b = when_accepted (formals_entered (suc number) ps) (entered p.name (own_thing b number (declaration.Own p.of p.kind (protection_of p.mode))) b)
 
 -- and a name of its own that the result has
 abbrev pub heading_entered : Headed → Block → Judged Block

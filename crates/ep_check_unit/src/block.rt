@@ -8,7 +8,7 @@ ghost use Rattle.ep_check_unit.specs.Declarations.{constant_entered, entered, no
 ghost use Rattle.ep_check_unit.specs.Checks.{IsUnitWith};
 ghost use Rattle.ep_check_unit.specs.Units.{first_block};
 
-use crate::types::{host_type, type_denoter};
+use crate::types::{Written, host_type, type_denoter};
 use ep_base::{Line, List, Name, NoMemory};
 use ep_check_expr::Refusal;
 use ep_scope::{
@@ -16,7 +16,7 @@ use ep_scope::{
     rule,
 };
 use ep_typed::{
-    ConstantEntries, ConstantEntry, Denoter, ImportSpecs, TypeEntry, TypedStmt, TypedStmts, Unit,
+    ConstantEntries, ConstantEntry, ImportSpecs, TypeEntry, TypedStmt, TypedStmts, Unit,
     UnitRoutine, UnitType, UnitTypes, UnitVariables, Value,
 };
 use std::alloc::{AllocError, Global};
@@ -77,8 +77,8 @@ pub(crate) struct OwnResult {
     pub(crate) variable: u32,
     /// Its type.
     pub(crate) of: TypeName,
-    /// The host of the type.
-    pub(crate) host: Host,
+    /// The kind of the type.
+    pub(crate) kind: Kind,
     /// Whether it has a name of its own.
     pub(crate) named: bool,
 }
@@ -357,15 +357,15 @@ impl Block {
         self.constants.push(entry)
     }
 
-    /// An entry more of the list of types, and its number.
+    /// An entry more of the list of types, for a type that is written, and its number.
     pub(crate) fn add_type(
         &mut self,
         alloc: Global,
         name: Option<&Name>,
         line: Line,
-        denoter: Denoter,
+        written: Written,
     ) -> Result<u32, Refusal>
-        ensures { AnswersType (option_map (λ n. n.now) name.entry) line denoter
+        ensures { AnswersType (option_map (λ n. n.now) name.entry) line written.denoter
             (block_of self.old) result (block_of self.new) }
     {
         let number = number(self.types.items().len())?;
@@ -378,7 +378,7 @@ impl Block {
             number,
             name,
             formals: List::new(alloc),
-            denoter,
+            denoter: written.into_denoter(),
         };
         let line = Some(line);
         self.types.push(UnitType { entry, line })?;

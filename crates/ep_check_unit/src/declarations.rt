@@ -1,21 +1,19 @@
 //! Declarations, item by item.
 
 ghost use Rattle.std.specs.Prelude.{◌≡◌, None, IfOk, map};
-ghost use Rattle.ep_built.specs.Built.{component_value_unbuilt, constant_unbuilt, core_unbuilt, first_in, type_denoter_unbuilt, type_unbuilt, variable_unbuilt};
-ghost use Rattle.ep_tree.specs.declared.types.Core.{out-Core};
+ghost use Rattle.ep_built.specs.Built.{component_value_unbuilt, constant_unbuilt, first_in, type_denoter_unbuilt, type_unbuilt, variable_unbuilt};
 ghost use Rattle.ep_check_expr.specs.Judgements.{when_accepted};
-ghost use Rattle.ep_check_stmt.specs.Answers.{AnswersForm};
-ghost use Rattle.ep_check_unit.specs.Answers.{AnswersBlock, AnswersStanding, named_in};
+ghost use Rattle.ep_check_unit.specs.Answers.{AnswersBlock, AnswersStanding};
 ghost use Rattle.ep_check_unit.specs.Blocks.{block_of};
-ghost use Rattle.ep_check_unit.specs.Declarations.{all_variables_declared, at_line, constant_definition, constants_declared, new_variable, settled_type, type_definition, type_definitions, type_denoter, variable_declaration, variable_entered, variable_placed, variables_entered, with_own_variable, with_unit_variable};
+ghost use Rattle.ep_check_unit.specs.Declarations.{all_variables_declared, at_line, constant_definition, constants_declared, new_variable, type_definition, type_definitions, type_denoter, variable_declaration, variable_entered, variable_placed, variables_entered, with_own_variable, with_unit_variable};
 
 use crate::block::{Block, number};
 use crate::types::{NamedType, type_denoter};
 use ep_base::{Line, List, Name, NoMemory};
 use ep_check_expr::{Refusal, constant_value};
 use ep_check_stmt::{CheckRefusal, refused_at};
-use ep_scope::{Declaration, Kind, Protection, TypeName};
-use ep_tree::{ConstantDefinition, Core, TypeDefinition, Types, VariableDeclaration};
+use ep_scope::{Declaration, Protection};
+use ep_tree::{ConstantDefinition, TypeDefinition, Types, VariableDeclaration};
 use ep_typed::UnitVariable;
 use std::alloc::Global;
 
@@ -96,9 +94,8 @@ impl Block {
     {
         let core = &definition.of.plain.get().core;
         let written = self.written_type(alloc, line, core)?;
-        let what = Declaration::Type(written.of, written.host);
-        let denoter = written.into_denoter();
-        let number = self.add_type(alloc, Some(&definition.name), definition.line, denoter)?;
+        let what = Declaration::Type(written.of, written.kind);
+        let number = self.add_type(alloc, Some(&definition.name), definition.line, written)?;
         let thing = self.own_thing(alloc, number, what)?;
         self.enter(alloc, &definition.name, thing)
     }
@@ -145,23 +142,6 @@ impl Block {
         }
     }
 
-    /// The type of a declaration on this line by its name, for which a type that has none gets an entry.
-    fn settled_type(&mut self, alloc: Global, line: Line, core: &Core) -> Result<NamedType, Refusal>
-        requires { core_unbuilt core.now ≡ None }
-        ensures { AnswersForm (named_in (block_of self.new)) result
-            (settled_type line (out-Core core.now) (block_of self.old)) }
-    {
-        if let Core::Named(_, name, _) = core {
-            return self.named_type(name);
-        }
-        let written = self.written_type(alloc, line, core)?;
-        let of = written.of;
-        let host = written.host;
-        let number = self.add_type(alloc, None, line, written.into_denoter())?;
-        let name = TypeName::Entry(number);
-        Ok(NamedType { name, of, host })
-    }
-
     /// A variable of a declaration on this line.
     fn declare_variable(
         &mut self,
@@ -171,7 +151,7 @@ impl Block {
         name: &Name,
     ) -> Result<(), Refusal>
         ensures { AnswersBlock result (block_of self.new)
-            (variable_entered line (type_denoter named.name) named.of named.host name.now (block_of self.old)) }
+            (variable_entered line (type_denoter named.name) named.of named.kind name.now (block_of self.old)) }
     {
         if self.own.enclosing.items().is_empty() {
             self.declare_unit_variable(alloc, line, named, name)
@@ -189,12 +169,12 @@ impl Block {
         name: &Name,
     ) -> Result<(), Refusal>
         ensures { AnswersBlock result (block_of self.new) (variable_placed
-            (with_unit_variable line (type_denoter named.name) named.of named.host name.now (block_of self.old))
+            (with_unit_variable line (type_denoter named.name) named.of named.kind name.now (block_of self.old))
             name.now (block_of self.old)) }
     {
         let number = number(self.variables.items().len())?;
-        let kind = Kind::Ordinal(named.host);
-        let thing = self.own_thing(alloc, number, Declaration::Variable(named.of, kind))?;
+        let what = Declaration::Variable(named.of, named.kind);
+        let thing = self.own_thing(alloc, number, what)?;
         self.enter(alloc, name, thing)?;
         let variable = self.new_variable(alloc, line, named, name)?;
         self.variables.push(variable)?;
@@ -210,12 +190,11 @@ impl Block {
         name: &Name,
     ) -> Result<(), Refusal>
         ensures { AnswersBlock result (block_of self.new) (variable_placed
-            (with_own_variable line (type_denoter named.name) named.of named.host name.now (block_of self.old))
+            (with_own_variable line (type_denoter named.name) named.of named.kind name.now (block_of self.old))
             name.now (block_of self.old)) }
     {
         let number = self.own.count()?;
-        let kind = Kind::Ordinal(named.host);
-        let what = Declaration::Own(named.of, kind, Protection::Unprotected);
+        let what = Declaration::Own(named.of, named.kind, Protection::Unprotected);
         let thing = self.own_thing(alloc, number, what)?;
         self.enter(alloc, name, thing)?;
         let variable = self.new_variable(alloc, line, named, name)?;

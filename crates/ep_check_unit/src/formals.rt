@@ -13,7 +13,7 @@ use crate::types::{NamedType, type_denoter};
 use ep_base::{List, Name, NoMemory};
 use ep_check_expr::Refusal;
 use ep_scope::{
-    Declaration, FormalParameter, FormalParameters, Kind, protection_of, rule, same_parameters,
+    Declaration, FormalParameter, FormalParameters, protection_of, rule, same_parameters,
 };
 use ep_tree::{FormalSection, FormalType, QualifiedName};
 use ep_typed::{Formal, FormalMode, Formals};
@@ -48,7 +48,7 @@ fn with_names(
     before: FormalParameters,
 ) -> Result<FormalParameters, Refusal>
     ensures { AnswersForm (λ ps. ps) result
-        (parameters_added mode section named.of named.host names.now before) }
+        (parameters_added mode section named.of named.kind names.now before) }
 {
     let mut all = before;
     for name in names {
@@ -60,7 +60,7 @@ fn with_names(
             mode,
             section,
             of: named.of,
-            host: named.host,
+            kind: named.kind,
         })?;
     }
     Ok(all)
@@ -159,8 +159,11 @@ impl Block {
             (formals_entered 0 parameters.now (block_of self.old)) }
     {
         for (place, parameter) in parameters.iter().enumerate() {
-            let kind = Kind::Ordinal(parameter.host);
-            let what = Declaration::Own(parameter.of, kind, protection_of(parameter.mode));
+            let what = Declaration::Own(
+                parameter.of,
+                parameter.kind,
+                protection_of(parameter.mode),
+            );
             let thing = self.own_thing(alloc, number(place)?, what)?;
             self.enter(alloc, &parameter.name, thing)?;
         }

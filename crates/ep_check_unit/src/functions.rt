@@ -19,8 +19,7 @@ use ep_check_stmt::{
     CheckRefusal, Entire, FunctionResult, Outcome, assigns, inner_threatens, refused_at, threatens,
 };
 use ep_scope::{
-    Declaration, FormalParameters, Host, Kind, Meaning, Protection, TypeName, meaning_of, rule,
-    same_type,
+    Declaration, FormalParameters, Kind, Meaning, Protection, TypeName, meaning_of, rule, same_type,
 };
 use ep_tree::{Compound, Part, QualifiedName, Routine, RoutineBody};
 use ep_typed::{RoutineResult, TypedStmt, TypedStmts, UnitRoutine};
@@ -32,8 +31,8 @@ pub(crate) struct HeadingResult {
     pub(crate) name: Option<Name>,
     /// Its type.
     pub(crate) of: TypeName,
-    /// The host of the type.
-    pub(crate) host: Host,
+    /// The kind of the type.
+    pub(crate) kind: Kind,
 }
 
 impl Drop for HeadingResult {
@@ -41,7 +40,7 @@ impl Drop for HeadingResult {
         let HeadingResult {
             name: _,
             of: _,
-            host: _,
+            kind: _,
         } = self;
     }
 }
@@ -105,7 +104,7 @@ pub(crate) fn routine_declaration(
 {
     match given {
         None => Declaration::Procedure(parameters),
-        Some(given) => Declaration::Function(parameters, given.of, given.host),
+        Some(given) => Declaration::Function(parameters, given.of, given.kind),
     }
 }
 
@@ -117,7 +116,7 @@ pub(crate) fn in_block(function: u32, variable: u32, given: &HeadingResult) -> O
         function,
         variable,
         of: given.of,
-        host: given.host,
+        kind: given.kind,
         named: given.name.is_some(),
     }
 }
@@ -208,7 +207,7 @@ impl Block {
         Ok(HeadingResult {
             name: copied_name(alloc, own)?,
             of: named.of,
-            host: named.host,
+            kind: named.kind,
         })
     }
 
@@ -225,7 +224,7 @@ impl Block {
         let Some(name) = name else {
             return Ok(());
         };
-        let what = Declaration::Own(own.of, Kind::Ordinal(own.host), Protection::Unprotected);
+        let what = Declaration::Own(own.of, own.kind, Protection::Unprotected);
         let thing = self.own_thing(alloc, own.variable, what)?;
         self.enter(alloc, name, thing)
     }
@@ -320,7 +319,7 @@ fn assigned_function(level: u32, given: Option<OwnResult>) -> Option<FunctionRes
         function: own.function,
         level,
         variable: own.variable,
-        host: own.host,
+        kind: own.kind,
     })
 }
 

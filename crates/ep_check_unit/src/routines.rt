@@ -2,7 +2,7 @@
 
 ghost use Rattle.std.specs.Prelude.{◌≡◌, None, true, false, map};
 ghost use Rattle.ep_built.specs.Built.{compound_unbuilt, first_in, part_unbuilt, routine_unbuilt, start_unbuilt};
-ghost use Rattle.ep_typed.specs.Viewed.{stmt_of};
+ghost use Rattle.ep_typed.specs.Trees as tree;
 ghost use Rattle.ep_check_stmt.specs.Answers.{AnswersRow, passed, stmts_of};
 ghost use Rattle.ep_check_stmt.specs.Statements.{compound_judged};
 ghost use Rattle.ep_check_unit.specs.Answers.{AnswersLocals, AnswersStanding, headed_in};
@@ -22,12 +22,17 @@ use std::alloc::Global;
 use std::mem;
 
 /// A routine gets the block of a declaration on this line, with the variables that are declared there.
-fn take_block(routine: &mut UnitRoutine, line: Line, variables: UnitVariables, block: TypedStmt)
+fn take_block(
+    routine: &mut UnitRoutine,
+    line: Line,
+    variables: UnitVariables,
+    statements: TypedStmts,
+)
     ensures { routine_form routine.new
-        ≡ with_its_block line variables (stmt_of block) (routine_form routine.old) }
+        ≡ with_its_block line variables (tree.Compound (stmts_of statements)) (routine_form routine.old) }
 {
     // What was there goes by a call each, since the walk over all forms of a statement takes longer to check.
-    drop(mem::replace(&mut routine.block, block));
+    drop(mem::replace(&mut routine.block, TypedStmt::Compound(statements)));
     drop(mem::replace(&mut routine.variables, variables));
     routine.line = line;
 }
@@ -252,8 +257,7 @@ impl Block {
         let own = mem::replace(&mut self.own, before);
         match found {
             Outcome::Passes(statements) => {
-                let block = TypedStmt::Compound(statements);
-                self.set_block(line, number, own.into_variables(), block);
+                self.set_block(line, number, own.into_variables(), statements);
             }
             Outcome::Waits(at) => self.note(false, at),
         }
@@ -263,12 +267,18 @@ impl Block {
     }
 
     /// What the routine of this number does, with the variables that it has declared.
-    fn set_block(&mut self, line: Line, number: u32, variables: UnitVariables, block: TypedStmt)
+    fn set_block(
+        &mut self,
+        line: Line,
+        number: u32,
+        variables: UnitVariables,
+        statements: TypedStmts,
+    )
         ensures { block_of self.new
-            ≡ with_block line number variables (stmt_of block) (block_of self.old) }
+            ≡ with_block line number variables (tree.Compound (stmts_of statements)) (block_of self.old) }
     {
         if let Some(routine) = self.routines.get_mut(number as usize) {
-            take_block(routine, line, variables, block);
+            take_block(routine, line, variables, statements);
         }
     }
 }

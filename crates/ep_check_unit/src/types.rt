@@ -1,25 +1,24 @@
 //! Types as an item writes them.
 
-ghost use Rattle.std.specs.Prelude.{◌≡◌, ◌&&◌, ℕ, List, None, IfOk, IsTrue};
-ghost use Rattle.ep_built.specs.Built.{core_unbuilt, expression_unbuilt};
+ghost use Rattle.std.specs.Prelude.{◌≡◌, ◌&&◌, ℕ, List, None, IfOk, IsTrue, map};
+ghost use Rattle.ep_built.specs.Built.{core_unbuilt, expression_unbuilt, first_in, plain_unbuilt, structure_unbuilt};
 ghost use Rattle.ep_scope.specs.Meanings.{meant_by};
-ghost use Rattle.ep_tree.specs.declared.types.Core.{out-Core};
 ghost use Rattle.ep_check_expr.specs.Constants.{bound_judged};
 ghost use Rattle.ep_check_expr.specs.Judgements.{Accepts, both};
 ghost use Rattle.ep_check_stmt.specs.Answers.{AnswersForm, fails_among};
-ghost use Rattle.ep_check_unit.specs.Answers.{AnswersBlock, named_in, written_in};
+ghost use Rattle.ep_check_unit.specs.Answers.{AnswersBlock, arrays_below, index_of, indexes_written, named_in, written_in};
 ghost use Rattle.ep_check_unit.specs.Declarations as spec;
 ghost use Rattle.ep_check_unit.specs.Blocks.{Block as BlockNow, block_of};
-ghost use Rattle.ep_check_unit.specs.Declarations.{common_host, core_written, enumerated, enumeration, host_denoter, next_type, number_in, ordered, range, required_host, scopes_of, subrange_denoter, type_denoter, type_meant};
+ghost use Rattle.ep_check_unit.specs.Declarations.{array_over, common_host, core_written, index_host, plain_part, settled, settled_part, settled_type, structure_part, enumerated, enumeration, host_denoter, next_type, number_in, ordered, range, required_host, scopes_of, subrange_denoter, type_denoter, type_meant};
 
 use crate::block::{Block, number};
 use ep_base::{Boxed, Line, List, Name, Names, NoMemory};
 use ep_check_expr::{ConstantForm, Refusal, bound_value, undeclared};
 use ep_scope::{
-    Declaration, Enumeration, Host, Kind, Meaning, Required, TypeName, meaning_in, meaning_of,
-    rule, same_host,
+    ArrayType, Declaration, Enumeration, Host, Kind, Meaning, Required, TypeName, meaning_in,
+    meaning_of, rule, same_host,
 };
-use ep_tree::{Core, Expression, QualifiedName};
+use ep_tree::{Core, Expression, Plain, QualifiedName, Structure};
 use ep_typed::{Bound, Denoter, RequiredType, Value};
 use std::alloc::Global;
 
@@ -30,7 +29,16 @@ pub(crate) struct NamedType {
     pub(crate) name: TypeName,
     /// Which type it is, whatever its name.
     pub(crate) of: TypeName,
-    /// The host.
+    /// Its kind.
+    pub(crate) kind: Kind,
+}
+
+/// An index type of an array (ISO 10206, 6.4.3.2).
+#[derive(Clone, Copy, Drop)]
+pub(crate) struct IndexType {
+    /// Its name.
+    pub(crate) name: TypeName,
+    /// Its host.
     pub(crate) host: Host,
 }
 
@@ -40,8 +48,8 @@ pub(crate) struct Written {
     pub(crate) denoter: Denoter,
     /// Which type it is.
     pub(crate) of: TypeName,
-    /// The host.
-    pub(crate) host: Host,
+    /// Its kind.
+    pub(crate) kind: Kind,
 }
 
 impl Drop for Written {
@@ -49,7 +57,7 @@ impl Drop for Written {
         let Written {
             denoter: _,
             of: _,
-            host: _,
+            kind: _,
         } = self;
     }
 }
@@ -62,7 +70,7 @@ impl Written {
         let Written {
             denoter,
             of: _,
-            host: _,
+            kind: _,
         } = self;
         denoter
     }
@@ -108,17 +116,17 @@ fn type_meant(meaning: &Meaning<'_>, missing: u32) -> Result<NamedType, Refusal>
 {
     match meaning {
         Meaning::Declared(declared) => match &declared.what {
-            Declaration::Type(of, host) => Ok(NamedType {
+            Declaration::Type(of, kind) => Ok(NamedType {
                 name: TypeName::Entry(declared.number),
                 of: *of,
-                host: *host,
+                kind: *kind,
             }),
             _ => Err(Refusal::Rule(rule::OTHER_THING)),
         },
         Meaning::Required(Required::Type(required)) => Ok(NamedType {
             name: TypeName::Required(*required),
             of: TypeName::Required(*required),
-            host: required_host(*required),
+            kind: Kind::Ordinal(required_host(*required)),
         }),
         Meaning::Nothing => Err(Refusal::Rule(missing)),
         _ => Err(Refusal::Rule(rule::OTHER_THING)),
@@ -237,7 +245,8 @@ impl Block {
         let of = self.next_type()?;
         self.note(are_built(&least, &greatest), line);
         let denoter = subrange(alloc, host, &least, &greatest)?;
-        Ok(Written { denoter, of, host })
+        let kind = Kind::Ordinal(host);
+        Ok(Written { denoter, of, kind })
     }
 
     /// The constants of an enumeration are entered, in order.
@@ -267,10 +276,12 @@ impl Block {
         let of = self.next_type()?;
         self.enumerate(alloc, host, names)?;
         let denoter = Denoter::Enumeration(copied(alloc, names)?);
-        Ok(Written { denoter, of, host })
+        let kind = Kind::Ordinal(host);
+        Ok(Written { denoter, of, kind })
     }
 
     /// `core` in an item on this line.
+    #[cycle(denoters)]
     pub(crate) fn written_type(
         &mut self,
         alloc: Global,
@@ -279,7 +290,7 @@ impl Block {
     ) -> Result<Written, Refusal>
         requires { core_unbuilt core.now ≡ None }
         ensures { AnswersForm (written_in (block_of self.new)) result
-            (core_written line (out-Core core.now) (block_of self.old)) }
+            (core_written line core.now (block_of self.old)) }
     {
         match core {
             Core::Named(_, name, _) => {
@@ -287,12 +298,175 @@ impl Block {
                 Ok(Written {
                     denoter: type_denoter(alloc, named.name),
                     of: named.of,
-                    host: named.host,
+                    kind: named.kind,
                 })
             }
             Core::Range(_, low, high) => self.range(alloc, line, low.get(), high.get()),
             Core::Enumeration(_, names) => self.enumeration(alloc, names.items()),
+            Core::Structured(_, _, structure) => self.structure(alloc, line, structure),
             _ => unreachable!(),
         }
+    }
+
+    /// `plain` in an item on this line.
+    #[cycle(denoters)]
+    fn written_plain(
+        &mut self,
+        alloc: Global,
+        line: Line,
+        plain: &Plain,
+    ) -> Result<Written, Refusal>
+        requires { plain_unbuilt plain.now ≡ None }
+        ensures { AnswersForm (written_in (block_of self.new)) result
+            ((plain_part plain.now).written line (block_of self.old)) }
+    {
+        self.written_type(alloc, line, &plain.core)
+    }
+
+    /// `struct`, which is an array.
+    #[cycle(denoters)]
+    fn structure(
+        &mut self,
+        alloc: Global,
+        line: Line,
+        structure: &Structure,
+    ) -> Result<Written, Refusal>
+        requires { structure_unbuilt structure.now ≡ None }
+        ensures { AnswersForm (written_in (block_of self.new)) result
+            ((structure_part structure.now).written line (block_of self.old)) }
+    {
+        let Structure::Array(_, indexes, component) = structure else {
+            unreachable!()
+        };
+        let made = self.index_types(alloc, line, indexes.items())?;
+        let Some((first, others)) = made.items().split_first() else {
+            return self.written_plain(alloc, line, component.get());
+        };
+        let of = self.settled_plain(alloc, line, component.get())?;
+        let below = self.arrays_below(alloc, line, others, of)?;
+        self.array_over(alloc, *first, below)
+    }
+
+    /// The index types of an array, from left to right.
+    #[cycle(denoters)]
+    fn index_types(
+        &mut self,
+        alloc: Global,
+        line: Line,
+        plains: &[Plain],
+    ) -> Result<List<IndexType>, Refusal>
+        requires { first_in (map plain_unbuilt plains.now) ≡ None }
+        ensures { AnswersForm (λ all. (map index_of all, block_of self.new)) result
+            (indexes_written line (map plain_part plains.now) (block_of self.old)) }
+    {
+        let mut all = List::new(alloc);
+        for plain in plains {
+            let index = self.settled_plain(alloc, line, plain)?;
+            let host = index_host(index.kind)?;
+            let name = index.name;
+            all.push(IndexType { name, host })?;
+        }
+        Ok(all)
+    }
+
+    /// `plain` by its name, for which a type that has none gets an entry.
+    #[cycle(denoters)]
+    fn settled_plain(
+        &mut self,
+        alloc: Global,
+        line: Line,
+        plain: &Plain,
+    ) -> Result<NamedType, Refusal>
+        requires { plain_unbuilt plain.now ≡ None }
+        ensures { AnswersForm (named_in (block_of self.new)) result
+            (settled_part (plain_part plain.now) line (block_of self.old)) }
+    {
+        self.settled_type(alloc, line, &plain.core)
+    }
+
+    /// A type by its name in an item on this line, for which a type that has none gets an entry.
+    #[cycle(denoters)]
+    pub(crate) fn settled_type(
+        &mut self,
+        alloc: Global,
+        line: Line,
+        core: &Core,
+    ) -> Result<NamedType, Refusal>
+        requires { core_unbuilt core.now ≡ None }
+        ensures { AnswersForm (named_in (block_of self.new)) result
+            (settled_type line core.now (block_of self.old)) }
+    {
+        if let Core::Named(_, name, _) = core {
+            return self.named_type(name);
+        }
+        let written = self.written_type(alloc, line, core)?;
+        self.settle(alloc, line, written)
+    }
+
+    /// A type that has no name gets an entry.
+    fn settle(&mut self, alloc: Global, line: Line, written: Written) -> Result<NamedType, Refusal>
+        ensures { AnswersForm (named_in (block_of self.new)) result
+            (Accepts (settled line (written_in (block_of self.old) written))) }
+    {
+        let of = written.of;
+        let kind = written.kind;
+        let number = self.add_type(alloc, None, line, written)?;
+        let name = TypeName::Entry(number);
+        Ok(NamedType { name, of, kind })
+    }
+
+    /// The array type of this index type, whose components are so.
+    fn array_over(
+        &mut self,
+        alloc: Global,
+        index: IndexType,
+        below: NamedType,
+    ) -> Result<Written, Refusal>
+        ensures { AnswersForm (written_in (block_of self.new)) result
+            (Accepts (array_over (type_denoter index.name) index.host (named_in (block_of self.old) below))) }
+    {
+        let number = number(self.types.items().len())?;
+        self.scopes.add_array(ArrayType {
+            number,
+            index: index.host,
+            component: below.of,
+            kind: below.kind,
+        })?;
+        let of = Boxed::new(alloc, type_denoter(alloc, index.name))?;
+        let component = Boxed::new(alloc, type_denoter(alloc, below.name))?;
+        Ok(Written {
+            denoter: Denoter::Array(of, component),
+            of: TypeName::Entry(number),
+            kind: Kind::Array(number),
+        })
+    }
+
+    /// Arrays of these index types over a type, the innermost first, by their names.
+    fn arrays_below(
+        &mut self,
+        alloc: Global,
+        line: Line,
+        indexes: &[IndexType],
+        of: NamedType,
+    ) -> Result<NamedType, Refusal>
+        ensures { AnswersForm (named_in (block_of self.new)) result
+            (Accepts (arrays_below line (map index_of indexes.now) (named_in (block_of self.old) of))) }
+    {
+        let Some((first, others)) = indexes.split_first() else {
+            return Ok(of);
+        };
+        let below = self.arrays_below(alloc, line, others, of)?;
+        let written = self.array_over(alloc, *first, below)?;
+        self.settle(alloc, line, written)
+    }
+}
+
+/// The host of an index type, which is ordinal (ISO 10206, 6.4.3.2).
+fn index_host(kind: Kind) -> Result<Host, Refusal>
+    ensures { AnswersForm (λ h. h) result (index_host kind) }
+{
+    match kind {
+        Kind::Ordinal(host) => Ok(host),
+        _ => Err(Refusal::Rule(rule::ORDINAL)),
     }
 }

@@ -1,8 +1,9 @@
 -- What names stand for: lists of declarations, and what a name means in them.
-use Rattle.std.specs.Prelude.{ℕ, List, [], ◌∷◌, ◌++◌, length, Option, Some, None, if◌then◌else◌}
+use Rattle.std.specs.Prelude.{ℕ, ◌==◌, List, [], ◌∷◌, ◌++◌, length, Option, Some, None, if◌then◌else◌}
 use Rattle.std.specs.Str.{bytes_eq}
 use Rattle.ep_typed.specs.declared.tree.StandardFile.{StandardFile}
 use Rattle.ep_scope.specs.Required.{look_up, required_of}
+use Rattle.ep_scope.specs.declared.array.ArrayType.{ArrayType}
 use Rattle.ep_scope.specs.declared.required.Required.{Required}
 use Rattle.ep_scope.specs.declared.thing.Declared.{Declared}
 use Rattle.ep_scope.specs.declared.thing.Thing.{Thing}
@@ -12,18 +13,38 @@ use Rattle.ep_scope.specs.declared.thing.Thing.TheVariants as thing
 abbrev pub Entries : Type 0
 Entries = List (List ℕ × Thing)
 
--- what a scope has under names, and what its interfaces have (ISO 10206, 6.2.2 and 6.11.3)
+-- what a scope has under names, what its interfaces have (ISO 10206, 6.2.2 and 6.11.3), and the array types that are
+-- written in it
 pub record Region : Type 0 where
   pub entries : Entries
   pub qualified : List (List ℕ × Entries)
+  pub arrays : List ArrayType
 
 -- no name yet
 abbrev pub empty_region : Region
-empty_region = record { entries = []; qualified = [] }
+empty_region = record { entries = []; qualified = []; arrays = [] }
 
 -- one name more
 abbrev pub with_entry : Region → List ℕ → Thing → Region
 with_entry r name thing = record r { entries = r.entries ++ (name, thing) ∷ [] }
+
+-- one array type more
+abbrev pub with_array : Region → ArrayType → Region
+with_array r a = record r { arrays = r.arrays ++ a ∷ [] }
+
+-- the array type of this number
+abbrev pub array_among : ℕ → List ArrayType → Option ArrayType
+array_among number [] = None
+array_among number (a ∷ more) = if a.number == number then Some a else array_among number more
+
+abbrev pub array_or : Option ArrayType → Option ArrayType → Option ArrayType
+array_or None outside = outside
+array_or (Some a) outside = Some a
+
+-- in these scopes
+abbrev pub array_in : List Region → ℕ → Option ArrayType
+array_in [] number = None
+array_in (r ∷ rs) number = array_or (array_among number r.arrays) (array_in rs number)
 
 -- what an interface has under a name
 abbrev pub look_up_if : Option Entries → List ℕ → Option Thing
@@ -96,6 +117,10 @@ in_view r = r.inner ∷ r.outer
 -- one name more in the innermost one
 abbrev pub with_inner : Row → List ℕ → Thing → Row
 with_inner r name thing = record r { inner = with_entry r.inner name thing }
+
+-- one array type more in it
+abbrev pub with_inner_array : Row → ArrayType → Row
+with_inner_array r a = record r { inner = with_array r.inner a }
 
 -- one scope more, without names
 abbrev pub opened : Row → Row

@@ -6,6 +6,7 @@
 //! specs/Scopes.antt has these rules, specs/Required.antt the required identifiers. `rule` numbers the static rules.
 #![tactic(auto)]
 
+mod array;
 mod entries;
 mod kind;
 mod meaning;
@@ -16,6 +17,7 @@ mod scope;
 mod scopes;
 mod thing;
 
+pub use array::{ArrayType, array_of};
 pub use kind::{Enumeration, Host, Kind, same_host};
 pub use meaning::{Meaning, meaning_in, meaning_of};
 pub use parameter::{

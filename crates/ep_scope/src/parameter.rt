@@ -3,7 +3,7 @@
 ghost use Rattle.std.specs.Prelude.{◌≡◌, IfOk};
 ghost use Rattle.ep_scope.specs.Parameters.{protection_of, same_mode, same_parameter, same_parameters, same_required, same_type};
 
-use crate::kind::Host;
+use crate::kind::Kind;
 use ep_base::{List, Name, NoMemory};
 use ep_typed::{FormalMode, RequiredType};
 use std::alloc::Global;
@@ -37,8 +37,8 @@ pub struct FormalParameter {
     pub section: u32,
     /// Its type.
     pub of: TypeName,
-    /// The host of its type.
-    pub host: Host,
+    /// The kind of its type.
+    pub kind: Kind,
 }
 
 impl Drop for FormalParameter {
@@ -48,7 +48,7 @@ impl Drop for FormalParameter {
             mode: _,
             section: _,
             of: _,
-            host: _,
+            kind: _,
         } = self;
     }
 }
@@ -143,7 +143,7 @@ pub fn copied_parameters(
             mode: parameter.mode,
             section: parameter.section,
             of: parameter.of,
-            host: parameter.host,
+            kind: parameter.kind,
         })?;
     }
     Ok(copy)

@@ -3,9 +3,10 @@
 ghost use Rattle.std.specs.Prelude.{◌≡◌, None, OnOk, OnErr};
 ghost use Rattle.std.specs.Option.{option_copied};
 ghost use Rattle.ep_scope.specs.Required.{look_up};
-ghost use Rattle.ep_scope.specs.Scopes.{empty_region, look_up_in, with_interface};
+ghost use Rattle.ep_scope.specs.Scopes.{array_among, empty_region, look_up_in, with_array, with_interface};
 ghost use Rattle.ep_scope.specs.Entering.{AnswersEntered, AnswersEntryIn, AnswersConstituent};
 
+use crate::array::ArrayType;
 use crate::entries::{Entries, EntryRefusal};
 use crate::thing::Thing;
 use ep_base::{Name, NoMemory};
@@ -13,12 +14,13 @@ use indexmap::IndexMap;
 use std::alloc::Global;
 use std::marker::Model;
 
-/// The names of a part of a text, in the order in which they were entered, and those that are reached by the name of an
-/// interface.
+/// The names of a part of a text, in the order in which they were entered, those that are reached by the name of an
+/// interface, and the array types.
 pub struct Scope {
     alloc: Global,
     entries: Entries,
     qualified: IndexMap<Vec<u8>, Entries>,
+    arrays: Vec<ArrayType>,
 }
 
 impl Model for Scope {
@@ -27,7 +29,7 @@ impl Model for Scope {
 
     ghost Value = { Region };
 
-    ghost view = { λ s. record { entries = s.entries; qualified = by_bytes s.qualified.entries } };
+    ghost view = { λ s. record { entries = s.entries; qualified = by_bytes s.qualified.entries; arrays = s.arrays.items } };
 }
 
 impl Drop for Scope {
@@ -36,6 +38,7 @@ impl Drop for Scope {
             alloc: _,
             entries: _,
             qualified: _,
+            arrays: _,
         } = self;
     }
 }
@@ -72,6 +75,7 @@ impl Scope {
             alloc,
             entries: Entries::new(alloc),
             qualified: IndexMap::new(alloc),
+            arrays: Vec::new(alloc),
         }
     }
 
@@ -131,6 +135,26 @@ impl Scope {
         let key = Vec::from_slice(self.alloc, interface.bytes())?;
         self.qualified.insert(key, entries)?;
         Ok(())
+    }
+
+    /// Adds an array type.
+    pub fn add_array(&mut self, array: ArrayType) -> Result<(), NoMemory>
+        ensures { OnOk result (self.new ≡ with_array self.old array) }
+    {
+        self.arrays.push(array)?;
+        Ok(())
+    }
+
+    /// The array type of this number. `None` comes exactly where the scope does not have it. It takes no memory.
+    pub fn array(&self, number: u32) -> Option<ArrayType>
+        ensures { result ≡ array_among number self.now.arrays }
+    {
+        for array in &self.arrays {
+            if array.number == number {
+                return Some(*array);
+            }
+        }
+        None
     }
 
     /// What a name stands for. `None` comes exactly where the scope does not have it. It takes no memory.

@@ -1,6 +1,6 @@
 //! What a name may stand for.
 
-use crate::kind::{Host, Kind};
+use crate::kind::Kind;
 use crate::parameter::{FormalParameters, Protection, TypeName};
 use ep_base::Name;
 use ep_typed::{StandardFile, Value};
@@ -50,16 +50,16 @@ impl Drop for Declared {
 pub enum Declaration {
     /// A constant (ISO 10206, 6.3.1).
     Constant(Kind, Value),
-    /// A name of this type, and its host (ISO 10206, 6.4.1).
-    Type(TypeName, Host),
+    /// A name of this type, and its kind (ISO 10206, 6.4.1).
+    Type(TypeName, Kind),
     /// A variable of this type (ISO 10206, 6.5.1).
     Variable(TypeName, Kind),
     /// A variable of a routine, one of its formal parameters, or its result (ISO 10206, 6.5.1, 6.7.2 and 6.7.3).
     Own(TypeName, Kind, Protection),
     /// A procedure with these formal parameters (ISO 10206, 6.7.1).
     Procedure(FormalParameters),
-    /// A function with these formal parameters, and its result of this type with this host (ISO 10206, 6.7.2).
-    Function(FormalParameters, TypeName, Host),
+    /// A function with these formal parameters, and its result of this type and kind (ISO 10206, 6.7.2).
+    Function(FormalParameters, TypeName, Kind),
 }
 
 impl Drop for Declaration {

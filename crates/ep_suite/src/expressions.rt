@@ -23,7 +23,7 @@ const EXPRESSIONS: &[(&str, &str)] = &[
     ("1 +\n'a'", "rule 32 at 2, rule 32 at 2"),
     ("'a' +\n'b'", "not built at 2, not built at 2"),
     ("[1]", "not built at 2, not built at 2"),
-    ("x[1]", "not built at 2, not built at 2"),
+    ("x[1]", "rule 35 at 2, rule 35 at 2"),
     ("y + 1 +\n[2]", "not built at 3, not built at 3"),
 ];
 

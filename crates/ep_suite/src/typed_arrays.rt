@@ -1,4 +1,4 @@
-//! Typed programs with arrays on the whole way, as they are to be once the rules give them.
+//! Typed programs with arrays on the whole way.
 
 use crate::images::image;
 use crate::typed_programs::builder::{Builder, Step, Unbuilt};

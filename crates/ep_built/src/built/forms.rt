@@ -2,12 +2,13 @@
 //! of both.
 
 ghost use Rattle.std.specs.Prelude.{◌≡◌, map};
+ghost use Rattle.std.specs.List.{list_all};
 ghost use Rattle.ep_tree.specs.Shapes.{bare};
-ghost use Rattle.ep_built.specs.Built.{built_component, built_program, built_import, built_type_name, built_heading, built_start, built_routine, built_type_definition, built_type_denoter, built_plain, built_formal_type, built_section, built_core, built_selector, built_target, built_control, built_call_selectors, built_call_of, built_call, built_statement, built_relation, built_adding, built_multiplying, is_character, built_factor, built_access, is_built, selector_belonging, brackets_are_built, is_bare_text};
+ghost use Rattle.ep_built.specs.Built.{built_component, built_program, built_import, built_type_name, built_heading, built_start, built_routine, built_type_definition, built_type_denoter, built_plain, built_formal_type, built_section, built_core, built_structure, selector_form, is_index, is_call, are_one_call, built_target, built_control, built_call_selectors, built_call_of, built_call, built_statement, built_relation, built_adding, built_multiplying, is_character, built_factor, built_access, form_told, selector_belonging, brackets_are_built, is_bare_text};
 ghost use Rattle.ep_tree.specs.declared.expression.Factor.{out-Factor};
-ghost use Rattle.ep_tree.specs.declared.expression.Selector.{out-Selector};
 ghost use Rattle.ep_tree.specs.declared.types.Core.{out-Core};
 ghost use Rattle.ep_tree.specs.declared.types.Plain.{out-Plain};
+ghost use Rattle.ep_tree.specs.declared.types.Structure.{out-Structure};
 ghost use Rattle.ep_tree.specs.declared.types.TypeDenoter.{out-TypeDenoter};
 ghost use Rattle.ep_tree.specs.declared.statement.Statement.{out-Statement};
 ghost use Rattle.ep_tree.specs.declared.routine.Routine.{out-Routine};
@@ -17,7 +18,7 @@ use ep_base::Name;
 use ep_tree::{
     Access, AddingOperator, Component, Core, Expression, Factor, FormalSection, FormalType, Import,
     MultiplyingOperator, Plain, Program, QualifiedName, RelationalOperator, Routine,
-    RoutineHeading, RoutineStart, Selector, Statement, TypeDefinition, TypeDenoter,
+    RoutineHeading, RoutineStart, Selector, Statement, Structure, TypeDefinition, TypeDenoter,
 };
 
 /// A component is a program.
@@ -120,7 +121,7 @@ pub(super) fn section_is_built(s: &FormalSection) -> bool
     formal_type_is_built(&s.of)
 }
 
-/// A type is a name without a tuple, a subrange or an enumeration.
+/// A type is a name without a tuple, a subrange, an enumeration or a structure that is not `packed`.
 pub(super) fn core_is_built(c: &Core) -> bool
     ensures { result ≡ built_core (out-Core c.now) }
 {
@@ -128,13 +129,34 @@ pub(super) fn core_is_built(c: &Core) -> bool
         Core::Named(_, name, tuple) => tuple.items().is_empty() && type_name_is_built(name),
         Core::Range(_, _, _) => true,
         Core::Enumeration(_, _) => true,
+        Core::Structured(_, packed, _) => !*packed,
         _ => false,
     }
 }
 
-/// A selector is a pair of parentheses.
-fn selector_is_built(s: &Selector) -> bool
-    ensures { result ≡ built_selector (out-Selector s.now) }
+/// A structure is an array.
+pub(super) fn structure_is_built(s: &Structure) -> bool
+    ensures { result ≡ built_structure (out-Structure s.now) }
+{
+    match s {
+        Structure::Array(_, _, _) => true,
+        _ => false,
+    }
+}
+
+/// Whether a selector is an index selector.
+fn is_index(s: &Selector) -> bool
+    ensures { result ≡ is_index (selector_form s.now) }
+{
+    match s {
+        Selector::Index(_, _) => true,
+        _ => false,
+    }
+}
+
+/// Whether a selector is a pair of parentheses.
+fn is_call(s: &Selector) -> bool
+    ensures { result ≡ is_call (selector_form s.now) }
 {
     match s {
         Selector::Arguments(_, _) => true,
@@ -142,11 +164,23 @@ fn selector_is_built(s: &Selector) -> bool
     }
 }
 
-/// What is assigned to is a name that is built.
+/// Whether selectors are index selectors alone.
+fn are_indexes(selectors: &[Selector]) -> bool
+    ensures { result ≡ list_all is_index (map selector_form selectors.now) }
+{
+    for s in selectors {
+        if !is_index(s) {
+            return false;
+        }
+    }
+    true
+}
+
+/// What is assigned to is a name that is built, alone or with index selectors.
 fn target_is_built(a: &Access) -> bool
     ensures { result ≡ built_target a.now }
 {
-    a.selectors.items().is_empty() && !names::is_later(&a.name)
+    are_indexes(a.selectors.items()) && !names::is_later(&a.name)
 }
 
 /// The control variable of a `for` with bounds has a name that is built.
@@ -156,13 +190,13 @@ fn control_is_built(name: &Name) -> bool
     !names::is_later(name)
 }
 
-/// A call has at most one selector, and it is built.
+/// A call has at most one selector, a pair of parentheses.
 fn call_selectors_are_built(selectors: &[Selector]) -> bool
     ensures { result ≡ built_call_selectors selectors.now }
 {
     match selectors {
         [] => true,
-        [selector] => selector_is_built(selector),
+        [selector] => is_call(selector),
         _ => false,
     }
 }
@@ -238,15 +272,22 @@ pub(super) fn factor_is_built(f: &Factor) -> bool
     }
 }
 
-/// An access is a name that is built, alone or with one pair of parentheses.
-pub(super) fn access_is_built(name: &Name, selectors: &[Selector]) -> bool
-    ensures { result ≡ built_access name.now (map is_built (map selector_belonging selectors.now)) }
+/// Whether selectors are one pair of parentheses.
+fn are_one_call(selectors: &[Selector]) -> bool
+    ensures { result ≡ are_one_call (map selector_form selectors.now) }
 {
     match selectors {
-        [] => !names::is_later(name),
-        [selector] => selector_is_built(selector) && !names::is_later(name),
+        [selector] => is_call(selector),
         _ => false,
     }
+}
+
+/// An access is a name that is built, called, alone or with index selectors.
+#[tactic(auto, using(crate::proofs::Selectors::forms_told))]
+pub(super) fn access_is_built(name: &Name, selectors: &[Selector]) -> bool
+    ensures { result ≡ built_access name.now (map form_told (map selector_belonging selectors.now)) }
+{
+    (are_one_call(selectors) || are_indexes(selectors)) && !names::is_later(name)
 }
 
 /// Of a structured value without the name of its type.

@@ -1,12 +1,12 @@
 //! The first node of a type denoter that is not built.
 
-ghost use Rattle.std.specs.Prelude.{◌≡◌};
-ghost use Rattle.ep_built.specs.Built.{type_denoter_unbuilt, plain_unbuilt, core_unbuilt};
+ghost use Rattle.std.specs.Prelude.{◌≡◌, map};
+ghost use Rattle.ep_built.specs.Built.{first_in, type_denoter_unbuilt, plain_unbuilt, core_unbuilt, structure_unbuilt};
 
 use crate::built::expressions::expression;
 use crate::built::{at_node, forms};
 use ep_base::Line;
-use ep_tree::{Core, Plain, TypeDenoter};
+use ep_tree::{Core, Plain, Structure, TypeDenoter};
 
 pub(super) fn type_denoter(t: &TypeDenoter) -> Option<Line>
     ensures { result ≡ type_denoter_unbuilt t.now }
@@ -18,12 +18,27 @@ pub(super) fn type_denoter(t: &TypeDenoter) -> Option<Line>
     )
 }
 
+#[cycle(lines)]
 fn plain(p: &Plain) -> Option<Line>
     ensures { result ≡ plain_unbuilt p.now }
 {
     at_node(forms::plain_is_built(p), p.line, core(&p.core))
 }
 
+#[cycle(lines)]
+fn plains(all: &[Plain]) -> Option<Line>
+    ensures { result ≡ first_in (map plain_unbuilt all.now) }
+{
+    for p in all {
+        let line = plain(p);
+        if line.is_some() {
+            return line;
+        }
+    }
+    None
+}
+
+#[cycle(lines)]
 fn core(c: &Core) -> Option<Line>
     ensures { result ≡ core_unbuilt c.now }
 {
@@ -36,8 +51,23 @@ fn core(c: &Core) -> Option<Line>
         }
         Core::Enumeration(line, _) => at_node(built, *line, None),
         Core::Pointer(line, _) => at_node(built, *line, None),
-        Core::Structured(line, _, _) => at_node(built, *line, None),
+        Core::Structured(line, _, s) => at_node(built, *line, structure(s)),
         Core::Restricted(line, _) => at_node(built, *line, None),
         Core::TypeOf(line, _) => at_node(built, *line, None),
+    }
+}
+
+#[cycle(lines)]
+fn structure(s: &Structure) -> Option<Line>
+    ensures { result ≡ structure_unbuilt s.now }
+{
+    let built = forms::structure_is_built(s);
+    match s {
+        Structure::Array(line, indexes, component) => {
+            let inner = plains(indexes.items()).or(plain(component.get()));
+            at_node(built, *line, inner)
+        }
+        Structure::Record(line, _) => at_node(built, *line, None),
+        Structure::Set(line, _) => at_node(built, *line, None),
     }
 }

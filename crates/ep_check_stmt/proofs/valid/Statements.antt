@@ -1,9 +1,10 @@
 -- Statements that the rules accept are valid under declarations that hold what the scopes declare.
-use Rattle.std.proofs.Common.{◌≡◌, ℕ, ◌-◌, Bool, true, false, List, [], ◌∷◌, map, Option, Some, None, refl, sym, ap, ◌∙◌, subst}
+use Rattle.std.proofs.Common.{◌≡◌, ℕ, ◌-◌, ◌==◌, Bool, true, false, List, [], ◌∷◌, map, Option, Some, None, refl, sym, ap, ◌∙◌, subst}
 use Rattle.std.specs.Prelude.{⊤, if◌then◌else◌}
 use Rattle.std.specs.Option.{option_map}
 use Rattle.ep_tree.specs.Nodes.{argument_node}
 use Rattle.ep_tree.specs.declared.expression.Access.{out-Access}
+use Rattle.ep_tree.specs.declared.expression.Access as syntax
 use Rattle.ep_tree.specs.declared.expression.Argument.{Argument, out-Argument, roll-out-Argument}
 use Rattle.ep_tree.specs.declared.expression.ComponentValue.{ComponentValue}
 use Rattle.ep_tree.specs.declared.expression.Expression.{Expression}
@@ -25,6 +26,7 @@ use Rattle.ep_typed.specs.declared.operations.Print.{Print}
 use Rattle.ep_typed.specs.declared.tree.StandardFile.{StandardFile}
 use Rattle.ep_typed.specs.declared.tree.StandardFile.TheVariants as file
 use Rattle.ep_scope.specs.Scopes.{Region, Meant, Declares, Standard, Requires, Nothing, depth_in, meant}
+use Rattle.ep_scope.specs.declared.array.ArrayType.{ArrayType}
 use Rattle.ep_scope.specs.declared.kind.Host.{Host}
 use Rattle.ep_scope.specs.declared.kind.Host.TheVariants as host
 use Rattle.ep_scope.specs.declared.kind.Kind.{Kind}
@@ -34,22 +36,26 @@ use Rattle.ep_scope.specs.declared.required.Procedure.{Procedure}
 use Rattle.ep_scope.specs.declared.required.Procedure.TheVariants as procedure
 use Rattle.ep_scope.specs.declared.required.Required.{Required}
 use Rattle.ep_scope.specs.declared.required.Required.TheVariants as required
+use Rattle.ep_scope.specs.declared.rule.TheConstants as rule
 use Rattle.ep_scope.specs.declared.thing.Declaration.{Declaration}
 use Rattle.ep_scope.specs.declared.thing.Declaration.TheVariants as declaration
 use Rattle.ep_scope.specs.declared.thing.Declared.{Declared}
-use Rattle.ep_check_expr.specs.Agreement.{Agrees, AreActuals, IsDeclaration, IsFormOf, IsProcedureOf, IsStoredIn}
-use Rattle.ep_check_expr.specs.Arguments.{Taken, arguments_judged, callee_at, given_to, own_place, unless_protected}
-use Rattle.ep_check_expr.specs.Expressions.{given, judged, judged_value}
+use Rattle.ep_check_expr.specs.declared.access.Access.{Access}
+use Rattle.ep_check_expr.specs.declared.access.Access.TheVariants as access
+use Rattle.ep_check_expr.specs.Agreement.{Agrees, AreActuals, IsDeclaration, IsFormOf, IsProcedureOf, IsStoredIn, arrays_of}
+use Rattle.ep_check_expr.specs.Arguments.{Taken, arguments_judged, callee_at, given_to, own_place, place_read, unless_protected}
+use Rattle.ep_check_expr.specs.Expressions.{given, judged, judged_value, name_judged}
 use Rattle.ep_check_expr.specs.Functions.{Given}
 use Rattle.ep_check_expr.specs.Hosts.{typed_host}
 use Rattle.ep_check_expr.specs.Judgements.{Judged, Accepts, Breaks, Typed, both, when_accepted}
-use Rattle.ep_check_expr.specs.Laws.{ArgumentsAreSound, ExpressionsAreSound, LabelsAreSound, ValuesAreSound}
+use Rattle.ep_check_expr.specs.Laws.{ArgumentsAreSound, ExpressionsAreSound, LabelsAreSound, ValuesAreSound, VariablesAreSound}
+use Rattle.ep_check_expr.specs.Operators.{map_both}
 use Rattle.ep_check_expr.proofs.Meant.{IsMeant, meant-declared}
 use Rattle.ep_check_expr.proofs.Nodes.{argument-judged, wide-judged}
 use Rattle.ep_check_expr.proofs.Passing.{IfForm, given-fits}
 use Rattle.ep_check_stmt.specs.Cases.{CaseSelector, labelled, selecting, selector_judged}
-use Rattle.ep_check_stmt.specs.Laws.{ResultsAreThere, StatementsAreSound}
-use Rattle.ep_check_stmt.specs.Statements.{ArmJudged, Context, FunctionResult, Judgement, Passes, Shown, Target, Under, after, arm_judged, arm_row, arms_in_order, assigned, at_arm, at_compound, at_item, at_otherwise, at_statement, available, call_arguments, call_judged, case_judged, compound_under, condition, condition_judged, control_judged, declared_called, declared_target, expr_item, expr_threat, falls_by, file_given, formed, function_target, has_result, if_judged, in_order, item_form, item_judged, items_judged, measured, name_called, one_more, own_called, otherwise_judged, place_named, procedure_called, required_called, shown, something, statement_judged, stmt_item, stmt_threat, target_judged, tested, to_file, unless_threatening, usually_written, width_judged, write_judged, written, written_or}
+use Rattle.ep_check_stmt.specs.Laws.{IsResultAt, ResultsAreThere, StatementsAreSound}
+use Rattle.ep_check_stmt.specs.Statements.{ArmJudged, Context, FunctionResult, Judgement, Passes, Shown, Target, Under, after, arm_judged, arm_row, arms_in_order, assigned, at_arm, at_compound, at_item, at_otherwise, at_statement, available, call_arguments, call_judged, case_judged, compound_under, condition, condition_judged, control_judged, declared_called, declared_target, expr_item, expr_threat, falls_by, file_given, formed, function_target, has_result, if_judged, in_order, item_form, item_judged, items_judged, measured, name_called, one_more, own_called, otherwise_judged, place_named, procedure_called, required_called, shown, something, statement_judged, stmt_item, stmt_threat, target_judged, target_of_selectors, tested, to_file, unless_threatening, usually_written, variable_target, width_judged, write_judged, written, written_or}
 use Rattle.ep_check_stmt.proofs.judged.Fits.{Any, Fits, fits_any, fits_both, fits_is, fits_pair, fits_then, fits_weaker}
 use Rattle.ep_check_stmt.proofs.valid.Passing.{FitsRow, after_fits, formed_fits, item_fits, unthreatening_fits}
 use Rattle.ep_check_stmt.proofs.valid.Loops.{control_fits, for_fits}
@@ -64,33 +70,38 @@ node_is scopes line e (Some w) = wide-judged scopes line e w
 argument_is : (scopes : List Region) (a : Argument) → given scopes a ≡ record { value = judged scopes (out-Argument a).value; width = option_map (judged scopes) (out-Argument a).width }
 argument_is scopes a = ap (given scopes) (sym (roll-out-Argument a)) ∙ node_is scopes (out-Argument a).line (out-Argument a).value (out-Argument a).width
 
-module _ (declared : Declarations) (expressions : ExpressionsAreSound) (passed : ArgumentsAreSound) (values : ValuesAreSound) (labels : LabelsAreSound) (scopes : List Region) (agrees : Agrees declared scopes) where
+module _ (declared : Declarations) (expressions : ExpressionsAreSound) (passed : ArgumentsAreSound) (values : ValuesAreSound) (labels : LabelsAreSound) (variables : VariablesAreSound) (scopes : List Region) (agrees : Agrees declared scopes) where
+  -- the array types in view
+  abbrev arrays : List ArrayType
+  arrays = arrays_of scopes
+
   -- a typed form is valid
   abbrev IsSoundForm : Typed → Type 0
-  IsSoundForm t = IsFormOf declared t.kind t.form
+  IsSoundForm t = IsFormOf declared agrees.0 arrays t.kind t.form
 
   expression_fits : (e : Expression) → Fits IsSoundForm (judged scopes e)
   expression_fits e = go (judged scopes e) refl
     where
       go : (j : Judged Typed) → judged scopes e ≡ j → Fits IsSoundForm j
-      go (Accepts t) is = expressions scopes e t is declared agrees
+      go (Accepts t) is = expressions scopes e t is declared agrees.0 agrees.1
       go (Breaks rules) is = tt
 
   value_fits : (v : ComponentValue) → Fits IsSoundForm (judged_value scopes v)
   value_fits v = go (judged_value scopes v) refl
     where
       go : (j : Judged Typed) → judged_value scopes v ≡ j → Fits IsSoundForm j
-      go (Accepts t) is = values scopes v t is declared agrees
+      go (Accepts t) is = values scopes v t is declared agrees.0 agrees.1
       go (Breaks rules) is = tt
 
   -- ---- conditions
 
-  tested_fits : (k : Kind) (form : Option Expr) → IsFormOf declared k form → Fits (IfForm (IsExpr declared (valid.Ordinal typed.Boolean))) (tested k form)
+  tested_fits : (k : Kind) (form : Option Expr) → IsFormOf declared agrees.0 arrays k form → Fits (IfForm (IsExpr declared (valid.Ordinal typed.Boolean))) (tested k form)
   tested_fits (kind.Ordinal host.Boolean) None h = tt
   tested_fits (kind.Ordinal host.Boolean) (Some x) h = h.1
   tested_fits (kind.Ordinal host.Integer) form h = tt
   tested_fits (kind.Ordinal host.Char) form h = tt
   tested_fits (kind.Ordinal (host.Enumeration e)) form h = tt
+  tested_fits (kind.Array n) form h = tt
   tested_fits kind.Text form h = tt
   tested_fits kind.File form h = tt
 
@@ -115,17 +126,45 @@ module _ (declared : Declarations) (expressions : ExpressionsAreSound) (passed :
 
   -- ---- assignments
 
-  -- a variable of an ordinal type is a place; to no other one is anything given
-  abbrev IsTarget : Kind → Place → Type 0
-  IsTarget (kind.Ordinal h) place = IsPlace declared (typed_host h) place
-  IsTarget kind.Text place = ⊥
+  -- a variable of an ordinal type has a place, where it is built; to no other one is anything given that is built
+  abbrev IsTarget : Kind → Option Place → Type 0
+  IsTarget (kind.Ordinal h) place = IfForm (IsPlace declared (typed_host h)) place
+  IsTarget (kind.Array n) place = ⊤
+  IsTarget kind.Text place = ⊤
   IsTarget kind.File place = ⊤
 
   -- a variable that is declared is such a place
-  variable_fits : (place : Place) (k : Kind) → IsStoredIn declared place k → IsTarget k place
+  variable_fits : (place : Place) (k : Kind) → IsStoredIn declared agrees.0 arrays place k → IsTarget k (Some place)
   variable_fits place (kind.Ordinal h) x = x.1
-  variable_fits place kind.Text x = absurd x
+  variable_fits place (kind.Array n) x = tt
+  variable_fits place kind.Text x = tt
   variable_fits place kind.File x = tt
+
+  -- so is what is read of a variable
+  read_fits : (k : Kind) (form : Option Expr) → IsFormOf declared agrees.0 arrays k form → IsTarget k (place_read form)
+  read_fits (kind.Ordinal h) None f = tt
+  read_fits (kind.Ordinal h) (Some (tree.Read place)) f = subst (λ g. IsPlace declared g place) (same_ordinal (typed_host h) f.1.0 f.1.1) f.1.2
+    where
+      same_ordinal : (g k : typed.Host) → valid.Ordinal g ≡ valid.Ordinal k → k ≡ g
+      same_ordinal g k e = cc
+  read_fits (kind.Ordinal h) (Some (tree.Constant z)) f = tt
+  read_fits (kind.Ordinal h) (Some (tree.Text bytes)) f = tt
+  read_fits (kind.Ordinal h) (Some (tree.One operation x)) f = tt
+  read_fits (kind.Ordinal h) (Some (tree.Two operation x y)) f = tt
+  read_fits (kind.Ordinal h) (Some (tree.Short operation x y)) f = tt
+  read_fits (kind.Ordinal h) (Some (tree.Step down low high x y)) f = tt
+  read_fits (kind.Ordinal h) (Some (tree.Function callee given)) f = tt
+  read_fits (kind.Array n) form f = tt
+  read_fits kind.Text form f = tt
+  read_fits kind.File form f = tt
+
+  -- the variable that an access denotes
+  accessed_fits : (a : Access) (k : Kind) (form : Option Expr) → IsFormOf declared agrees.0 arrays k form → Fits (λ t. IsTarget t.kind t.place) (variable_target a form k)
+  accessed_fits (access.Variable of guarded) k form f =
+      fits_then Any (λ t. IsTarget t.kind t.place) (λ done. Accepts (record { place = place_read form; kind = k })) (unless_protected guarded) (fits_any (unless_protected guarded)) (λ a i. read_fits k form f)
+  accessed_fits access.File k form f = tt
+  accessed_fits access.Constant k form f = tt
+  accessed_fits access.Value k form f = tt
 
   -- how many routines are around the statements
   abbrev depth : ℕ
@@ -136,46 +175,101 @@ module _ (declared : Declarations) (expressions : ExpressionsAreSound) (passed :
   Results c = ResultsAreThere declared depth c.results
 
   -- so is the variable of a result
+  result_fits : (k : Kind) (place : Place) → IsResultAt declared k place → IsTarget k (Some place)
+  result_fits (kind.Ordinal h) place x = x.1
+  result_fits (kind.Array n) place x = tt
+  result_fits kind.Text place x = tt
+  result_fits kind.File place x = tt
+
   function_fits : (unit : List ℕ) (d : Declared) (results : List FunctionResult) → ResultsAreThere declared depth results → Fits (λ t. IsTarget t.kind t.place) (function_target depth unit d results)
   function_fits unit d [] there = tt
   function_fits unit d (r ∷ rs) there = go (has_result unit d r) (function_fits unit d rs there.1)
     where
-      go : (own : Bool) → Fits (λ (t : Target). IsTarget t.kind t.place) (function_target depth unit d rs) → Fits (λ (t : Target). IsTarget t.kind t.place) (if own then Accepts (record { place = tree.Own (depth - r.level) r.variable; kind = kind.Ordinal r.host }) else function_target depth unit d rs)
-      go true others = there.0.1
+      go : (own : Bool) → Fits (λ (t : Target). IsTarget t.kind t.place) (function_target depth unit d rs) → Fits (λ (t : Target). IsTarget t.kind t.place) (if own then Accepts (record { place = Some (tree.Own (depth - r.level) r.variable); kind = r.kind }) else function_target depth unit d rs)
+      go true others = result_fits r.kind (tree.Own (depth - r.level) r.variable) there.0
       go false others = others
 
   module _ (unit : List ℕ) (results : List FunctionResult) (there : ResultsAreThere declared depth results) where
-    declared_fits : (d : Declared) (what : Declaration) → IsDeclaration declared agrees.0 depth d what → Fits (λ t. IsTarget t.kind t.place) (declared_target depth unit results d what)
+    declared_fits : (d : Declared) (what : Declaration) → IsDeclaration declared agrees.0 arrays depth d what → Fits (λ t. IsTarget t.kind t.place) (declared_target depth unit results d what)
     declared_fits d (declaration.Variable of k) x = variable_fits (tree.Variable d.unit d.number) k x.0
     declared_fits d (declaration.Own of k guarded) x =
-        fits_then Any (λ t. IsTarget t.kind t.place) (λ done. Accepts (record { place = own_place depth d; kind = k })) (unless_protected guarded) (fits_any (unless_protected guarded)) (λ a i. variable_fits (own_place depth d) k x.0)
+        fits_then Any (λ t. IsTarget t.kind t.place) (λ done. Accepts (record { place = Some (own_place depth d); kind = k })) (unless_protected guarded) (fits_any (unless_protected guarded)) (λ a i. variable_fits (own_place depth d) k x.0)
     declared_fits d (declaration.Constant k v) x = tt
     declared_fits d (declaration.«Type» of h) x = tt
     declared_fits d (declaration.Procedure parameters) x = tt
     declared_fits d (declaration.Function parameters of h) x = function_fits unit d results there
 
-    place_fits : (name : List ℕ) (m : Meant) → IsMeant declared agrees.0 depth m → Fits (λ t. IsTarget t.kind t.place) (place_named depth unit results name m)
+    place_fits : (name : List ℕ) (m : Meant) → IsMeant declared agrees.0 arrays depth m → Fits (λ t. IsTarget t.kind t.place) (place_named depth unit results name m)
     place_fits name (Declares d) x = declared_fits d d.what x
     place_fits name (Standard f) x = tt
     place_fits name (Requires r) x = tt
     place_fits name Nothing x = tt
 
-  target_fits : (c : Context) → c.scopes ≡ scopes → Results c → (name : List ℕ) (selectors : List Selector) → Fits (λ t. IsTarget t.kind t.place) (target_judged c name selectors)
-  target_fits c is there name [] =
-      subst (λ s. Fits (λ t. IsTarget t.kind t.place) (place_named (depth_in s) c.unit c.results name (meant s name))) (sym is) (place_fits c.unit c.results there name (meant scopes name) (meant-declared declared agrees.0 depth scopes name agrees.1))
-  target_fits c is there name (s ∷ ss) = tt
+  access_fits : (a : syntax.Access) → Fits (λ t. IsTarget t.kind t.place) (when_accepted (λ t. variable_target t.access t.form t.kind) (name_judged scopes a))
+  access_fits a = go (name_judged scopes a) refl
+    where
+      go : (j : Judged Typed) → name_judged scopes a ≡ j → Fits (λ t. IsTarget t.kind t.place) (when_accepted (λ t. variable_target t.access t.form t.kind) j)
+      go (Accepts t) is = accessed_fits t.access t.kind t.form ((variables scopes a t is).0 declared agrees.0 agrees.1)
+      go (Breaks rules) is = tt
 
-  assign_fits : (to from : Kind) (line : ℕ) (place : Place) (form : Option Expr) → IsTarget to place → IsFormOf declared from form → Fits (IfForm (IsStmt declared)) (given_to (tree.Assign line place) to from form)
-  assign_fits (kind.Ordinal h) from line place form p f = given-fits declared (IsStmt declared) (tree.Assign line place) h (λ x q. (typed_host h, p, q)) from form f
-  assign_fits kind.Text from line place form p f = absurd p
-  assign_fits kind.File (kind.Ordinal g) line place form p f = tt
-  assign_fits kind.File kind.Text line place form p f = tt
-  assign_fits kind.File kind.File line place form p f = tt
+  target_fits : (c : Context) → c.scopes ≡ scopes → Results c → (a : syntax.Access) (selectors : List Selector) → Fits (λ t. IsTarget t.kind t.place) (target_of_selectors c a selectors)
+  target_fits c is there a [] =
+      let name = (out-Access a).name in
+      subst (λ s. Fits (λ t. IsTarget t.kind t.place) (place_named (depth_in s) c.unit c.results name (meant s name))) (sym is) (place_fits c.unit c.results there name (meant scopes name) (meant-declared declared agrees.0 arrays depth scopes name agrees.1))
+  target_fits c is there a (s ∷ ss) =
+      subst (λ r. Fits (λ t. IsTarget t.kind t.place) (when_accepted (λ t. variable_target t.access t.form t.kind) (name_judged r a))) (sym is) (access_fits a)
 
-  assignment_fits : (c : Context) → c.scopes ≡ scopes → Results c → (line : ℕ) (name : List ℕ) (selectors : List Selector) (v : ComponentValue)
-      → Fits (IfForm (IsStmt declared)) (both (assigned line) (target_judged c name selectors) (judged_value c.scopes v))
-  assignment_fits c is there line name selectors v =
-      fits_both (λ t. IsTarget t.kind t.place) IsSoundForm (IfForm (IsStmt declared)) (assigned line) (target_judged c name selectors) (judged_value c.scopes v) (target_fits c is there name selectors)
+  -- a value that is given to a variable of an ordinal type
+  placed_fits : (h : Host) (line : ℕ) (place : Option Place) (x : Option Expr) → IfForm (IsPlace declared (typed_host h)) place → IfForm (IsExpr declared (valid.Ordinal (typed_host h))) x → IfForm (IsStmt declared) (map_both (tree.Assign line) place x)
+  placed_fits h line None x p q = tt
+  placed_fits h line (Some place) None p q = tt
+  placed_fits h line (Some place) (Some x) p q = (typed_host h, p, q)
+
+  -- nothing that is built is given to another one
+  abbrev IsNone : Option Expr → Type 0
+  IsNone x = x ≡ None
+
+  same_array : (same : Bool) → Fits IsNone (if same then Accepts None else Breaks (rule.ASSIGNMENT ∷ []))
+  same_array true = refl
+  same_array false = tt
+
+  to_array : (m : ℕ) (from : Kind) (form : Option Expr) → Fits IsNone (given_to (λ x. x) (kind.Array m) from form)
+  to_array m (kind.Ordinal g) form = tt
+  to_array m (kind.Array n) form = same_array (m == n)
+  to_array m kind.Text form = tt
+  to_array m kind.File form = tt
+
+  to_text : (from : Kind) (form : Option Expr) → Fits IsNone (given_to (λ x. x) kind.Text from form)
+  to_text (kind.Ordinal g) form = tt
+  to_text (kind.Array n) form = tt
+  to_text kind.Text form = tt
+  to_text kind.File form = tt
+
+  to_file_fits : (from : Kind) (form : Option Expr) → Fits IsNone (given_to (λ x. x) kind.File from form)
+  to_file_fits (kind.Ordinal g) form = tt
+  to_file_fits (kind.Array n) form = tt
+  to_file_fits kind.Text form = tt
+  to_file_fits kind.File form = tt
+
+  unplaced_fits : (line : ℕ) (place : Option Place) (j : Judged (Option Expr)) → Fits IsNone j → Fits (IfForm (IsStmt declared)) (when_accepted (λ x. Accepts (map_both (tree.Assign line) place x)) j)
+  unplaced_fits line place j p = fits_then IsNone (IfForm (IsStmt declared)) (λ x. Accepts (map_both (tree.Assign line) place x)) j p (λ x e. subst (λ y. IfForm (IsStmt declared) (map_both (tree.Assign line) place y)) (sym e) (nothing place))
+    where
+      nothing : (place : Option Place) → IfForm (IsStmt declared) (map_both (tree.Assign line) place None)
+      nothing None = tt
+      nothing (Some p) = tt
+
+  assign_fits : (to from : Kind) (line : ℕ) (place : Option Place) (form : Option Expr) → IsTarget to place → IsFormOf declared agrees.0 arrays from form
+      → Fits (IfForm (IsStmt declared)) (when_accepted (λ x. Accepts (map_both (tree.Assign line) place x)) (given_to (λ x. x) to from form))
+  assign_fits (kind.Ordinal h) from line place form p f =
+      fits_then (IfForm (IsExpr declared (valid.Ordinal (typed_host h)))) (IfForm (IsStmt declared)) (λ x. Accepts (map_both (tree.Assign line) place x)) (given_to (λ x. x) (kind.Ordinal h) from form)
+      (given-fits declared agrees.0 arrays (IsExpr declared (valid.Ordinal (typed_host h))) (λ x. x) h (λ x q. q) from form f) (λ x q. placed_fits h line place x p q)
+  assign_fits (kind.Array m) from line place form p f = unplaced_fits line place (given_to (λ x. x) (kind.Array m) from form) (to_array m from form)
+  assign_fits kind.Text from line place form p f = unplaced_fits line place (given_to (λ x. x) kind.Text from form) (to_text from form)
+  assign_fits kind.File from line place form p f = unplaced_fits line place (given_to (λ x. x) kind.File from form) (to_file_fits from form)
+
+  assignment_fits : (c : Context) → c.scopes ≡ scopes → Results c → (line : ℕ) (a : syntax.Access) (v : ComponentValue) → Fits (IfForm (IsStmt declared)) (both (assigned line) (target_judged c a) (judged_value c.scopes v))
+  assignment_fits c is there line a v =
+      fits_both (λ t. IsTarget t.kind t.place) IsSoundForm (IfForm (IsStmt declared)) (assigned line) (target_judged c a) (judged_value c.scopes v) (target_fits c is there a (out-Access a).selectors)
       (subst (λ s. Fits IsSoundForm (judged_value s v)) (sym is) (value_fits v)) (λ t x p f. assign_fits t.kind x.kind line t.place x.form p f)
 
   -- ---- `write` and `writeln`
@@ -184,19 +278,20 @@ module _ (declared : Declarations) (expressions : ExpressionsAreSound) (passed :
   abbrev IsShown : Shown → Type 0
   IsShown s = IfForm (IsExpr declared (printed_kind s.print)) s.form
 
-  ordinal_form : (h : Host) (form : Option Expr) → IsFormOf declared (kind.Ordinal h) form → IfForm (IsExpr declared (valid.Ordinal (typed_host h))) form
+  ordinal_form : (h : Host) (form : Option Expr) → IsFormOf declared agrees.0 arrays (kind.Ordinal h) form → IfForm (IsExpr declared (valid.Ordinal (typed_host h))) form
   ordinal_form h None f = tt
   ordinal_form h (Some x) f = f.1
 
-  text_form : (form : Option Expr) → IsFormOf declared kind.Text form → IfForm (IsExpr declared valid.Bytes) form
+  text_form : (form : Option Expr) → IsFormOf declared agrees.0 arrays kind.Text form → IfForm (IsExpr declared valid.Bytes) form
   text_form None f = tt
   text_form (Some x) f = f
 
-  shown_by : (k : Kind) (form : Option Expr) (t : Typed) → t.form ≡ form → t.kind ≡ k → IsFormOf declared k form → Fits IsShown (shown t)
+  shown_by : (k : Kind) (form : Option Expr) (t : Typed) → t.form ≡ form → t.kind ≡ k → IsFormOf declared agrees.0 arrays k form → Fits IsShown (shown t)
   shown_by (kind.Ordinal host.Integer) form t e g f = rw (e, g) (ordinal_form host.Integer form f)
   shown_by (kind.Ordinal host.Char) form t e g f = rw (e, g) (ordinal_form host.Char form f)
   shown_by (kind.Ordinal host.Boolean) form t e g f = rw (e, g) (ordinal_form host.Boolean form f)
   shown_by (kind.Ordinal (host.Enumeration n)) form t e g f = rw (e, g) tt
+  shown_by (kind.Array n) form t e g f = rw (e, g) tt
   shown_by kind.Text form t e g f = rw (e, g) (text_form form f)
   shown_by kind.File form t e g f = rw (e, g) tt
 
@@ -205,11 +300,12 @@ module _ (declared : Declarations) (expressions : ExpressionsAreSound) (passed :
   IsWidth None = ⊤
   IsWidth (Some form) = IfForm (IsExpr declared (valid.Ordinal typed.Integer)) form
 
-  measured_fits : (k : Kind) (form : Option Expr) → IsFormOf declared k form → Fits (IfForm (IsExpr declared (valid.Ordinal typed.Integer))) (measured k form)
+  measured_fits : (k : Kind) (form : Option Expr) → IsFormOf declared agrees.0 arrays k form → Fits (IfForm (IsExpr declared (valid.Ordinal typed.Integer))) (measured k form)
   measured_fits (kind.Ordinal host.Integer) form f = ordinal_form host.Integer form f
   measured_fits (kind.Ordinal host.Char) form f = tt
   measured_fits (kind.Ordinal host.Boolean) form f = tt
   measured_fits (kind.Ordinal (host.Enumeration n)) form f = tt
+  measured_fits (kind.Array n) form f = tt
   measured_fits kind.Text form f = tt
   measured_fits kind.File form f = tt
 
@@ -307,10 +403,11 @@ module _ (declared : Declarations) (expressions : ExpressionsAreSound) (passed :
     abbrev IsChosen : List (List Label) → CaseSelector → Type 0
     IsChosen all s = IsSelected declared c.locals labels scopes agrees s.host all s.form
 
-    selecting_fits : (all : List (List Label)) (k : Kind) (form : Option Expr) → IsFormOf declared k form → Fits (IsChosen all) (when_accepted (labelled scopes all) (selecting k form))
+    selecting_fits : (all : List (List Label)) (k : Kind) (form : Option Expr) → IsFormOf declared agrees.0 arrays k form → Fits (IsChosen all) (when_accepted (labelled scopes all) (selecting k form))
     selecting_fits all (kind.Ordinal h) form f =
         fits_weaker (λ (s : CaseSelector). (s.host ≡ h) × IsSelected declared c.locals labels scopes agrees h all s.form) (IsChosen all) (labelled scopes all (record { host = h; form = form }))
         (λ s p. subst (λ g. IsSelected declared c.locals labels scopes agrees g all s.form) (sym p.0) p.1) (labelled_fits declared c.locals labels scopes agrees h all form (ordinal_form h form f))
+    selecting_fits all (kind.Array n) form f = tt
     selecting_fits all kind.Text form f = tt
     selecting_fits all kind.File form f = tt
 
@@ -376,7 +473,7 @@ module _ (declared : Declarations) (expressions : ExpressionsAreSound) (passed :
           fits_weaker (λ t. arguments_judged parameters (map (given scopes) arguments) ≡ Accepts t) IsTaken (arguments_judged parameters (map (given scopes) arguments))
           (λ t e. passed scopes parameters arguments t e declared agrees.0 agrees.1 (declared.types d.unit) x.0.formals x.3) (fits_is (arguments_judged parameters (map (given scopes) arguments)))
 
-  declared_call_fits : (c : Context) → c.scopes ≡ scopes → (line : ℕ) (d : Declared) (what : Declaration) (arguments : List Argument) → IsDeclaration declared agrees.0 depth d what → Fits (IfForm (IsStmt declared)) (declared_called c line d what arguments)
+  declared_call_fits : (c : Context) → c.scopes ≡ scopes → (line : ℕ) (d : Declared) (what : Declaration) (arguments : List Argument) → IsDeclaration declared agrees.0 arrays depth d what → Fits (IfForm (IsStmt declared)) (declared_called c line d what arguments)
   declared_call_fits c is line d (declaration.Procedure parameters) arguments x = own_fits c is line d parameters arguments x
   declared_call_fits c is line d (declaration.Function parameters of h) arguments x = tt
   declared_call_fits c is line d (declaration.Constant k v) arguments x = tt
@@ -384,7 +481,7 @@ module _ (declared : Declarations) (expressions : ExpressionsAreSound) (passed :
   declared_call_fits c is line d (declaration.Variable of k) arguments x = tt
   declared_call_fits c is line d (declaration.Own of k guarded) arguments x = tt
 
-  call_fits : (c : Context) → c.scopes ≡ scopes → (line : ℕ) (name : List ℕ) (m : Meant) (arguments : List Argument) → IsMeant declared agrees.0 depth m → Fits (IfForm (IsStmt declared)) (call_judged c line name m arguments)
+  call_fits : (c : Context) → c.scopes ≡ scopes → (line : ℕ) (name : List ℕ) (m : Meant) (arguments : List Argument) → IsMeant declared agrees.0 arrays depth m → Fits (IfForm (IsStmt declared)) (call_judged c line name m arguments)
   call_fits c is line name (Declares d) arguments x = declared_call_fits c is line d d.what arguments x
   call_fits c is line name (Standard f) arguments x = tt
   call_fits c is line name (Requires r) arguments x = required_fits c is line r arguments
@@ -392,7 +489,7 @@ module _ (declared : Declarations) (expressions : ExpressionsAreSound) (passed :
 
   called_fits : (c : Context) → c.scopes ≡ scopes → (line : ℕ) (name : List ℕ) (arguments : Option (List Argument)) → Fits (IfForm (IsStmt declared)) (name_called c line name arguments)
   called_fits c is line name None = tt
-  called_fits c is line name (Some arguments) = call_fits c is line name (meant c.scopes name) arguments (subst (λ s. IsMeant declared agrees.0 depth (meant s name)) (sym is) (meant-declared declared agrees.0 depth scopes name agrees.1))
+  called_fits c is line name (Some arguments) = call_fits c is line name (meant c.scopes name) arguments (subst (λ s. IsMeant declared agrees.0 arrays depth (meant s name)) (sym is) (meant-declared declared agrees.0 arrays depth scopes name agrees.1))
 
   -- ---- statements
 
@@ -484,7 +581,7 @@ module _ (declared : Declarations) (expressions : ExpressionsAreSound) (passed :
     statement_step : (y : Statement-F ValidStatement ValidArm ValidCompound ValidOtherwise) → IsStatement (roll-Statement (statement_layer y))
     statement_step (Statement-F.Empty line) = rolled (Statement-F.Empty line) nothing_there
     statement_step (Statement-F.Assignment line access v) =
-        rolled (Statement-F.Assignment line access v) (λ controls. stmt_fits c controls line _ (assignment_fits c is there line (out-Access access).name (out-Access access).selectors v))
+        rolled (Statement-F.Assignment line access v) (λ controls. stmt_fits c controls line _ (assignment_fits c is there line access v))
     statement_step (Statement-F.Call line access) = rolled (Statement-F.Call line access) (λ controls. stmt_fits c controls line _ (called_fits c is line (out-Access access).name (call_arguments (out-Access access).selectors)))
     statement_step (Statement-F.Compound s) = rolled (Statement-F.Compound s.0) (λ controls. formed_fits (AreSound declared c.locals) (IsSound declared c.locals) tree.Compound (compound_under c s.0 controls) (s.1 controls) (λ ss p. p))
     statement_step (Statement-F.If line e then_part None) =
@@ -521,7 +618,7 @@ module _ (declared : Declarations) (expressions : ExpressionsAreSound) (passed :
         (λ x y e. subst (λ z. IsOtherwise (roll-Otherwise z)) e (rolled_otherwise (otherwise_layer y) (λ controls. row_fits controls y.statements)))
 
 -- the law
-pub statements_are_sound : ExpressionsAreSound → ArgumentsAreSound → ValuesAreSound → LabelsAreSound → StatementsAreSound
-statements_are_sound expressions passed values labels context c ss is declared agrees there auxiliary =
-    let sound : AreSound declared context.locals ss = subst (FitsRow (AreSound declared context.locals)) is (compound_fits declared expressions passed values labels context.scopes agrees context refl there c []) in
+pub statements_are_sound : ExpressionsAreSound → ArgumentsAreSound → ValuesAreSound → LabelsAreSound → VariablesAreSound → StatementsAreSound
+statements_are_sound expressions passed values labels variables context c ss is declared agrees there auxiliary =
+    let sound : AreSound declared context.locals ss = subst (FitsRow (AreSound declared context.locals)) is (compound_fits declared expressions passed values labels variables context.scopes agrees context refl there c []) in
     sound auxiliary

@@ -13,7 +13,8 @@ use Rattle.ep_check_stmt.specs.Laws.{AuxiliariesAreThere}
 use Rattle.ep_check_unit.specs.Blocks.{Block, own_count}
 use Rattle.ep_check_unit.specs.Routines.{locals_in, locals_of}
 use Rattle.ep_check_unit.specs.declared.block.Enclosing.{Enclosing}
-use Rattle.ep_check_unit.proofs.valid.Holds.{innermost, levels_at, types_own, variables_own, within}
+use Rattle.ep_check_unit.proofs.valid.Agreeing.{types_own, variables_own, within}
+use Rattle.ep_check_unit.proofs.valid.Holds.{innermost, levels_at}
 use Rattle.ep_check_unit.proofs.valid.Items.{own_length}
 use Rattle.ep_check_unit.proofs.valid.Leading.{variables_in}
 

@@ -23,7 +23,8 @@ use Rattle.ep_check_expr.specs.declared.constants.ConstantForm.{ConstantForm}
 use Rattle.ep_check_stmt.proofs.judged.Fits.{Any, Fits, fits_any, fits_both, fits_is, fits_then}
 use Rattle.ep_check_unit.specs.Declarations.{constant_definition, constant_entered, enumerated, host_denoter, own_thing, scopes_of, unused, with_constant, with_name}
 use Rattle.ep_check_unit.specs.Blocks.{Block}
-use Rattle.ep_check_unit.proofs.valid.Holds.{Holds, Lists, ListsKind, constant_valid, holds_agrees, known_listed, lists_small, things_push, within}
+use Rattle.ep_check_unit.proofs.valid.Agreeing.{holds_agrees, within}
+use Rattle.ep_check_unit.proofs.valid.Holds.{Holds, Lists, ListsKind, constant_valid, known_listed, lists_small, things_push}
 use Rattle.ep_check_unit.proofs.valid.Open.{IsOpen, open_push}
 use Rattle.ep_check_unit.proofs.valid.Leading.{Grows, Leads, Enters, bodies_refl, enters_refl, enters_then, head_in, length_push, noted_leads, prefix_length, prefix_more, prefix_refl}
 
@@ -33,11 +34,13 @@ constant_opens b name k v x = open_push b.scopes.inner.entries b.scopes.outer b.
 
 constant_grows : (name : List ℕ) (k : Kind) (v : Value) (b : Block) → Grows b (with_constant name k v b)
 constant_grows name (kind.Ordinal h) v b = record { types = prefix_refl b.types; constants = prefix_more b.constants _; variables = prefix_refl b.variables; own = prefix_refl b.own.variables; parameters = refl; result = refl; enclosing = refl; outer = refl; alone = λ e. refl; headings = prefix_refl (map head_in b.routines); waits = λ w. w; opens = λ x. constant_opens b name (kind.Ordinal h) v x; bodies = λ x. bodies_refl b }
+constant_grows name (kind.Array n) v b = record { types = prefix_refl b.types; constants = prefix_refl b.constants; variables = prefix_refl b.variables; own = prefix_refl b.own.variables; parameters = refl; result = refl; enclosing = refl; outer = refl; alone = λ e. refl; headings = prefix_refl (map head_in b.routines); waits = λ w. w; opens = λ x. constant_opens b name (kind.Array n) v x; bodies = λ x. bodies_refl b }
 constant_grows name kind.Text v b = record { types = prefix_refl b.types; constants = prefix_refl b.constants; variables = prefix_refl b.variables; own = prefix_refl b.own.variables; parameters = refl; result = refl; enclosing = refl; outer = refl; alone = λ e. refl; headings = prefix_refl (map head_in b.routines); waits = λ w. w; opens = λ x. constant_opens b name kind.Text v x; bodies = λ x. bodies_refl b }
 constant_grows name kind.File v b = record { types = prefix_refl b.types; constants = prefix_refl b.constants; variables = prefix_refl b.variables; own = prefix_refl b.own.variables; parameters = refl; result = refl; enclosing = refl; outer = refl; alone = λ e. refl; headings = prefix_refl (map head_in b.routines); waits = λ w. w; opens = λ x. constant_opens b name kind.File v x; bodies = λ x. bodies_refl b }
 
 constant_types : (name : List ℕ) (k : Kind) (v : Value) (b : Block) → (with_constant name k v b).types ≡ b.types
 constant_types name (kind.Ordinal h) v b = refl
+constant_types name (kind.Array n) v b = refl
 constant_types name kind.Text v b = refl
 constant_types name kind.File v b = refl
 
@@ -48,6 +51,7 @@ module _ (u : TypedUnit) where
     unit = x.unit;
     things = things_push u b.own.enclosing i b.scopes.inner.entries name (own_thing b (length b.constants) (declaration.Constant (kind.Ordinal h) (value.Word z))) x.things (x.unit, (s, l));
     plain = x.plain;
+    arrays = x.arrays;
     outer = x.outer;
     routines = x.routines;
     types = x.types;
@@ -60,11 +64,13 @@ module _ (u : TypedUnit) where
     results = x.results;
   }
   constant_holds i name (kind.Ordinal h) (value.Text bytes) b le s l x = absurd s
+  constant_holds i name (kind.Array n) v b le s l x = absurd s
   constant_holds i name kind.Text (value.Word z) b le s l x = absurd s
   constant_holds i name kind.Text (value.Text bytes) b le s l x = record {
     unit = x.unit;
     things = things_push u b.own.enclosing i b.scopes.inner.entries name (own_thing b (length b.constants) (declaration.Constant kind.Text (value.Text bytes))) x.things (x.unit, (s, l));
     plain = x.plain;
+    arrays = x.arrays;
     outer = x.outer;
     routines = x.routines;
     types = x.types;

@@ -1,18 +1,23 @@
--- Denoters that name only types before them: their host and type value are found, however many names may be followed.
-use Rattle.std.proofs.Common.{◌≡◌, ℕ, ℤ, pos, suc, zero, ◌<◌, ◌≤◌, List, [], ◌∷◌, length, Some, slice_get, IsTrue, refl, ap, ◌∙◌, subst, arith}
+-- Denoters that name only types before them: their host, or the parts of an array, and their type value are found, however many names may be followed.
+use Rattle.std.proofs.Common.{◌≡◌, ℕ, ℤ, neg_ℤ, pos, suc, zero, ◌<◌, ◌≤◌, List, [], ◌∷◌, length, Option, Some, None, slice_get, IsTrue, refl, ap, ◌∙◌, subst, arith}
 use Rattle.std.proofs.lemmas.Bool.Decides.{nat_tests}
 use Rattle.std.specs.Prelude.{int_le}
-use Rattle.ep_typed.specs.Denoters.{definition_of, found_of, host_within, required_type, type_within}
+use Rattle.ep_typed.specs.Denoters.{ArrayParts, array_of, array_type, array_within, definition_of, found_of, host_within, required_type, type_within}
 use Rattle.ep_typed.specs.Hosts as host
 use Rattle.ep_typed.specs.Hosts.{Host, least, greatest, is_of_host}
-use Rattle.ep_typed.specs.Operations.{is_integer, maxint}
-use Rattle.ep_typed.specs.Trees.{Denoter, Fixed, Required, Named, Subrange, Enumeration}
-use Rattle.ep_typed.specs.Valid.{IsDenoter, IsOrdinal, IsTyped, enumeration, named, required, subrange}
+use Rattle.ep_typed.specs.Operations.{is_integer, last_char, maxint}
+use Rattle.ep_typed.specs.Trees.{Array, Denoter, Fixed, Required, Named, Subrange, Enumeration}
+use Rattle.ep_typed.specs.Valid.{IsDenoter, IsOrdinal, IsTyped, array, enumeration, named, required, subrange}
 use Rattle.ep_typed.specs.declared.denoter.RequiredType.{RequiredType}
 use Rattle.ep_typed.specs.declared.denoter.RequiredType.TheVariants as simple
 use Rattle.ep_typed.specs.declared.unit.UnitType.{UnitType}
 use Rattle.ep_typed.specs.TypeValues.{TypeValue}
 use Rattle.ep_typed.specs.TypeValues.{Ordinal}
+use Rattle.ep_typed.specs.TypeValues as type
+use Rattle.ep_scope.specs.declared.kind.Kind.{Kind}
+use Rattle.ep_scope.specs.declared.kind.Kind.TheVariants as kind
+use Rattle.ep_check_expr.specs.Agreement.{HasKind, IsKind}
+use Rattle.ep_check_expr.specs.Hosts.{typed_host}
 
 -- the numbers of the host are integers
 abbrev pub IsSmall : Host → Type 0
@@ -33,6 +38,21 @@ pub record Denotes (types : List UnitType) (k : ℕ) (d : Denoter) (h : Host) (v
   pub has_host : (n : ℕ) → k < n → host_within types n d ≡ Some h
   pub has_type : (n : ℕ) → k < n → type_within types n d ≡ Some v
   pub typed : IsTyped types d v
+
+-- Alike the denoter is that of the array type of this number, with its parts and its type value.
+pub record DenotesArray (types : List UnitType) (k : ℕ) (d : Denoter) (number : ℕ) (v : TypeValue) : Type 0 where
+  pub parts : ArrayParts
+  pub has_parts : (n : ℕ) → k < n → array_within types n d ≡ Some parts
+  pub is_array : array_of types (Named number []) ≡ Some parts
+  pub has_type : (n : ℕ) → k < n → type_within types n d ≡ Some v
+  pub typed : IsTyped types d v
+
+-- the one or the other by the kind
+abbrev pub DenotesKind : List UnitType → ℕ → Denoter → Kind → TypeValue → Type 0
+DenotesKind types k d (kind.Ordinal h) v = Denotes types k d (typed_host h) v
+DenotesKind types k d (kind.Array number) v = DenotesArray types k d number v
+DenotesKind types k d kind.Text v = ⊥
+DenotesKind types k d kind.File v = ⊥
 
 module _ (types : List UnitType) where
   -- behind more names
@@ -116,3 +136,89 @@ module _ (types : List UnitType) where
   -- and is that of an ordinal type
   abbrev pub denotes_ordinal : (k : ℕ) (d : Denoter) (h : Host) (v : TypeValue) → k ≤ length types → Denotes types k d h v → IsOrdinal types d
   denotes_ordinal k d h v le x = record { host = h; has_host = x.has_host (suc (length types)) (omega (arith, le)); denoter = denotes_valid k d h v le x }
+
+  -- ---- arrays
+
+  -- the type value of a denoter with a host has bounds
+  ordinal_some : (low high : ℤ) (v : TypeValue) → Some (Ordinal low high) ≡ Some v → (l h : ℤ) × (v ≡ Ordinal l h)
+  ordinal_some low high v e = let is : v ≡ Ordinal low high = cc in (low, high, is)
+
+  ordinal_there : (n : ℕ) (h : Host) (v : TypeValue) → ((t : UnitType) → host_within types n (definition_of t) ≡ Some h → type_within types n (definition_of t) ≡ Some v → (low high : ℤ) × (v ≡ Ordinal low high))
+      → (o : Option UnitType) → found_of (host_within types n) o ≡ Some h → found_of (type_within types n) o ≡ Some v → (low high : ℤ) × (v ≡ Ordinal low high)
+  ordinal_there n h v below None e f = cc
+  ordinal_there n h v below (Some t) e f = below t e f
+
+  pub ordinal_value : (n : ℕ) (d : Denoter) (h : Host) (v : TypeValue) → host_within types n d ≡ Some h → type_within types n d ≡ Some v → (low high : ℤ) × (v ≡ Ordinal low high)
+  ordinal_value zero d h v e f = cc
+  ordinal_value (suc n) (Required simple.Integer) h v e f = ordinal_some (neg_ℤ (pos maxint)) (pos maxint) v f
+  ordinal_value (suc n) (Required simple.Char) h v e f = ordinal_some (pos 0) (pos last_char) v f
+  ordinal_value (suc n) (Required simple.Boolean) h v e f = ordinal_some (pos 0) (pos 1) v f
+  ordinal_value (suc n) (Named index []) h v e f = ordinal_there n h v (λ t p q. ordinal_value n (definition_of t) h v p q) (slice_get types index) e f
+  ordinal_value (suc n) (Named index (b ∷ bs)) h v e f = cc
+  ordinal_value (suc n) (Subrange of (Fixed low) (Fixed high)) h v e f = ordinal_some low high v f
+  ordinal_value (suc n) (Enumeration []) h v e f = cc
+  ordinal_value (suc n) (Enumeration (first ∷ others)) h v e f = ordinal_some (pos 0) (pos (length others)) v f
+  ordinal_value (suc n) (Array index component) h v e f = cc
+
+  pub parts_found : (index component : Denoter) (n : ℕ) → 0 < n → array_within types n (Array index component) ≡ Some (record { index = index; component = component })
+  parts_found index component zero lt = absurd (omega (arith, lt))
+  parts_found index component (suc n) lt = refl
+
+  array_found : (index component : Denoter) (low high : ℤ) (of : TypeValue) (k n : ℕ) → k < n → type_within types n index ≡ Some (Ordinal low high) → type_within types n component ≡ Some of → type_within types n (Array index component) ≡ Some (type.Array low high of)
+  array_found index component low high of k zero lt e f = absurd (omega (arith, lt))
+  array_found index component low high of k (suc n) lt e f = ap (λ o. array_type o (type_within types (suc n) component)) e ∙ ap (array_type (Some (Ordinal low high))) f
+
+  -- an array of an index type and components, which is the type of this number
+  pub denotes_array : (k number : ℕ) (index component : Denoter) (h : Host) (low high : ℤ) (of : TypeValue) → Denotes types k index h (Ordinal low high) → ((n : ℕ) → k < n → type_within types n component ≡ Some of) → IsTyped types component of
+      → array_of types (Named number []) ≡ Some (record { index = index; component = component }) → DenotesArray types k (Array index component) number (type.Array low high of)
+  denotes_array k number index component h low high of i has typed is = record {
+    parts = record { index = index; component = component };
+    has_parts = λ n lt. parts_found index component n (omega (arith, lt));
+    is_array = is;
+    has_type = λ n lt. array_found index component low high of k n lt (i.has_type n lt) (has n lt);
+    typed = array index component low high of i.typed typed;
+  }
+
+  named_parts : (index k : ℕ) (t : UnitType) (p : ArrayParts) → slice_get types index ≡ Some t → ((n : ℕ) → k < n → array_within types n (definition_of t) ≡ Some p) → (n : ℕ) → suc k < n → array_within types n (Named index []) ≡ Some p
+  named_parts index k t p at found zero lt = absurd (omega (arith, lt))
+  named_parts index k t p at found (suc n) lt = ap (found_of (array_within types n)) at ∙ found n (omega (arith, lt))
+
+  -- the type of this number is an array by its definition
+  pub array_there : (number : ℕ) (t : UnitType) (index component : Denoter) → slice_get types number ≡ Some t → definition_of t ≡ Array index component → 0 < length types → array_of types (Named number []) ≡ Some (record { index = index; component = component })
+  array_there number t index component at is lt = ap (found_of (array_within types (length types))) at ∙ (ap (array_within types (length types)) is ∙ parts_found index component (length types) lt)
+
+  -- ---- denoters of a kind
+
+  pub kind_more : (k j : ℕ) (d : Denoter) (of : Kind) (v : TypeValue) → k ≤ j → DenotesKind types k d of v → DenotesKind types j d of v
+  kind_more k j d (kind.Ordinal h) v le x = denotes_more k j d (typed_host h) v le x
+  kind_more k j d (kind.Array number) v le x = record { parts = x.parts; has_parts = λ n lt. x.has_parts n (omega (arith, le, lt)); is_array = x.is_array; has_type = λ n lt. x.has_type n (omega (arith, le, lt)); typed = x.typed }
+  kind_more k j d kind.Text v le x = absurd x
+  kind_more k j d kind.File v le x = absurd x
+
+  pub kind_named : (index k : ℕ) (t : UnitType) (of : Kind) (v : TypeValue) → slice_get types index ≡ Some t → DenotesKind types k (definition_of t) of v → DenotesKind types (suc k) (Named index []) of v
+  kind_named index k t (kind.Ordinal h) v at x = denotes_named index k t (typed_host h) v at x
+  kind_named index k t (kind.Array number) v at x = record { parts = x.parts; has_parts = named_parts index k t x.parts at x.has_parts; is_array = x.is_array; has_type = named_type index k t v at x.has_type; typed = named index t at x.typed }
+  kind_named index k t kind.Text v at x = absurd x
+  kind_named index k t kind.File v at x = absurd x
+
+  pub kind_type : (k : ℕ) (d : Denoter) (of : Kind) (v : TypeValue) → DenotesKind types k d of v → (n : ℕ) → k < n → type_within types n d ≡ Some v
+  kind_type k d (kind.Ordinal h) v x n lt = x.has_type n lt
+  kind_type k d (kind.Array number) v x n lt = x.has_type n lt
+  kind_type k d kind.Text v x n lt = absurd x
+  kind_type k d kind.File v x n lt = absurd x
+
+  pub kind_typed : (k : ℕ) (d : Denoter) (of : Kind) (v : TypeValue) → DenotesKind types k d of v → IsTyped types d v
+  kind_typed k d (kind.Ordinal h) v x = x.typed
+  kind_typed k d (kind.Array number) v x = x.typed
+  kind_typed k d kind.Text v x = absurd x
+  kind_typed k d kind.File v x = absurd x
+
+  pub kind_valid : (k : ℕ) (d : Denoter) (of : Kind) (v : TypeValue) → k ≤ length types → DenotesKind types k d of v → IsDenoter types d
+  kind_valid k d of v le x = record { type_value = v; has_type = kind_type k d of v x (suc (length types)) (omega (arith, le)); typed = kind_typed k d of v x }
+
+  -- so it has the kind
+  pub kind_had : (k : ℕ) (d : Denoter) (of : Kind) (v : TypeValue) → k ≤ length types → IsKind of → DenotesKind types k d of v → HasKind types d of
+  kind_had k d (kind.Ordinal h) v le s x = (s, x.has_host (suc (length types)) (omega (arith, le)))
+  kind_had k d (kind.Array number) v le s x = (x.parts, x.has_parts (suc (length types)) (omega (arith, le)), x.is_array)
+  kind_had k d kind.Text v le s x = absurd x
+  kind_had k d kind.File v le s x = absurd x

@@ -1,6 +1,7 @@
 -- The headings of routines lead from one block to the next.
 use Rattle.std.proofs.Common.{◌≡◌, ℕ, zero, suc, ◌<◌, ◌≤◌, Bool, true, false, not, ◌||◌, List, [], ◌∷◌, ◌++◌, map, length, Option, Some, None, slice_get, bytes_eq, refl, sym, ap, ◌∙◌, subst, arith}
 use Rattle.std.proofs.lemmas.List.Elements.{All-nil, All-push}
+use Rattle.std.specs.List.{list_all}
 use Rattle.std.specs.Prelude.{All, ⊤, is_none, if◌then◌else◌}
 use Rattle.ep_tree.specs.declared.declaration.FormalSection.{FormalSection}
 use Rattle.ep_tree.specs.declared.declaration.FormalType.{FormalType}
@@ -24,20 +25,18 @@ use Rattle.ep_scope.specs.declared.thing.Declaration.TheVariants as declaration
 use Rattle.ep_scope.specs.declared.thing.Declared.{Declared}
 use Rattle.ep_scope.specs.declared.thing.Thing.{Thing}
 use Rattle.ep_scope.specs.declared.thing.Thing.TheVariants as thing
-use Rattle.ep_check_expr.specs.Hosts.{typed_host}
 use Rattle.ep_check_expr.specs.Judgements.{Judged, Accepts, Breaks}
 use Rattle.ep_check_stmt.proofs.judged.Fits.{Any, Fits, fits_any, fits_then, fits_weaker}
 use Rattle.ep_check_unit.specs.Blocks.{Block, RoutineForm, around_of}
-use Rattle.ep_check_unit.specs.Declarations.{Standing, Written, entered, own_thing, type_denoter, type_named, unused, with_name}
+use Rattle.ep_check_unit.specs.Declarations.{Standing, Written, entered, noted, own_thing, type_denoter, type_named, unused, with_name}
 use Rattle.ep_check_unit.specs.Functions.{own_name_at, own_result, routine_declaration, same_result, typed_result}
-use Rattle.ep_check_unit.specs.Routines.{Headed, declared_routine, formal_of, forwarded, has_body, has_number, headed_again, headed_first, headed_form, headed_over, headed_then, hidden_type, identified_again, identified_over, is_parameter, is_repeated, parameter_added, parameter_type, parameters_added, result_headed, result_judged, routine_there, section_judged, section_mode, section_type, sections_judged, start_headed, with_routine}
+use Rattle.ep_check_unit.specs.Routines.{Headed, declared_routine, formal_of, forwarded, has_body, has_number, headed_again, headed_first, headed_form, headed_over, headed_then, hidden_type, identified_again, identified_over, is_built_formal, is_built_heading, is_built_result, is_parameter, is_repeated, parameter_added, parameter_type, parameters_added, result_headed, result_judged, routine_there, section_judged, section_mode, section_type, sections_judged, start_headed, with_routine}
 use Rattle.ep_check_unit.specs.declared.block.Enclosing.{Enclosing}
 use Rattle.ep_check_unit.specs.declared.functions.HeadingResult.{HeadingResult}
 use Rattle.ep_check_unit.proofs.Forms.{each_push}
-use Rattle.ep_check_unit.proofs.valid.Denoting.{denotes_ordinal}
-use Rattle.ep_check_unit.proofs.valid.Holds.{HasHostHere, Holds, HoldsDeclaration, HoldsParameter, HoldsResult, HoldsRoutine, HoldsThings, HoldsThing, Lists, around_innermost, formals_valid, head_of, headed_around, name_denotes, named_tree}
+use Rattle.ep_check_unit.proofs.valid.Holds.{HasKindHere, Holds, HoldsDeclaration, HoldsParameter, HoldsResult, HoldsRoutine, HoldsThings, HoldsThing, ListsKind, around_innermost, both_built, formals_valid, head_of, headed_around, kind_ordinal, name_denotes, named_tree}
 use Rattle.ep_check_unit.proofs.valid.Items.{LeadsOn}
-use Rattle.ep_check_unit.proofs.valid.Leading.{Extends, Grows, Leads, bodies_refl, head_in, leads_refl, length_push, named_holds, prefix_last, prefix_length, prefix_more, prefix_refl}
+use Rattle.ep_check_unit.proofs.valid.Leading.{Extends, Grows, Leads, bodies_refl, head_in, leads_refl, length_push, named_holds, prefix_last, prefix_length, prefix_more, prefix_refl, waits_some}
 use Rattle.ep_check_unit.proofs.valid.Meant.{HoldsIf, look_up_holds}
 use Rattle.ep_check_unit.proofs.valid.Open.{IsNumbered, IsNumberedAs, IsOpen, IsThingIf, IsThingOf, floor_below, look_up_numbered, not_below, open_more, open_push}
 use Rattle.ep_check_unit.proofs.valid.Types.{Names, type_named-names}
@@ -86,17 +85,17 @@ module _ (u : TypedUnit) where
   added_if true b before p h = tt
   added_if false b before p h = λ i x all. All-push (HoldsParameter u i) before p all (h i x)
 
-  added_held : (b : Block) (m : FormalMode) (section : ℕ) (w : Written) → Names u b w → (names : List (List ℕ)) (before : List FormalParameter) → Fits (HeldIn b before) (parameters_added m section w.of w.host names before)
+  added_held : (b : Block) (m : FormalMode) (section : ℕ) (w : Written) → Names u b w → (names : List (List ℕ)) (before : List FormalParameter) → Fits (HeldIn b before) (parameters_added m section w.of w.kind names before)
   added_held b m section w n [] before = λ i x all. all
   added_held b m section w n (name ∷ names) before =
-      let p : FormalParameter = record { name = name; mode = m; section = section; of = w.of; host = w.host } in
-      fits_then (HeldIn b before) (HeldIn b before) (parameters_added m section w.of w.host names) (parameter_added p before)
+      let p : FormalParameter = record { name = name; mode = m; section = section; of = w.of; kind = w.kind } in
+      fits_then (HeldIn b before) (HeldIn b before) (parameters_added m section w.of w.kind names) (parameter_added p before)
       (added_if (is_parameter name before) b before p (λ i x. let y = n.holds i x in record { lists = y.1; denotes = (y.0.0, y.0.2) }))
-      (λ ps h. fits_weaker (HeldIn b ps) (HeldIn b before) (parameters_added m section w.of w.host names ps) (λ qs g i x all. g i x (h i x all)) (added_held b m section w n names ps))
+      (λ ps h. fits_weaker (HeldIn b ps) (HeldIn b before) (parameters_added m section w.of w.kind names ps) (λ qs g i x all. g i x (h i x all)) (added_held b m section w n names ps))
 
   section_held : (routine : List ℕ) (section : ℕ) (s : FormalSection) (b : Block) (before : List FormalParameter) → Fits (HeldIn b before) (section_judged routine section s b before)
   section_held routine section s b before =
-      fits_then (Names u b) (HeldIn b before) (λ w. parameters_added (section_mode s.protected s.variable) section w.of w.host s.names before) (section_type routine before s.of b) (section_named routine before s.of b)
+      fits_then (Names u b) (HeldIn b before) (λ w. parameters_added (section_mode s.protected s.variable) section w.of w.kind s.names before) (section_type routine before s.of b) (section_named routine before s.of b)
       (λ w n. added_held b (section_mode s.protected s.variable) section w n s.names before)
 
   sections_held : (routine : List ℕ) (section : ℕ) (ss : List FormalSection) (b : Block) (before : List FormalParameter) → Fits (HeldIn b before) (sections_judged routine section ss b before)
@@ -113,7 +112,7 @@ module _ (u : TypedUnit) where
   -- the result of a heading has a type
   abbrev HoldsTyped : ℕ → Option HeadingResult → Type 0
   HoldsTyped i None = ⊤
-  HoldsTyped i (Some r) = HasHostHere u i (named_tree r.of) r.host × Lists u i r.host
+  HoldsTyped i (Some r) = HasKindHere u i (named_tree r.of) r.kind × ListsKind u i r.kind
 
   abbrev ResultHeld : Block → Option HeadingResult → Type 0
   ResultHeld b r = (i : ℕ) → Holds u i b → HoldsTyped i r
@@ -165,10 +164,10 @@ module _ (u : TypedUnit) where
       subst (λ n. slice_get (map head_of u.routines) n ≡ Some (head_in f)) (headings_length b.routines)
       (prefix_last (map head_in b.routines) (head_in f) (map head_of u.routines) (subst (λ hs. IsPrefix hs (map head_of u.routines)) (headings_push b.routines f) p))
 
-  -- a result that has a type is valid
-  typed_valid : (i : ℕ) (r : Option HeadingResult) → i ≤ length u.types → HoldsTyped i r → IsResult u.types (typed_result r)
-  typed_valid i None le x = tt
-  typed_valid i (Some r) le x = subst (IsOrdinal u.types) (sym (name_denotes r.of)) (denotes_ordinal u.types i (named_tree r.of) (typed_host r.host) x.0.0 le x.0.1)
+  -- a result that has a type and is built is valid
+  typed_valid : (i : ℕ) (r : Option HeadingResult) → i ≤ length u.types → is_built_result r ≡ true → HoldsTyped i r → IsResult u.types (typed_result r)
+  typed_valid i None le built x = tt
+  typed_valid i (Some r) le built x = subst (IsOrdinal u.types) (sym (name_denotes r.of)) (kind_ordinal u i r.kind (named_tree r.of) x.0.0 le built x.0.1)
 
   -- one routine more
   routine_grows : (name : List ℕ) (line : ℕ) (ps : List FormalParameter) (r : Option HeadingResult) (b : Block) → Grows b (with_routine name line ps r b)
@@ -190,13 +189,14 @@ module _ (u : TypedUnit) where
         bodies = λ x n g has at. (has, front_get b.routines (f ∷ []) n g at);
       }
 
-  routine_leads : (name : List ℕ) (line : ℕ) (ps : List FormalParameter) (r : Option HeadingResult) (b : Block) → ParametersHeld b ps → ResultHeld b r → Leads u b (with_routine name line ps r b)
-  routine_leads name line ps r b held typed = record {
+  routine_leads : (name : List ℕ) (line : ℕ) (ps : List FormalParameter) (r : Option HeadingResult) (b : Block) → is_built_heading ps r ≡ true → ParametersHeld b ps → ResultHeld b r → Leads u b (with_routine name line ps r b)
+  routine_leads name line ps r b built held typed = record {
     grows = routine_grows name line ps r b;
     holds = λ under e w x. record {
       unit = x.unit;
       things = x.things;
       plain = x.plain;
+      arrays = x.arrays;
       outer = x.outer;
       types = x.types;
       constants = x.constants;
@@ -207,9 +207,9 @@ module _ (u : TypedUnit) where
       headed = x.headed;
       results = x.results;
       routines = each_push (HoldsRoutine u) b.routines (headed_form name line ps r b.own.enclosing) x.routines (record {
-        result = typed_valid (length b.types) r (prefix_length b.types u.types e.types) (typed (length b.types) x);
+        result = typed_valid (length b.types) r (prefix_length b.types u.types e.types) (both_built (list_all (λ p. is_built_formal p.mode p.kind) ps) (is_built_result r) built).1 (typed (length b.types) x);
         around = headed_around u b.own.enclosing (length b.routines) b.bodies under.under_way x.headed;
-        formals = formals_valid u (length b.types) ps (prefix_length b.types u.types e.types) (held (length b.types) x);
+        formals = formals_valid u (length b.types) ps (prefix_length b.types u.types e.types) (both_built (list_all (λ p. is_built_formal p.mode p.kind) ps) (is_built_result r) built).0 (held (length b.types) x);
         variables = All-nil (IsVariable u.types);
         block = tt;
       });
@@ -222,6 +222,7 @@ module _ (u : TypedUnit) where
     unit = x.unit;
     things = x.things;
     plain = x.plain;
+    arrays = x.arrays;
     outer = x.outer;
     types = x.types;
     constants = x.constants;
@@ -274,13 +275,14 @@ module _ (u : TypedUnit) where
     abbrev Own : Thing
     Own = own_thing b (length b.routines) (routine_declaration ps r)
 
-    abbrev First : Headed
-    First = record { number = length b.routines; parameters = ps; result = r; block = with_name name Own Added }
+    -- the routine, which may not be built
+    abbrev First : Bool → Headed
+    First built = record { number = length b.routines; parameters = ps; result = r; block = with_name name Own (noted built line Added) }
 
     one_more : length b.routines < length (b.routines ++ Form ∷ [])
     one_more = omega (arith, length_push b.routines Form)
 
-    first_grows : Grows b First.block
+    first_grows : Grows b (First true).block
     first_grows =
         let g = routine_grows name line ps r b in
         record {
@@ -299,33 +301,68 @@ module _ (u : TypedUnit) where
           bodies = g.bodies;
         }
 
-    first_heads : HeadsOn b First
-    first_heads = record {
-      stands = record {
-        leads = record {
-          grows = first_grows;
-          holds = λ under e w x.
-              let added : Extends u Added = record { types = e.types; constants = e.constants; variables = e.variables; line = e.line; name = e.name; own = e.own; headings = e.headings; bodies = e.bodies } in
-              let y = (routine_leads name line ps r b held typed).holds under added w x in
-              let d : Declared = record { unit = b.unit; number = length b.routines; level = length b.own.enclosing; what = routine_declaration ps r } in
-              named_holds u (length b.types) name Own Added (
-                y.unit,
-                form_held b.own.enclosing (length b.types) d name line ps r refl (routine_at name line ps r b e.headings) (held (length b.types) x) (typed (length b.types) x),
-              ) y;
-        };
-        numbered = λ under. record { level_is = refl; above = floor_below b.own.enclosing (length b.routines) b.bodies under.under_way; below = one_more };
-        held = λ under i x.
-            let d : Declared = record { unit = b.unit; number = length b.routines; level = length b.own.enclosing; what = routine_declaration ps r } in
-            declares_headed b.own.enclosing i d ps r refl (last_held b.own.enclosing i b.scopes.inner.entries name Own x.things).1;
-      };
-      bodiless = λ under. not_below (length b.routines) (length b.routines) b.bodies under.below (omega arith);
+    abbrev Declares : Declared
+    Declares = record { unit = b.unit; number = length b.routines; level = length b.own.enclosing; what = routine_declaration ps r }
+
+    first_built : is_built_heading ps r ≡ true → Leads u b (First true).block
+    first_built built = record {
+      grows = first_grows;
+      holds = λ under e w x.
+          let added : Extends u Added = record { types = e.types; constants = e.constants; variables = e.variables; line = e.line; name = e.name; own = e.own; headings = e.headings; bodies = e.bodies } in
+          let y = (routine_leads name line ps r b built held typed).holds under added w x in
+          named_holds u (length b.types) name Own Added (
+            y.unit,
+            form_held b.own.enclosing (length b.types) Declares name line ps r refl (routine_at name line ps r b e.headings) (held (length b.types) x) (typed (length b.types) x),
+          ) y;
+    }
+
+    first_lead : (built : Bool) → is_built_heading ps r ≡ built → Leads u b (First built).block
+    first_lead true e = first_built e
+    first_lead false e =
+        let g = first_grows in
+        record {
+          grows = record {
+            types = g.types;
+            constants = g.constants;
+            variables = g.variables;
+            own = g.own;
+            parameters = g.parameters;
+            result = g.result;
+            enclosing = g.enclosing;
+            outer = g.outer;
+            alone = g.alone;
+            headings = g.headings;
+            waits = λ w. absurd (waits_some b.waits line w);
+            opens = g.opens;
+            bodies = g.bodies;
+          };
+          holds = λ under e w x. absurd (waits_some b.waits line w);
+        }
+
+    first_numbers : (built : Bool) → IsOpen b → IsNumbered (First built).block.own.enclosing (length (First built).block.routines) (length (First built).block.own.enclosing) (length b.routines)
+    first_numbers true under = record { level_is = refl; above = floor_below b.own.enclosing (length b.routines) b.bodies under.under_way; below = one_more }
+    first_numbers false under = record { level_is = refl; above = floor_below b.own.enclosing (length b.routines) b.bodies under.under_way; below = one_more }
+
+    first_held : (built : Bool) (i : ℕ) → Holds u i (First built).block → HoldsHeaded (First built).block.own.enclosing i (length b.routines) ps r
+    first_held true i x = declares_headed b.own.enclosing i Declares ps r refl (last_held b.own.enclosing i b.scopes.inner.entries name Own x.things).1
+    first_held false i x = declares_headed b.own.enclosing i Declares ps r refl (last_held b.own.enclosing i b.scopes.inner.entries name Own x.things).1
+
+    first_bodies : (built : Bool) → IsOpen b → has_number (length b.routines) (First built).block.bodies ≡ false
+    first_bodies true under = not_below (length b.routines) (length b.routines) b.bodies under.below (omega arith)
+    first_bodies false under = not_below (length b.routines) (length b.routines) b.bodies under.below (omega arith)
+
+    first_heads : (built : Bool) → is_built_heading ps r ≡ built → HeadsOn b (First built)
+    first_heads built e = record {
+      stands = record { leads = first_lead built e; numbered = first_numbers built; held = λ under i x. first_held built i x };
+      bodiless = first_bodies built;
     }
 
     first_leads : Fits (HeadsOn b) (headed_first name line ps r b)
     first_leads =
-        fits_then (λ d. d ≡ with_name name Own Added) (HeadsOn b) (λ d. Accepts (record { number = length b.routines; parameters = ps; result = r; block = d })) (entered name Own Added)
-        (fits_then Any (λ d. d ≡ with_name name Own Added) (λ _. Accepts (with_name name Own Added)) (unused name Added) (fits_any (unused name Added)) (λ a k. refl))
-        (λ d p. subst (λ k. HeadsOn b (record { number = length b.routines; parameters = ps; result = r; block = k })) (sym p) first_heads)
+        let added : Block = noted (is_built_heading ps r) line Added in
+        fits_then (λ d. d ≡ with_name name Own added) (HeadsOn b) (λ d. Accepts (record { number = length b.routines; parameters = ps; result = r; block = d })) (entered name Own added)
+        (fits_then Any (λ d. d ≡ with_name name Own added) (λ _. Accepts (with_name name Own added)) (unused name added) (fits_any (unused name added)) (λ a k. refl))
+        (λ d p. subst (λ k. HeadsOn b (record { number = length b.routines; parameters = ps; result = r; block = k })) (sym p) (first_heads (is_built_heading ps r) refl))
 
   -- ---- a routine that is declared already
 
@@ -335,10 +372,10 @@ module _ (u : TypedUnit) where
     numbered = λ under. let n = numbered under in record { level_is = refl; above = n.above; below = n.below };
     held = λ under i x. declares_headed b.own.enclosing i d ps None (numbered under).level_is (held i x);
   }
-  declared_stands d (declaration.Function ps of h) b numbered held = record {
+  declared_stands d (declaration.Function ps of k) b numbered held = record {
     leads = leads_refl u b;
     numbered = λ under. let n = numbered under in record { level_is = refl; above = n.above; below = n.below };
-    held = λ under i x. declares_headed b.own.enclosing i d ps (Some (record { name = own_name_at (slice_get b.routines d.number); of = of; host = h })) (numbered under).level_is (held i x);
+    held = λ under i x. declares_headed b.own.enclosing i d ps (Some (record { name = own_name_at (slice_get b.routines d.number); of = of; kind = k })) (numbered under).level_is (held i x);
   }
   declared_stands d (declaration.Constant k v) b numbered held = tt
   declared_stands d (declaration.«Type» of h) b numbered held = tt
@@ -383,7 +420,7 @@ module _ (u : TypedUnit) where
 
   result_held : (function : List ℕ) (own : Option (List ℕ)) (of : QualifiedName) (b : Block) → Fits (λ r. ResultHeld b (Some r)) (result_judged function own of b)
   result_held function own of b =
-      fits_then (Names u b) (λ r. ResultHeld b (Some r)) (λ w. Accepts (record { name = own; of = w.of; host = w.host })) (parameter_type function [] of.first of.second b)
+      fits_then (Names u b) (λ r. ResultHeld b (Some r)) (λ w. Accepts (record { name = own; of = w.of; kind = w.kind })) (parameter_type function [] of.first of.second b)
       (type_if (bytes_eq function of.first || is_parameter of.first []) of.first of.second b) (λ w n i x. let y = n.holds i x in ((y.0.0, y.0.2), y.1))
 
   identified_leads : (is_forward : Bool) (o : Option Thing) (b : Block) → FoundIn b o → Fits (HeadsOn b) (identified_over is_forward o b)
@@ -427,6 +464,7 @@ module _ (u : TypedUnit) where
       unit = x.unit;
       things = x.things;
       plain = x.plain;
+      arrays = x.arrays;
       outer = x.outer;
       types = x.types;
       constants = x.constants;

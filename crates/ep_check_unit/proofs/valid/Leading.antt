@@ -231,6 +231,7 @@ module _ (u : TypedUnit) where
     unit = x.unit;
     things = things_push u b.own.enclosing i b.scopes.inner.entries name t x.things h;
     plain = x.plain;
+    arrays = x.arrays;
     outer = x.outer;
     types = x.types;
     constants = x.constants;

@@ -47,7 +47,7 @@ module _ (u : TypedUnit) (es : List Enclosing) (i : ℕ) where
 
   scopes_meant : (rs : List Region) (name : List ℕ) → HoldsScopes u es i rs → HoldsMeant (meant rs name)
   scopes_meant [] name h = required_meant (required_of name)
-  scopes_meant (r ∷ rs) name h = outside_meant (look_up r.entries name) (meant rs name) (look_up_holds r.entries name h.0) (scopes_meant rs name h.2)
+  scopes_meant (r ∷ rs) name h = outside_meant (look_up r.entries name) (meant rs name) (look_up_holds r.entries name h.0) (scopes_meant rs name h.3)
 
   hidden_meant : (other : Option Thing) (m : Meant) → HoldsMeant m → HoldsMeant (unless_hidden other m)
   hidden_meant None m h = h
@@ -57,7 +57,7 @@ module _ (u : TypedUnit) (es : List Enclosing) (i : ℕ) where
   scopes_meant_in [] interface name h = tt
   scopes_meant_in (r ∷ rs) interface name h =
       hidden_meant (look_up r.entries interface) (or_outside (look_up_if (look_up r.qualified interface) name) (meant_in rs interface name))
-      (subst (λ q. HoldsMeant (or_outside (look_up_if (look_up q interface) name) (meant_in rs interface name))) (sym h.1) (scopes_meant_in rs interface name h.2))
+      (subst (λ q. HoldsMeant (or_outside (look_up_if (look_up q interface) name) (meant_in rs interface name))) (sym h.1) (scopes_meant_in rs interface name h.3))
 
 module _ (u : TypedUnit) (i : ℕ) where
   -- a name of the block

@@ -24,11 +24,9 @@ use Rattle.ep_typed.specs.declared.unit.UnitRoutine.{UnitRoutine}
 use Rattle.ep_typed.specs.declared.unit.UnitVariable.{UnitVariable}
 use Rattle.ep_scope.specs.Parameters.{protection_of}
 use Rattle.ep_scope.specs.Scopes.{Row, closed, closed_onto}
-use Rattle.ep_scope.specs.declared.kind.Kind.TheVariants as kind
 use Rattle.ep_scope.specs.declared.parameter.FormalParameter.{FormalParameter}
 use Rattle.ep_scope.specs.declared.parameter.Protection.TheVariants as protection
 use Rattle.ep_scope.specs.declared.thing.Declaration.TheVariants as declaration
-use Rattle.ep_check_expr.specs.Hosts.{typed_host}
 use Rattle.ep_check_expr.specs.Judgements.{Judged, Accepts, Breaks}
 use Rattle.ep_check_expr.specs.Laws.{BoundsAreKnown, BoundsAreSound, ConstantsAreKnown, ConstantsAreSound}
 use Rattle.ep_check_stmt.specs.Laws.{AuxiliariesAreThere, StatementsAreSound}
@@ -43,9 +41,10 @@ use Rattle.ep_check_unit.specs.declared.block.OwnResult.{OwnResult}
 use Rattle.ep_check_unit.specs.declared.functions.HeadingResult.{HeadingResult}
 use Rattle.ep_check_unit.proofs.Forms.{each_set}
 use Rattle.ep_check_unit.proofs.valid.Auxiliaries.{own_auxiliaries}
-use Rattle.ep_check_unit.proofs.valid.Denoting.{Denotes}
+use Rattle.ep_check_unit.proofs.valid.Denoting.{DenotesKind}
 use Rattle.ep_check_unit.proofs.valid.Headings.{HeadsOn, HoldsHeaded, IsResultOf, after_heading, forward_leads, front_get, headed_leads}
-use Rattle.ep_check_unit.proofs.valid.Holds.{Head, Holds, HoldsOwn, HoldsOwnResult, HoldsParameter, HoldsResult, HoldsResultOf, HoldsRoutine, HoldsRoutines, HoldsScopes, HoldsThings, head_of, holds_agrees, holds_more, holds_results, innermost, levels_at, name_denotes, own_innermost, results_deeper, scopes_deeper, within}
+use Rattle.ep_check_unit.proofs.valid.Agreeing.{holds_agrees, holds_results, within}
+use Rattle.ep_check_unit.proofs.valid.Holds.{Head, Holds, HoldsArrayType, HoldsOwn, HoldsOwnResult, HoldsParameter, HoldsResult, HoldsResultOf, HoldsRoutine, HoldsRoutines, HoldsScopes, HoldsThings, head_of, holds_more, innermost, levels_at, name_denotes, own_innermost, results_deeper, scopes_deeper}
 use Rattle.ep_check_unit.proofs.valid.Items.{LeadsOn, constants_lead, further, line_leads, then_leads, type_definitions-leads, variables_lead}
 use Rattle.ep_check_unit.proofs.valid.Leading.{Extends, Grows, Leads, entered_leads, extends_before, head_in, leads_on, leads_refl, length_push, prefix_length, prefix_trans, result_in, variables_in, waits_some}
 use Rattle.ep_check_unit.proofs.valid.Open as around
@@ -162,35 +161,35 @@ module _ (u : TypedUnit) (few : length u.constants ≤ maxint) (statements : Sta
 
   -- a formal parameter is a variable of the routine
   formal_held : (i : ℕ) (before : List FormalParameter) (p : FormalParameter) (ps : List FormalParameter) (b : Block) → b.own.parameters ≡ before ++ p ∷ ps → Extends u b → All (HoldsParameter u i) b.own.parameters
-      → HoldsOwn u b.own.enclosing i (length b.own.enclosing) (length before) p.of p.host
+      → HoldsOwn u b.own.enclosing i (length b.own.enclosing) (length before) p.of p.kind
   formal_held i before p ps b is e held =
       let x : HoldsParameter u i p = all_between (HoldsParameter u i) before p ps (subst (All (HoldsParameter u i)) is held) in
       let v : UnitVariable = formal_variable e.line (formal_of p) in
       let rest : List UnitVariable = result_in e.line e.name b.own.result ++ b.own.variables in
       let first : slice_get (map (formal_variable e.line) (map formal_of b.own.parameters) ++ rest) (length before) ≡ Some v =
       subst (λ qs. slice_get (map (formal_variable e.line) (map formal_of qs) ++ rest) (length before) ≡ Some v) (sym is) (formal_at e.line before p ps rest) in
-      own_innermost u b.own.enclosing i (length before) p.of p.host v x.lists (prefix_get (variables_in e.line e.name b.own) (innermost (levels_at u.routines b.own.enclosing)) (length before) v e.own first)
-      (x.denotes.0, subst (λ d. Denotes u.types i d (typed_host p.host) x.denotes.0) (sym (name_denotes p.of)) x.denotes.1, x.denotes.1)
+      own_innermost u b.own.enclosing i (length before) p.of p.kind v x.lists (prefix_get (variables_in e.line e.name b.own) (innermost (levels_at u.routines b.own.enclosing)) (length before) v e.own first)
+      (x.denotes.0, subst (λ d. DenotesKind u.types i d p.kind x.denotes.0) (sym (name_denotes p.of)) x.denotes.1, x.denotes.1)
 
   formals_lead : (before ps : List FormalParameter) (n : ℕ) (b : Block) → length before ≡ n → b.own.parameters ≡ before ++ ps → Fits (Leads u b) (formals_entered n ps b)
   formals_lead before [] n b count is = leads_refl u b
   formals_lead before (p ∷ ps) n b count is =
-      let t = own_thing b n (declaration.Own p.of (kind.Ordinal p.host) (protection_of p.mode)) in
+      let t = own_thing b n (declaration.Own p.of p.kind (protection_of p.mode)) in
       fits_then (Leads u b) (Leads u b) (formals_entered (suc n) ps) (entered p.name t b)
-      (entered_leads u p.name t b (λ under. tt) (λ under e x. (x.unit, subst (λ k. HoldsOwn u b.own.enclosing (length b.types) (length b.own.enclosing) k p.of p.host) count (formal_held (length b.types) before p ps b is e x.parameters))))
+      (entered_leads u p.name t b (λ under. tt) (λ under e x. (x.unit, subst (λ k. HoldsOwn u b.own.enclosing (length b.types) (length b.own.enclosing) k p.of p.kind) count (formal_held (length b.types) before p ps b is e x.parameters))))
       (λ c l. leads_on u b c (formals_entered (suc n) ps c) l
       (formals_lead (before ++ p ∷ []) ps (suc n) c (length_push before p ∙ ap suc count) (l.grows.parameters ∙ (is ∙ sym (append_assoc before (p ∷ []) ps)))))
 
   -- so is the result
-  own_held : (i : ℕ) (r : OwnResult) (b : Block) → b.own.result ≡ Some r → Extends u b → HoldsResult u i b.own.parameters b.own.result → HoldsOwn u b.own.enclosing i (length b.own.enclosing) r.variable r.of r.host
+  own_held : (i : ℕ) (r : OwnResult) (b : Block) → b.own.result ≡ Some r → Extends u b → HoldsResult u i b.own.parameters b.own.result → HoldsOwn u b.own.enclosing i (length b.own.enclosing) r.variable r.of r.kind
   own_held i r b is e held =
       let x : HoldsOwnResult u i b.own.parameters r = subst (HoldsResult u i b.own.parameters) is held in
       let v : UnitVariable = record { name = e.name; line = e.line; declaration = 0; denoter = type_denoter r.of; tuple = []; parameter = false } in
       let first : slice_get (variables_in e.line e.name b.own) (length b.own.parameters) ≡ Some v =
       subst (λ s. slice_get (map (formal_variable e.line) (map formal_of b.own.parameters) ++ (result_in e.line e.name s ++ b.own.variables)) (length b.own.parameters) ≡ Some v) (sym is) (result_at e.line e.name b.own.parameters r b.own.variables) in
-      own_innermost u b.own.enclosing i r.variable r.of r.host v x.lists
+      own_innermost u b.own.enclosing i r.variable r.of r.kind v x.lists
       (subst (λ n. slice_get (innermost (levels_at u.routines b.own.enclosing)) n ≡ Some v) (sym x.variable) (prefix_get (variables_in e.line e.name b.own) (innermost (levels_at u.routines b.own.enclosing)) (length b.own.parameters) v e.own first))
-      (x.denotes.0, subst (λ d. Denotes u.types i d (typed_host r.host) x.denotes.0) (sym (name_denotes r.of)) x.denotes.1, x.denotes.1)
+      (x.denotes.0, subst (λ d. DenotesKind u.types i d r.kind x.denotes.0) (sym (name_denotes r.of)) x.denotes.1, x.denotes.1)
 
   -- a name of its own stands for it
   result_leads : (number : ℕ) (ps : List FormalParameter) (r : Option HeadingResult) (b : Block) → b.own.result ≡ own_result number (length ps) r → Fits (Leads u b) (result_entered number (length ps) r b)
@@ -200,7 +199,7 @@ module _ (u : TypedUnit) (few : length u.constants ≤ maxint) (statements : Sta
       named : (name : Option (List ℕ)) → Fits (Leads u b) (own_name_entered (in_block number (length ps) r) name b)
       named None = leads_refl u b
       named (Some name) =
-          entered_leads u name (own_thing b (length ps) (declaration.Own r.of (kind.Ordinal r.host) protection.Unprotected)) b
+          entered_leads u name (own_thing b (length ps) (declaration.Own r.of r.kind protection.Unprotected)) b
           (λ under. tt) (λ under e x. (x.unit, own_held (length b.types) (in_block number (length ps) r) b is e x.result))
 
   -- the scopes behind it are those before it
@@ -239,7 +238,8 @@ module _ (u : TypedUnit) (few : length u.constants ≤ maxint) (statements : Sta
       unit = x.unit;
       things = tt;
       plain = refl;
-      outer = scopes_deeper u Inner Around i (scopes_of h.block) (x.things, x.plain, x.outer);
+      arrays = All-nil (HoldsArrayType u i);
+      outer = scopes_deeper u Inner Around i (scopes_of h.block) (x.things, x.plain, x.arrays, x.outer);
       types = x.types;
       constants = x.constants;
       variables = x.variables;
@@ -426,6 +426,7 @@ module _ (u : TypedUnit) (few : length u.constants ≤ maxint) (statements : Sta
                 unit = c_held.unit;
                 things = subst (λ s. HoldsThings u Around (length c.types) s.inner.entries) (sym scopes_again) z.things;
                 plain = subst (λ s. s.inner.qualified ≡ []) (sym scopes_again) z.plain;
+                arrays = subst (λ s. All (HoldsArrayType u (length c.types)) s.inner.arrays) (sym scopes_again) z.arrays;
                 outer = subst (λ s. HoldsScopes u Around (length c.types) s.outer) (sym scopes_again) z.outer;
                 types = c_held.types;
                 constants = c_held.constants;

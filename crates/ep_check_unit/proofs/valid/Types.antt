@@ -1,17 +1,19 @@
 -- Types that are written in a block have denoters that are valid in the unit that has its lists.
-use Rattle.std.proofs.Common.{◌≡◌, ℕ, suc, ◌≤◌, ◌+◌, Bool, true, false, ◌&&◌, List, [], ◌∷◌, map, length, Option, Some, None, slice_get, IsTrue, refl, sym, ap, ◌∙◌, subst, arith}
+use Rattle.std.proofs.Common.{◌≡◌, ℕ, suc, ◌≤◌, ◌+◌, Bool, true, false, ◌&&◌, List, [], ◌∷◌, ◌++◌, map, length, Option, Some, None, slice_get, IsTrue, refl, sym, ap, ◌∙◌, subst, arith}
 use Rattle.std.proofs.lemmas.Bool.Decides.{nat_tests}
+use Rattle.std.proofs.lemmas.List.Elements.{All-push}
 use Rattle.std.proofs.lemmas.Option.{slice_get_within}
 use Rattle.std.specs.Prelude.{int_le, if◌then◌else◌}
 use Rattle.ep_tree.specs.declared.expression.Expression.{Expression}
-use Rattle.ep_tree.specs.declared.types.Core.TheOpen.{Core-F}
 use Rattle.ep_typed.specs.Denoters.{definition_of}
 use Rattle.ep_typed.specs.Hosts as typed
 use Rattle.ep_typed.specs.Hosts.{is_of_host}
 use Rattle.ep_typed.specs.Operations.{maxint}
 use Rattle.ep_typed.specs.Trees as tree
+use Rattle.ep_typed.specs.Valid.{IsType}
 use Rattle.ep_typed.specs.Viewed.{denoter_of}
 use Rattle.ep_typed.specs.declared.denoter.Bound.TheVariants.{Constant as Fixed}
+use Rattle.ep_typed.specs.declared.denoter.Denoter.{Denoter}
 use Rattle.ep_typed.specs.declared.denoter.Denoter.TheVariants as denoter
 use Rattle.ep_typed.specs.declared.denoter.RequiredType.{RequiredType}
 use Rattle.ep_typed.specs.declared.denoter.RequiredType.TheVariants as simple
@@ -42,15 +44,20 @@ use Rattle.ep_check_expr.specs.Laws.{BoundsAreSound, BoundsAreKnown}
 use Rattle.ep_check_expr.specs.Names.{undeclared}
 use Rattle.ep_check_expr.specs.declared.constants.ConstantForm.{ConstantForm}
 use Rattle.ep_check_expr.proofs.SameHost.{host_same}
-use Rattle.ep_check_stmt.proofs.judged.Fits.{Fits, fits_both, fits_is, fits_pair, fits_then, fits_weaker}
-use Rattle.ep_check_unit.specs.Declarations.{Written, common_host, core_written, declared_type, enumerated, enumeration, host_denoter, next_enumeration, next_type, noted, number_in, ordered, range, required_host, scopes_of, subrange, subrange_denoter, type_meant, type_named}
+use Rattle.ep_check_stmt.proofs.judged.Fits.{Fits, fits_is, fits_pair, fits_then}
+use Rattle.ep_check_unit.specs.Declarations.{Written, common_host, declared_type, enumerated, enumeration, host_denoter, next_enumeration, next_type, noted, number_in, ordered, range, required_host, scopes_of, subrange, subrange_denoter, type_meant, type_named, with_type}
 use Rattle.ep_check_unit.specs.Blocks.{Block}
 use Rattle.ep_check_unit.proofs.valid.Constants.{ListsWithin, enumerated_counts, enumerated_enters}
-use Rattle.ep_check_unit.proofs.valid.Denoting.{Denotes, IsSmall, denotes_enumeration, denotes_more, denotes_named, denotes_required, denotes_subrange, full_type}
-use Rattle.ep_check_unit.proofs.valid.Holds.{HasHostHere, HasTypeHere, Holds, HoldsDeclaration, Lists, ListsEnumeration, ListsKind, enumeration_is, holds_agrees, holds_more, host_denotes, known_listed, lists_more, lists_small, named_is, named_tree, required_lists, subrange_is, within}
+use Rattle.ep_check_unit.proofs.valid.Denoting.{Denotes, DenotesKind, IsSmall, denotes_enumeration, denotes_more, denotes_required, denotes_subrange, full_type, kind_more, kind_named, kind_valid}
+use Rattle.ep_check_unit.proofs.valid.Agreeing.{holds_agrees, within}
+use Rattle.ep_check_unit.proofs.valid.Holds.{HasKindHere, HasTypeHere, Holds, HoldsDeclaration, Lists, ListsEnumeration, ListsKind, enumeration_is, holds_more, host_denotes, known_listed, lists_kind_more, lists_more, lists_small, named_is, named_tree, required_lists, subrange_is}
 use Rattle.ep_check_unit.proofs.valid.Open.{IsOpen}
-use Rattle.ep_check_unit.proofs.valid.Leading.{Extends, Enters, Grows, bodies_refl, grows_refl, head_in, prefix_length, prefix_refl, waits_some}
+use Rattle.ep_check_unit.proofs.valid.Leading.{Extends, Enters, Grows, bodies_refl, extends_before, grows_refl, grows_trans, head_in, length_push, prefix_last, prefix_length, prefix_more, prefix_refl, waits_some}
 use Rattle.ep_check_unit.proofs.valid.Meant.{HoldsMeant, meant_holds, meant_in_holds}
+
+-- the entry of a type that is added
+abbrev pub new_entry : Option (List ℕ) → ℕ → Denoter → Block → UnitType
+new_entry name line d b = record { entry = record { «module» = b.unit; number = length b.types; name = name; formals = []; denoter = d }; line = Some line }
 
 module _ (u : TypedUnit) where
   -- ---- types by their names
@@ -58,12 +65,12 @@ module _ (u : TypedUnit) where
   -- The type has a name that is there already, and nothing is declared with it.
   pub record Names (b : Block) (w : Written) : Type 0 where
     pub same : w.block ≡ b
-    pub holds : (i : ℕ) → Holds u i b → HasTypeHere u i (denoter_of w.denoter) w.of w.host × Lists u i w.host
+    pub holds : (i : ℕ) → Holds u i b → HasTypeHere u i (denoter_of w.denoter) w.of w.kind × ListsKind u i w.kind
 
-  required_typed : (i : ℕ) (r : RequiredType) (h : Host) → Denotes u.types 0 (tree.Required r) (typed_host h) (full_type (typed_host h)) → HasTypeHere u i (denoter_of (denoter.Required r)) (type_name.Required r) h
+  required_typed : (i : ℕ) (r : RequiredType) (h : Host) → Denotes u.types 0 (tree.Required r) (typed_host h) (full_type (typed_host h)) → HasTypeHere u i (denoter_of (denoter.Required r)) (type_name.Required r) (kind.Ordinal h)
   required_typed i r h d = (full_type (typed_host h), required_lists u i r (typed_host h) d, denotes_more u.types 0 i (tree.Required r) (typed_host h) (full_type (typed_host h)) (omega arith) d)
 
-  required_names : (i : ℕ) (r : RequiredType) → HasTypeHere u i (denoter_of (denoter.Required r)) (type_name.Required r) (required_host r) × Lists u i (required_host r)
+  required_names : (i : ℕ) (r : RequiredType) → HasTypeHere u i (denoter_of (denoter.Required r)) (type_name.Required r) (kind.Ordinal (required_host r)) × Lists u i (required_host r)
   required_names i simple.Integer = (required_typed i simple.Integer host.Integer (denotes_required u.types simple.Integer), tt)
   required_names i simple.Char = (required_typed i simple.Char host.Char (denotes_required u.types simple.Char), tt)
   required_names i simple.Boolean = (required_typed i simple.Boolean host.Boolean (denotes_required u.types simple.Boolean), tt)
@@ -73,11 +80,11 @@ module _ (u : TypedUnit) where
   HeldThroughout b m = (i : ℕ) → Holds u i b → HoldsMeant u b.own.enclosing i m
 
   declared_names : (d : Declared) (what : Declaration) (b : Block) → ((i : ℕ) → Holds u i b → HoldsDeclaration u b.own.enclosing i d what) → Fits (Names b) (declared_type d what b)
-  declared_names d (declaration.«Type» of h) b held = record {
+  declared_names d (declaration.«Type» of k) b held = record {
     same = refl;
     holds = λ i x.
         let t = held i x in
-        ((t.denotes.0, subst (λ n. Denotes u.types i n (typed_host h) t.denotes.0) (sym (named_is d.number [])) t.denotes.1, t.denotes.2), t.lists);
+        ((t.denotes.0, subst (λ n. DenotesKind u.types i n k t.denotes.0) (sym (named_is d.number [])) t.denotes.1, t.denotes.2), t.lists);
   }
   declared_names d (declaration.Constant k v) b held = tt
   declared_names d (declaration.Variable of k) b held = tt
@@ -100,44 +107,125 @@ module _ (u : TypedUnit) where
 
   -- ---- types that are written
 
-  -- the unit has the denoter as the type after those of the block
-  pub record IsNext (b : Block) (d : tree.Denoter) : Type 0 where
+  -- the unit has the denoter as the type after so many
+  pub record IsNext (i : ℕ) (d : tree.Denoter) : Type 0 where
     pub entry : UnitType
-    pub at : slice_get u.types (length b.types) ≡ Some entry
+    pub at : slice_get u.types i ≡ Some entry
     pub definition : definition_of entry ≡ d
 
   -- what the unit holds then
   pub record Wrote (i : ℕ) (w : Written) : Type 0 where
     pub block : Holds u (suc i) w.block
-    pub denotes : HasHostHere u i (denoter_of w.denoter) w.host
+    pub denotes : HasKindHere u i (denoter_of w.denoter) w.kind
     -- the type has the type value of the denoter
-    pub of : Denotes u.types (suc i) (named_tree w.of) (typed_host w.host) denotes.0
-    pub lists : Lists u (suc i) w.host
+    pub of : DenotesKind u.types (suc i) (named_tree w.of) w.kind denotes.0
+    pub lists : ListsKind u (suc i) w.kind
 
-  -- The type is written, and becomes an entry.
+  -- The type is written, and becomes an entry behind those that its parts have become.
   pub record Writes (b : Block) (w : Written) : Type 0 where
     pub grows : Grows b w.block
-    pub same : w.block.types ≡ b.types
-    pub holds : IsOpen b → Extends u w.block → w.block.waits ≡ None → IsNext b (denoter_of w.denoter) → Holds u (length b.types) b → Wrote (length b.types) w
+    pub holds : IsOpen b → Extends u w.block → w.block.waits ≡ None → IsNext (length w.block.types) (denoter_of w.denoter) → Holds u (length b.types) b → Wrote (length w.block.types) w
 
-  named_writes : (b : Block) (w : Written) → Names b w → Writes b w
+  pub named_writes : (b : Block) (w : Written) → Names b w → Writes b w
   named_writes b w n = record {
     grows = subst (Grows b) (sym n.same) (grows_refl b);
-    same = ap (λ c. c.types) n.same;
     holds = λ under e free next x.
-        let i : ℕ = length b.types in
-        let y = n.holds i x in
+        let i : ℕ = length w.block.types in
+        let there : Holds u i b = subst (λ c. Holds u (length c.types) b) (sym n.same) x in
+        let y = n.holds i there in
         record {
-          block = subst (Holds u (suc i)) (sym n.same) (holds_more u i (suc i) b (omega arith) x);
+          block = subst (Holds u (suc i)) (sym n.same) (holds_more u i (suc i) b (omega arith) there);
           denotes = (y.0.0, y.0.1);
-          of = denotes_more u.types i (suc i) (named_tree w.of) (typed_host w.host) y.0.0 (omega arith) y.0.2;
-          lists = lists_more u i (suc i) w.host (omega arith) y.1;
+          of = kind_more u.types i (suc i) (named_tree w.of) w.kind y.0.0 (omega arith) y.0.2;
+          lists = lists_kind_more u i (suc i) w.kind (omega arith) y.1;
         };
   }
 
   -- the next type has the type value of the denoter that becomes its entry
-  next_denotes : (b : Block) (d : tree.Denoter) (h : Host) (v : TypeValue) → IsNext b d → Denotes u.types (length b.types) d (typed_host h) v → Denotes u.types (suc (length b.types)) (named_tree (next_type b)) (typed_host h) v
-  next_denotes b d h v next x = denotes_named u.types (length b.types) (length b.types) next.entry (typed_host h) v next.at (subst (λ e. Denotes u.types (length b.types) e (typed_host h) v) (sym next.definition) x)
+  pub next_denotes : (i : ℕ) (d : tree.Denoter) (k : Kind) (v : TypeValue) → IsNext i d → DenotesKind u.types i d k v → DenotesKind u.types (suc i) (tree.Named i []) k v
+  next_denotes i d k v next x = kind_named u.types i i next.entry k v next.at (subst (λ e. DenotesKind u.types i e k v) (sym next.definition) x)
+
+  -- ---- types that stand
+
+  -- what the unit holds of a type that stands
+  pub record Stood (w : Written) : Type 0 where
+    pub block : Holds u (length w.block.types) w.block
+    pub denotes : HasTypeHere u (length w.block.types) (denoter_of w.denoter) w.of w.kind
+    pub lists : ListsKind u (length w.block.types) w.kind
+
+  -- The type stands, with an entry where it needed one.
+  pub record Settles (b : Block) (w : Written) : Type 0 where
+    pub grows : Grows b w.block
+    pub holds : IsOpen b → Extends u w.block → w.block.waits ≡ None → Holds u (length b.types) b → Stood w
+
+  pub named_settles : (b : Block) (w : Written) → Names b w → Settles b w
+  named_settles b w n = record {
+    grows = subst (Grows b) (sym n.same) (grows_refl b);
+    holds = λ under e free x.
+        let y = n.holds (length b.types) x in
+        record {
+          block = subst (λ c. Holds u (length c.types) c) (sym n.same) x;
+          denotes = subst (λ c. HasTypeHere u (length c.types) (denoter_of w.denoter) w.of w.kind) (sym n.same) y.0;
+          lists = subst (λ c. ListsKind u (length c.types) w.kind) (sym n.same) y.1;
+        };
+  }
+
+  -- the type that was written, with its entry
+  abbrev with_entry_of : Option (List ℕ) → ℕ → Written → Written
+  with_entry_of name line w = record { denoter = denoter.Named (length w.block.types) []; of = w.of; kind = w.kind; block = with_type name line w.denoter w.block }
+
+  type_grows : (name : Option (List ℕ)) (line : ℕ) (d : Denoter) (b : Block) → Grows b (with_type name line d b)
+  type_grows name line d b = record {
+    types = prefix_more b.types _;
+    constants = prefix_refl b.constants;
+    variables = prefix_refl b.variables;
+    own = prefix_refl b.own.variables;
+    parameters = refl;
+    result = refl;
+    enclosing = refl;
+    outer = refl;
+    alone = λ e. refl;
+    headings = prefix_refl (map head_in b.routines);
+    waits = λ w. w;
+    opens = λ x. x;
+    bodies = λ x. bodies_refl b;
+  }
+
+  pub written_settles : (name : Option (List ℕ)) (line : ℕ) (b : Block) (w : Written) → Writes b w → Settles b (with_entry_of name line w)
+  written_settles name line b w wr = record {
+    grows = grows_trans b w.block (with_type name line w.denoter w.block) wr.grows (type_grows name line w.denoter w.block);
+    holds = λ under ext free x.
+        let i : ℕ = length w.block.types in
+        let entry = new_entry name line w.denoter w.block in
+        let at = prefix_last w.block.types entry u.types ext.types in
+        let total : length (w.block.types ++ entry ∷ []) ≡ suc i = length_push w.block.types entry in
+        let le : suc i ≤ length u.types = subst (λ n. n ≤ length u.types) total (prefix_length (w.block.types ++ entry ∷ []) u.types ext.types) in
+        let next : IsNext i (denoter_of w.denoter) = record { entry = entry; at = at; definition = refl } in
+        let y = wr.holds under (extends_before u w.block (with_type name line w.denoter w.block) (type_grows name line w.denoter w.block) (wr.grows.opens under) ext) free next x in
+        let held : Holds u (suc i) (with_type name line w.denoter w.block) = record {
+          unit = y.block.unit;
+          things = y.block.things;
+          plain = y.block.plain;
+          arrays = y.block.arrays;
+          outer = y.block.outer;
+          routines = y.block.routines;
+          types = All-push (IsType u.types) w.block.types entry y.block.types (record { formals = refl; denoter = kind_valid u.types i (denoter_of w.denoter) w.kind y.denotes.0 (omega (arith, le)) y.denotes.1 });
+          constants = y.block.constants;
+          variables = y.block.variables;
+          parameters = y.block.parameters;
+          result = y.block.result;
+          owned = y.block.owned;
+          headed = y.block.headed;
+          results = y.block.results;
+        } in
+        let named : DenotesKind u.types (suc i) (denoter_of (denoter.Named i [])) w.kind y.denotes.0 =
+        subst (λ d. DenotesKind u.types (suc i) d w.kind y.denotes.0) (sym (named_is i [])) (kind_named u.types i i entry w.kind y.denotes.0 at y.denotes.1) in
+        record {
+          block = subst (λ n. Holds u n (with_type name line w.denoter w.block)) (sym total) held;
+          denotes = subst (λ n. HasTypeHere u n (denoter_of (denoter.Named i [])) w.of w.kind) (sym total) (y.denotes.0, named, y.of);
+          lists = subst (λ n. ListsKind u n w.kind) (sym total) y.lists;
+        };
+  }
 
   -- ---- subranges
 
@@ -156,8 +244,10 @@ module _ (u : TypedUnit) where
 
   one_host : (k l : Kind) (h : Host) → common_host k l ≡ Accepts h → OneHost k l h
   one_host (kind.Ordinal g) (kind.Ordinal k) h e = one_host-if (same_host g k) g k h refl e
+  one_host (kind.Ordinal g) (kind.Array n) h e = cc
   one_host (kind.Ordinal g) kind.Text h e = cc
   one_host (kind.Ordinal g) kind.File h e = cc
+  one_host (kind.Array n) l h e = cc
   one_host kind.Text l h e = cc
   one_host kind.File l h e = cc
 
@@ -183,17 +273,16 @@ module _ (u : TypedUnit) where
     high_is : IsOpen b → (i : ℕ) → i ≤ length u.types → Holds u i b → IsTrue (is_of_host (typed_host h) (number_in high.value))
 
   range_denotes : (i : ℕ) (h : Host) (low high : ConstantForm) → i ≤ length u.types → Lists u i h → IsTrue (int_le (number_in low.value) (number_in high.value)) → IsTrue (is_of_host (typed_host h) (number_in low.value)) → IsTrue (is_of_host (typed_host h) (number_in high.value))
-      → HasHostHere u i (denoter_of (subrange_denoter h low high)) h
+      → HasKindHere u i (denoter_of (subrange_denoter h low high)) (kind.Ordinal h)
   range_denotes i h low high le l order lo hi = (
     Range (number_in low.value) (number_in high.value),
     subst (λ d. Denotes u.types i d (typed_host h) (Range (number_in low.value) (number_in high.value))) (sym (subrange_is (host_denoter h) (Fixed (number_in low.value)) (Fixed (number_in high.value))))
         (denotes_subrange u.types i (denoter_of (host_denoter h)) (typed_host h) (full_type (typed_host h)) (number_in low.value) (number_in high.value) le (host_denotes u i h l) (lists_small u i h l) order lo hi),
   )
 
-  subrange_writes : (built : Bool) (line : ℕ) (h : Host) (low high : ConstantForm) (b : Block) → (low.built && high.built) ≡ built → AreBounds b h low high → Writes b (record { denoter = subrange_denoter h low high; of = next_type b; host = h; block = noted built line b })
+  subrange_writes : (built : Bool) (line : ℕ) (h : Host) (low high : ConstantForm) (b : Block) → (low.built && high.built) ≡ built → AreBounds b h low high → Writes b (record { denoter = subrange_denoter h low high; of = next_type b; kind = kind.Ordinal h; block = noted built line b })
   subrange_writes true line h low high b e k = record {
     grows = grows_refl b;
-    same = refl;
     holds = λ under ext free next x.
         let i : ℕ = length b.types in
         let le : i ≤ length u.types = prefix_length b.types u.types ext.types in
@@ -201,13 +290,12 @@ module _ (u : TypedUnit) where
         record {
           block = holds_more u i (suc i) b (omega arith) x;
           denotes = range;
-          of = next_denotes b (denoter_of (subrange_denoter h low high)) h range.0 next range.1;
+          of = next_denotes i (denoter_of (subrange_denoter h low high)) (kind.Ordinal h) range.0 next range.1;
           lists = lists_more u i (suc i) h (omega arith) (k.lists i x);
         };
   }
   subrange_writes false line h low high b e k = record {
     grows = record { types = prefix_refl b.types; constants = prefix_refl b.constants; variables = prefix_refl b.variables; own = prefix_refl b.own.variables; parameters = refl; result = refl; enclosing = refl; outer = refl; alone = λ e. refl; headings = prefix_refl (map head_in b.routines); waits = λ w. absurd (waits_some b.waits line w); opens = λ x. x; bodies = λ x. bodies_refl b };
-    same = refl;
     holds = λ under ext free next x. absurd (waits_some b.waits line free);
   }
 
@@ -228,7 +316,7 @@ module _ (u : TypedUnit) where
             (bound_of_host hosts.other high.value (ordinal_constant high.kind hosts.other high.value hosts.right (sound (scopes_of b) second high f (within u b.own.enclosing) (holds_agrees u i b under le x))));
       }
 
-  range_writes : BoundsAreSound → BoundsAreKnown → (line : ℕ) (b : Block) (first second : Expression) (low high : ConstantForm) → bound_judged (scopes_of b) first ≡ Accepts low → bound_judged (scopes_of b) second ≡ Accepts high → Fits (Writes b) (range line b low high)
+  pub range_writes : BoundsAreSound → BoundsAreKnown → (line : ℕ) (b : Block) (first second : Expression) (low high : ConstantForm) → bound_judged (scopes_of b) first ≡ Accepts low → bound_judged (scopes_of b) second ≡ Accepts high → Fits (Writes b) (range line b low high)
   range_writes sound known line b first second low high e f =
       fits_then (λ h. common_host low.kind high.kind ≡ Accepts h) (Writes b) _ (common_host low.kind high.kind) (fits_is (common_host low.kind high.kind))
       (λ h c. fits_then (λ a. ordered low high ≡ Accepts a) (Writes b) (λ _. Accepts (subrange line h low high b)) (ordered low high) (fits_is (ordered low high))
@@ -241,12 +329,13 @@ module _ (u : TypedUnit) where
 
   enumeration_writes : length u.constants ≤ maxint → (first : List ℕ) (others : List (List ℕ)) (b c : Block)
       → Enters u (ListsWithin u (suc (length b.types)) (record { number = length b.types; last = length others })) (suc (length b.types)) b c → length c.constants ≡ length b.constants + suc (length others)
-      → Writes b (record { denoter = denoter.Enumeration (first ∷ others); of = next_type b; host = next_enumeration (length others) b; block = c })
+      → Writes b (record { denoter = denoter.Enumeration (first ∷ others); of = next_type b; kind = kind.Ordinal (next_enumeration (length others) b); block = c })
   enumeration_writes few first others b c enters counts = record {
     grows = enters.grows;
-    same = enters.same;
-    holds = λ under ext free next x.
+    holds = λ under ext free there x.
         let i : ℕ = length b.types in
+        let count : length c.types ≡ i = ap length enters.same in
+        let next : IsNext i (denoter_of (denoter.Enumeration (first ∷ others))) = subst (λ n. IsNext n (denoter_of (denoter.Enumeration (first ∷ others)))) count there in
         let small = few_constants (length c.constants) (length b.constants) (length u.constants) (length others) counts (prefix_length c.constants u.constants ext.constants) few in
         let le : suc i ≤ length u.types = omega (arith, slice_get_within u.types i next.entry next.at) in
         let listed : ListsEnumeration u (suc i) (record { number = i; last = length others }) =
@@ -254,12 +343,13 @@ module _ (u : TypedUnit) where
         let denotes : Denotes u.types i (denoter_of (denoter.Enumeration (first ∷ others))) (typed.Enumeration (length others)) (full_type (typed.Enumeration (length others))) =
         subst (λ d. Denotes u.types i d (typed.Enumeration (length others)) (full_type (typed.Enumeration (length others)))) (sym (enumeration_is (first ∷ others)))
         (denotes_more u.types 0 i (tree.Enumeration (first ∷ others)) (typed.Enumeration (length others)) (full_type (typed.Enumeration (length others))) (omega arith) (denotes_enumeration u.types first others small)) in
-        record {
+        let wrote : Wrote i (record { denoter = denoter.Enumeration (first ∷ others); of = next_type b; kind = kind.Ordinal (next_enumeration (length others) b); block = c }) = record {
           block = enters.holds (le, listed) under ext (holds_more u i (suc i) b (omega arith) x);
           denotes = (full_type (typed.Enumeration (length others)), denotes);
-          of = next_denotes b (denoter_of (denoter.Enumeration (first ∷ others))) (next_enumeration (length others) b) (full_type (typed.Enumeration (length others))) next denotes;
+          of = next_denotes i (denoter_of (denoter.Enumeration (first ∷ others))) (kind.Ordinal (next_enumeration (length others) b)) (full_type (typed.Enumeration (length others))) next denotes;
           lists = listed;
-        };
+        } in
+        subst (λ n. Wrote n (record { denoter = denoter.Enumeration (first ∷ others); of = next_type b; kind = kind.Ordinal (next_enumeration (length others) b); block = c })) (sym count) wrote;
   }
 
   pub enumeration-writes : length u.constants ≤ maxint → (names : List (List ℕ)) (b : Block) → Fits (Writes b) (enumeration names b)
@@ -270,16 +360,3 @@ module _ (u : TypedUnit) where
       fits_then (λ c. Enters u (ListsWithin u (suc (length b.types)) e) (suc (length b.types)) b c × (length c.constants ≡ length b.constants + suc (length others))) (Writes b) _ entered
       (fits_pair (Enters u (ListsWithin u (suc (length b.types)) e) (suc (length b.types)) b) (λ c. length c.constants ≡ length b.constants + suc (length others)) entered (enumerated_enters u (suc (length b.types)) e 0 (first ∷ others) b (omega arith)) (enumerated_counts e 0 (first ∷ others) b))
       (λ c p. enumeration_writes few first others b c p.0 p.1)
-
-  -- ---- denoters
-
-  pub core_written-writes : {A B C D E F G H : Type 0} → length u.constants ≤ maxint → BoundsAreSound → BoundsAreKnown → (line : ℕ) (core : Core-F A B C D E F G H) (b : Block) → Fits (Writes b) (core_written line core b)
-  core_written-writes few sound known line (Core-F.Named at name tuple) b = fits_weaker (Names b) (Writes b) (type_named name.first name.second b) (λ w n. named_writes b w n) (type_named-names name.first name.second b)
-  core_written-writes few sound known line (Core-F.Range at low high) b =
-      fits_both (λ x. bound_judged (scopes_of b) low ≡ Accepts x) (λ y. bound_judged (scopes_of b) high ≡ Accepts y) (Writes b) (range line b) (bound_judged (scopes_of b) low) (bound_judged (scopes_of b) high) (fits_is (bound_judged (scopes_of b) low)) (fits_is (bound_judged (scopes_of b) high))
-      (λ x y e f. range_writes sound known line b low high x y e f)
-  core_written-writes few sound known line (Core-F.Enumeration at names) b = enumeration-writes few names b
-  core_written-writes few sound known line (Core-F.Pointer at name) b = tt
-  core_written-writes few sound known line (Core-F.Structured at packed structure) b = tt
-  core_written-writes few sound known line (Core-F.Restricted at name) b = tt
-  core_written-writes few sound known line (Core-F.TypeOf at name) b = tt

@@ -26,7 +26,8 @@ use Rattle.ep_check_unit.specs.Routines.{context_of, parts_declared}
 use Rattle.ep_check_unit.specs.Laws.{UnitsAreValid}
 use Rattle.ep_check_unit.specs.Units.{IsTypedProgram, IsUnitOf, ProgramForm, body_judged, declarations_wait, first_missing, parameters_entered, program_block, program_form, program_judged, unless_missing}
 use Rattle.ep_check_unit.specs.Blocks.{Block, routine_form}
-use Rattle.ep_check_unit.proofs.valid.Holds.{Holds, HoldsParameter, HoldsRoutine, HoldsRoutines, head_of, holds_agrees, innermost, levels_at, within}
+use Rattle.ep_check_unit.proofs.valid.Agreeing.{holds_agrees, within}
+use Rattle.ep_check_unit.proofs.valid.Holds.{Holds, HoldsArrayType, HoldsParameter, HoldsRoutine, HoldsRoutines, head_of, innermost, levels_at}
 use Rattle.ep_check_unit.proofs.valid.Open.{IsOpen}
 use Rattle.ep_check_unit.proofs.valid.Items.{LeadsOn, parameters_lead}
 use Rattle.ep_check_unit.proofs.valid.Leading.{Leads, head_in, leads_trans, prefix_refl, variables_in}
@@ -135,7 +136,7 @@ module _ (statements : StatementsAreSound) (constants : ConstantsAreSound) (boun
         bodies = λ n r has at. subst (λ rs. slice_get rs n ≡ Some r) (sym is.routines) at;
       })
       made.waits
-      (record { unit = sym is.name; things = tt; plain = refl; outer = tt; types = All-nil (IsType u.types); constants = All-nil (IsConstant u.types); variables = All-nil (IsVariable u.types); parameters = All-nil (HoldsParameter u 0); result = tt; owned = All-nil (IsVariable u.types); headed = tt; results = tt; routines = λ n r at. cc })
+      (record { unit = sym is.name; things = tt; plain = refl; arrays = All-nil (HoldsArrayType u 0); outer = tt; types = All-nil (IsType u.types); constants = All-nil (IsConstant u.types); variables = All-nil (IsVariable u.types); parameters = All-nil (HoldsParameter u 0); result = tt; owned = All-nil (IsVariable u.types); headed = tt; results = tt; routines = λ n r at. cc })
 
   program_valid : (p : Program) (u : TypedUnit) → IsTypedProgram p u → length u.constants ≤ maxint → IsValid u
   program_valid p u t few =

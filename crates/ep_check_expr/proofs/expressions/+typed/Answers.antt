@@ -1,13 +1,15 @@
-use Rattle.std.proofs.Common.{◌<◌, [], ◌∷◌, ◌∙◌, map, length, sym, arith, rules}
+use Rattle.std.proofs.Common.{◌≡◌, ◌<◌, [], ◌∷◌, ◌∙◌, None, ap, map, length, sym, arith, rules}
 use Rattle.std.proofs.lemmas.List.{length-map}
+use Rattle.ep_tree.specs.declared.expression.Access.{out-Access}
 use Rattle.ep_tree.specs.declared.expression.Simple.{out-Simple}
 use Rattle.ep_tree.specs.declared.expression.Term.{out-Term}
 use Rattle.ep_tree.specs.declared.expression.ComponentValue.TheViews.{the_lemmas}
-use Rattle.ep_built.specs.Built.{addend_belonging, multiplier_belonging, written_unbuilt}
+use Rattle.ep_built.specs.Built.{addend_belonging, expression_unbuilt, multiplier_belonging, written_unbuilt}
 use Rattle.ep_check_expr.proofs.Breaking.{part-exit, refused-exit, chained-first, when_accepted-part}
 use Rattle.ep_check_expr.proofs.Calls.{given-exit, one-item, two-items, applied-one, applied-two, applied-fault, applied-number, fault-exit, first-fault, later-fault}
 use Rattle.ep_check_expr.proofs.Folds.{addend_judged-is, multiplier_judged-is, addend_belonging-is, multiplier_belonging-is, simple_judged-is, term_judged-is, simple_unbuilt-is, term_unbuilt-is}
 use Rattle.ep_check_expr.proofs.Rows.{next-built, rest-built, chained-operand, chained-operator, chained-step, operands-built, operator-built, operators-built, at_node-built, at_node-inner, or-first, or-second}
+use Rattle.ep_check_expr.proofs.Selectors.{access-name, index-fails, index-node, index-turned, indexing-fails, next-index, node-lines, rest-indexes, rest-lines, selector-fails, selector-turned}
 use Rattle.ep_check_expr.proofs.expressions.+typed.Goals as goal
 use Rattle.ep_check_expr.specs.Answers.{taken_of, typed_of}
 use Rattle.ep_check_expr.specs.Arguments.{argument_taken}
@@ -16,6 +18,7 @@ use Rattle.ep_check_expr.proofs.Reading.{argument-reads}
 use Rattle.ep_check_expr.proofs.Written.{all_written}
 use Rattle.ep_check_expr.specs.Expressions.{addend_judged, multiplier_judged, given}
 use Rattle.ep_check_expr.specs.Operators.{added, multiplied}
+use Rattle.ep_check_expr.specs.Qualified.{only_arguments}
 
 pub addends-added-requires : goal.addends-added-requires
 addends-added-requires t c = operator-built addend_belonging c.args.all.now c.loop-addend.addend-index c.addend-item.result c.loop-addend-test.true c.addend-item.is _ _ (addend_belonging-is c.addend-item.result) c.loop-addend.invariant.operators
@@ -172,3 +175,61 @@ typed_arguments-loop-place-preserved t c =
 
 pub typed_arguments-with-requires : goal.typed_arguments-with-requires
 typed_arguments-with-requires t c = argument-reads c.args.scopes.now c.index-arguments-place.result (typed_of c.in_ok-value.value) c.in_ok-value.ensures.0
+
+pub application-argument-requires-in-len2 : goal.application-argument-requires-in-len2
+application-argument-requires-in-len2 t c =
+    let all = two-items c.args.arguments.now c.one-item-then-arguments-lt3.result c.two-item.result c.in-len2.len_at_least c.in-len2.len_below c.one-item-then-arguments-lt3.is c.two-item.is in
+    (search (rules, the_lemmas), or-first _ _ (rw all at c.requires.built))
+
+pub access-returns-in_err-variable-in-None : goal.access-returns-in_err-variable-in-None
+access-returns-in_err-variable-in-None t c =
+    let none : only_arguments (out-Access c.args.a.now).selectors ≡ None = ap only_arguments (sym c.items.ensures) ∙ sym c.in-None.ensures in
+    refused-exit c.from_residual.result c.in_err-variable-in-None.field-0.0 _ _ c.from_residual.ensures.1 (λ n h. access-name c.args.a.now c.requires.built c.args.scopes.now n none h) c.in_err-variable-in-None.ensures
+
+pub selected-unreachable-requires : goal.selected-unreachable-requires
+selected-unreachable-requires t c =
+    let n = index-node c.selector-item.result (next-index c.args.scopes.now c.args.all.now c.loop-selector.selector-index c.selector-item.result c.loop-selector-test.true c.selector-item.is c.loop-selector.invariant.selectors) in
+    c.in_default.not-Index n.0 n.1 n.2
+
+pub selected-with_indexes-requires : goal.selected-with_indexes-requires
+selected-with_indexes-requires t c =
+    (search (rules, the_lemmas), rw c.items.ensures (node-lines c.args.scopes.now c.args.all.now c.loop-selector.selector-index c.selector-item.result c.loop-selector-test.true c.selector-item.is _ _ c.in-Index.is c.loop-selector.invariant.lines))
+
+pub selected-returns-in_err-variable : goal.selected-returns-in_err-variable
+selected-returns-in_err-variable t c =
+    refused-exit c.from_residual.result c.in_err-variable.field-0.0 _ _ c.from_residual.ensures.1
+    (λ n h. rw (← c.loop-selector.invariant.judged) (selector-fails c.args.scopes.now c.args.all.now c.loop-selector.selector-index c.selector-item.result c.loop-selector-test.true c.selector-item.is _ _ c.in-Index.is n (typed_of c.loop-selector.variable) c.loop-selector.invariant.selectors h))
+    (rw c.items.ensures at c.in_err-variable.ensures)
+
+pub selected-loop-selector-preserved : goal.selected-loop-selector-preserved
+selected-loop-selector-preserved t c =
+    record {
+      judged = selector-turned c.args.scopes.now c.args.all.now c.loop-selector.selector-index c.selector-item.result c.loop-selector-test.true c.selector-item.is _ _ c.in-Index.is (typed_of c.loop-selector.variable) (typed_of c.in_ok-variable.variable) (rw c.items.ensures at c.in_ok-variable.ensures)
+          ∙ c.loop-selector.invariant.judged;
+      selectors = rest-indexes c.args.scopes.now c.args.all.now c.loop-selector.selector-index c.selector-item.result c.loop-selector-test.true c.selector-item.is c.loop-selector.invariant.selectors;
+      lines = rest-lines c.args.scopes.now c.args.all.now c.loop-selector.selector-index c.selector-item.result c.loop-selector-test.true c.selector-item.is c.loop-selector.invariant.lines;
+    }
+
+pub with_indexes-typed_expression-requires : goal.with_indexes-typed_expression-requires
+with_indexes-typed_expression-requires t c =
+    (search (rules, the_lemmas), next-built expression_unbuilt c.args.all.now c.loop-expression.expression-index c.expression-item.result c.loop-expression-test.true c.expression-item.is c.loop-expression.invariant.built)
+
+pub with_indexes-returns-in_err-index : goal.with_indexes-returns-in_err-index
+with_indexes-returns-in_err-index t c =
+    refused-exit c.from_residual.result c.in_err-index.field-0.0 _ _ c.from_residual.ensures.1
+    (λ n h. rw (← c.loop-expression.invariant.judged) (index-fails c.args.scopes.now c.args.all.now c.loop-expression.expression-index c.expression-item.result c.loop-expression-test.true c.expression-item.is (typed_of c.loop-expression.variable) n h))
+    c.in_err-index.ensures.typed
+
+pub with_indexes-returns-in_err-variable : goal.with_indexes-returns-in_err-variable
+with_indexes-returns-in_err-variable t c =
+    refused-exit c.from_residual-in_err-variable.result c.in_err-variable.field-0.0 _ _ c.from_residual-in_err-variable.ensures.1
+    (λ n h. rw (← c.loop-expression.invariant.judged) (indexing-fails c.args.scopes.now c.args.all.now c.loop-expression.expression-index c.expression-item.result c.loop-expression-test.true c.expression-item.is (typed_of c.loop-expression.variable) n (typed_of c.in_ok-index.index) c.in_ok-index.ensures.typed h))
+    c.in_err-variable.ensures
+
+pub with_indexes-loop-expression-preserved : goal.with_indexes-loop-expression-preserved
+with_indexes-loop-expression-preserved t c =
+    record {
+      judged = index-turned c.args.scopes.now c.args.all.now c.loop-expression.expression-index c.expression-item.result c.loop-expression-test.true c.expression-item.is (typed_of c.loop-expression.variable) (typed_of c.in_ok-index.index) (typed_of c.in_ok-variable.variable) c.in_ok-index.ensures.typed c.in_ok-variable.ensures
+          ∙ c.loop-expression.invariant.judged;
+      built = rest-built expression_unbuilt c.args.all.now c.loop-expression.expression-index c.expression-item.result c.loop-expression-test.true c.expression-item.is c.loop-expression.invariant.built;
+    }

@@ -1,4 +1,4 @@
-use Rattle.ep_check_expr.proofs.Lawful.{accesses_are_sound, arguments_are_sound, expressions_are_sound, values_are_sound, constants_are_sound, bounds_are_sound, labels_are_sound, expressions_are_known, constants_are_known, bounds_are_known}
+use Rattle.ep_check_expr.proofs.Lawful.{variables_are_sound, accesses_are_sound, arguments_are_sound, expressions_are_sound, values_are_sound, constants_are_sound, bounds_are_sound, labels_are_sound, expressions_are_known, constants_are_known, bounds_are_known}
 use Rattle.ep_check_expr.proofs.laws.laws_of_expressions.Goals as goal
 
 pub returns-clause-expressions : goal.returns-clause-expressions
@@ -6,6 +6,9 @@ returns-clause-expressions c = expressions_are_sound
 
 pub returns-clause-accesses : goal.returns-clause-accesses
 returns-clause-accesses c = accesses_are_sound
+
+pub returns-clause-variables : goal.returns-clause-variables
+returns-clause-variables c = variables_are_sound
 
 pub returns-clause-arguments : goal.returns-clause-arguments
 returns-clause-arguments c = arguments_are_sound

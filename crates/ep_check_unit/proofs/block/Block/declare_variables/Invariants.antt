@@ -5,4 +5,4 @@ use Rattle.ep_check_unit.proofs.block.Block.declare_variables.Given as goal
 
 abbrev pub invariant-loop-name : goal.invariant-loop-name
 invariant-loop-name l =
-    variables_entered l.declaration.line (type_denoter l.named.name) l.named.of l.named.host (drop l.name-index l.name-items) (block_of l.self) ≡ variables_entered l.declaration.line (type_denoter l.named.name) l.named.of l.named.host l.name-items (block_of l.initial.self)
+    variables_entered l.declaration.line (type_denoter l.named.name) l.named.of l.named.kind (drop l.name-index l.name-items) (block_of l.self) ≡ variables_entered l.declaration.line (type_denoter l.named.name) l.named.of l.named.kind l.name-items (block_of l.initial.self)

@@ -1,0 +1,68 @@
+-- What an index gives of an array (ISO 10206, 6.5.3.2).
+use Rattle.std.specs.Prelude.{ℕ, suc, ◌-◌, max, nat_le, List, [], ◌∷◌, Option, Some, None, if◌then◌else◌}
+use Rattle.ep_typed.specs.Trees.{Expr, Indexed, Read}
+use Rattle.ep_scope.specs.Scopes.{Region, array_in}
+use Rattle.ep_scope.specs.declared.array.ArrayType.{ArrayType}
+use Rattle.ep_scope.specs.declared.kind.Kind.{Kind}
+use Rattle.ep_scope.specs.declared.kind.Kind.TheVariants as kind
+use Rattle.ep_scope.specs.declared.parameter.TypeName.{TypeName}
+use Rattle.ep_scope.specs.declared.rule.TheConstants as rule
+use Rattle.ep_check_expr.specs.Judgements.{Judged, Accepts, Breaks, Typed, both}
+use Rattle.ep_check_expr.specs.Operators.{are_compatible, character, is_integer, unbuilt_typed}
+use Rattle.ep_check_expr.specs.declared.access.Access.{Access}
+use Rattle.ep_check_expr.specs.declared.access.Access.TheVariants as access
+use Rattle.ep_check_expr.specs.declared.forms.TheConstants as limit
+
+-- what is read of a component, where the array is read of a place
+abbrev pub component_form : Option Expr → Option Expr → Option Expr
+component_form (Some (Read place)) (Some index) = Some (Read (Indexed place index))
+component_form array index = None
+
+-- a component is a variable where the array is one, and protected where that is (ISO 10206, 6.5.1)
+abbrev pub component_access : TypeName → Access → Access
+component_access component (access.Variable of guarded) = access.Variable component guarded
+component_access component array = array
+
+-- what is read stands above its place, and that above the place of the array and the index
+abbrev pub component_depth : ℕ → ℕ → ℕ
+component_depth array index = suc (suc (max (array - 1) index))
+
+-- a component of an array of this type
+abbrev pub component_typed : ArrayType → Typed → Typed → Judged Typed
+component_typed a x i =
+    if nat_le (component_depth x.depth i.depth) limit.DEPTH
+    then Accepts (record { form = component_form x.form i.form; kind = a.kind; depth = component_depth x.depth i.depth; access = component_access a.component x.access })
+    else Breaks (rule.TOO_DEEP ∷ [])
+
+-- what is indexed has no index, or the index another host
+abbrev pub no_index : Judged Typed
+no_index = Breaks (rule.INDEX ∷ [])
+
+-- an index of an array has the host of the index type
+abbrev pub indexed_array : ArrayType → Typed → Typed → Judged Typed
+indexed_array a x i = if are_compatible (kind.Ordinal a.index) i.kind then component_typed a x i else no_index
+
+-- an array type is one that is in view
+abbrev pub indexed_if : Option ArrayType → Typed → Typed → Judged Typed
+indexed_if None x i = no_index
+indexed_if (Some a) x i = indexed_array a x i
+
+-- an index of a string is an integer, which gives a character that has no code yet
+abbrev pub indexed_text : Typed → Typed → Judged Typed
+indexed_text x i = if is_integer i.kind then unbuilt_typed character x i else no_index
+
+module _ (scopes : List Region) where
+  -- what has an index is an array or a string
+  abbrev pub indexed_by : Kind → Typed → Typed → Judged Typed
+  indexed_by (kind.Ordinal h) x i = no_index
+  indexed_by (kind.Array n) x i = indexed_if (array_in scopes n) x i
+  indexed_by kind.Text x i = indexed_text x i
+  indexed_by kind.File x i = no_index
+
+  abbrev pub indexed : Typed → Typed → Judged Typed
+  indexed x i = indexed_by x.kind x i
+
+  -- indexes, from left to right
+  abbrev pub indexed_all : Judged Typed → List (Judged Typed) → Judged Typed
+  indexed_all x [] = x
+  indexed_all x (i ∷ is) = indexed_all (both indexed x i) is

@@ -1,0 +1,124 @@
+//! What an index gives of an array.
+
+ghost use Rattle.std.specs.Prelude.{◌≡◌, suc, ◌-◌, max, Some, IfOk};
+ghost use Rattle.std.specs.Option.{option_map};
+ghost use Rattle.ep_typed.specs.Viewed.{expr_of};
+ghost use Rattle.ep_check_expr.specs.Answers.{AnswersDepth, AnswersTyped, typed_of};
+ghost use Rattle.ep_check_expr.specs.Indexing.{component_access, component_form, component_typed, indexed, indexed_array, indexed_text};
+
+use crate::access::Access;
+use crate::forms::{DEPTH, Refusal, Typed};
+use crate::operators::{are_compatible, is_integer};
+use ep_base::{Boxed, NoMemory};
+use ep_scope::{ArrayType, Host, Kind, Scope, TypeName, array_of, rule};
+use ep_typed::{TypedExpr, TypedPlace};
+use std::alloc::Global;
+
+/// A component is a variable where the array is one, and protected where that is (ISO 10206, 6.5.1).
+fn component_access(component: TypeName, array: Access) -> Access
+    ensures { result ≡ component_access component array }
+{
+    match array {
+        Access::Variable(_, guarded) => Access::Variable(component, guarded),
+        other => other,
+    }
+}
+
+/// The depth of what is read of a component.
+fn component_depth(array: u32, index: u32) -> Result<u32, Refusal>
+    ensures { AnswersDepth (suc (max (array - 1) index)) result }
+{
+    let inner = array.saturating_sub(1).max(index);
+    if inner < DEPTH - 1 {
+        Ok(inner + 2)
+    } else {
+        Err(Refusal::Rule(rule::TOO_DEEP))
+    }
+}
+
+/// What is read of a component, where the array is read of a place.
+fn component_of(
+    alloc: Global,
+    array: Boxed<TypedExpr>,
+    index: Boxed<TypedExpr>,
+) -> Result<Option<Boxed<TypedExpr>>, NoMemory>
+    ensures { IfOk result (λ now. option_map expr_of now ≡ component_form (Some (expr_of array)) (Some (expr_of index))) }
+{
+    match array.into_inner() {
+        TypedExpr::Read(place) => {
+            let place = TypedPlace::Indexed(Boxed::new(alloc, place)?, index);
+            Ok(Some(Boxed::new(alloc, TypedExpr::Read(place))?))
+        }
+        _ => Ok(None),
+    }
+}
+
+/// What is read of a component, where the array and the index are built.
+fn component_form(
+    alloc: Global,
+    array: Option<Boxed<TypedExpr>>,
+    index: Option<Boxed<TypedExpr>>,
+) -> Result<Option<Boxed<TypedExpr>>, NoMemory>
+    ensures { IfOk result (λ now. option_map expr_of now ≡ component_form (option_map expr_of array) (option_map expr_of index)) }
+{
+    match (array, index) {
+        (Some(array), Some(index)) => component_of(alloc, array, index),
+        _ => Ok(None),
+    }
+}
+
+/// A component of an array of this type.
+fn component(alloc: Global, of: ArrayType, array: Typed, index: Typed) -> Result<Typed, Refusal>
+    ensures { AnswersTyped result (component_typed of (typed_of array) (typed_of index)) }
+{
+    let depth = component_depth(array.depth, index.depth)?;
+    let access = component_access(of.component, array.access);
+    let form = component_form(alloc, array.into_form(), index.into_form())?;
+    Ok(Typed {
+        form,
+        kind: of.kind,
+        depth,
+        access,
+    })
+}
+
+/// An index of an array has the host of the index type.
+fn indexed_array(alloc: Global, of: ArrayType, array: Typed, index: Typed) -> Result<Typed, Refusal>
+    ensures { AnswersTyped result (indexed_array of (typed_of array) (typed_of index)) }
+{
+    if are_compatible(Kind::Ordinal(of.index), index.kind) {
+        component(alloc, of, array, index)
+    } else {
+        Err(Refusal::Rule(rule::INDEX))
+    }
+}
+
+/// An index of a string is an integer.
+fn indexed_text(text: Typed, index: Typed) -> Result<Typed, Refusal>
+    ensures { AnswersTyped result (indexed_text (typed_of text) (typed_of index)) }
+{
+    if is_integer(index.kind) {
+        Typed::unbuilt(Kind::Ordinal(Host::Char), text, index)
+    } else {
+        Err(Refusal::Rule(rule::INDEX))
+    }
+}
+
+/// What an index gives of a value.
+pub(crate) fn indexed(
+    alloc: Global,
+    value: Typed,
+    index: Typed,
+    scopes: &[Scope],
+) -> Result<Typed, Refusal>
+    ensures { AnswersTyped result (indexed scopes.now (typed_of value) (typed_of index)) }
+{
+    match value.kind {
+        Kind::Array(number) => match array_of(scopes, number) {
+            Some(of) => indexed_array(alloc, of, value, index),
+            None => Err(Refusal::Rule(rule::INDEX)),
+        },
+        Kind::Text => indexed_text(value, index),
+        _ => Err(Refusal::Rule(rule::INDEX)),
+    }
+}
