@@ -1,6 +1,6 @@
 //! The code of typed trees and of a typed program, with instructions by hand.
 
-pub(crate) mod builder;
+mod builder;
 
 use builder::{Builder, Step, Unbuilt};
 use ep_base::{Boxed, Line, List, Name};
@@ -320,7 +320,7 @@ fn are(instructions: &[Instr], want: &[Row]) -> bool {
 }
 
 /// A program `main` with these types and variables, which does these statements.
-pub(crate) fn unit_of(
+fn unit_of(
     alloc: Global,
     types: UnitTypes,
     variables: UnitVariables,
@@ -391,7 +391,7 @@ fn trees_have_their_code(rt: HostRuntime) -> Result<(), Fail> {
 }
 
 /// The denoter `0..9`.
-pub(crate) fn digits(alloc: Global) -> Result<Denoter, Unbuilt> {
+fn digits(alloc: Global) -> Result<Denoter, Unbuilt> {
     let host = Boxed::new(alloc, Denoter::Required(RequiredType::Integer))?;
     Ok(Denoter::Subrange(host, Bound::Constant(0), Bound::Constant(9)))
 }
@@ -414,7 +414,7 @@ fn digit(alloc: Global) -> Result<UnitTypes, Unbuilt> {
 }
 
 /// A variable of this type, the only one of its declaration.
-pub(crate) fn variable(
+fn variable(
     alloc: Global,
     name: &[u8],
     line: Line,

@@ -1,7 +1,7 @@
 //! Typed trees, built by steps.
 
 use ep_base::{Boxed, Bytes, Line, List, Name, NameRefusal};
-use ep_typed::{Actual, Binary, Callee, Print, TypedExpr, TypedPlace, TypedStmt, Unary, WriteItem};
+use ep_typed::{Binary, Callee, Print, TypedExpr, TypedPlace, TypedStmt, Unary, WriteItem};
 use std::alloc::{AllocError, Global};
 
 /// A step that builds a tree of what the steps before it left, the last first.
@@ -13,28 +13,6 @@ pub(crate) enum Step {
     Text(&'static [u8]),
     /// The value of a variable of `main`.
     Variable(u32),
-    /// The value of a variable of the routine.
-    Own(u32),
-    /// The value of a variable of the routine so many levels up.
-    Above(u32, u32),
-    /// The place of a variable of `main`.
-    Place(u32),
-    /// The place of a variable of the routine.
-    OwnPlace(u32),
-    /// The component of the last place that the last value is the index of.
-    Index,
-    /// The value at the last place.
-    Load,
-    /// An assignment of a value to the last place.
-    Store(Line),
-    /// The last place, which is given to a variable parameter of the next call.
-    PassedPlace,
-    /// A value that is given to a value parameter of the next call.
-    Given,
-    /// A variable of `main` that is given to a variable parameter of the next call.
-    Passed(u32),
-    /// A variable of the routine that is given so.
-    PassedOwn(u32),
     /// An operation with one operand.
     One(Unary),
     /// An operation with two operands.
@@ -49,20 +27,12 @@ pub(crate) enum Step {
     Empty,
     /// An assignment of a value to a variable of `main`.
     Assign(Line, u32),
-    /// An assignment of a value to a variable of the routine.
-    AssignOwn(Line, u32),
-    /// An assignment of a value to a variable of the routine so many levels up.
-    AssignAbove(Line, u32, u32),
     /// `if` with a condition and two statements.
     If(Line),
     /// `while` with a condition and a statement.
     While(Line),
-    /// A call of the procedure of this number of `main`, with all that is given.
+    /// A call of the procedure of this number of `main`, which has no parameters.
     Procedure(Line, u32),
-    /// A call of the procedure of this number, which is declared in the routine so many levels less one up.
-    Inner(Line, u32, u32),
-    /// The value of the function of this number of `main`, with all that is given.
-    Function(u32),
     /// `halt`
     Halt(Line),
     /// `write` of all values that are written, or with the flag `writeln`.
@@ -97,9 +67,7 @@ impl From<NameRefusal> for Unbuilt {
 pub(crate) struct Builder {
     alloc: Global,
     pub(crate) expressions: List<Boxed<TypedExpr>>,
-    places: List<TypedPlace>,
     items: List<WriteItem>,
-    actuals: List<Actual>,
     pub(crate) statements: List<TypedStmt>,
 }
 
@@ -109,9 +77,7 @@ impl Builder {
         let mut builder = Builder {
             alloc,
             expressions: List::new(alloc),
-            places: List::new(alloc),
             items: List::new(alloc),
-            actuals: List::new(alloc),
             statements: List::new(alloc),
         };
         for step in steps {
@@ -131,19 +97,6 @@ impl Builder {
             Step::Constant(value) => self.push(TypedExpr::Constant(value)),
             Step::Text(bytes) => self.text(bytes),
             Step::Variable(number) => self.variable(number),
-            Step::Own(number) => self.push(TypedExpr::Read(TypedPlace::Own(0, number))),
-            Step::Above(levels, number) => {
-                self.push(TypedExpr::Read(TypedPlace::Own(levels, number)))
-            }
-            Step::Place(number) => self.variable_place(number),
-            Step::OwnPlace(number) => Ok(self.places.push(TypedPlace::Own(0, number))?),
-            Step::Index => self.index(),
-            Step::Load => self.load(),
-            Step::Store(line) => self.store(line),
-            Step::PassedPlace => self.pass_place(),
-            Step::Given => self.given(),
-            Step::Passed(number) => self.passed(number),
-            Step::PassedOwn(number) => self.pass(Actual::Variable(TypedPlace::Own(0, number))),
             Step::One(operation) => self.one(operation),
             Step::Two(operation) => self.two(operation),
             Step::CharStep(down) => self.char_step(down),
@@ -151,15 +104,9 @@ impl Builder {
             Step::Wide(print) => self.wide(print),
             Step::Empty => self.put(TypedStmt::Empty),
             Step::Assign(line, number) => self.assign(line, number),
-            Step::AssignOwn(line, number) => self.assign_to(line, TypedPlace::Own(0, number)),
-            Step::AssignAbove(line, levels, number) => {
-                self.assign_to(line, TypedPlace::Own(levels, number))
-            }
             Step::If(line) => self.choice(line),
             Step::While(line) => self.repetition(line),
-            Step::Procedure(line, number) => self.call(line, number, 0),
-            Step::Inner(line, number, levels) => self.call(line, number, levels),
-            Step::Function(number) => self.function(number),
+            Step::Procedure(line, number) => self.call(line, number),
             Step::Halt(line) => self.put(TypedStmt::Halt(line)),
             Step::Write(line, ends_line) => self.write(line, ends_line),
             Step::Compound => self.compound(),
@@ -167,41 +114,14 @@ impl Builder {
     }
 
     /// A call of a procedure of `main`.
-    fn call(&mut self, line: Line, number: u32, levels: u32) -> Result<(), Unbuilt> {
-        let callee = self.callee(number, levels)?;
-        let actuals = std::mem::replace(&mut self.actuals, List::new(self.alloc));
-        self.put(TypedStmt::Procedure(line, callee, actuals))
-    }
-
-    /// The value of a function of `main`.
-    fn function(&mut self, number: u32) -> Result<(), Unbuilt> {
-        let callee = self.callee(number, 0)?;
-        let actuals = std::mem::replace(&mut self.actuals, List::new(self.alloc));
-        self.push(TypedExpr::Function(callee, actuals))
-    }
-
-    /// A routine of `main`.
-    fn callee(&self, number: u32, levels: u32) -> Result<Callee, Unbuilt> {
-        Ok(Callee {
+    fn call(&mut self, line: Line, number: u32) -> Result<(), Unbuilt> {
+        let callee = Callee {
             unit: Name::from_bytes(self.alloc, b"main")?,
             number,
-            levels,
-        })
-    }
-
-    /// Gives a value or a variable to the next call.
-    fn pass(&mut self, actual: Actual) -> Result<(), Unbuilt> {
-        Ok(self.actuals.push(actual)?)
-    }
-
-    fn given(&mut self) -> Result<(), Unbuilt> {
-        let value = self.expression()?;
-        self.pass(Actual::Value(value))
-    }
-
-    fn passed(&mut self, number: u32) -> Result<(), Unbuilt> {
-        let place = self.place(number)?;
-        self.pass(Actual::Variable(place))
+            levels: 0,
+        };
+        let none = List::new(self.alloc);
+        self.put(TypedStmt::Procedure(line, callee, none))
     }
 
     /// The last expression.
@@ -237,37 +157,6 @@ impl Builder {
     fn place(&self, number: u32) -> Result<TypedPlace, Unbuilt> {
         let unit = Name::from_bytes(self.alloc, b"main")?;
         Ok(TypedPlace::Variable(unit, number))
-    }
-
-    fn variable_place(&mut self, number: u32) -> Result<(), Unbuilt> {
-        let place = self.place(number)?;
-        Ok(self.places.push(place)?)
-    }
-
-    /// The last place.
-    fn last_place(&mut self) -> Result<TypedPlace, Unbuilt> {
-        self.places.pop().ok_or(Unbuilt::Lacking)
-    }
-
-    fn index(&mut self) -> Result<(), Unbuilt> {
-        let index = self.expression()?;
-        let array = Boxed::new(self.alloc, self.last_place()?)?;
-        Ok(self.places.push(TypedPlace::Indexed(array, index))?)
-    }
-
-    fn load(&mut self) -> Result<(), Unbuilt> {
-        let place = self.last_place()?;
-        self.push(TypedExpr::Read(place))
-    }
-
-    fn store(&mut self, line: Line) -> Result<(), Unbuilt> {
-        let place = self.last_place()?;
-        self.assign_to(line, place)
-    }
-
-    fn pass_place(&mut self) -> Result<(), Unbuilt> {
-        let place = self.last_place()?;
-        self.pass(Actual::Variable(place))
     }
 
     fn variable(&mut self, number: u32) -> Result<(), Unbuilt> {
@@ -320,12 +209,8 @@ impl Builder {
     }
 
     fn assign(&mut self, line: Line, number: u32) -> Result<(), Unbuilt> {
-        let place = self.place(number)?;
-        self.assign_to(line, place)
-    }
-
-    fn assign_to(&mut self, line: Line, place: TypedPlace) -> Result<(), Unbuilt> {
         let value = self.expression()?;
+        let place = self.place(number)?;
         self.put(TypedStmt::Assign(line, place, value))
     }
 
