@@ -1,14 +1,12 @@
 //! What is tried across the crates and no words and answers say: the tokens of texts, which of two trees a text has and
-//! how deep it nests, what is answered of an expression on its own, the code of typed trees, single instructions of the
-//! machine, and the objects in memory. What words and answers say is tried by ep_cases.
+//! how deep it nests, what is answered of an expression on its own, and the objects in memory. What words and answers say
+//! is tried by ep_cases.
 #![tactic(auto)]
 
 #[cfg(test)]
 mod choices;
 #[cfg(test)]
 mod expressions;
-#[cfg(test)]
-mod machine;
 #[cfg(test)]
 mod nesting;
 #[cfg(test)]
@@ -17,5 +15,3 @@ mod outside;
 mod texts;
 #[cfg(test)]
 mod tokens;
-#[cfg(test)]
-mod typed_programs;
