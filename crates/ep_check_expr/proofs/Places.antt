@@ -1,11 +1,11 @@
--- What is known of the places of arrays and of their components.
+-- What is known of the places of arrays and of their components, and of places within records.
 use Rattle.std.proofs.Common.{◌≡◌, ◌==◌, ℕ, Bool, true, false, List, [], ◌∷◌, ◌++◌, Option, Some, None, refl, sym, ap, ◌∙◌, subst, arith}
 use Rattle.std.specs.Prelude.{⊤, All, if◌then◌else◌}
 use Rattle.std.proofs.lemmas.Bool.Decides.{nat_tests}
 use Rattle.std.proofs.lemmas.List.Elements.{All-head, All-tail}
-use Rattle.ep_typed.specs.Denoters.{ArrayParts, array_of, host_of, type_of}
+use Rattle.ep_typed.specs.Denoters.{ArrayParts, array_of, denoter_at, host_of, record_of, type_of}
 use Rattle.ep_typed.specs.Hosts as hosts
-use Rattle.ep_typed.specs.Trees.{Denoter, Named, Expr, Place, Variable, Own, Standard, Indexed}
+use Rattle.ep_typed.specs.Trees.{Denoter, Denoters, Named, Expr, Place, Variable, Own, Standard, Indexed, Field}
 use Rattle.ep_typed.specs.TypeValues.{TypeValue}
 use Rattle.ep_typed.specs.Valid as valid
 use Rattle.ep_typed.specs.Valid.{Declarations, IsExpr, IsPlaceWhere}
@@ -24,12 +24,17 @@ module _ (declared : Declarations) where
   abbrev pub IsComponentWhere : (List UnitType → Denoter → Type 0) → Expr → List UnitType → Denoter → Type 0
   IsComponentWhere P x list d = (a : ArrayParts) × (array_of list d ≡ Some a) × P list a.component × ((h : hosts.Host) × (host_of list a.index ≡ Some h) × IsExpr declared (valid.Ordinal h) x)
 
+  -- the component of this number of the denoter of a record, of which this holds
+  abbrev pub IsFieldWhere : (List UnitType → Denoter → Type 0) → ℕ → List UnitType → Denoter → Type 0
+  IsFieldWhere P number list d = (ds : Denoters) × (record_of list d ≡ Some ds) × (c : Denoter) × (denoter_at ds number ≡ Some c) × P list c
+
   -- what says less of a denoter says less of a place
   pub place_wider : (P Q : List UnitType → Denoter → Type 0) (p : Place) → ((list : List UnitType) (d : Denoter) → P list d → Q list d) → IsPlaceWhere declared P p → IsPlaceWhere declared Q p
   place_wider P Q (Variable unit number) f h = (h.0, h.1, f (declared.types unit) (denoter_of h.0.denoter) h.2)
   place_wider P Q (Own up number) f h = (h.0, h.1, f declared.routine_types (denoter_of h.0.denoter) h.2)
   place_wider P Q (Standard file) f h = absurd h
   place_wider P Q (Indexed p x) f h = place_wider (IsComponentWhere P x) (IsComponentWhere Q x) p (λ list d c. (c.0, c.1, f list c.0.component c.2, c.3)) h
+  place_wider P Q (Field p number) f h = place_wider (IsFieldWhere P number) (IsFieldWhere Q number) p (λ list d c. (c.0, c.1, c.2, c.3, f list c.2 c.4)) h
 
   -- some denoter is that of the place
   pub place_at : (P : List UnitType → Denoter → Type 0) (p : Place) → IsPlaceWhere declared P p → (list : List UnitType) × (d : Denoter) × P list d
@@ -37,6 +42,7 @@ module _ (declared : Declarations) where
   place_at P (Own up number) h = (declared.routine_types, denoter_of h.0.denoter, h.2)
   place_at P (Standard file) h = absurd h
   place_at P (Indexed p x) h = let c = place_at (IsComponentWhere P x) p h in (c.0, c.2.0.component, c.2.2)
+  place_at P (Field p number) h = let c = place_at (IsFieldWhere P number) p h in (c.0, c.2.2, c.2.4)
 
 -- ---- array types in view
 

@@ -8,7 +8,7 @@ use Rattle.ep_tree.specs.declared.statement.Statement.TheOpen.{Statement-F, Arm-
 use Rattle.ep_tree.specs.declared.statement.Statement.{Statement, fold-Statement}
 use Rattle.ep_tree.specs.declared.statement.Arm.{Arm, fold-Arm}
 use Rattle.ep_tree.specs.declared.statement.Compound.{Compound, fold-Compound}
-use Rattle.ep_typed.specs.Trees.{Entire, OfUnit, OfRoutine, entire, Place, Variable, Own, Standard, Indexed, Expr, Constant, Text, Read, One, Two, Short, Step, Function, Actual, Evaluated, Accessed, Actuals, no_actual, next_actual, Item, Plain, Wide, Stmt, Stmts, Empty, Assign, If, While, Repeat, For, Procedure, Case, Halt, Write, none, next, Arms, no_arm, next_arm, Other, no_other, otherwise_do}
+use Rattle.ep_typed.specs.Trees.{Entire, OfUnit, OfRoutine, entire, Place, Variable, Own, Standard, Indexed, Field, Expr, Constant, Text, Read, One, Two, Short, Step, Function, Actual, Evaluated, Accessed, Actuals, no_actual, next_actual, Item, Plain, Wide, Stmt, Stmts, Empty, Assign, If, While, Repeat, For, Procedure, Case, Halt, Write, none, next, Arms, no_arm, next_arm, Other, no_other, otherwise_do}
 use Rattle.ep_typed.specs.Trees as tree
 use Rattle.ep_typed.specs.declared.interface.Formal.{Formal}
 use Rattle.ep_typed.specs.declared.interface.FormalMode.{FormalMode}
@@ -27,6 +27,7 @@ mode_threatens mode.ProtectedVariable = false
 -- whether a place is that of an entire variable, or of a component of it, however deep (ISO 10206, 6.5.2)
 abbrev pub is_variable : Entire → Place → Bool
 is_variable v (Indexed array index) = is_variable v array
+is_variable v (Field whole number) = is_variable v whole
 is_variable (OfUnit unit number) (Variable other place) = bytes_eq unit other && number == place
 is_variable (OfRoutine up number) (Own other place) = up == other && number == place
 is_variable v place = false
@@ -51,6 +52,7 @@ module _ (formals_of : List ℕ → ℕ → List Formal) (variable : Entire) whe
     place_threatens (Own up number) = false
     place_threatens (Standard file) = false
     place_threatens (Indexed array index) = place_threatens array || expr_threatens index
+    place_threatens (Field whole number) = place_threatens whole
 
     -- whether what is given for a parameter of this mode threatens the variable: it is the variable itself or a component of it, a place with an index that threatens it, or an expression that does
     pub actual_threatens : FormalMode → Actual → Bool

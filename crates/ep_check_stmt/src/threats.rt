@@ -256,6 +256,7 @@ fn place_threatens(place: &TypedPlace, routines: &[UnitRoutine], variable: Entir
             place_threatens(array.get(), routines, variable)
                 || expr_threatens(index.get(), routines, variable)
         }
+        TypedPlace::Field(whole, _) => place_threatens(whole.get(), routines, variable),
     }
 }
 
@@ -337,7 +338,9 @@ pub(crate) fn is_variable(variable: Entire<'_>, place: &TypedPlace) -> bool
             unit.bytes() == other.bytes() && number == *own
         }
         (Entire::Own(up, number), TypedPlace::Own(other, own)) => up == *other && number == *own,
-        (_, TypedPlace::Indexed(array, _)) => is_variable(variable, array.get()),
+        (_, TypedPlace::Indexed(whole, _) | TypedPlace::Field(whole, _)) => {
+            is_variable(variable, whole.get())
+        }
         _ => false,
     }
 }

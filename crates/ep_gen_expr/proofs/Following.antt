@@ -2,7 +2,7 @@
 use Rattle.std.proofs.Common.{◌≡◌, ℕ, ℤ, pos, zero, suc, Option, None, ◌+◌, ◌<◌, ◌≤◌, Bool, IsTrue, List, [], ◌∷◌, ◌++◌, length, Some, slice_get, refl, sym, ap, ◌∙◌, subst, arith, append_assoc, length-append, true, false}
 use Rattle.std.specs.Bool.{⊤}
 use Rattle.ep_object.specs.Activations.{KnowsNames}
-use Rattle.ep_object.specs.Follows.{point, Facts, Lasts, Fragment, SameRoutine, Operands, OnTop, PlaceOnTop, Inside}
+use Rattle.ep_object.specs.Follows.{point, Facts, Follows, IsNotLeft, Lands, Lasts, Fragment, SameRoutine, Operands, OnTop, PlaceOnTop, Inside}
 use Rattle.ep_object.specs.Matching.{Slots, AreAmong, Grown, kept_slots, Memory, at, Injection, IsSpot, Describes, HasType, HasOwnType, Matches}
 use Rattle.ep_object.specs.Matching.{at as standing}
 use Rattle.ep_object.specs.Operands.{Operand}
@@ -15,9 +15,11 @@ use Rattle.ep_object.specs.declared.code.Image.{Image}
 use Rattle.ep_object.specs.declared.code.Instr.{Instr}
 use Rattle.ep_object.specs.declared.code.Reference.{Reference}
 use Rattle.ep_object.specs.declared.state.Place.{Place as PlaceOf}
+use Rattle.ep_object.proofs.following.Bind.{follows_paid, follows_give}
 use Rattle.ep_object.proofs.following.Choices.{Reads, fragment_fetch, follows_fetch, fragment_using}
-use Rattle.ep_object.proofs.following.Fragments.{FailsWith, fragment_less, fragment_to, fragment_one, fragment_paid, fragment_give, fragment_credit, fragment_bind_place, fragment_bind_number}
-use Rattle.ep_object.proofs.matching.Growing.{unit_in-same, inside_here, is_spot-grown, describes-grown}
+use Rattle.ep_object.proofs.following.Fragments.{Does, FailsWith, landed, fragment_less, fragment_to, fragment_one, fragment_paid, fragment_give, fragment_credit, fragment_bind_place, fragment_bind_number}
+use Rattle.ep_object.proofs.matching.Growing.{not_left-here, unit_in-same, inside_here, is_spot-grown, describes-grown}
+use Rattle.ep_object.proofs.rows.FieldRow.{IsAmong, among_there, field_does, field_fails}
 use Rattle.ep_object.proofs.rows.IndexRow.{index_fails, index_reads}
 use Rattle.ep_object.proofs.rows.OwnRows.{own_reads, level_reads}
 use Rattle.ep_object.proofs.rows.PlaceRows.{unit_reads, load_fails, load_reads}
@@ -25,15 +27,15 @@ use Rattle.ep_object.proofs.rows.Rows.{push_pushes}
 use Rattle.ep_object.proofs.rows.TextRows.{text_pushes}
 use Rattle.ep_typed.specs.Steady.{Steady, IsSteadyHandler}
 use Rattle.ep_typed.specs.Calls.{Handler}
-use Rattle.ep_typed.proofs.Steady.{steady_bind, steady_if, steady_spend, steady_give, steady_answered, steady_eval, steady_read, steady_indexed}
+use Rattle.ep_typed.proofs.Steady.{steady_bind, steady_if, steady_spend, steady_give, steady_answered, steady_eval, steady_read, steady_indexed, steady_selected}
 use Rattle.ep_typed.specs.Meaning.{eval, arguments, place, weight_of}
 use Rattle.ep_typed.specs.Operations.{decides}
 use Rattle.ep_typed.specs.Printing.{Result, number_of}
 use Rattle.ep_typed.specs.Printing as result
 use Rattle.ep_typed.specs.Denoters.{type_of}
-use Rattle.ep_typed.specs.Steps.{Component, Computation, bind, component, component_number, type_at, word_at, own_variable, has_ended}
+use Rattle.ep_typed.specs.Steps.{Component, Computation, bind, give, spend, component, component_number, type_at, word_at, own_variable, has_ended}
 use Rattle.ep_typed.specs.Steps as meaning
-use Rattle.ep_typed.specs.Trees.{Callee, Place, Variable, Own, Standard, Indexed, Expr, Constant, Text, Read, One, Two, Short, Step, Function, Actual, Evaluated, Accessed, Actuals, no_actual, next_actual}
+use Rattle.ep_typed.specs.Trees.{Callee, Place, Variable, Own, Standard, Indexed, Field, Expr, Constant, Text, Read, One, Two, Short, Step, Function, Actual, Evaluated, Accessed, Actuals, no_actual, next_actual}
 use Rattle.ep_typed.specs.Valid.{Declarations, Kind, Ordinal, Bytes, IsUnary, IsBinary, IsTypeOf, IsExpr, AreGiven, IsDeclaredUp, Level, variables_at, variables_up}
 use Rattle.ep_typed.specs.declared.interface.Formal.{Formal}
 use Rattle.ep_typed.specs.declared.interface.RoutineEntry.{RoutineEntry}
@@ -43,7 +45,7 @@ use Rattle.ep_typed.specs.declared.operations.ShortOperation.{ShortOperation}
 use Rattle.ep_typed.specs.declared.operations.Unary.{Unary}
 use Rattle.ep_typed.specs.Hosts.{Host, least, greatest, is_of_host}
 use Rattle.ep_typed.specs.Hosts as host
-use Rattle.ep_typed.specs.TypeValues.{TypeValue}
+use Rattle.ep_typed.specs.TypeValues.{ComponentTypes, TypeValue, type_among}
 use Rattle.ep_typed.specs.TypeValues as type
 use Rattle.ep_typed.specs.declared.unit.UnitVariable.{UnitVariable}
 use Rattle.ep_gen_expr.specs.Following.{least_credit, HasPlaceType, IsValidPlace}
@@ -54,7 +56,7 @@ use Rattle.ep_gen_expr.proofs.Calls.{passed_then, function_follows}
 use Rattle.ep_gen_expr.proofs.ShortCircuit.{kept_follows}
 use Rattle.ep_gen_expr.proofs.OneOperand.{UnaryFollows, unary_follows}
 use Rattle.ep_gen_expr.proofs.Placed.{code_front, code_back, text_at, variable_at}
-use Rattle.ep_gen_expr.proofs.PlaceTypes.{IsArrayWhere, valid_place, typed_place, ordinal_place, variable_type}
+use Rattle.ep_gen_expr.proofs.PlaceTypes.{IsArrayWhere, IsRecordWhere, valid_place, typed_place, ordinal_place, variable_type}
 use Rattle.ep_gen_expr.proofs.Stepping.{step_follows}
 use Rattle.ep_gen_expr.proofs.TwoOperands.{BinaryFollows, binary_follows}
 use Rattle.ep_object.specs.declared.op.TheConstants as op
@@ -72,6 +74,18 @@ load_ends declared G unit at_place line h (type.Ordinal low high) of_host has in
     subst (λ u. FailsWith G (at at_place (operand.Place q ∷ below) memory s.trace) 0 11 u line s) unit_is (load_fails declared G at_place line below low high a q has injection memory spot described s matches ended)
 load_ends declared G unit at_place line h type.Text of_host has injection memory below a q spot described unit_is s matches ended = absurd of_host
 load_ends declared G unit at_place line h (type.Array low high of) of_host has injection memory below a q spot described unit_is s matches ended = absurd of_host
+load_ends declared G unit at_place line h (type.Record ts) of_host has injection memory below a q spot described unit_is s matches ended = absurd of_host
+
+-- `Field` of one
+field_ends : (declared : Declarations) (G : Image) (unit : List ℕ) (at_place line : ℕ) (ts : ComponentTypes) (k : ℕ) (of : TypeValue) → IsAmong 0 ts k of
+    → slice_get G.instructions at_place ≡ Some (instr op.FIELD (pos k) 0 line)
+    → (injection : Injection) (memory : Memory) (below : List Operand) (a : Component) (q : PlaceOf)
+    → IsSpot injection memory.types a q → Describes memory.types q.type_number (type.Record ts)
+    → unit_in G memory.frames ≡ unit → (s : meaning.State) → Matches declared G injection s memory
+    → has_ended a.allocation s ≡ true
+    → FailsWith G (at at_place (operand.Place q ∷ below) memory s.trace) 0 run_error.DISPOSED unit line s
+field_ends declared G unit at_place line ts k of among has injection memory below a q spot described unit_is s matches ended =
+    subst (λ u. FailsWith G (at at_place (operand.Place q ∷ below) memory s.trace) 0 run_error.DISPOSED u line s) unit_is (field_fails declared G at_place line below ts k of a q has injection memory spot described among s matches ended)
 
 -- `Index` of one
 index_ends : (declared : Declarations) (G : Image) (unit : List ℕ) (at_place line : ℕ) (low high : ℤ) (of : TypeValue) (z : ℤ)
@@ -163,6 +177,27 @@ module _ {declared : Declarations} {G : Image} {untouched : Slots} {Here : Facts
       (λ s matches ended. index_ends declared G unit last line low high t z has.0 v2 m2 below a b spot2 described2 home s matches ended) (omega arith)
       (λ s matches here living. follows_fetch {e = λ c. d + 8} (point v2 m2 last (operand.Word z ∷ operand.Place b ∷ below)) (λ s. component_number (type_at a s) z) (λ k. component a k) s (index_finds last line low high t z has.0 v2 m2 below a b spot2 described2 home s matches here living) (omega arith) (λ k. omega arith))))))
 
+  -- one instruction with its step, which leaves a component
+  field_paid : (n d : ℕ) {from : ℕ} {operands : List Operand} {to : ℕ} {Then : Component → Operands} (s : meaning.State) (injection : Injection) (memory : Memory) (c : Component)
+      → Does declared G Here (standing from operands memory s.trace) 0 to (Inside untouched injection memory (Then c)) s
+      → Follows (λ k. IsNotLeft memory.frames k.frames) G (suc n) (standing from operands memory s.trace) s (spend 1 (give c)) (λ x. Lands declared G Here to (Inside untouched injection memory (Then x))) (d + 8) (λ c. d + 8)
+  field_paid n d s injection memory c does =
+      follows_paid {v = 0} {w = 0} {d1 = d + 8} (not_left-here memory.frames) refl does.does (omega arith) (omega arith) (omega arith) (follows_give c (omega arith) (landed does))
+
+  -- the component of a record, by the record and `Field`
+  field_follows : (n : ℕ) (ts : ComponentTypes) (k : ℕ) (t : TypeValue) → type_among ts k ≡ Some t → (q : Place) (line at : ℕ) (xs : List Instr)
+      → IsPlaceFollowed declared G untouched Here p call g unit n (type.Record ts) q line at xs
+      → CodeStands G ps p references (at + length xs) (instr op.FIELD (pos k) 0 line ∷ [])
+      → IsPlaceFollowed declared G untouched Here p call g unit n t (Field q k) line at (xs ++ instr op.FIELD (pos k) 0 line ∷ [])
+  field_follows n ts k t is q line at xs follows has injection memory below d le unit_is =
+      let middle : ℕ = p.instructions.before + (at + length xs) in
+      let among : IsAmong 0 ts k t = among_there 0 ts k t is in
+      fragment_bind_place (λ a. steady_selected call steady_call g unit line a k) (follows injection memory below d le unit_is) (λ a b longer after grown routine spot described.
+      let home : unit_in G after.frames ≡ unit = unit_in-same G routine ∙ unit_is in
+      fragment_less {n = suc n} (omega arith) (fragment_to (omega (arith, length-append xs (instr op.FIELD (pos k) 0 line ∷ []))) (fragment_using {n = suc n} {e = λ c. d + 8} a.allocation
+      (λ s matches ended. field_ends declared G unit middle line ts k t among has.0 longer after below a b spot described home s matches ended) (omega arith)
+      (λ s matches here living. field_paid n d s longer after (component a k) (field_does declared G middle line below ts k t a b has.0 longer after spot described among s matches here living)))))
+
   -- what `Load` finds of a variable of a type of the host
   load_finds : (place line : ℕ) (h : Host) (t : TypeValue) → IsTypeOf h t
       → slice_get G.instructions place ≡ Some (instr op.LOAD (pos 0) 0 line)
@@ -175,6 +210,7 @@ module _ {declared : Declarations} {G : Image} {untouched : Slots} {Here : Facts
       subst (λ u. Reads declared G Here (at place (operand.Place q ∷ below) memory s.trace) 1 u line (place + 1) (λ w. Inside untouched injection memory (OnTop (Ordinal h) below (result.Number w))) s (word_at a s)) unit_is (load_reads declared G place line below h low high a q of_host has injection memory spot described s matches here living)
   load_finds place line h type.Text of_host has injection memory below a q spot described unit_is s matches here living = absurd of_host
   load_finds place line h (type.Array low high of) of_host has injection memory below a q spot described unit_is s matches here living = absurd of_host
+  load_finds place line h (type.Record ts) of_host has injection memory below a q spot described unit_is s matches here living = absurd of_host
 
   -- the value of a variable, by its place and `Load`
   read_follows : (n : ℕ) (h : Host) (t : TypeValue) → IsTypeOf h t → (q : Place) (line at : ℕ) (xs : List Instr) → IsPlaceFollowed declared G untouched Here p call g unit n t q line at xs → CodeStands G ps p references (at + length xs) (bare line op.LOAD ∷ []) → IsFollowed declared G untouched Here p call g unit n (Ordinal h) (Read q) line at (xs ++ bare line op.LOAD ∷ [])
@@ -257,6 +293,14 @@ module _ {declared : Declarations} {G : Image} {untouched : Slots} {Here : Facts
             (place_follows q v.valid (type.Array low high t) has_type line at xs q_code (code_front G ps p references at xs (ys ++ index ∷ []) all) (omega (arith, ends, inside)))
             (expression_follows (Ordinal h) x (element.3).2 line (at + length xs) ys x_code (code_front G ps p references (at + length xs) ys (index ∷ []) rest) (omega (arith, ends, inside)))
             (code_back G ps p references (at + length xs) ys (index ∷ []) rest))
+        place_follows (Field q k) valid t (ts, has_type, among) line at code (xs, q_code, is) stands inside =
+            let field : Instr = instr op.FIELD (pos k) 0 line in
+            let all : CodeStands G ps p references at (xs ++ field ∷ []) = subst (λ c. CodeStands G ps p references at c) is stands in
+            let ends : length code ≡ length xs + 1 = omega (arith, ap length is, length-append xs (field ∷ [])) in
+            subst (λ c. IsPlaceFollowed declared G untouched Here p call g unit n t (Field q k) line at c) (sym is)
+            (field_follows n ts k t among q line at xs
+            (place_follows q (valid_place declared (IsRecordWhere (λ types d. ⊤) k) q valid) (type.Record ts) has_type line at xs q_code (code_front G ps p references at xs (field ∷ []) all) (omega (arith, ends, inside)))
+            (code_back G ps p references at xs (field ∷ []) all))
 
         -- What the machine does from the code of an expression follows the meaning of the expression.
         pub expression_follows : (kind : Kind) (x : Expr) → IsExpr declared kind x → (line at : ℕ) (code : List Instr) → IsExprCode texts references line at x code → CodeStands G ps p references at code → at + length code < p.instructions.own → (injection : Injection) (memory : Memory) (below : List Operand) (d : ℕ) → least_credit ≤ d → unit_in G memory.frames ≡ unit → Fragment declared G Here n (point injection memory (p.instructions.before + at) below) (eval call g unit line x) (p.instructions.before + (at + length code)) (λ r. Inside untouched injection memory (OnTop kind below r)) d (λ r. d + 8 + weight_of r)

@@ -3,7 +3,7 @@ use Rattle.std.proofs.Common.{◌≡◌, ℕ, ℤ, pos, ◌+◌, ◌<◌, ◌-�
 use Rattle.ep_object.specs.declared.code.Instr.{Instr}
 use Rattle.ep_object.specs.declared.code.Reference.{Reference}
 use Rattle.ep_typed.specs.Operations.{last_char}
-use Rattle.ep_typed.specs.Trees.{Place, Variable, Own, Standard, Indexed, Expr, Constant, Text, Read, One, Two, Short, Step}
+use Rattle.ep_typed.specs.Trees.{Place, Variable, Own, Standard, Indexed, Field, Expr, Constant, Text, Read, One, Two, Short, Step}
 use Rattle.ep_typed.specs.declared.operations.Unary.{Unary}
 use Rattle.ep_typed.specs.declared.operations.Unary.TheVariants as unary
 use Rattle.ep_typed.specs.declared.operations.Binary.{Binary}
@@ -107,6 +107,10 @@ pub appends_indexed : {a b c d : Code} (array : Place) (index : Expr) → Append
 appends_indexed {a = a} array index p q r =
     whole_place (Indexed array index) (p.code ++ (q.code ++ bare a.line op.INDEX ∷ [])) (p.code, q.code, place_part array p (grows_then q.grows r), second_part index p.grows q r, refl) (after_parts (λ line. bare line op.INDEX ∷ []) p.grows q.grows r)
 
+pub appends_field : {a b c : Code} (p : Place) (number : ℕ) → AppendsPlace a b p → Grows b c (instr op.FIELD (pos number) 0 b.line ∷ []) → AppendsPlace a c (Field p number)
+appends_field {a = a} x number p q =
+    whole_place (Field x number) (p.code ++ instr op.FIELD (pos number) 0 a.line ∷ []) (p.code, place_part x p q, refl) (grows_at (λ line. instr op.FIELD (pos number) 0 line ∷ []) p.grows q)
+
 pub appends_two : {a b c d : Code} (operation : Binary) (x y : Expr) → AppendsExpr a b x → AppendsExpr b c y → Grows c d (two_code c.line operation ∷ []) → AppendsExpr a d (Two operation x y)
 appends_two {a = a} operation x y p q r =
     whole_expr (Two operation x y) (p.code ++ (q.code ++ two_code a.line operation ∷ [])) (p.code, q.code, first_part x p (grows_then q.grows r), second_part y p.grows q r, refl) (after_parts (λ line. two_code line operation ∷ []) p.grows q.grows r)
@@ -209,4 +213,4 @@ on_ok (Err e) f h = tt
 
 pub ruleset numbers = (numbers_old_text, numbers_old_reference)
 
-pub ruleset forms = (appends_variable, appends_own, appends_standard, appends_indexed, appends_constant, appends_text, appends_read, appends_one, appends_two, appends_step)
+pub ruleset forms = (appends_variable, appends_own, appends_standard, appends_indexed, appends_field, appends_constant, appends_text, appends_read, appends_one, appends_two, appends_step)

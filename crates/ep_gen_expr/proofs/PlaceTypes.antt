@@ -1,14 +1,14 @@
 -- The type values of valid places.
-use Rattle.std.proofs.Common.{◌≡◌, Some, List, subst}
+use Rattle.std.proofs.Common.{◌≡◌, ℕ, Some, List, subst}
 use Rattle.std.specs.Bool.{⊤}
 use Rattle.ep_gen_expr.specs.Following.{HasPlaceType, IsValidPlace}
 use Rattle.ep_object.specs.Scene.{HaveValidTypes, HaveValidOwnTypes}
 use Rattle.ep_typed.proofs.Denoters.{types_are_instances, instances_are_one}
-use Rattle.ep_typed.proofs.Typed.{HasParts, typed_instance, typed_of_host, typed_parts}
-use Rattle.ep_typed.specs.Denoters.{ArrayParts, array_of, host_of, type_of}
+use Rattle.ep_typed.proofs.Typed.{HasComponents, HasParts, typed_among, typed_components, typed_instance, typed_of_host, typed_parts}
+use Rattle.ep_typed.specs.Denoters.{ArrayParts, array_of, denoter_at, host_of, record_of, type_of}
 use Rattle.ep_typed.specs.Hosts.{Host}
-use Rattle.ep_typed.specs.Trees.{Denoter, Place, Variable, Own, Standard, Indexed, Expr}
-use Rattle.ep_typed.specs.TypeValues.{TypeValue}
+use Rattle.ep_typed.specs.Trees.{Denoter, Denoters, Place, Variable, Own, Standard, Indexed, Field, Expr}
+use Rattle.ep_typed.specs.TypeValues.{TypeValue, type_among}
 use Rattle.ep_typed.specs.Valid.{Declarations, Ordinal, IsTyped, IsTypeOf, IsExpr, IsPlace, IsPlaceWhere, IsVariableOf}
 use Rattle.ep_typed.specs.Viewed.{denoter_of}
 use Rattle.ep_typed.specs.declared.unit.UnitType.{UnitType}
@@ -18,6 +18,10 @@ abbrev pub IsArrayWhere : Declarations → (List UnitType → Denoter → Type 0
 IsArrayWhere declared Holds x types d =
     (a : ArrayParts) × (array_of types d ≡ Some a) × Holds types a.component × ((h : Host) × (host_of types a.index ≡ Some h) × IsExpr declared (Ordinal h) x)
 
+-- the denoter is that of a record, of whose component with this number this holds
+abbrev pub IsRecordWhere : (List UnitType → Denoter → Type 0) → ℕ → List UnitType → Denoter → Type 0
+IsRecordWhere Holds number types d = (ds : Denoters) × (record_of types d ≡ Some ds) × (c : Denoter) × (denoter_at ds number ≡ Some c) × Holds types c
+
 -- what holds of the denoter of a place may be less
 place_less : (declared : Declarations) (Holds Less : List UnitType → Denoter → Type 0) → ((types : List UnitType) (d : Denoter) → Holds types d → Less types d) → (q : Place) → IsPlaceWhere declared Holds q → IsPlaceWhere declared Less q
 place_less declared Holds Less less (Variable unit k) (v, is_declared, holds) = (v, is_declared, less (declared.types unit) (denoter_of v.denoter) holds)
@@ -25,6 +29,8 @@ place_less declared Holds Less less (Own up k) (v, is_declared, holds) = (v, is_
 place_less declared Holds Less less (Standard file) is = absurd is
 place_less declared Holds Less less (Indexed q x) is =
     place_less declared (IsArrayWhere declared Holds x) (IsArrayWhere declared Less x) (λ types d holds. (holds.0, holds.1, less types (holds.0).component holds.2, holds.3)) q is
+place_less declared Holds Less less (Field q number) is =
+    place_less declared (IsRecordWhere Holds number) (IsRecordWhere Less number) (λ types d holds. (holds.0, holds.1, holds.2, holds.3, less types holds.2 holds.4)) q is
 
 -- a place of whose denoter something holds is valid
 pub valid_place : (declared : Declarations) (Holds : List UnitType → Denoter → Type 0) (q : Place) → IsPlaceWhere declared Holds q → IsValidPlace declared q
@@ -85,6 +91,20 @@ module _ (declared : Declarations) (types_valid : HaveValidTypes declared) (own_
         denoter = (holds.0).component;
         holds = holds.2;
         typed = parts.component;
+      }
+  typed_place Holds (Field q number) is =
+      let v = typed_place (IsRecordWhere Holds number) q is in
+      let holds : IsRecordWhere Holds number v.types v.denoter = v.holds in
+      let all : HasComponents v.types holds.0 v.type_value = typed_components v.types v.denoter v.type_value holds.0 v.typed holds.1 in
+      let one : (t : TypeValue) × (type_among all.types_of number ≡ Some t) × IsTyped v.types holds.2 t = typed_among v.types holds.0 all.types_of number holds.2 all.all holds.3 in
+      record {
+        valid = valid_place declared Holds (Field q number) is;
+        type_value = one.0;
+        has_type = (all.types_of, subst (λ t. HasPlaceType declared q t) all.is v.has_type, one.1);
+        types = v.types;
+        denoter = holds.2;
+        holds = holds.4;
+        typed = one.2;
       }
 
   -- a place of a host has a type value of the host

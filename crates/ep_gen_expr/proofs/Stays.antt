@@ -1,15 +1,15 @@
 -- Code stays code when the tables grow, and is short.
-use Rattle.std.proofs.Common.{◌≡◌, ℕ, ℤ, ◌+◌, ◌*◌, ◌≤◌, Bool, true, false, List, [], ◌∷◌, ◌++◌, length, ap, arith, length-append}
+use Rattle.std.proofs.Common.{◌≡◌, ℕ, ℤ, pos, ◌+◌, ◌*◌, ◌≤◌, Bool, true, false, List, [], ◌∷◌, ◌++◌, length, ap, arith, length-append}
 use Rattle.ep_outside.specs.Known.{IsPrefix}
 use Rattle.ep_object.specs.declared.code.Instr.{Instr}
 use Rattle.ep_object.specs.declared.code.Reference.{Reference}
-use Rattle.ep_typed.specs.Trees.{Place, Variable, Own, Standard, Indexed, Expr, Constant, Text, Read, One, Two, Short, Step, Function, Actual, Evaluated, Accessed, Actuals, no_actual, next_actual}
+use Rattle.ep_typed.specs.Trees.{Place, Variable, Own, Standard, Indexed, Field, Expr, Constant, Text, Read, One, Two, Short, Step, Function, Actual, Evaluated, Accessed, Actuals, no_actual, next_actual}
 use Rattle.ep_typed.specs.declared.operations.Unary.{Unary}
 use Rattle.ep_typed.specs.declared.operations.Unary.TheVariants as unary
 use Rattle.ep_typed.specs.declared.operations.ShortOperation.{ShortOperation}
 use Rattle.ep_typed.specs.declared.operations.ShortOperation.TheVariants as short
 use Rattle.ep_typed.specs.Nodes.{place_nodes, expr_nodes, actual_nodes, actuals_nodes}
-use Rattle.ep_gen_expr.specs.ExprCode.{IsPlaceCode, IsExprCode, IsActualCode, AreActualsCode, reference, one_code, two_code, keep_code, step_code, bare}
+use Rattle.ep_gen_expr.specs.ExprCode.{IsPlaceCode, IsExprCode, IsActualCode, AreActualsCode, instr, reference, one_code, two_code, keep_code, step_code, bare}
 use Rattle.ep_gen_expr.proofs.Pushed.{get_later}
 use Rattle.ep_object.specs.declared.op.TheConstants as op
 
@@ -21,6 +21,7 @@ module _ (ts us : List (List ℕ)) (rs ss : List Reference) (line : ℕ) (a : Is
     place_code_stays at (Own levels number) is h = h
     place_code_stays at (Standard file) is h = h
     place_code_stays at (Indexed p x) is h = (h.0, h.1, place_code_stays at p h.0 h.2, expr_code_stays (at + length h.0) x h.1 h.3, h.4)
+    place_code_stays at (Field p number) is h = (h.0, place_code_stays at p h.0 h.1, h.2)
 
     -- that of an expression
     pub expr_code_stays : (at : ℕ) (x : Expr) (is : List Instr) → IsExprCode ts rs line at x is → IsExprCode us ss line at x is
@@ -81,6 +82,7 @@ module _ (ts : List (List ℕ)) (rs : List Reference) (line : ℕ) where
     place_code_short at (Standard file) is h = omega (arith, ap length h)
     place_code_short at (Indexed p x) is h =
         index_short h.0 h.1 _ is h.4 (place_nodes p) (expr_nodes x) (place_code_short at p h.0 h.2) (expr_code_short (at + length h.0) x h.1 h.3)
+    place_code_short at (Field p number) is h = omega (arith, ap length h.2, length-append h.0 (instr op.FIELD (pos number) 0 line ∷ []), place_code_short at p h.0 h.1)
 
     -- so is that of an expression
     pub expr_code_short : (at : ℕ) (x : Expr) (is : List Instr) → IsExprCode ts rs line at x is → length is + 8 ≤ 32 * expr_nodes x

@@ -6,7 +6,7 @@ pub use Rattle.ep_object.specs.Table.{instr}
 use Rattle.ep_object.specs.declared.code.Instr.{Instr}
 use Rattle.ep_object.specs.declared.code.Reference.{Reference}
 use Rattle.ep_typed.specs.Operations.{last_char}
-use Rattle.ep_typed.specs.Trees.{Place, Variable, Own, Standard, Indexed, Expr, Constant, Text, Read, One, Two, Short, Step, Function, Actual, Evaluated, Accessed, Actuals, no_actual, next_actual}
+use Rattle.ep_typed.specs.Trees.{Place, Variable, Own, Standard, Indexed, Field, Expr, Constant, Text, Read, One, Two, Short, Step, Function, Actual, Evaluated, Accessed, Actuals, no_actual, next_actual}
 use Rattle.ep_typed.specs.declared.operations.Unary.{Unary}
 use Rattle.ep_typed.specs.declared.operations.Unary.TheVariants as unary
 use Rattle.ep_typed.specs.declared.operations.Binary.{Binary}
@@ -89,12 +89,13 @@ standard_code line file = instr op.UNIT constant.STANDARD_UNIT (standard_number 
 module _ (texts : List (List ℕ)) (references : List Reference) (line : ℕ) where
   abbrev mutual
     -- The code of a place that begins at this place of the object, whose instructions have this line. An indexed variable (ISO
-    -- 10206, 6.5.3.2) is the array, the index, and `Index`.
+    -- 10206, 6.5.3.2) is the array, the index, and `Index`, and a field designator (6.5.3.3) the record and `Field`.
     pub IsPlaceCode : ℕ → Place → List Instr → Type 0
     IsPlaceCode at (Variable unit number) is = (k : ℕ) × (slice_get references k ≡ Some (reference unit number)) × (is ≡ instr op.UNIT (pos k) 0 line ∷ [])
     IsPlaceCode at (Own levels number) is = is ≡ instr op.SLOT (pos number) levels line ∷ []
     IsPlaceCode at (Standard file) is = is ≡ standard_code line file ∷ []
     IsPlaceCode at (Indexed p x) is = (xs ys : List Instr) × IsPlaceCode at p xs × IsExprCode (at + length xs) x ys × (is ≡ xs ++ (ys ++ bare line op.INDEX ∷ []))
+    IsPlaceCode at (Field p number) is = (xs : List Instr) × IsPlaceCode at p xs × (is ≡ xs ++ instr op.FIELD (pos number) 0 line ∷ [])
 
     -- the code of an expression that begins at this place, whose instructions have this line
     pub IsExprCode : ℕ → Expr → List Instr → Type 0

@@ -16,10 +16,10 @@ use Rattle.ep_typed.specs.Steady.{IsSteadyHandler}
 use Rattle.ep_typed.specs.Calls.{Handler}
 use Rattle.ep_typed.specs.Meaning.{eval, place, weight_of}
 use Rattle.ep_typed.specs.Steps.{State, Computation}
-use Rattle.ep_typed.specs.Trees.{Place, Variable, Own, Standard, Indexed, Expr}
+use Rattle.ep_typed.specs.Trees.{Place, Variable, Own, Standard, Indexed, Field, Expr}
 use Rattle.ep_typed.specs.Valid.{Declarations, Kind, IsExpr, IsPlaceWhere, variables_up}
 use Rattle.ep_typed.specs.declared.unit.UnitVariable.{UnitVariable}
-use Rattle.ep_typed.specs.TypeValues.{TypeValue, Array}
+use Rattle.ep_typed.specs.TypeValues.{ComponentTypes, TypeValue, Array, Record, type_among}
 
 -- the credit that is there before each fragment of code: what instructions without a step may cost within it
 abbrev pub least_credit : ℕ
@@ -33,12 +33,13 @@ IsFollowedThrough declared G p unit untouched n at code c Then gain =
     → Fragment declared G (Since untouched injection begun memory) n (point injection memory (p.instructions.before + at) below) c (p.instructions.before + (at + length code)) (λ a. Inside untouched injection memory (Then below a)) credit (λ a. credit + gain a)
 
 -- the type value of a place: that of a variable which is declared, of one of the routine or of those around it, or of the
--- components of an array
+-- components of an array, or of a component of a record
 abbrev pub HasPlaceType : Declarations → Place → TypeValue → Type 0
 HasPlaceType declared (Variable unit k) t = (v : UnitVariable) × (declared.variables unit k ≡ Some v) × HasType declared unit v t
 HasPlaceType declared (Own up k) t = (v : UnitVariable) × (slice_get (variables_up declared up) k ≡ Some v) × HasOwnType declared v t
 HasPlaceType declared (Standard file) t = ⊥
 HasPlaceType declared (Indexed p x) t = (low high : ℤ) × HasPlaceType declared p (Array low high t)
+HasPlaceType declared (Field p k) t = (ts : ComponentTypes) × HasPlaceType declared p (Record ts) × (type_among ts k ≡ Some t)
 
 -- the place is valid, whatever type it has
 abbrev pub IsValidPlace : Declarations → Place → Type 0

@@ -2,7 +2,7 @@
 
 ghost use Rattle.std.specs.Prelude.{OnOk, map};
 ghost use Rattle.ep_typed.specs.Trees as tree;
-ghost use Rattle.ep_typed.specs.Trees.{entire, Constant, Function, Indexed, One, Own, Read, Short, Step, Text, Two, Variable};
+ghost use Rattle.ep_typed.specs.Trees.{entire, Constant, Field, Function, Indexed, One, Own, Read, Short, Step, Text, Two, Variable};
 ghost use Rattle.ep_typed.specs.Viewed.{actual_of, callee_of, entire_of, expr_of, place_of};
 ghost use Rattle.ep_gen_expr.specs.Growth.{AppendsActual, AppendsActuals, AppendsExpr, AppendsPlace};
 
@@ -29,6 +29,7 @@ pub fn place_code(alloc: Global, p: &TypedPlace, code: &mut Code) -> Result<(), 
         TypedPlace::Own(levels, number) => own_code(*levels, *number, code),
         TypedPlace::Standard(file) => standard_code(*file, code),
         TypedPlace::Indexed(array, index) => index_code(alloc, array.get(), index.get(), code),
+        TypedPlace::Field(variable, number) => field_code(alloc, variable.get(), *number, code),
     }
 }
 
@@ -73,6 +74,21 @@ fn index_code(
     place_code(alloc, array, code)?;
     expression_code(alloc, index, code)?;
     emit(code, op::INDEX, 0, 0)
+}
+
+/// Appends the code of the component of a record with this number (ISO 10206, 6.5.3.3).
+#[cycle(expression)]
+#[tactic(auto, using(crate::proofs::Forms::forms))]
+fn field_code(
+    alloc: Global,
+    variable: &TypedPlace,
+    number: u32,
+    code: &mut Code,
+) -> Result<(), NoMemory>
+    ensures { OnOk result (AppendsPlace code.old code.new (Field (place_of variable.now) number)) }
+{
+    place_code(alloc, variable, code)?;
+    emit(code, op::FIELD, number as i64, 0)
 }
 
 /// Appends the code of an expression, which leaves its value.

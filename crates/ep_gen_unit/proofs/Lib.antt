@@ -16,6 +16,7 @@ pub mod ProgramForms
 pub mod Programs
 mod Results
 mod Routines
+mod Sized
 pub mod Simple
 pub mod Starts
 pub mod StmtMoves

@@ -7,6 +7,7 @@ use Rattle.ep_gen_unit.specs.StmtCode.{make_code, make_all_code}
 use Rattle.ep_gen_unit.specs.TypeCode.{type_code}
 use Rattle.ep_gen_unit.proofs.Elaborating.{elaborates}
 use Rattle.ep_gen_unit.specs.UnitLaws.{AreDeclared}
+use Rattle.ep_gen_unit.proofs.Sized.{fragment_sized}
 use Rattle.ep_gen_unit.proofs.Parts.{code_stands-parts}
 use Rattle.ep_object.specs.Follows.{point, Facts, Lasts, Fragment, Inside, Bare, SameRoutine}
 use Rattle.ep_object.specs.Matching.{Slots, Memory, Injection, Describes, HasType}
@@ -16,13 +17,11 @@ use Rattle.ep_object.specs.State.{Frames}
 use Rattle.ep_object.specs.declared.code.Image.{Image}
 use Rattle.ep_object.specs.declared.code.ImageUnit.{ImageUnit}
 use Rattle.ep_object.specs.declared.code.Reference.{Reference}
-use Rattle.ep_object.proofs.following.Fragments.{inside_bind, fragment_bind_bare, fragment_credit, fragment_give, fragment_to, fragment_less}
+use Rattle.ep_object.proofs.following.Fragments.{inside_bind, fragment_bind_bare, fragment_credit, fragment_give, fragment_to}
 use Rattle.ep_object.proofs.matching.Growing.{inside_here, no_calls}
-use Rattle.ep_object.proofs.following.Losing.{fragment_counted}
 use Rattle.ep_object.proofs.rows.MakeRow.{RunsInUnit, make_does}
 use Rattle.ep_object.specs.Scene.{HaveValidTypes}
 use Rattle.ep_object.proofs.rows.NewTypes.{TypeOnTop}
-use Rattle.ep_object.proofs.matching.NewSegments.{has_words}
 use Rattle.ep_object.specs.declared.code.Instr.{Instr}
 use Rattle.ep_typed.specs.Steady.{IsSteadyHandler}
 use Rattle.ep_typed.specs.Calls.{Handler}
@@ -30,7 +29,7 @@ use Rattle.ep_typed.proofs.Denoters.{types_are_instances}
 use Rattle.ep_typed.proofs.Typed.{typed_value}
 use Rattle.ep_typed.proofs.Steady.{grows_made, steady_allocate, steady_make_all}
 use Rattle.ep_typed.specs.Meaning.{make, make_all}
-use Rattle.ep_typed.specs.Steps.{Computation, bind, spend, change, counted, made, allocate, size_of}
+use Rattle.ep_typed.specs.Steps.{Computation, counted, made, allocate, size_of}
 use Rattle.ep_typed.specs.Valid.{Declarations, IsDenoter, IsTypeValue}
 use Rattle.ep_typed.specs.Viewed.{denoter_of}
 use Rattle.ep_typed.specs.TypeValues.{TypeValue}
@@ -63,13 +62,11 @@ module _ (declared : Declarations) (G : Image) (untouched : Slots) (Here : Facts
     make_row_moves : (t : TypeValue) (type_number : ℕ) → IsTypeValue t
         → ((v : UnitVariable) → declared.variables x.name number ≡ Some v → HasType declared x.name v t)
         → (place : ℕ) → slice_get G.instructions place ≡ Some (instr op.MAKE (pos number) 0 line)
-        → (injection : Injection) (memory : Memory) (below : List Operand) (d : ℕ) → 1 ≤ d
+        → (injection : Injection) (memory : Memory) (below : List Operand) (d left : ℕ) → 1 ≤ d → left ≤ d → (size_of t ≡ 0 → suc left ≤ d)
         → RunsInUnit G memory.frames x → Describes memory.types type_number t
-        → Fragment declared G Here n (point injection memory place (Word (pos type_number) ∷ below)) (allocate x.name number t) (place + 1) (λ a. Inside untouched injection memory (Bare below a)) d (λ a. d)
-    make_row_moves t type_number valid declared_so place has injection memory below d enough home described =
-        let w = has_words t valid in
-        subst (λ m. Fragment declared G Here n (point injection memory place (Word (pos type_number) ∷ below)) (bind (change (counted t)) (λ _. spend m (change (made x.name number t)))) (place + 1) (λ a. Inside untouched injection memory (Bare below a)) d (λ a. d)) (sym w.1)
-        (fragment_less {n = suc n} (omega arith) (fragment_counted {weight = size_of t} w.0 (counted t) (made x.name number t) tt (λ s. refl) (grows_made x.name number t) (λ s matches here. make_does declared G place line below t type_number number x has distinct valid declared_so injection memory s home within (free memory.frames.unit home.unit number v is_declared) described lasts matches here) enough (omega (arith, w.1)) (omega (arith, w.1)) (omega (arith, w.1))))
+        → Fragment declared G Here n (point injection memory place (Word (pos type_number) ∷ below)) (allocate x.name number t) (place + 1) (λ a. Inside untouched injection memory (Bare below a)) d (λ a. left)
+    make_row_moves t type_number valid declared_so place has injection memory below d left enough less empty home described =
+        fragment_sized (counted t) (made x.name number t) (λ s. refl) (grows_made x.name number t) enough less (size_of t) empty (λ s matches here. make_does declared G place line below t type_number number x has distinct valid declared_so injection memory s home within (free memory.frames.unit home.unit number v is_declared) described lasts matches here)
 
   -- a variable is made in its slot
   one_moves : (g number at : ℕ) (v : UnitVariable) → declared.variables x.name number ≡ Some v
@@ -89,8 +86,8 @@ module _ (declared : Declarations) (G : Image) (untouched : Slots) (Here : Facts
       (λ a longer after pushed grown routine top.
       subst (λ u. Fragment declared G Here n (point longer after (p.instructions.before + (at + length code)) pushed) (allocate x.name number u) (p.instructions.before + (at + length (code ++ instr op.MAKE (pos number) 0 v.line ∷ []))) (λ b. Inside untouched longer after (Bare below b)) (d + 3) (λ b. d)) (sym top.type_is)
       (subst (λ o. Fragment declared G Here n (point longer after (p.instructions.before + (at + length code)) o) (allocate x.name number t) (p.instructions.before + (at + length (code ++ instr op.MAKE (pos number) 0 v.line ∷ []))) (λ b. Inside untouched longer after (Bare below b)) (d + 3) (λ b. d)) (sym top.is)
-      (fragment_to ends (fragment_credit {d = d + 3} {e = λ b. d + 3} (omega arith) (λ b. omega arith)
-      (make_row_moves number v.line at v is_declared within t top.number is_type has_type (p.instructions.before + (at + length code)) parts.1.0 longer after below (d + 3) (omega (arith, enough)) (same_frame G x memory.frames after.frames routine home) top.described)))))
+      (fragment_to ends (fragment_credit {d = d + 3} {e = λ b. d} (omega arith) (λ b. omega arith)
+      (make_row_moves number v.line at v is_declared within t top.number is_type has_type (p.instructions.before + (at + length code)) parts.1.0 longer after below (d + 3) d (omega (arith, enough)) (omega arith) (λ e. omega arith) (same_frame G x memory.frames after.frames routine home) top.described)))))
 
   -- and so are the variables from this number on
   all_moves : (g number at : ℕ) (vs : List UnitVariable) → AreDeclared declared x.name number vs

@@ -7,6 +7,7 @@ use Rattle.ep_gen_expr.proofs.Placed.{instr_at}
 use Rattle.ep_gen_unit.specs.StmtCode.{make_code, make_all_code, value_code, place_taken, take_code, take_all_code}
 use Rattle.ep_gen_unit.specs.TypeCode.{type_code}
 use Rattle.ep_gen_unit.proofs.Elaborating.{elaborates}
+use Rattle.ep_gen_unit.proofs.Sized.{fragment_sized}
 use Rattle.ep_gen_unit.proofs.Parts.{code_stands-parts, ordinal_of_host}
 use Rattle.ep_object.specs.Activations.{InActivation}
 use Rattle.ep_object.specs.Follows.{point, operand_of, Fragment, Lasts, StillRuns, Inside}
@@ -24,11 +25,9 @@ use Rattle.ep_object.specs.Scene.{HaveValidOwnTypes}
 use Rattle.ep_object.specs.declared.code.Image.{Image}
 use Rattle.ep_object.specs.declared.code.Reference.{Reference}
 use Rattle.ep_object.proofs.following.Fragments.{fragment_bind, fragment_credit, fragment_weaken, fragment_post, fragment_give, fragment_from, fragment_to, fragment_less}
-use Rattle.ep_object.proofs.following.Losing.{fragment_counted}
 use Rattle.ep_object.proofs.matching.Growing.{same_routine-refl, still_routine, still_runs-trans, unit_in-still}
 use Rattle.ep_object.proofs.matching.Awaiting.{arguments_in, AreAwaited, awaited-grown, awaited-taken, without_argument}
 use Rattle.ep_object.proofs.rows.NewTypes.{TypeOnTop}
-use Rattle.ep_object.proofs.matching.NewSegments.{has_words}
 use Rattle.ep_object.proofs.rows.ArgumentRows.{Taken, taken-later, same_arguments, value_taken, variable_taken}
 use Rattle.ep_object.proofs.rows.OwnRows.{StillBare, MadeOwn, in_frame, make_own_does}
 use Rattle.ep_typed.specs.Steady.{IsSteadyHandler}
@@ -71,13 +70,11 @@ module _ (declared : Declarations) (G : Image) (untouched : Slots) (first : Inje
     make_row_moves : (t : TypeValue) (type_number : ℕ) → IsTypeValue t
         → ((w : UnitVariable) → slice_get (variables_up declared 0) number ≡ Some w → HasOwnType declared w t)
         → (place : ℕ) → slice_get G.instructions place ≡ Some (instr op.MAKE (pos number) 0 line)
-        → (injection : Injection) (memory : Memory) (below : List Operand) (d : ℕ) → 1 ≤ d
+        → (injection : Injection) (memory : Memory) (below : List Operand) (d left : ℕ) → 1 ≤ d → left ≤ d → (size_of t ≡ 0 → suc left ≤ d)
         → Describes memory.types type_number t
-        → Fragment declared G (InActivation declared untouched first start) n (point injection memory place (Word (pos type_number) ∷ below)) (allocate_own number t) (place + 1) (λ a. MadeOwn untouched number t injection memory below) d (λ a. d)
-    make_row_moves t type_number valid declared_so place has injection memory below d enough described =
-        let w = has_words t valid in
-        subst (λ m. Fragment declared G (InActivation declared untouched first start) n (point injection memory place (Word (pos type_number) ∷ below)) (bind (change (counted t)) (λ _. spend m (change (made_own number t)))) (place + 1) (λ a. MadeOwn untouched number t injection memory below) d (λ a. d)) (sym w.1)
-        (fragment_less {n = suc n} (omega arith) (fragment_counted {weight = size_of t} w.0 (counted t) (made_own number t) tt (λ s. refl) (grows_made_own number t) (λ s matches here. make_own_does declared G place line below t type_number number v has valid is_declared declared_so injection memory s described matches here) enough (omega (arith, w.1)) (omega (arith, w.1)) (omega (arith, w.1))))
+        → Fragment declared G (InActivation declared untouched first start) n (point injection memory place (Word (pos type_number) ∷ below)) (allocate_own number t) (place + 1) (λ a. MadeOwn untouched number t injection memory below) d (λ a. left)
+    make_row_moves t type_number valid declared_so place has injection memory below d left enough less empty described =
+        fragment_sized (counted t) (made_own number t) (λ s. refl) (grows_made_own number t) enough less (size_of t) empty (λ s matches here. make_own_does declared G place line below t type_number number v has valid is_declared declared_so injection memory s described matches here)
 
   -- a variable is made in its slot
   one_moves : (g number at : ℕ) (v : UnitVariable) → slice_get (variables_up declared 0) number ≡ Some v
@@ -100,8 +97,8 @@ module _ (declared : Declarations) (G : Image) (untouched : Slots) (first : Inje
         runs,
         subst (λ u. Fragment declared G (InActivation declared untouched first start) n (point longer after (p.instructions.before + (at + length code)) pushed) (allocate_own number u) (p.instructions.before + (at + length (code ++ instr op.MAKE (pos number) 0 v.line ∷ []))) (λ b. StillBare memory below) (d + 3) (λ b. d)) (sym top.type_is)
             (subst (λ o. Fragment declared G (InActivation declared untouched first start) n (point longer after (p.instructions.before + (at + length code)) o) (allocate_own number t) (p.instructions.before + (at + length (code ++ instr op.MAKE (pos number) 0 v.line ∷ []))) (λ b. StillBare memory below) (d + 3) (λ b. d)) (sym top.is)
-            (fragment_to ends (fragment_weaken {d = d + 3} {e = λ b. d + 3} (omega arith) (λ b. omega arith) (λ b last final operands made. record { runs = still_runs-trans runs made.runs; operands_are = made.operands_are })
-            (make_row_moves number v.line at v is_declared t top.number is_type has_type (p.instructions.before + (at + length code)) parts.1.0 longer after below (d + 3) (omega arith) top.described)))),
+            (fragment_to ends (fragment_weaken {d = d + 3} {e = λ b. d} (omega arith) (λ b. omega arith) (λ b last final operands made. record { runs = still_runs-trans runs made.runs; operands_are = made.operands_are })
+            (make_row_moves number v.line at v is_declared t top.number is_type has_type (p.instructions.before + (at + length code)) parts.1.0 longer after below (d + 3) d (omega arith) (omega arith) (λ e. omega arith) top.described)))),
       ))
 
   -- and so are the variables from this number on
@@ -164,7 +161,7 @@ module _ (declared : Declarations) (G : Image) (untouched : Slots) (first : Inje
           subst (λ t. Fragment declared G (InActivation declared untouched first start) n (point longer after (p.instructions.before + k) pushed) (bind (allocate_own number t) (λ _. initialized unit line t z)) (p.instructions.before + (k + 4)) (λ b. Taken untouched injection memory (without_argument number inside_args) below) (d + 3) (λ b. d)) (sym top.type_is)
               (subst (λ o. Fragment declared G (InActivation declared untouched first start) n (point longer after (p.instructions.before + k) o) (bind (allocate_own number t) (λ _. initialized unit line t z)) (p.instructions.before + (k + 4)) (λ b. Taken untouched injection memory (without_argument number inside_args) below) (d + 3) (λ b. d)) (sym top.is)
               (fragment_post (λ b. taken-later inside.grown runs) (fragment_bind {P = λ u. MadeOwn untouched number t longer after below} {e = λ u. d + 3} (λ u. steady_initialized unit line t z)
-              (make_row_moves number line at (formal_variable line f) is_declared t top.number valid declared_so (p.instructions.before + k) parts.1.0 longer after below (d + 3) (omega arith) top.described)
+              (make_row_moves number line at (formal_variable line f) is_declared t top.number valid declared_so (p.instructions.before + k) parts.1.0 longer after below (d + 3) (d + 3) (omega arith) (omega arith) (λ (e : 1 ≡ 0). omega (arith, e)) top.described)
               (λ u last final above made.
               let x = in_frame final number (Some made.place) made.slot in
               let args : (x.frame).arguments ≡ inside_args = sym (ap arguments_in x.frames) ∙ (made.left_are ∙ same) in (

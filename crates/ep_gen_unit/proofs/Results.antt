@@ -133,5 +133,6 @@ pub result_moves : {declared : Declarations} {G : Image} {Here : Facts} (untouch
     → Fragment declared G Here n (point injection memory (p.instructions.before + at) below) (result_at unit line number) (p.instructions.before + at + 5) (λ rs. ResultsOnTop (kind.Ordinal h ∷ []) below rs) d (λ rs. 1)
 result_moves untouched knows ps p references n unit room number line at h type.Text of_host stands inside v is_declared has_type injection memory below d enough home = absurd of_host
 result_moves untouched knows ps p references n unit room number line at h (type.Array low high of) of_host stands inside v is_declared has_type injection memory below d enough home = absurd of_host
+result_moves untouched knows ps p references n unit room number line at h (type.Record ts) of_host stands inside v is_declared has_type injection memory below d enough home = absurd of_host
 result_moves untouched knows ps p references n unit room number line at h (type.Ordinal low high) of_host stands inside v is_declared has_type injection memory below d enough home =
     ordinal_moves untouched knows ps p references n unit room number line at h low high of_host stands inside v is_declared has_type injection memory below d enough home

@@ -1,13 +1,15 @@
 -- The code of a type, from that of its parts.
-use Rattle.std.proofs.Common.{◌≡◌, ℕ, zero, suc, ◌-◌, ◌<◌, ◌≤◌, true, false, ltb, List, [], ◌∷◌, ◌++◌, length, map, Some, None, slice_get, get_or, refl, sym, subst, arith, rules}
+use Rattle.std.proofs.Common.{◌≡◌, ◌∙◌, ℕ, pos, zero, suc, ◌+◌, ◌-◌, ◌<◌, ◌≤◌, true, false, ltb, List, [], ◌∷◌, ◌++◌, length, map, take, Some, None, slice_get, get_or, append-nil, append_assoc, refl, sym, ap, subst, arith, rules}
 use Rattle.std.specs.Bool.{◌==◌}
 use Rattle.std.proofs.lemmas.List.{nil_from_length}
 use Rattle.std.proofs.lemmas.Option.{slice_get_past, slice_get_read}
-use Rattle.ep_gen_expr.specs.ExprCode.{bare}
+use Rattle.ep_gen_expr.specs.ExprCode.{bare, instr}
 use Rattle.ep_gen_expr.specs.Growth.{Grows}
+use Rattle.ep_object.specs.declared.code.Instr.{Instr}
 use Rattle.ep_gen_expr.specs.declared.code.Code.{Code}
+use Rattle.std.proofs.lemmas.List.{map_more}
 use Rattle.ep_gen_expr.proofs.Forms.{grows_at, grows_none}
-use Rattle.ep_gen_unit.specs.TypeCode.{code_within, found_code}
+use Rattle.ep_gen_unit.specs.TypeCode.{code_within, each_code, found_code, how_many, step_code}
 use Rattle.ep_typed.specs.Trees as tree
 use Rattle.ep_typed.specs.Viewed.{bound_of, denoter_of}
 use Rattle.ep_typed.specs.declared.denoter.Bound.{Bound}
@@ -49,3 +51,30 @@ module _ (types : List UnitType) (a : Code) where
   pub by_parts : {b c d : Code} (left : ℕ) (index component : tree.Denoter) → Grows a b (code_within types a.line (suc left) index) → Grows b c (code_within types b.line (suc left) component) → Grows c d (bare c.line op.T_ARR ∷ []) → Grows a d (code_within types a.line (suc left) (tree.Array index component))
   by_parts left index component p q r =
       grows_at (λ line. code_within types line (suc left) component ++ bare line op.T_ARR ∷ []) p (grows_at (λ line. bare line op.T_ARR ∷ []) q r)
+
+  -- the components of a record, and then the record
+  pub by_components : {b c : Code} (left : ℕ) (ds : tree.Denoters) → Grows a b (each_code types a.line (code_within types a.line left) ds) → Grows b c (instr op.T_REC (pos (how_many ds)) 0 b.line ∷ []) → Grows a c (code_within types a.line (suc left) (tree.Record ds))
+  by_components left ds p q = grows_at (λ line. instr op.T_REC (pos (how_many ds)) 0 line ∷ []) p q
+
+  -- no component
+  pub no_components : (left : ℕ) → Grows a a (each_code types a.line (code_within types a.line left) tree.no_denoter)
+  no_components left = grows_none a
+
+  each_push : (find : tree.Denoter → List Instr) (ds : List tree.Denoter) (d : tree.Denoter) → each_code types a.line find (tree.denoters (ds ++ d ∷ [])) ≡ each_code types a.line find (tree.denoters ds) ++ step_code types a.line find d
+  each_push find [] d = append-nil (step_code types a.line find d)
+  each_push find (e ∷ ds) d =
+      ap (λ l. step_code types a.line find e ++ l) (each_push find ds d) ∙ sym (append_assoc (step_code types a.line find e) (each_code types a.line find (tree.denoters ds)) (step_code types a.line find d))
+
+  -- one component more
+  pub components_more : {X : Type 0} {b c : Code} (left : ℕ) (view : X → tree.Denoter) (xs : List X) (k : ℕ) (x : X) → k < length xs → x ≡ get_or xs k x
+      → Grows a b (each_code types a.line (code_within types a.line left) (tree.denoters (map view (take k xs)))) → Grows b c (code_within types b.line (suc left) (view x))
+      → Grows a c (each_code types a.line (code_within types a.line left) (tree.denoters (map view (take (k + 1) xs))))
+  components_more {c = c} left view xs k x h e p q =
+      let find : tree.Denoter → List Instr = code_within types a.line left in
+      let all : map view (take k xs) ++ view x ∷ [] ≡ map view (take (k + 1) xs) = ap (λ y. map view (take k xs) ++ view y ∷ []) e ∙ sym (map_more view xs k x h) in
+      subst (λ l. Grows a c (each_code types a.line find (tree.denoters l))) all (subst (λ l. Grows a c l) (sym (each_push find (map view (take k xs)) (view x))) (grows_at (λ line. code_within types line (suc left) (view x)) p q))
+
+-- how many components a record has
+pub how_many-of : {X : Type 0} (view : X → tree.Denoter) (xs : List X) → how_many (tree.denoters (map view xs)) ≡ length xs
+how_many-of view [] = refl
+how_many-of view (x ∷ xs) = ap suc (how_many-of view xs)

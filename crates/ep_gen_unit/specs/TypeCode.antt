@@ -1,10 +1,10 @@
 -- The code that elaborates types, which leaves the type's number. It has the order of the elaboration: the parts of an array
--- in the order of the text, and then the array.
-use Rattle.std.specs.Prelude.{ℕ, ℤ, zero, suc, List, [], ◌∷◌, ◌++◌, length, slice_get, Option, Some, None}
-use Rattle.ep_gen_expr.specs.ExprCode.{bare, push}
+-- or a record in the order of the text, and then the array or the record.
+use Rattle.std.specs.Prelude.{ℕ, ℤ, pos, zero, suc, List, [], ◌∷◌, ◌++◌, length, slice_get, Option, Some, None}
+use Rattle.ep_gen_expr.specs.ExprCode.{bare, instr, push}
 use Rattle.ep_object.specs.declared.code.Instr.{Instr}
 use Rattle.ep_typed.specs.Denoters.{definition_of, enumeration_type, required_type, subrange_type}
-use Rattle.ep_typed.specs.Trees.{Denoter, Required, Named, Subrange, Enumeration, Array}
+use Rattle.ep_typed.specs.Trees.{Denoter, Required, Named, Subrange, Enumeration, Array, Record, Denoters, no_denoter, next_denoter}
 use Rattle.ep_typed.specs.TypeValues as type
 use Rattle.ep_typed.specs.TypeValues.{TypeValue}
 use Rattle.ep_typed.specs.declared.unit.UnitType.{UnitType}
@@ -23,15 +23,27 @@ abbrev pub found_code : (Denoter → List Instr) → Option UnitType → List In
 found_code find None = []
 found_code find (Some t) = find (definition_of t)
 
+-- how many denoters there are
+abbrev pub how_many : Denoters → ℕ
+how_many no_denoter = 0
+how_many (next_denoter d ds) = suc (how_many ds)
+
 module _ (types : List UnitType) (line : ℕ) where
   -- the code of a denoter, by that of the definition where it is a name
-  abbrev pub step_code : (Denoter → List Instr) → Denoter → List Instr
-  step_code find (Required r) = simple_code line (Some (required_type r))
-  step_code find (Named index []) = found_code find (slice_get types index)
-  step_code find (Named index (b ∷ bs)) = []
-  step_code find (Subrange host low high) = simple_code line (subrange_type low high)
-  step_code find (Enumeration names) = simple_code line (enumeration_type names)
-  step_code find (Array index component) = step_code find index ++ (step_code find component ++ bare line op.T_ARR ∷ [])
+  abbrev mutual
+    pub step_code : (Denoter → List Instr) → Denoter → List Instr
+    step_code find (Required r) = simple_code line (Some (required_type r))
+    step_code find (Named index []) = found_code find (slice_get types index)
+    step_code find (Named index (b ∷ bs)) = []
+    step_code find (Subrange host low high) = simple_code line (subrange_type low high)
+    step_code find (Enumeration names) = simple_code line (enumeration_type names)
+    step_code find (Array index component) = step_code find index ++ (step_code find component ++ bare line op.T_ARR ∷ [])
+    step_code find (Record ds) = each_code find ds ++ instr op.T_REC (pos (how_many ds)) 0 line ∷ []
+
+    -- one after another
+    pub each_code : (Denoter → List Instr) → Denoters → List Instr
+    each_code find no_denoter = []
+    each_code find (next_denoter d ds) = step_code find d ++ each_code find ds
 
   -- at most so many names are followed
   abbrev pub code_within : ℕ → Denoter → List Instr

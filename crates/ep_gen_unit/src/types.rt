@@ -2,15 +2,15 @@
 
 ghost use Rattle.std.specs.Prelude.{OnOk, suc, map, Some};
 ghost use Rattle.ep_typed.specs.Denoters as denoters;
-ghost use Rattle.ep_typed.specs.Trees.{Array, Named};
+ghost use Rattle.ep_typed.specs.Trees.{denoters as in_order, Array, Named, Record};
 ghost use Rattle.ep_typed.specs.Viewed.{bound_of, denoter_of};
 ghost use Rattle.ep_gen_expr.specs.Growth.{Grows};
-ghost use Rattle.ep_gen_unit.specs.TypeCode.{code_within, ordinal_code, simple_code, type_code};
+ghost use Rattle.ep_gen_unit.specs.TypeCode.{code_within, each_code, ordinal_code, simple_code, type_code};
 
 use ep_base::{Name, NoMemory};
 use ep_gen_expr::{Code, emit};
 use ep_object::op;
-use ep_typed::{Bound, Denoter, RequiredType, UnitType};
+use ep_typed::{Bound, Denoter, RecordField, RequiredType, UnitType};
 
 /// Appends the code that elaborates a denoter, in which names are those of this list of types, and leaves the type. What
 /// has no type value has no meaning and no code.
@@ -43,6 +43,7 @@ fn elaborate_within(
         Denoter::Array(index, component) => {
             array_code(types, left, index.get(), component.get(), code)
         }
+        Denoter::Record(fields) => record_code(types, left, fields.items(), code),
     }
 }
 
@@ -83,6 +84,40 @@ fn array_code(
     elaborate_within(types, left, index, code)?;
     elaborate_within(types, left, component, code)?;
     emit(code, op::T_ARR, 0, 0)
+}
+
+/// Appends the code of a record, behind that of its components.
+#[cycle(denoters)]
+fn record_code(
+    types: &[UnitType],
+    left: usize,
+    fields: &[RecordField],
+    code: &mut Code,
+) -> Result<(), NoMemory>
+    ensures { OnOk result (Grows code.old code.new
+        (code_within types.now code.old.line (suc left)
+        (Record (in_order (map (λ f. denoter_of f.denoter) fields.now))))) }
+{
+    components_code(types, left, fields, code)?;
+    emit(code, op::T_REC, fields.len() as i64, 0)
+}
+
+/// Appends the code of the components of a record, one after another.
+#[cycle(denoters)]
+fn components_code(
+    types: &[UnitType],
+    left: usize,
+    fields: &[RecordField],
+    code: &mut Code,
+) -> Result<(), NoMemory>
+    ensures { OnOk result (Grows code.old code.new
+        (each_code types.now code.old.line (code_within types.now code.old.line left)
+        (in_order (map (λ f. denoter_of f.denoter) fields.now)))) }
+{
+    for field in fields {
+        elaborate_within(types, left, &field.denoter, code)?;
+    }
+    Ok(())
 }
 
 /// Appends the code that leaves a required type.

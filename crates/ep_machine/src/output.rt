@@ -35,11 +35,12 @@ fn is_text(types: &[TypeEntry], type_number: u32) -> Option<bool>
     ensures { result ≡ text_kind_in types.now type_number }
 {
     match types.get(type_number as usize) {
-        Some(entry) => match entry.kind {
+        Some(entry) => match &entry.kind {
             Kind::Text => Some(true),
             Kind::Ord(_, _) => Some(false),
             Kind::Pointer => Some(false),
             Kind::Array(_, _, _) => Some(false),
+            Kind::Record(_) => Some(false),
         },
         None => None,
     }

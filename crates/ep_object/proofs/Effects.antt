@@ -100,6 +100,7 @@ module _ (Holds : State → Type 0) where
     op_keeps G i (Some table.Jump) = kept _
     op_keeps G i (Some table.JumpFalse) = kept _
     op_keeps G i (Some table.Unit) = kept _
+    op_keeps G i (Some table.Field) = kept _
     op_keeps G i (Some table.Index) = kept _
     op_keeps G i (Some table.Load) = kept _
     op_keeps G i (Some table.Add) = kept _
@@ -141,6 +142,7 @@ module _ (Holds : State → Type 0) where
     op_keeps G i (Some table.Store) = mapped_keeps (in_segments s) segments _
     op_keeps G i (Some table.TOrd) = mapped_keeps (with_typing s) types _
     op_keeps G i (Some table.TArr) = mapped_keeps (with_typing s) types _
+    op_keeps G i (Some table.TRec) = mapped_keeps (with_typing s) types _
     op_keeps G i (Some table.Put) = mapped_keeps (with_events s) events _
     op_keeps G i (Some _) = tt
 

@@ -1,6 +1,7 @@
 pub mod ArgumentRows
 pub mod Answers
 pub mod ChangeRows
+pub mod FieldRow
 pub mod FrameRows
 pub mod IndexRow
 pub mod MakeRow

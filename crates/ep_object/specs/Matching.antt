@@ -10,18 +10,19 @@ use Rattle.ep_typed.specs.Steps.{Value, Undefined, Component, Allocation, Resour
 use Rattle.ep_typed.specs.Steps as meaning
 use Rattle.ep_typed.specs.Valid.{Declarations}
 use Rattle.ep_typed.specs.Viewed.{denoter_of}
-use Rattle.ep_typed.specs.TypeValues.{TypeValue}
+use Rattle.ep_typed.specs.TypeValues.{ComponentTypes, TypeValue}
 use Rattle.ep_typed.specs.TypeValues as type
 use Rattle.ep_typed.specs.declared.unit.UnitVariable.{UnitVariable}
 use Rattle.ep_object.specs.Frames.{slots_over}
 use Rattle.ep_object.specs.Operands.{Operand}
 use Rattle.ep_object.specs.State.{Frames, Segments, TypeTable, State, text_entry, first_types, undefined}
-use Rattle.ep_object.specs.Types.{ordinal_entry, array_entry}
+use Rattle.ep_object.specs.Types.{ordinal_entry, array_entry, record_entry}
 use Rattle.ep_object.specs.declared.code.Image.{Image}
 use Rattle.ep_object.specs.declared.code.ImageUnit.{ImageUnit}
 use Rattle.ep_object.specs.declared.state.Kind.{Kind}
 use Rattle.ep_object.specs.declared.state.Kind.TheVariants as kind
 use Rattle.ep_object.specs.declared.state.Place.{Place}
+use Rattle.ep_object.specs.declared.state.RecordPart.{RecordPart}
 use Rattle.ep_object.specs.declared.state.Segment.{Segment}
 use Rattle.ep_object.specs.declared.state.TypeEntry.{TypeEntry}
 
@@ -69,12 +70,22 @@ abbrev pub IsOf : Injection → ℕ → TypeValue → Type 0
 IsOf injection zero t = ⊥
 IsOf injection (suc n) t = option_map (λ m. m.type_value) (slice_get injection n) ≡ Some t
 
--- the type of this number describes the type value
-abbrev pub Describes : TypeTable → ℕ → TypeValue → Type 0
-Describes types n (type.Ordinal low high) = slice_get types n ≡ Some (ordinal_entry low high)
-Describes types n type.Text = slice_get types n ≡ Some text_entry
-Describes types n (type.Array low high of) =
-    (c : ℕ) × (slice_get types n ≡ Some (array_entry low high c (size_of (type.Array low high of)))) × Describes types c of
+abbrev mutual
+  -- the type of this number describes the type value
+  pub Describes : TypeTable → ℕ → TypeValue → Type 0
+  Describes types n (type.Ordinal low high) = slice_get types n ≡ Some (ordinal_entry low high)
+  Describes types n type.Text = slice_get types n ≡ Some text_entry
+  Describes types n (type.Array low high of) =
+      (c : ℕ) × (slice_get types n ≡ Some (array_entry low high c (size_of (type.Array low high of)))) × Describes types c of
+  Describes types n (type.Record ts) =
+      (ps : List RecordPart) × (slice_get types n ≡ Some (record_entry ps (size_of (type.Record ts)))) × DescribeEach types 0 ps ts
+
+  -- components behind so many words have types that describe these, one for one, and stand one behind the other
+  pub DescribeEach : TypeTable → ℕ → List RecordPart → ComponentTypes → Type 0
+  DescribeEach types before [] type.no_component = ⊤
+  DescribeEach types before [] (type.next_component t ts) = ⊥
+  DescribeEach types before (p ∷ ps) type.no_component = ⊥
+  DescribeEach types before (p ∷ ps) (type.next_component t ts) = (p.offset ≡ before) × Describes types p.type_number t × DescribeEach types (before + size_of t) ps ts
 
 -- a component of a type: how many words are before it, and its type
 pub record Part : Type 0 where
@@ -85,11 +96,18 @@ abbrev pub part_behind : ℕ → Option Part → Option Part
 part_behind n None = None
 part_behind n (Some p) = Some (record p { offset = n + p.offset })
 
+-- the component of this number, of which the first one is behind so many words
+abbrev pub part_among : ℕ → ComponentTypes → ℕ → Option Part
+part_among before type.no_component k = None
+part_among before (type.next_component t ts) zero = Some (record { offset = before; type_value = t })
+part_among before (type.next_component t ts) (suc k) = part_among (before + size_of t) ts k
+
 -- the component of this number, where the type has one
 abbrev pub part_of : TypeValue → ℕ → Option Part
 part_of (type.Ordinal low high) k = None
 part_of type.Text k = None
 part_of (type.Array low high of) k = cond (ltb k (count_of low high)) (Some (record { offset = k * size_of of; type_value = of })) None
+part_of (type.Record ts) k = part_among 0 ts k
 
 -- the part at a path, of a part that begins behind so many words
 abbrev pub part_along : Option Part → List ℕ → Option Part
@@ -125,11 +143,19 @@ FileAt (meaning.Components of) word = ⊥
 
 -- The words from an offset on hold the value, and it is one of the type. Words that the value leaves free may be any.
 -- Where a value is a pointer, the injection says which segment its word is the number of.
-abbrev pub HasAt : Injection → TypeValue → Value → Words → ℕ → Type 0
-HasAt injection (type.Ordinal low high) value words offset = OrdinalAt low high value (words offset)
-HasAt injection type.Text value words offset = FileAt value (words offset)
-HasAt injection (type.Array low high of) value words offset =
-    (k : ℕ) → k < count_of low high → HasAt injection of (component_of value k) words (offset + k * size_of of)
+abbrev mutual
+  pub HasAt : Injection → TypeValue → Value → Words → ℕ → Type 0
+  HasAt injection (type.Ordinal low high) value words offset = OrdinalAt low high value (words offset)
+  HasAt injection type.Text value words offset = FileAt value (words offset)
+  HasAt injection (type.Array low high of) value words offset =
+      (k : ℕ) → k < count_of low high → HasAt injection of (component_of value k) words (offset + k * size_of of)
+  HasAt injection (type.Record ts) value words offset = HaveAt injection ts (component_of value) words offset
+
+  -- so do those of components, which stand one behind the other
+  pub HaveAt : Injection → ComponentTypes → (ℕ → Value) → Words → ℕ → Type 0
+  HaveAt injection type.no_component values words offset = ⊤
+  HaveAt injection (type.next_component t ts) values words offset =
+      HasAt injection t (values 0) words offset × HaveAt injection ts (λ k. values (suc k)) words (offset + size_of t)
 
 -- A segment has as many words as the type of an allocation that lives, they hold its value, and the segment's type describes
 -- the allocation's.
@@ -214,12 +240,18 @@ pub record MatchesStore (injection : Injection) (allocations : List Allocation) 
   pub represented : (n segment : ℕ) (allocation : Allocation) → IsIn injection n segment
       → meaning.allocation_at allocations n ≡ Some allocation → IsRepresented injection segments types segment allocation
 
+-- components stand one behind the other, behind so many words, and with them there are so many
+abbrev pub HaveSize : TypeTable → ℕ → List RecordPart → ℕ → Type 0
+HaveSize types before [] size = size ≡ before
+HaveSize types before (p ∷ ps) size = (p.offset ≡ before) × (e : TypeEntry) × (slice_get types p.type_number ≡ Some e) × HaveSize types (before + e.size) ps size
+
 -- the size that a type of this kind has
 abbrev pub HasSize : TypeTable → Kind → ℕ → Type 0
 HasSize types (kind.Ord low high) size = size ≡ 1
 HasSize types kind.Pointer size = size ≡ 1
 HasSize types kind.Text size = size ≡ 1
 HasSize types (kind.Array low high c) size = (e : TypeEntry) × (slice_get types c ≡ Some e) × (size ≡ count_of low high * e.size)
+HasSize types (kind.Record ps) size = HaveSize types 0 ps size
 
 -- The types: the table begins with the first ones, each entry has the size that its kind gives, none stands twice, and one
 -- describes each type value that was elaborated. Which others there are is left open.

@@ -1,6 +1,7 @@
 //! What the state of a machine is made of, where contracts and code see the same.
 
 use crate::code::Words;
+use ep_base::List;
 
 /// The number of the type of text files.
 pub const TEXT_TYPE: u32 = 3;
@@ -43,8 +44,20 @@ pub struct Segment {
     pub words: Words,
 }
 
-/// What kind of type it is.
+/// A component of a record type.
 #[derive(Clone, Copy, Drop)]
+pub struct RecordPart {
+    /// The number of its type in the type table.
+    pub type_number: u32,
+    /// How many words of the record are before it.
+    pub offset: u32,
+}
+
+/// An owned list of the components of a record type.
+pub type RecordParts = List<RecordPart>;
+
+/// What kind of type it is.
+#[derive(Drop)]
 pub enum Kind {
     /// An ordinal type with its bounds.
     Ord(i64, i64),
@@ -54,10 +67,12 @@ pub enum Kind {
     Text,
     /// An array type with the bounds of its index type, and the number of the type of its components.
     Array(i64, i64, u32),
+    /// A record type with its components in order.
+    Record(RecordParts),
 }
 
 /// An entry of the type table.
-#[derive(Clone, Copy, Drop)]
+#[derive(Drop)]
 pub struct TypeEntry {
     /// Its kind.
     pub kind: Kind,

@@ -2,3 +2,4 @@ mod Endings
 mod IndexTypes
 mod Indexing
 mod Making
+mod RecordTypes

@@ -10,6 +10,7 @@ mod bounds;
 pub mod control;
 pub mod places;
 pub mod pointers;
+pub mod records;
 pub mod segments;
 mod step;
 pub mod texts;

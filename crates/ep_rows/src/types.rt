@@ -1,47 +1,67 @@
 //! The rows that make types. Equal types have one number.
 
 ghost use Rattle.std.specs.Prelude.{◌≡◌, ◌<◌, ◌≤◌, ◌+◌, ◌*◌, ◌^◌, suc, length, Option, Some, None, MatchOption};
-ghost use Rattle.ep_object.specs.Types.{same_kind as is_same, kind_number as number_of, words_of_kind as words_of, ord_row, ordinal_entry as ordinal, added, interned, entry_of as type_of, bounds_of as kind_bounds, arr_row};
+ghost use Rattle.ep_object.specs.Types.{same_kind as is_same, same_parts as are_same, kind_number as number_of, words_of_kind as words_of, ord_row, ordinal_entry as ordinal, added, interned, entry_of as type_of, bounds_of as kind_bounds, arr_row};
 ghost use Rattle.ep_rows.specs.Steps.{IsStep};
 ghost use Rattle.ep_rows.specs.Parts.{typing};
 
 use crate::step::Step;
 use crate::{bounds, places, words};
 use ep_frames::Stack;
-use ep_object::{Kind, TypeEntry, limit};
+use ep_object::{Kind, RecordPart, TypeEntry, limit};
 use ep_typed::run_error;
 
+/// Whether components have the same types at the same places, one for one.
+#[tactic(auto, using(crate::proofs::RecordTypes::other_lengths))]
+fn same_parts(parts: &[RecordPart], others: &[RecordPart]) -> bool
+    ensures { result ≡ are_same parts.now others.now }
+{
+    if parts.len() != others.len() {
+        return false;
+    }
+    for place in 0..parts.len() {
+        let part = parts[place];
+        let other = others[place];
+        if part.type_number != other.type_number || part.offset != other.offset {
+            return false;
+        }
+    }
+    true
+}
+
 /// Whether two kinds are the same.
-fn same_kind(a: Kind, b: Kind) -> bool
-    ensures { result ≡ is_same a b }
+fn same_kind(a: &Kind, b: &Kind) -> bool
+    ensures { result ≡ is_same a.now b.now }
 {
     match (a, b) {
         (Kind::Ord(lo, hi), Kind::Ord(l, h)) => lo == l && hi == h,
         (Kind::Pointer, Kind::Pointer) => true,
         (Kind::Text, Kind::Text) => true,
         (Kind::Array(lo, hi, c), Kind::Array(l, h, d)) => lo == l && hi == h && c == d,
+        (Kind::Record(parts), Kind::Record(others)) => same_parts(parts.items(), others.items()),
         _ => false,
     }
 }
 
 /// The number of the type of this kind.
 #[inline(never)]
-fn kind_number(kind: Kind, types: &[TypeEntry]) -> Option<usize>
-    ensures { result ≡ number_of kind types.now }
+fn kind_number(kind: &Kind, types: &[TypeEntry]) -> Option<usize>
+    ensures { result ≡ number_of kind.now types.now }
 {
-    types.iter().position(|e| same_kind(kind, e.kind))
+    types.iter().position(|e| same_kind(kind, &e.kind))
 }
 
 /// How many words a new type of this kind counts.
-fn words_of_kind(kind: Kind) -> u64
-    ensures words { result ≡ words_of kind }
-    ensures small { result ≤ 2 }
+fn words_of_kind(kind: &Kind) -> u64
+    ensures words { result ≡ words_of kind.now }
+    ensures small { result < 2 ^ 63 }
 {
     match kind {
         Kind::Ord(_, _) => 1,
         Kind::Pointer => 1,
         Kind::Text => 1,
         Kind::Array(_, _, _) => 2,
+        Kind::Record(parts) => parts.items().len() as u64 + 1,
     }
 }
 
@@ -55,7 +75,7 @@ fn add(entry: TypeEntry, types: &mut Vec<TypeEntry>, live: &mut u64, stack: &mut
     if number as u64 >= limit::TYPES {
         return Step::Error(run_error::STORAGE_LIMIT);
     }
-    let words = words_of_kind(entry.kind);
+    let words = words_of_kind(&entry.kind);
     if !places::has_room(*live, words) {
         return Step::Error(run_error::STORAGE_LIMIT);
     }
@@ -68,11 +88,16 @@ fn add(entry: TypeEntry, types: &mut Vec<TypeEntry>, live: &mut u64, stack: &mut
 
 /// The number that the type has, or a new one.
 #[inline(always)]
-fn intern(entry: TypeEntry, types: &mut Vec<TypeEntry>, live: &mut u64, stack: &mut Stack) -> Step
+pub(crate) fn intern(
+    entry: TypeEntry,
+    types: &mut Vec<TypeEntry>,
+    live: &mut u64,
+    stack: &mut Stack,
+) -> Step
     ensures { IsStep (interned entry stack.old (typing stack.old types.old.items live.old)) result
         (typing stack.new types.new.items live.new) }
 {
-    if let Some(number) = kind_number(entry.kind, types) {
+    if let Some(number) = kind_number(&entry.kind, types) {
         return words::push_word(stack, number as i64);
     }
     add(entry, types, live, stack)
@@ -106,22 +131,22 @@ pub fn ord(types: &mut Vec<TypeEntry>, live: &mut u64, stack: &mut Stack) -> Ste
 }
 
 /// The type that a word numbers, with the number.
-fn entry_of(types: &[TypeEntry], w: i64) -> Option<(usize, TypeEntry)>
+pub(crate) fn entry_of(types: &[TypeEntry], w: i64) -> Option<(usize, &TypeEntry)>
     ensures { MatchOption result (type_of types.now w ≡ None)
-        (λ p. type_of types.now w ≡ Some (record { number = p.0; entry = p.1 })) }
+        (λ p. type_of types.now w ≡ Some (record { number = p.0; entry = p.1.now })) }
 {
     match places::index(types.len(), w) {
-        Some(number) => Some((number, types[number])),
+        Some(number) => Some((number, &types[number])),
         None => None,
     }
 }
 
 /// The bounds of an ordinal type.
-fn bounds_of(kind: Kind) -> Option<(i64, i64)>
-    ensures { result ≡ kind_bounds kind }
+fn bounds_of(kind: &Kind) -> Option<(i64, i64)>
+    ensures { result ≡ kind_bounds kind.now }
 {
     match kind {
-        Kind::Ord(lo, hi) => Some((lo, hi)),
+        Kind::Ord(lo, hi) => Some((*lo, *hi)),
         _ => None,
     }
 }
@@ -137,7 +162,7 @@ pub fn arr(types: &mut Vec<TypeEntry>, live: &mut u64, stack: &mut Stack) -> Ste
     let Some((_, index_type)) = entry_of(types, index) else {
         return Step::Broken;
     };
-    let Some((lo, hi)) = bounds_of(index_type.kind) else {
+    let Some((lo, hi)) = bounds_of(&index_type.kind) else {
         return Step::Broken;
     };
     let Some((number, component_type)) = entry_of(types, component) else {

@@ -1,12 +1,12 @@
 -- What is found for a denoter is its type value, and a denoter has at most one.
-use Rattle.std.proofs.Common.{◌≡◌, ℕ, ℤ, pos, zero, suc, List, [], ◌∷◌, length, Option, Some, None, slice_get, refl, sym, ◌∙◌, subst}
+use Rattle.std.proofs.Common.{◌≡◌, ℕ, ℤ, pos, zero, suc, List, [], ◌∷◌, length, Option, Some, None, slice_get, refl, sym, ap, ◌∙◌, subst}
 use Rattle.std.proofs.lemmas.Option.{same_Some}
-use Rattle.ep_typed.specs.Denoters.{IsInstance, required, named, subrange, enumeration, array, required_type, definition_of, array_type, found_of, type_step, type_within}
+use Rattle.ep_typed.specs.Denoters.{AreInstances, IsInstance, required, named, subrange, enumeration, array, components, none, one_more, required_type, definition_of, array_type, record_type, next_type, found_of, type_step, types_step, type_within}
 use Rattle.ep_typed.specs.Laws.{TypesAreInstances, InstancesAreOne}
-use Rattle.ep_typed.specs.Trees.{Fixed, Denoter, Required, Named, Subrange, Enumeration, Array}
+use Rattle.ep_typed.specs.Trees.{Fixed, Denoter, Denoters, Required, Named, Subrange, Enumeration, Array, Record, no_denoter, next_denoter}
 use Rattle.ep_typed.specs.declared.unit.UnitType.{UnitType}
 use Rattle.ep_typed.specs.TypeValues as type
-use Rattle.ep_typed.specs.TypeValues.{TypeValue, Ordinal}
+use Rattle.ep_typed.specs.TypeValues.{ComponentTypes, TypeValue, Ordinal}
 
 -- the type value of an array comes from that of its index type, which is ordinal, and that of its components
 pub of_array : (o p : Option TypeValue) (v : TypeValue) → array_type o p ≡ Some v
@@ -16,24 +16,46 @@ of_array (Some (Ordinal low high)) None v e = cc
 of_array (Some (Ordinal low high)) (Some of) v e = (low, high, of, refl, refl, same_Some v (type.Array low high of) (sym e))
 of_array (Some type.Text) p v e = cc
 of_array (Some (type.Array l h t)) p v e = cc
+of_array (Some (type.Record ts)) p v e = cc
+
+-- that of a record comes from those of its components
+pub of_record : (o : Option ComponentTypes) (v : TypeValue) → record_type o ≡ Some v → (ts : ComponentTypes) × (o ≡ Some ts) × (v ≡ type.Record ts)
+of_record None v e = cc
+of_record (Some ts) v e = (ts, refl, same_Some v (type.Record ts) (sym e))
+
+pub of_next : (o : Option TypeValue) (p : Option ComponentTypes) (ts : ComponentTypes) → next_type o p ≡ Some ts
+    → (u : TypeValue) × (us : ComponentTypes) × (o ≡ Some u) × (p ≡ Some us) × (ts ≡ type.next_component u us)
+of_next None p ts e = cc
+of_next (Some u) None ts e = cc
+of_next (Some u) (Some us) ts e = (u, us, refl, refl, same_Some ts (type.next_component u us) (sym e))
 
 module _ (types : List UnitType) where
-  -- what is found of a denoter is its type value, where that is so of definitions
-  instance_step : (find : Denoter → Option TypeValue) → ((d : Denoter) (v : TypeValue) → find d ≡ Some v → IsInstance types d v) → (d : Denoter) (v : TypeValue) → type_step types find d ≡ Some v → IsInstance types d v
-  instance_step find h (Required r) v e = subst (λ w. IsInstance types (Required r) w) (same_Some (required_type r) v e) (required r)
-  instance_step find h (Named index []) v e = go (slice_get types index) refl e
-    where
-      go : (o : Option UnitType) → slice_get types index ≡ o → found_of find o ≡ Some v → IsInstance types (Named index []) v
-      go None at f = cc
-      go (Some t) at f = named index t at (h (definition_of t) v f)
-  instance_step find h (Named index (b ∷ bs)) v e = cc
-  instance_step find h (Subrange host (Fixed low) (Fixed high)) v e = subst (λ w. IsInstance types (Subrange host (Fixed low) (Fixed high)) w) (same_Some (Ordinal low high) v e) (subrange host low high)
-  instance_step find h (Enumeration []) v e = cc
-  instance_step find h (Enumeration (first ∷ others)) v e = subst (λ w. IsInstance types (Enumeration (first ∷ others)) w) (same_Some _ v e) (enumeration first others)
-  instance_step find h (Array index component) v e =
-      let p = of_array (type_step types find index) (type_step types find component) v e in
-      subst (λ w. IsInstance types (Array index component) w) (sym p.5)
-      (array index component p.0 p.1 p.2 (instance_step find h index (Ordinal p.0 p.1) p.3) (instance_step find h component p.2 p.4))
+  mutual
+    -- what is found of a denoter is its type value, where that is so of definitions
+    instance_step : (find : Denoter → Option TypeValue) → ((d : Denoter) (v : TypeValue) → find d ≡ Some v → IsInstance types d v) → (d : Denoter) (v : TypeValue) → type_step types find d ≡ Some v → IsInstance types d v
+    instance_step find h (Required r) v e = subst (λ w. IsInstance types (Required r) w) (same_Some (required_type r) v e) (required r)
+    instance_step find h (Named index []) v e = go (slice_get types index) refl e
+      where
+        go : (o : Option UnitType) → slice_get types index ≡ o → found_of find o ≡ Some v → IsInstance types (Named index []) v
+        go None at f = cc
+        go (Some t) at f = named index t at (h (definition_of t) v f)
+    instance_step find h (Named index (b ∷ bs)) v e = cc
+    instance_step find h (Subrange host (Fixed low) (Fixed high)) v e = subst (λ w. IsInstance types (Subrange host (Fixed low) (Fixed high)) w) (same_Some (Ordinal low high) v e) (subrange host low high)
+    instance_step find h (Enumeration []) v e = cc
+    instance_step find h (Enumeration (first ∷ others)) v e = subst (λ w. IsInstance types (Enumeration (first ∷ others)) w) (same_Some _ v e) (enumeration first others)
+    instance_step find h (Array index component) v e =
+        let p = of_array (type_step types find index) (type_step types find component) v e in
+        subst (λ w. IsInstance types (Array index component) w) (sym p.5)
+        (array index component p.0 p.1 p.2 (instance_step find h index (Ordinal p.0 p.1) p.3) (instance_step find h component p.2 p.4))
+    instance_step find h (Record ds) v e =
+        let p = of_record (types_step types find ds) v e in
+        subst (λ w. IsInstance types (Record ds) w) (sym p.2) (components ds p.0 (instances_step find h ds p.0 p.1))
+
+    instances_step : (find : Denoter → Option TypeValue) → ((d : Denoter) (v : TypeValue) → find d ≡ Some v → IsInstance types d v) → (ds : Denoters) (ts : ComponentTypes) → types_step types find ds ≡ Some ts → AreInstances types ds ts
+    instances_step find h no_denoter ts e = subst (AreInstances types no_denoter) (same_Some type.no_component ts e) none
+    instances_step find h (next_denoter d ds) ts e =
+        let p = of_next (type_step types find d) (types_step types find ds) ts e in
+        subst (AreInstances types (next_denoter d ds)) (sym p.4) (one_more d ds p.0 p.1 (instance_step find h d p.0 p.2) (instances_step find h ds p.1 p.3))
 
   -- however many denoters are looked at
   instance_within : (n : ℕ) (d : Denoter) (v : TypeValue) → type_within types n d ≡ Some v → IsInstance types d v
@@ -58,6 +80,12 @@ module _ (types : List UnitType) where
   IsOf (Enumeration (first ∷ others)) v = Ordinal (pos 0) (pos (length others)) ≡ v
   IsOf (Array index component) v =
       (low high : ℤ) × (of : TypeValue) × (type.Array low high of ≡ v) × IsInstance types index (Ordinal low high) × IsInstance types component of
+  IsOf (Record ds) v = (ts : ComponentTypes) × (type.Record ts ≡ v) × AreInstances types ds ts
+
+  -- and alike those of components
+  abbrev AreOf : Denoters → ComponentTypes → Type 0
+  AreOf no_denoter ts = type.no_component ≡ ts
+  AreOf (next_denoter d ds) ts = (u : TypeValue) × (us : ComponentTypes) × (type.next_component u us ≡ ts) × IsInstance types d u × AreInstances types ds us
 
   is_of : (d : Denoter) (v : TypeValue) → IsInstance types d v → IsOf d v
   is_of d v (required r) = refl
@@ -65,21 +93,38 @@ module _ (types : List UnitType) where
   is_of d v (subrange host low high) = refl
   is_of d v (enumeration first others) = refl
   is_of d v (array index component low high of i c) = (low, high, of, refl, i, c)
+  is_of d v (components ds ts all) = (ts, refl, all)
 
-  -- a denoter has at most one type value
-  instance_one : (d : Denoter) (v w : TypeValue) → IsInstance types d v → IsInstance types d w → v ≡ w
-  instance_one d v w (required r) other = is_of (Required r) w other
-  instance_one d v w (named index t at h) other =
-      let x = is_of (Named index []) w other in
-      let same : x.0 ≡ t = same_Some x.0 t (sym x.1 ∙ at) in
-      instance_one (definition_of t) v w h (subst (λ u. IsInstance types (definition_of u) w) same x.2)
-  instance_one d v w (subrange host low high) other = is_of (Subrange host (Fixed low) (Fixed high)) w other
-  instance_one d v w (enumeration first others) other = is_of (Enumeration (first ∷ others)) w other
-  instance_one d v w (array index component low high of i c) other =
-      let x = is_of (Array index component) w other in
-      let bounds = same_ordinal low high x.0 x.1 (instance_one index (Ordinal low high) (Ordinal x.0 x.1) i x.4) in
-      let of_same : of ≡ x.2 = instance_one component of x.2 c x.5 in
-      (λ k. type.Array (bounds.0 k) (bounds.1 k) (of_same k)) ∙ x.3
+  are_of : (ds : Denoters) (ts : ComponentTypes) → AreInstances types ds ts → AreOf ds ts
+  are_of ds ts none = refl
+  are_of ds ts (one_more e es u us i is) = (u, us, refl, i, is)
+
+  mutual
+    -- a denoter has at most one type value
+    instance_one : (d : Denoter) (v w : TypeValue) → IsInstance types d v → IsInstance types d w → v ≡ w
+    instance_one d v w (required r) other = is_of (Required r) w other
+    instance_one d v w (named index t at h) other =
+        let x = is_of (Named index []) w other in
+        let same : x.0 ≡ t = same_Some x.0 t (sym x.1 ∙ at) in
+        instance_one (definition_of t) v w h (subst (λ u. IsInstance types (definition_of u) w) same x.2)
+    instance_one d v w (subrange host low high) other = is_of (Subrange host (Fixed low) (Fixed high)) w other
+    instance_one d v w (enumeration first others) other = is_of (Enumeration (first ∷ others)) w other
+    instance_one d v w (array index component low high of i c) other =
+        let x = is_of (Array index component) w other in
+        let bounds = same_ordinal low high x.0 x.1 (instance_one index (Ordinal low high) (Ordinal x.0 x.1) i x.4) in
+        let of_same : of ≡ x.2 = instance_one component of x.2 c x.5 in
+        (λ k. type.Array (bounds.0 k) (bounds.1 k) (of_same k)) ∙ x.3
+    instance_one d v w (components ds ts all) other =
+        let x = is_of (Record ds) w other in
+        ap type.Record (instances_one ds ts x.0 all x.2) ∙ x.1
+
+    instances_one : (ds : Denoters) (ts us : ComponentTypes) → AreInstances types ds ts → AreInstances types ds us → ts ≡ us
+    instances_one ds ts us none other = are_of no_denoter us other
+    instances_one ds ts us (one_more e es t rest i is) other =
+        let x = are_of (next_denoter e es) us other in
+        let first : t ≡ x.0 = instance_one e t x.0 i x.3 in
+        let others : rest ≡ x.1 = instances_one es rest x.1 is x.4 in
+        (λ k. type.next_component (first k) (others k)) ∙ x.2
 
 -- a denoter has at most one type value
 pub instances_are_one : InstancesAreOne

@@ -3,7 +3,7 @@ use Rattle.std.proofs.Common.{slice_get, ◌≡◌, ℕ, ℤ, pos, negsuc, zero,
 use Rattle.std.specs.Prelude.{if◌then◌else◌}
 use Rattle.ep_typed.specs.Controls.{in_order, next_value}
 use Rattle.ep_typed.specs.Denoters.{definition_of, required_type, subrange_type, enumeration_type, array_type}
-use Rattle.ep_typed.specs.Meaning.{argument, arguments, one_result, weight_of, results_given, initialized, takes_by, takes_all, elaborate, answered, indexed, place, eval, write_piece, write_wide, write_item, write_items, assign, turns, turns_until, assigns, undefines, turns_to, counts, exec, exec_all, elaborated, elaborated_where, elaborated_found, elaborate_step, elaborate_within, make, make_all, make_own, make_all_own, start_of, starts_of, Found, routine_in, activation, runs_routine, routine_does, routine_of, read, assign_living, tried, exec_arms, exec_other}
+use Rattle.ep_typed.specs.Meaning.{argument, arguments, one_result, weight_of, results_given, initialized, takes_by, takes_all, elaborate, elaborate_each, answered, indexed, selected, place, eval, write_piece, write_wide, write_item, write_items, assign, turns, turns_until, assigns, undefines, turns_to, counts, exec, exec_all, elaborated, elaborated_where, elaborated_found, elaborate_step, elaborate_within, make, make_all, make_own, make_all_own, start_of, starts_of, Found, routine_in, activation, runs_routine, routine_does, routine_of, read, assign_living, tried, exec_arms, exec_other}
 use Rattle.ep_typed.specs.Operations.{Answer, Number, Fault, is_same, is_true, decides, is_in}
 use Rattle.ep_typed.specs.Printing.{Result, number_of, plain_text, wide_text, piece_events}
 use Rattle.ep_typed.specs.Printing as result
@@ -11,7 +11,7 @@ use Rattle.ep_typed.specs.Calls.{Argument, Value, Handler, entered, given_back, 
 use Rattle.ep_typed.specs.Calls as argument_is
 use Rattle.ep_typed.specs.Steady.{Grows, Steady, IsSteadyHandler}
 use Rattle.ep_typed.specs.Steps.{Call, End, Normal, Halted, Error, Word, Undefined, State, Outcome, Gives, Ends, Cut, state_of, Computation, give, cut, stop, go_on, bind, spend, change, found, fetch, assigned, type_at, is_within, is_among, Component, component, whole, size_of, with_type, counted, made, made_own, allocate, allocate_own, newest_assigned, with_own_bound, standard_file, first_state, using, has_ended, own_variable, word_at}
-use Rattle.ep_typed.specs.Trees.{Array, Enumeration, Subrange, Named, Required, Denoter, Callee, Place, Variable, Own, Standard, Indexed, Expr, Constant, Text, Read, One, Two, Short, Step, Function, Actual, Evaluated, Accessed, Actuals, no_actual, next_actual, Item, Plain, Wide, Stmt, Stmts, Empty, Compound, Assign, If, While, Repeat, Control, For, Procedure, Halt, Write, none, next, Case, Arms, no_arm, next_arm, Other, no_other, otherwise_do, entire}
+use Rattle.ep_typed.specs.Trees.{Array, Enumeration, Subrange, Named, Record, Required, Denoter, Denoters, no_denoter, next_denoter, Callee, Place, Variable, Own, Standard, Indexed, Field, Expr, Constant, Text, Read, One, Two, Short, Step, Function, Actual, Evaluated, Accessed, Actuals, no_actual, next_actual, Item, Plain, Wide, Stmt, Stmts, Empty, Compound, Assign, If, While, Repeat, Control, For, Procedure, Halt, Write, none, next, Case, Arms, no_arm, next_arm, Other, no_other, otherwise_do, entire}
 use Rattle.ep_typed.specs.Routines.{made_variables, unit_variables}
 use Rattle.ep_typed.specs.Viewed.{denoter_of, stmt_of}
 use Rattle.ep_typed.specs.declared.interface.Formal.{Formal}
@@ -23,6 +23,7 @@ use Rattle.ep_typed.specs.declared.unit.Unit.{Unit as TypedUnit}
 use Rattle.ep_typed.specs.declared.unit.UnitType.{UnitType}
 use Rattle.ep_typed.specs.declared.unit.UnitVariable.{UnitVariable}
 use Rattle.ep_typed.specs.declared.tree.CaseRange.{CaseRange}
+use Rattle.ep_typed.specs.TypeValues as type
 use Rattle.ep_typed.specs.TypeValues.{TypeValue}
 use Rattle.ep_typed.specs.Laws.{IsLonger, MeaningsLast}
 use Rattle.ep_typed.proofs.Steady.{grows_refl, grows_trans, grows_quiet, grows_events, grows_type, grows_counted, grows_made, grows_made_own, steady_give, steady_cut, steady_stop, steady_bind, steady_spend, steady_change, steady_fetch, steady_turns, steady_turns_until, steady_turns_to, steady_in_call, steady_routine_of, steady_using, steady_assign_living}
@@ -157,6 +158,9 @@ module _ (call other : Handler) (lasts : IsLastingHandler call other) (g j : ℕ
   lasting_indexed : (line : ℕ) (c : Component) (z : ℤ) → Lasting (indexed call g unit line c z) (indexed other (g + j) unit line c z)
   lasting_indexed line c z = lasting_using _ c.allocation (lasting_bind (lasting_fetch _ _) (λ k. lasting_spend 1 (lasting_give (component c k))))
 
+  lasting_selected : (line : ℕ) (c : Component) (k : ℕ) → Lasting (selected call g unit line c k) (selected other (g + j) unit line c k)
+  lasting_selected line c k = lasting_using _ c.allocation (lasting_spend 1 (lasting_give (component c k)))
+
   mutual
     -- a place
     lasting_place : (line : ℕ) (p : Place) → Lasting (place call g unit line p) (place other (g + j) unit line p)
@@ -164,6 +168,7 @@ module _ (call other : Handler) (lasts : IsLastingHandler call other) (g j : ℕ
     lasting_place line (Own levels k) = lasting_bind (lasting_fetch _ _) (λ n. lasting_spend 1 (lasting_give n))
     lasting_place line (Standard file) = lasting_spend 1 (lasting_give (whole (standard_file file)))
     lasting_place line (Indexed p x) = lasting_bind (lasting_place line p) (λ c. lasting_bind (lasting_eval line x) (λ r. lasting_indexed line c (number_of r)))
+    lasting_place line (Field p number) = lasting_bind (lasting_place line p) (λ c. lasting_selected line c number)
 
     -- an expression
     lasting_eval : (line : ℕ) (x : Expr) → Lasting (eval call g unit line x) (eval other (g + j) unit line x)
@@ -293,15 +298,23 @@ module _ (call other : Handler) (lasts : IsLastingHandler call other) (g j : ℕ
     lasting_elaborated_found find found last None = lasting_cut
     lasting_elaborated_found find found last (Some t) = last (definition_of t)
 
-    lasting_elaborate_step : (find found : Denoter → Computation TypeValue) → ((d : Denoter) → Lasting (find d) (found d)) → (d : Denoter)
-        → Lasting (elaborate_step call g unit types find d) (elaborate_step other (g + j) unit types found d)
-    lasting_elaborate_step find found last (Required r) = lasting_elaborated (required_type r)
-    lasting_elaborate_step find found last (Named index []) = lasting_elaborated_found find found last (slice_get types index)
-    lasting_elaborate_step find found last (Named index (b ∷ bs)) = lasting_cut
-    lasting_elaborate_step find found last (Subrange host low high) = lasting_elaborated_where (subrange_type low high)
-    lasting_elaborate_step find found last (Enumeration names) = lasting_elaborated_where (enumeration_type names)
-    lasting_elaborate_step find found last (Array index component) =
-        lasting_bind (lasting_elaborate_step find found last index) (λ t. lasting_bind (lasting_elaborate_step find found last component) (λ u. lasting_elaborated_where (array_type (Some t) (Some u))))
+    mutual
+      lasting_elaborate_step : (find found : Denoter → Computation TypeValue) → ((d : Denoter) → Lasting (find d) (found d)) → (d : Denoter)
+          → Lasting (elaborate_step call g unit types find d) (elaborate_step other (g + j) unit types found d)
+      lasting_elaborate_step find found last (Required r) = lasting_elaborated (required_type r)
+      lasting_elaborate_step find found last (Named index []) = lasting_elaborated_found find found last (slice_get types index)
+      lasting_elaborate_step find found last (Named index (b ∷ bs)) = lasting_cut
+      lasting_elaborate_step find found last (Subrange host low high) = lasting_elaborated_where (subrange_type low high)
+      lasting_elaborate_step find found last (Enumeration names) = lasting_elaborated_where (enumeration_type names)
+      lasting_elaborate_step find found last (Array index component) =
+          lasting_bind (lasting_elaborate_step find found last index) (λ t. lasting_bind (lasting_elaborate_step find found last component) (λ u. lasting_elaborated_where (array_type (Some t) (Some u))))
+      lasting_elaborate_step find found last (Record ds) = lasting_bind (lasting_elaborate_each find found last ds) (λ ts. lasting_elaborated (type.Record ts))
+
+      lasting_elaborate_each : (find found : Denoter → Computation TypeValue) → ((d : Denoter) → Lasting (find d) (found d)) → (ds : Denoters)
+          → Lasting (elaborate_each call g unit types find ds) (elaborate_each other (g + j) unit types found ds)
+      lasting_elaborate_each find found last no_denoter = lasting_give type.no_component
+      lasting_elaborate_each find found last (next_denoter d ds) =
+          lasting_bind (lasting_elaborate_step find found last d) (λ t. lasting_bind (lasting_elaborate_each find found last ds) (λ ts. lasting_give (type.next_component t ts)))
 
     lasting_elaborate_within : (n : ℕ) (d : Denoter) → Lasting (elaborate_within call g unit types n d) (elaborate_within other (g + j) unit types n d)
     lasting_elaborate_within zero d = lasting_cut

@@ -6,7 +6,7 @@ use Rattle.ep_outside.specs.Known.{IsPrefix}
 use Rattle.ep_typed.specs.Controls.{in_order, next_value}
 use Rattle.ep_typed.specs.Denoters.{definition_of, required_type, subrange_type, enumeration_type, array_type}
 use Rattle.ep_typed.specs.Events.{Trace}
-use Rattle.ep_typed.specs.Meaning.{argument, arguments, one_result, weight_of, result_at, results_given, initialized, takes_by, takes_all, elaborate, answered, indexed, place, eval, write_piece, write_wide, write_item, write_items, assign, turns, turns_until, assigns, undefines, turns_to, counts, exec, exec_all, elaborated, elaborated_where, elaborated_found, elaborate_step, elaborate_within, make, make_all, make_own, make_all_own, start_of, starts_of, Found, routine_in, activation, runs_routine, routine_does, routine_of, read, assign_living, tried, exec_arms, exec_other}
+use Rattle.ep_typed.specs.Meaning.{argument, arguments, one_result, weight_of, result_at, results_given, initialized, takes_by, takes_all, elaborate, elaborate_each, answered, indexed, selected, place, eval, write_piece, write_wide, write_item, write_items, assign, turns, turns_until, assigns, undefines, turns_to, counts, exec, exec_all, elaborated, elaborated_where, elaborated_found, elaborate_step, elaborate_within, make, make_all, make_own, make_all_own, start_of, starts_of, Found, routine_in, activation, runs_routine, routine_does, routine_of, read, assign_living, tried, exec_arms, exec_other}
 use Rattle.ep_typed.specs.Operations.{Answer, Number, Fault, is_same, is_true, decides, is_in}
 use Rattle.ep_typed.specs.Printing.{Result, number_of, plain_text, wide_text, piece_events}
 use Rattle.ep_typed.specs.Printing as result
@@ -14,7 +14,7 @@ use Rattle.ep_typed.specs.Calls.{Argument, Value, Handler, entered, given_back, 
 use Rattle.ep_typed.specs.Calls as argument_is
 use Rattle.ep_typed.specs.Steady.{Grows, Steady, IsSteadyHandler}
 use Rattle.ep_typed.specs.Steps.{Call, End, Normal, Halted, Error, Word, Undefined, State, Outcome, Gives, Ends, Cut, state_of, Computation, give, cut, stop, go_on, bind, spend, change, found, fetch, with_events, assigned, type_at, is_within, is_among, Component, component, whole, size_of, same_type, Resources, watched, words_of_type, sized, met, with_type, counted, made, made_own, allocate, allocate_own, newest_assigned, with_own_bound, standard_file, using, has_ended, own_variable, word_at}
-use Rattle.ep_typed.specs.Trees.{Array, Enumeration, Subrange, Named, Required, Denoter, Callee, Place, Variable, Own, Standard, Indexed, Expr, Constant, Text, Read, One, Two, Short, Step, Function, Actual, Evaluated, Accessed, Actuals, no_actual, next_actual, Item, Plain, Wide, Stmt, Stmts, Empty, Compound, Assign, If, While, Repeat, Control, For, Procedure, Halt, Write, none, next, Case, Arms, no_arm, next_arm, Other, no_other, otherwise_do, entire}
+use Rattle.ep_typed.specs.Trees.{Array, Enumeration, Subrange, Named, Record, Required, Denoter, Denoters, no_denoter, next_denoter, Callee, Place, Variable, Own, Standard, Indexed, Field, Expr, Constant, Text, Read, One, Two, Short, Step, Function, Actual, Evaluated, Accessed, Actuals, no_actual, next_actual, Item, Plain, Wide, Stmt, Stmts, Empty, Compound, Assign, If, While, Repeat, Control, For, Procedure, Halt, Write, none, next, Case, Arms, no_arm, next_arm, Other, no_other, otherwise_do, entire}
 use Rattle.ep_typed.specs.Routines.{made_variables, unit_variables}
 use Rattle.ep_typed.specs.Viewed.{denoter_of, stmt_of}
 use Rattle.ep_typed.specs.declared.interface.Formal.{Formal}
@@ -23,6 +23,7 @@ use Rattle.ep_typed.specs.declared.interface.FormalMode.TheVariants as mode
 use Rattle.ep_typed.specs.declared.interface.RoutineResult.{RoutineResult}
 use Rattle.ep_typed.specs.declared.operations.Print.{Print}
 use Rattle.ep_typed.specs.declared.tree.CaseRange.{CaseRange}
+use Rattle.ep_typed.specs.TypeValues as type
 use Rattle.ep_typed.specs.TypeValues.{TypeValue}
 use Rattle.ep_typed.specs.declared.unit.Unit.{Unit as TypedUnit}
 use Rattle.ep_typed.specs.declared.unit.UnitType.{UnitType}
@@ -188,6 +189,10 @@ module _ (call : Handler) (steady : IsSteadyHandler call) (g : ℕ) (unit : List
   pub steady_indexed : (line : ℕ) (c : Component) (z : ℤ) → Steady (indexed call g unit line c z)
   steady_indexed line c z = steady_using _ c.allocation (steady_bind (steady_fetch _ _) (λ k. steady_spend 1 (steady_give (component c k))))
 
+  -- and that of a record
+  pub steady_selected : (line : ℕ) (c : Component) (k : ℕ) → Steady (selected call g unit line c k)
+  steady_selected line c k = steady_using _ c.allocation (steady_spend 1 (steady_give (component c k)))
+
   mutual
     -- a place
     pub steady_place : (line : ℕ) (p : Place) → Steady (place call g unit line p)
@@ -195,6 +200,7 @@ module _ (call : Handler) (steady : IsSteadyHandler call) (g : ℕ) (unit : List
     steady_place line (Own levels k) = steady_bind (steady_fetch _ _) (λ n. steady_spend 1 (steady_give n))
     steady_place line (Standard file) = steady_spend 1 (steady_give (whole (standard_file file)))
     steady_place line (Indexed p x) = steady_bind (steady_place line p) (λ c. steady_bind (steady_eval line x) (λ r. steady_indexed line c (number_of r)))
+    steady_place line (Field p number) = steady_bind (steady_place line p) (λ c. steady_selected line c number)
 
     -- an expression
     pub steady_eval : (line : ℕ) (x : Expr) → Steady (eval call g unit line x)
@@ -323,15 +329,23 @@ module _ (call : Handler) (steady : IsSteadyHandler call) (g : ℕ) (unit : List
     steady_elaborated_found find steady_find None = steady_cut
     steady_elaborated_found find steady_find (Some t) = steady_find (definition_of t)
 
-    pub steady_elaborate_step : (find : Denoter → Computation TypeValue) → ((d : Denoter) → Steady (find d)) → (d : Denoter)
-        → Steady (elaborate_step call g unit types find d)
-    steady_elaborate_step find steady_find (Required r) = steady_elaborated (required_type r)
-    steady_elaborate_step find steady_find (Named index []) = steady_elaborated_found find steady_find (slice_get types index)
-    steady_elaborate_step find steady_find (Named index (b ∷ bs)) = steady_cut
-    steady_elaborate_step find steady_find (Subrange host low high) = steady_elaborated_where (subrange_type low high)
-    steady_elaborate_step find steady_find (Enumeration names) = steady_elaborated_where (enumeration_type names)
-    steady_elaborate_step find steady_find (Array index component) =
-        steady_bind (steady_elaborate_step find steady_find index) (λ t. steady_bind (steady_elaborate_step find steady_find component) (λ u. steady_elaborated_where (array_type (Some t) (Some u))))
+    mutual
+      pub steady_elaborate_step : (find : Denoter → Computation TypeValue) → ((d : Denoter) → Steady (find d)) → (d : Denoter)
+          → Steady (elaborate_step call g unit types find d)
+      steady_elaborate_step find steady_find (Required r) = steady_elaborated (required_type r)
+      steady_elaborate_step find steady_find (Named index []) = steady_elaborated_found find steady_find (slice_get types index)
+      steady_elaborate_step find steady_find (Named index (b ∷ bs)) = steady_cut
+      steady_elaborate_step find steady_find (Subrange host low high) = steady_elaborated_where (subrange_type low high)
+      steady_elaborate_step find steady_find (Enumeration names) = steady_elaborated_where (enumeration_type names)
+      steady_elaborate_step find steady_find (Array index component) =
+          steady_bind (steady_elaborate_step find steady_find index) (λ t. steady_bind (steady_elaborate_step find steady_find component) (λ u. steady_elaborated_where (array_type (Some t) (Some u))))
+      steady_elaborate_step find steady_find (Record ds) = steady_bind (steady_elaborate_each find steady_find ds) (λ ts. steady_elaborated (type.Record ts))
+
+      pub steady_elaborate_each : (find : Denoter → Computation TypeValue) → ((d : Denoter) → Steady (find d)) → (ds : Denoters)
+          → Steady (elaborate_each call g unit types find ds)
+      steady_elaborate_each find steady_find no_denoter = steady_give type.no_component
+      steady_elaborate_each find steady_find (next_denoter d ds) =
+          steady_bind (steady_elaborate_step find steady_find d) (λ t. steady_bind (steady_elaborate_each find steady_find ds) (λ ts. steady_give (type.next_component t ts)))
 
     pub steady_elaborate_within : (n : ℕ) (d : Denoter) → Steady (elaborate_within call g unit types n d)
     steady_elaborate_within zero d = steady_cut

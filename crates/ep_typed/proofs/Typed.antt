@@ -3,14 +3,14 @@ use Rattle.std.proofs.Common.{◌≡◌, ℕ, ℤ, pos, zero, suc, ◌+◌, IsTr
 use Rattle.std.specs.Prelude.{int_le}
 use Rattle.std.proofs.lemmas.Bool.Decides.{nat_tests}
 use Rattle.std.proofs.lemmas.Option.{same_Some}
-use Rattle.ep_typed.specs.Denoters.{ArrayParts, IsInstance, array_step, array_of, array_within, definition_of, found_of, host_of, host_step, host_within, enumeration_host, required_type}
+use Rattle.ep_typed.specs.Denoters.{ArrayParts, AreInstances, IsInstance, array_step, array_of, array_within, definition_of, denoter_at, found_of, host_of, host_step, host_within, enumeration_host, record_of, record_within, required_type}
 use Rattle.ep_typed.specs.Denoters as instance
 use Rattle.ep_typed.specs.Hosts.{Host, is_of_host}
 use Rattle.ep_typed.specs.Hosts as host
-use Rattle.ep_typed.specs.Trees.{Denoter, Required, Named, Subrange, Enumeration, Array}
+use Rattle.ep_typed.specs.Trees.{Denoter, Denoters, Required, Named, Subrange, Enumeration, Array, Record, no_denoter, next_denoter}
 use Rattle.ep_typed.specs.TypeValues as type
-use Rattle.ep_typed.specs.TypeValues.{TypeValue}
-use Rattle.ep_typed.specs.Valid.{IsTyped, required, named, subrange, enumeration, array, IsTypeOf, IsTypeValue}
+use Rattle.ep_typed.specs.TypeValues.{ComponentTypes, TypeValue, type_among}
+use Rattle.ep_typed.specs.Valid.{AreTyped, IsTyped, required, named, subrange, enumeration, array, components, none_typed, next_typed, AreTypeValues, IsTypeOf, IsTypeValue}
 use Rattle.ep_typed.specs.declared.denoter.RequiredType.TheVariants as simple
 use Rattle.ep_typed.specs.declared.unit.UnitType.{UnitType}
 
@@ -25,24 +25,36 @@ last_of : (n : ℕ) → IsTrue (is_of_host (host.Enumeration n) (pos n))
 last_of n = grind (arith, nat_tests)
 
 module _ (types : List UnitType) where
-  -- a valid denoter has its type value
-  pub typed_instance : (d : Denoter) (v : TypeValue) → IsTyped types d v → IsInstance types d v
-  typed_instance d v (required r) = instance.required r
-  typed_instance d v (named index t at h) = instance.named index t at (typed_instance (definition_of t) v h)
-  typed_instance d v (subrange of low high h has within) = instance.subrange of low high
-  typed_instance d v (enumeration first others fits) = instance.enumeration first others
-  typed_instance d v (array index component low high of i c) =
-      instance.array index component low high of (typed_instance index (type.Ordinal low high) i) (typed_instance component of c)
+  mutual
+    -- a valid denoter has its type value
+    pub typed_instance : (d : Denoter) (v : TypeValue) → IsTyped types d v → IsInstance types d v
+    typed_instance d v (required r) = instance.required r
+    typed_instance d v (named index t at h) = instance.named index t at (typed_instance (definition_of t) v h)
+    typed_instance d v (subrange of low high h has within) = instance.subrange of low high
+    typed_instance d v (enumeration first others fits) = instance.enumeration first others
+    typed_instance d v (array index component low high of i c) =
+        instance.array index component low high of (typed_instance index (type.Ordinal low high) i) (typed_instance component of c)
+    typed_instance d v (components ds ts all) = instance.components ds ts (typed_instances ds ts all)
 
-  -- and that is not empty, and has bounds that are integers
-  pub typed_value : (d : Denoter) (v : TypeValue) → IsTyped types d v → IsTypeValue v
-  typed_value d v (required simple.Integer) = (refl, refl, refl)
-  typed_value d v (required simple.Char) = (refl, refl, refl)
-  typed_value d v (required simple.Boolean) = (refl, refl, refl)
-  typed_value d v (named index t at h) = typed_value (definition_of t) v h
-  typed_value d v (subrange of low high h has within) = (within.0, within.3, within.4)
-  typed_value d v (enumeration first others fits) = (from_zero (length others), refl, fits)
-  typed_value d v (array index component low high of i c) = (typed_value index (type.Ordinal low high) i, typed_value component of c)
+    typed_instances : (ds : Denoters) (ts : ComponentTypes) → AreTyped types ds ts → AreInstances types ds ts
+    typed_instances ds ts none_typed = instance.none
+    typed_instances ds ts (next_typed e es u us x xs) = instance.one_more e es u us (typed_instance e u x) (typed_instances es us xs)
+
+  mutual
+    -- and that is not empty, and has bounds that are integers
+    pub typed_value : (d : Denoter) (v : TypeValue) → IsTyped types d v → IsTypeValue v
+    typed_value d v (required simple.Integer) = (refl, refl, refl)
+    typed_value d v (required simple.Char) = (refl, refl, refl)
+    typed_value d v (required simple.Boolean) = (refl, refl, refl)
+    typed_value d v (named index t at h) = typed_value (definition_of t) v h
+    typed_value d v (subrange of low high h has within) = (within.0, within.3, within.4)
+    typed_value d v (enumeration first others fits) = (from_zero (length others), refl, fits)
+    typed_value d v (array index component low high of i c) = (typed_value index (type.Ordinal low high) i, typed_value component of c)
+    typed_value d v (components ds ts all) = typed_values ds ts all
+
+    typed_values : (ds : Denoters) (ts : ComponentTypes) → AreTyped types ds ts → AreTypeValues ts
+    typed_values ds ts none_typed = tt
+    typed_values ds ts (next_typed e es u us x xs) = (typed_value e u x, typed_values es us xs)
 
   -- the host that is found where so many names are followed is found where more are
   host_found-more : (find more : Denoter → Option Host) → ((d : Denoter) (h : Host) → find d ≡ Some h → more d ≡ Some h)
@@ -60,6 +72,7 @@ module _ (types : List UnitType) where
   host_step-more find more keeps (Subrange of low high) h e = host_step-more find more keeps of h e
   host_step-more find more keeps (Enumeration names) h e = e
   host_step-more find more keeps (Array index component) h e = e
+  host_step-more find more keeps (Record ds) h e = e
 
   host_within-more : (n : ℕ) (d : Denoter) (h : Host) → host_within types n d ≡ Some h → host_within types (suc n) d ≡ Some h
   host_within-more zero d h e = cc
@@ -87,6 +100,7 @@ module _ (types : List UnitType) where
   typed_of_within (suc n) d v h (enumeration first others fits) e =
       subst (λ k. IsTypeOf k (type.Ordinal (pos 0) (pos (length others)))) (same_Some (host.Enumeration (length others)) h e) (from_zero (length others), first_of (length others), last_of (length others), refl, fits)
   typed_of_within (suc n) d v h (array index component low high of i c) e = cc
+  typed_of_within (suc n) d v h (components ds ts all) e = cc
 
   pub typed_of_host : (d : Denoter) (v : TypeValue) (h : Host) → IsTyped types d v → host_of types d ≡ Some h → IsTypeOf h v
   typed_of_host d v h x e = typed_of_within (suc (length types)) d v h x e
@@ -106,8 +120,33 @@ module _ (types : List UnitType) where
   parts_within (suc n) d v a (named index t at x) e = parts_within n (definition_of t) v a x (sym (ap (found_of (array_within types n)) at) ∙ e)
   parts_within (suc n) d v a (subrange of low high g has within) e = cc
   parts_within (suc n) d v a (enumeration first others fits) e = cc
+  parts_within (suc n) d v a (components ds ts all) e = cc
   parts_within (suc n) d v a (array index component low high of i c) e =
       subst (λ (b : ArrayParts). HasParts b (type.Array low high of)) (same_Some (record { index = index; component = component }) a e) (record { low = low; high = high; of = of; is = refl; index = i; component = c })
 
   pub typed_parts : (d : Denoter) (v : TypeValue) (a : ArrayParts) → IsTyped types d v → array_of types d ≡ Some a → HasParts a v
   typed_parts d v a x e = parts_within (suc (length types)) d v a x e
+
+  -- the components of a valid denoter of a record are valid
+  pub record HasComponents (ds : Denoters) (v : TypeValue) : Type 0 where
+    pub types_of : ComponentTypes
+    pub is : v ≡ type.Record types_of
+    pub all : AreTyped types ds types_of
+
+  components_within : (n : ℕ) (d : Denoter) (v : TypeValue) (ds : Denoters) → IsTyped types d v → record_within types n d ≡ Some ds → HasComponents ds v
+  components_within zero d v ds x e = cc
+  components_within (suc n) d v ds (required r) e = cc
+  components_within (suc n) d v ds (named index t at x) e = components_within n (definition_of t) v ds x (sym (ap (found_of (record_within types n)) at) ∙ e)
+  components_within (suc n) d v ds (subrange of low high g has within) e = cc
+  components_within (suc n) d v ds (enumeration first others fits) e = cc
+  components_within (suc n) d v ds (array index component low high of i c) e = cc
+  components_within (suc n) d v ds (components es ts all) e = subst (λ (fs : Denoters). HasComponents fs (type.Record ts)) (same_Some es ds e) (record { types_of = ts; is = refl; all = all })
+
+  pub typed_components : (d : Denoter) (v : TypeValue) (ds : Denoters) → IsTyped types d v → record_of types d ≡ Some ds → HasComponents ds v
+  typed_components d v ds x e = components_within (suc (length types)) d v ds x e
+
+  -- the one of a number has its type
+  pub typed_among : (ds : Denoters) (ts : ComponentTypes) (k : ℕ) (d : Denoter) → AreTyped types ds ts → denoter_at ds k ≡ Some d → (t : TypeValue) × (type_among ts k ≡ Some t) × IsTyped types d t
+  typed_among ds ts k d none_typed e = cc
+  typed_among ds ts zero d (next_typed f fs u us x xs) e = (u, refl, subst (λ g. IsTyped types g u) (same_Some f d e) x)
+  typed_among ds ts (suc k) d (next_typed f fs u us x xs) e = typed_among fs us k d xs e

@@ -3,13 +3,13 @@ use Rattle.std.specs.Prelude.{◌≡◌, ℕ, ℤ, pos, neg_ℤ, zero, suc, List
 use Rattle.ep_typed.specs.Hosts as host
 use Rattle.ep_typed.specs.Hosts.{Host}
 use Rattle.ep_typed.specs.Operations.{maxint, last_char}
-use Rattle.ep_typed.specs.Trees.{Bound, Fixed, Denoter, Required, Named, Subrange, Enumeration, Array}
+use Rattle.ep_typed.specs.Trees.{Bound, Fixed, Denoter, Required, Named, Subrange, Enumeration, Array, Record, Denoters, no_denoter, next_denoter}
 use Rattle.ep_typed.specs.Viewed.{denoter_of}
 use Rattle.ep_typed.specs.declared.denoter.RequiredType.{RequiredType}
 use Rattle.ep_typed.specs.declared.denoter.RequiredType.TheVariants as simple
 use Rattle.ep_typed.specs.declared.unit.UnitType.{UnitType}
 use Rattle.ep_typed.specs.TypeValues as type
-use Rattle.ep_typed.specs.TypeValues.{TypeValue, Ordinal, Text}
+use Rattle.ep_typed.specs.TypeValues.{TypeValue, ComponentTypes, Ordinal, Text, no_component, next_component}
 
 -- the type value of a required type (ISO 10206, 6.4.2.2)
 abbrev pub required_type : RequiredType → TypeValue
@@ -22,15 +22,23 @@ abbrev pub definition_of : UnitType → Denoter
 definition_of t = denoter_of t.entry.denoter
 
 -- The denoter has the type value: a required type its own, a name that of what it is defined as, a subrange its
--- bounds, an enumeration of one name or more the ordinal numbers of its constants, and an array that of its index type
--- and its components.
-pub data IsInstance (types : List UnitType) : Denoter → TypeValue → Type 0 where
-  required : (r : RequiredType) → IsInstance types (Required r) (required_type r)
-  named : (index : ℕ) (t : UnitType) {v : TypeValue} → slice_get types index ≡ Some t → IsInstance types (definition_of t) v → IsInstance types (Named index []) v
-  subrange : (host : Denoter) (low high : ℤ) → IsInstance types (Subrange host (Fixed low) (Fixed high)) (Ordinal low high)
-  enumeration : (first : List ℕ) (others : List (List ℕ)) → IsInstance types (Enumeration (first ∷ others)) (Ordinal (pos 0) (pos (length others)))
-  array : (index component : Denoter) (low high : ℤ) (of : TypeValue) → IsInstance types index (Ordinal low high) → IsInstance types component of
-      → IsInstance types (Array index component) (type.Array low high of)
+-- bounds, an enumeration of one name or more the ordinal numbers of its constants, an array that of its index type and
+-- its components, and a record those of its components.
+mutual
+  pub data IsInstance (types : List UnitType) : Denoter → TypeValue → Type 0 where
+    required : (r : RequiredType) → IsInstance types (Required r) (required_type r)
+    named : (index : ℕ) (t : UnitType) {v : TypeValue} → slice_get types index ≡ Some t → IsInstance types (definition_of t) v → IsInstance types (Named index []) v
+    subrange : (host : Denoter) (low high : ℤ) → IsInstance types (Subrange host (Fixed low) (Fixed high)) (Ordinal low high)
+    enumeration : (first : List ℕ) (others : List (List ℕ)) → IsInstance types (Enumeration (first ∷ others)) (Ordinal (pos 0) (pos (length others)))
+    array : (index component : Denoter) (low high : ℤ) (of : TypeValue) → IsInstance types index (Ordinal low high) → IsInstance types component of
+        → IsInstance types (Array index component) (type.Array low high of)
+    components : (ds : Denoters) (ts : ComponentTypes) → AreInstances types ds ts → IsInstance types (Record ds) (type.Record ts)
+
+  -- one for one
+  pub data AreInstances (types : List UnitType) : Denoters → ComponentTypes → Type 0 where
+    none : AreInstances types no_denoter no_component
+    one_more : (d : Denoter) (ds : Denoters) (t : TypeValue) (ts : ComponentTypes) → IsInstance types d t → AreInstances types ds ts
+        → AreInstances types (next_denoter d ds) (next_component t ts)
 
 -- the type value of a subrange whose bounds are constants
 abbrev pub subrange_type : Bound → Bound → Option TypeValue
@@ -50,6 +58,16 @@ abbrev pub array_type : Option TypeValue → Option TypeValue → Option TypeVal
 array_type (Some (Ordinal low high)) (Some of) = Some (type.Array low high of)
 array_type _ _ = None
 
+-- the type value of a record
+abbrev pub record_type : Option ComponentTypes → Option TypeValue
+record_type None = None
+record_type (Some ts) = Some (type.Record ts)
+
+-- types of one component more
+abbrev pub next_type : Option TypeValue → Option ComponentTypes → Option ComponentTypes
+next_type (Some t) (Some ts) = Some (next_component t ts)
+next_type _ _ = None
+
 -- what is found of the definition of a name, where the list has it
 abbrev pub found_of : {A : Type 0} → (Denoter → Option A) → Option UnitType → Option A
 found_of find None = None
@@ -59,6 +77,12 @@ found_of find (Some t) = find (definition_of t)
 pub record ArrayParts : Type 0 where
   pub index : Denoter
   pub component : Denoter
+
+-- the denoter of this number
+abbrev pub denoter_at : Denoters → ℕ → Option Denoter
+denoter_at no_denoter k = None
+denoter_at (next_denoter d ds) zero = Some d
+denoter_at (next_denoter d ds) (suc k) = denoter_at ds k
 
 module _ (types : List UnitType) where
   -- the parts of a denoter of an array, by those of the definition where it is a name
@@ -75,14 +99,35 @@ module _ (types : List UnitType) where
   abbrev pub array_of : Denoter → Option ArrayParts
   array_of = array_within (suc (length types))
 
-  -- the type value of a denoter, by that of the definition where it is a name
-  abbrev pub type_step : (Denoter → Option TypeValue) → Denoter → Option TypeValue
-  type_step find (Required r) = Some (required_type r)
-  type_step find (Named index []) = found_of find (slice_get types index)
-  type_step find (Named index (b ∷ bs)) = None
-  type_step find (Subrange host low high) = subrange_type low high
-  type_step find (Enumeration names) = enumeration_type names
-  type_step find (Array index component) = array_type (type_step find index) (type_step find component)
+  -- the components of a denoter of a record, alike
+  abbrev pub record_step : (Denoter → Option Denoters) → Denoter → Option Denoters
+  record_step find (Record ds) = Some ds
+  record_step find (Named index []) = found_of find (slice_get types index)
+  record_step find _ = None
+
+  abbrev pub record_within : ℕ → Denoter → Option Denoters
+  record_within zero d = None
+  record_within (suc n) d = record_step (record_within n) d
+
+  -- the components of a record, by its denoter
+  abbrev pub record_of : Denoter → Option Denoters
+  record_of = record_within (suc (length types))
+
+  abbrev mutual
+    -- the type value of a denoter, by that of the definition where it is a name
+    pub type_step : (Denoter → Option TypeValue) → Denoter → Option TypeValue
+    type_step find (Required r) = Some (required_type r)
+    type_step find (Named index []) = found_of find (slice_get types index)
+    type_step find (Named index (b ∷ bs)) = None
+    type_step find (Subrange host low high) = subrange_type low high
+    type_step find (Enumeration names) = enumeration_type names
+    type_step find (Array index component) = array_type (type_step find index) (type_step find component)
+    type_step find (Record ds) = record_type (types_step find ds)
+
+    -- those of all of them
+    pub types_step : (Denoter → Option TypeValue) → Denoters → Option ComponentTypes
+    types_step find no_denoter = Some no_component
+    types_step find (next_denoter d ds) = next_type (type_step find d) (types_step find ds)
 
   -- the host of a denoter, likewise; what is not ordinal has none
   abbrev pub host_step : (Denoter → Option Host) → Denoter → Option Host
@@ -94,6 +139,7 @@ module _ (types : List UnitType) where
   host_step find (Subrange of low high) = host_step find of
   host_step find (Enumeration names) = enumeration_host names
   host_step find (Array index component) = None
+  host_step find (Record ds) = None
 
   -- at most so many names are followed, each but the first one in the definition of the one before it
   abbrev pub type_within : ℕ → Denoter → Option TypeValue

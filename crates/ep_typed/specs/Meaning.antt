@@ -5,7 +5,7 @@ use Rattle.ep_typed.specs.Calls.{Argument, Value, Handler, in_call}
 use Rattle.ep_typed.specs.Calls as argument_is
 use Rattle.ep_typed.specs.Controls.{in_order, next_value}
 use Rattle.ep_typed.specs.Denoters.{required_type, subrange_type, enumeration_type, array_type, definition_of}
-use Rattle.ep_typed.specs.Trees.{Denoter, Required, Named, Subrange, Enumeration, Array, Callee, Place, Variable, Own, Standard, Indexed, Expr, Constant, Text, Read, One, Two, Short, Step, Function, Actual, Evaluated, Accessed, Actuals, no_actual, next_actual, Item, Plain, Wide, Stmt, Stmts, Empty, Compound, Assign, If, While, Repeat, Control, For, Procedure, Halt, Write, none, next, Case, Arms, no_arm, next_arm, Other, no_other, otherwise_do, entire}
+use Rattle.ep_typed.specs.Trees.{Denoter, Required, Named, Subrange, Enumeration, Array, Record, Denoters, no_denoter, next_denoter, Callee, Place, Variable, Own, Standard, Indexed, Field, Expr, Constant, Text, Read, One, Two, Short, Step, Function, Actual, Evaluated, Accessed, Actuals, no_actual, next_actual, Item, Plain, Wide, Stmt, Stmts, Empty, Compound, Assign, If, While, Repeat, Control, For, Procedure, Halt, Write, none, next, Case, Arms, no_arm, next_arm, Other, no_other, otherwise_do, entire}
 use Rattle.ep_typed.specs.Routines.{made_variables, unit_variables}
 use Rattle.ep_typed.specs.Viewed.{denoter_of, stmt_of}
 use Rattle.ep_typed.specs.Steps.{Call, Normal, Halted, Error, Word, Undefined, Outcome, Computation, give, cut, stop, bind, spend, change, fetch, with_events, word_at, assigned, type_at, is_within, is_among, whole, Component, component, component_number, with_type, allocate, allocate_own, own_variable, newest_assigned, with_own_bound, standard_file, first_state, using}
@@ -22,7 +22,8 @@ use Rattle.ep_typed.specs.declared.unit.UnitRoutine.{UnitRoutine}
 use Rattle.ep_typed.specs.declared.tree.CaseRange.{CaseRange}
 use Rattle.ep_typed.specs.declared.unit.UnitType.{UnitType}
 use Rattle.ep_typed.specs.declared.unit.UnitVariable.{UnitVariable}
-use Rattle.ep_typed.specs.TypeValues.{TypeValue}
+use Rattle.ep_typed.specs.TypeValues as type
+use Rattle.ep_typed.specs.TypeValues.{TypeValue, ComponentTypes}
 use Rattle.ep_typed.specs.declared.unit.Unit.{Unit as TypedUnit}
 
 -- the steps that a result spends besides the one of its node: a text has its length
@@ -41,6 +42,10 @@ module _ (call : Handler) (g : ℕ) (unit : List ℕ) where
   indexed line c z =
       using (Error run_error.DISPOSED unit line) c.allocation (bind (fetch (Error run_error.INDEX unit line) (λ s. component_number (type_at c s) z)) (λ k. spend 1 (give (component c k))))
 
+  -- the component of a record with this number, likewise
+  abbrev pub selected : ℕ → Component → ℕ → Computation Component
+  selected line c k = using (Error run_error.DISPOSED unit line) c.allocation (spend 1 (give (component c k)))
+
   -- the value of a variable: an error where its allocation has ended, and else where the value is undefined
   abbrev pub read : ℕ → Component → Computation Result
   read line c = using (Error run_error.DISPOSED unit line) c.allocation (bind (fetch (Error run_error.UNDEFINED_VALUE unit line) (word_at c)) (λ w. spend 1 (give (result.Number w))))
@@ -58,6 +63,7 @@ module _ (call : Handler) (g : ℕ) (unit : List ℕ) where
     place line (Own levels k) = bind (fetch (Error run_error.UNDEFINED_VALUE unit line) (own_variable levels k)) (λ c. spend 1 (give c))
     place line (Standard file) = spend 1 (give (whole (standard_file file)))
     place line (Indexed p x) = bind (place line p) (λ c. bind (eval line x) (λ r. indexed line c (number_of r)))
+    place line (Field p number) = bind (place line p) (λ c. selected line c number)
 
     -- an expression spends a step and its weight when it is done
     pub eval : ℕ → Expr → Computation Result
@@ -196,14 +202,21 @@ module _ (call : Handler) (g : ℕ) (unit : List ℕ) where
 
   module _ (types : List UnitType) where
     -- A type is elaborated, its parts in the order of the text. A name spends what its definition does.
-    abbrev pub elaborate_step : (Denoter → Computation TypeValue) → Denoter → Computation TypeValue
-    elaborate_step find (Required r) = elaborated (required_type r)
-    elaborate_step find (Named index []) = elaborated_found find (slice_get types index)
-    elaborate_step find (Named index (b ∷ bs)) = cut
-    elaborate_step find (Subrange host low high) = elaborated_where (subrange_type low high)
-    elaborate_step find (Enumeration names) = elaborated_where (enumeration_type names)
-    elaborate_step find (Array index component) =
-        bind (elaborate_step find index) (λ t. bind (elaborate_step find component) (λ u. elaborated_where (array_type (Some t) (Some u))))
+    abbrev mutual
+      pub elaborate_step : (Denoter → Computation TypeValue) → Denoter → Computation TypeValue
+      elaborate_step find (Required r) = elaborated (required_type r)
+      elaborate_step find (Named index []) = elaborated_found find (slice_get types index)
+      elaborate_step find (Named index (b ∷ bs)) = cut
+      elaborate_step find (Subrange host low high) = elaborated_where (subrange_type low high)
+      elaborate_step find (Enumeration names) = elaborated_where (enumeration_type names)
+      elaborate_step find (Array index component) =
+          bind (elaborate_step find index) (λ t. bind (elaborate_step find component) (λ u. elaborated_where (array_type (Some t) (Some u))))
+      elaborate_step find (Record ds) = bind (elaborate_each find ds) (λ ts. elaborated (type.Record ts))
+
+      -- the types of components, in order
+      pub elaborate_each : (Denoter → Computation TypeValue) → Denoters → Computation ComponentTypes
+      elaborate_each find no_denoter = give type.no_component
+      elaborate_each find (next_denoter d ds) = bind (elaborate_step find d) (λ t. bind (elaborate_each find ds) (λ ts. give (type.next_component t ts)))
 
     -- at most so many names are followed
     abbrev pub elaborate_within : ℕ → Denoter → Computation TypeValue

@@ -1,6 +1,6 @@
 -- How many typed nodes a unit has: its expressions, places, statements, ranges of `case` statements, imports, routines, formals, variables, denoters, bounds and values. An expression that is a constant or a text counts one, and its value one more.
 use Rattle.std.specs.Prelude.{ℕ, ◌+◌, ◌*◌, List, [], ◌∷◌, length, map, sum, Option, Some, None}
-use Rattle.ep_typed.specs.Trees.{Denoter, Required, Named, Subrange, Enumeration, Array, Place, Variable, Own, Standard, Indexed, Expr, Constant, Text, Read, One, Two, Short, Step, Function, Actual, Evaluated, Accessed, Actuals, no_actual, next_actual, Item, Plain, Wide, Stmt, Stmts, Empty, Compound, Assign, If, While, Repeat, For, Procedure, Case, Halt, Write, none, next, Arm, Arms, no_arm, next_arm, Other, no_other, otherwise_do, entire}
+use Rattle.ep_typed.specs.Trees.{Denoter, Required, Named, Subrange, Enumeration, Array, Record, Denoters, no_denoter, next_denoter, Place, Variable, Own, Standard, Indexed, Field, Expr, Constant, Text, Read, One, Two, Short, Step, Function, Actual, Evaluated, Accessed, Actuals, no_actual, next_actual, Item, Plain, Wide, Stmt, Stmts, Empty, Compound, Assign, If, While, Repeat, For, Procedure, Case, Halt, Write, none, next, Arm, Arms, no_arm, next_arm, Other, no_other, otherwise_do, entire}
 use Rattle.ep_typed.specs.Viewed.{denoter_of, expr_of, stmt_of}
 use Rattle.ep_typed.specs.declared.interface.ConstantEntry.{ConstantEntry}
 use Rattle.ep_typed.specs.declared.interface.Formal.{Formal}
@@ -15,12 +15,18 @@ use Rattle.ep_typed.specs.declared.unit.UnitVariable.{UnitVariable}
 -- ---- types
 
 -- a denoter, those in it, and their bounds
-abbrev pub denoter_nodes : Denoter → ℕ
-denoter_nodes (Required required) = 1
-denoter_nodes (Named index tuple) = 1 + length tuple
-denoter_nodes (Subrange host low high) = 3 + denoter_nodes host
-denoter_nodes (Enumeration names) = 1
-denoter_nodes (Array index component) = 1 + denoter_nodes index + denoter_nodes component
+abbrev mutual
+  pub denoter_nodes : Denoter → ℕ
+  denoter_nodes (Required required) = 1
+  denoter_nodes (Named index tuple) = 1 + length tuple
+  denoter_nodes (Subrange host low high) = 3 + denoter_nodes host
+  denoter_nodes (Enumeration names) = 1
+  denoter_nodes (Array index component) = 1 + denoter_nodes index + denoter_nodes component
+  denoter_nodes (Record ds) = 1 + denoters_nodes ds
+
+  pub denoters_nodes : Denoters → ℕ
+  denoters_nodes no_denoter = 0
+  denoters_nodes (next_denoter d ds) = denoter_nodes d + denoters_nodes ds
 
 -- ---- expressions
 
@@ -30,6 +36,7 @@ abbrev mutual
   place_nodes (Own levels number) = 1
   place_nodes (Standard file) = 1
   place_nodes (Indexed array index) = 1 + place_nodes array + expr_nodes index
+  place_nodes (Field whole number) = 1 + place_nodes whole
 
   pub expr_nodes : Expr → ℕ
   expr_nodes (Constant value) = 2

@@ -12,15 +12,27 @@ use Rattle.ep_typed.specs.declared.tree.StandardFile.{StandardFile}
 pub data Bound : Type 0 where
   Fixed : (value : ℤ) → Bound
 
--- a type denoter (ISO 10206, 6.4.1)
-pub data Denoter : Type 0 where
-  Required : (required : RequiredType) → Denoter
-  -- the type at this place of a list of types, with the bounds of its tuple
-  Named : (index : ℕ) (tuple : List Bound) → Denoter
-  Subrange : (host : Denoter) (low high : Bound) → Denoter
-  Enumeration : (names : List (List ℕ)) → Denoter
-  -- an array, by its index type and the type of its components
-  Array : (index component : Denoter) → Denoter
+mutual
+  -- a type denoter (ISO 10206, 6.4.1)
+  pub data Denoter : Type 0 where
+    Required : (required : RequiredType) → Denoter
+    -- the type at this place of a list of types, with the bounds of its tuple
+    Named : (index : ℕ) (tuple : List Bound) → Denoter
+    Subrange : (host : Denoter) (low high : Bound) → Denoter
+    Enumeration : (names : List (List ℕ)) → Denoter
+    -- an array, by its index type and the type of its components
+    Array : (index component : Denoter) → Denoter
+    -- a record, by the types of its components
+    Record : (components : Denoters) → Denoter
+
+  -- denoters, in order
+  pub data Denoters : Type 0 where
+    no_denoter : Denoters
+    next_denoter : (first : Denoter) (rest : Denoters) → Denoters
+
+abbrev pub denoters : List Denoter → Denoters
+denoters [] = no_denoter
+denoters (d ∷ more) = next_denoter d (denoters more)
 
 -- A routine that is called: its unit, its number in that unit, and 0 for a routine of the unit, or one more than how many
 -- levels up from the one that runs stands that in which it is declared.
@@ -39,6 +51,8 @@ mutual
     Standard : (file : StandardFile) → Place
     -- the component of an array at an index
     Indexed : (array : Place) (index : Expr) → Place
+    -- the component of a record with this number
+    Field : (whole : Place) (number : ℕ) → Place
 
   -- an expression
   pub data Expr : Type 0 where

@@ -1,12 +1,12 @@
 -- Which typed trees the static rules give: each form has parts of the kinds, types and numbers that it asks for.
 use Rattle.std.specs.Prelude.{◌≡◌, ℕ, ℤ, pos, zero, suc, ◌<◌, Bool, true, false, All, List, [], ◌∷◌, ◌++◌, map, slice_get, drop, length, Option, Some, None, IsTrue, int_le, ⊤, if◌then◌else◌}
 use Rattle.std.specs.Str.{bytes_eq}
-use Rattle.ep_typed.specs.Denoters.{ArrayParts, array_of, definition_of, required_type, type_of, host_of}
+use Rattle.ep_typed.specs.Denoters.{ArrayParts, array_of, definition_of, denoter_at, record_of, required_type, type_of, host_of}
 use Rattle.ep_typed.specs.Hosts.{Host, least, greatest, is_of_host}
 use Rattle.ep_typed.specs.Hosts as host
 use Rattle.ep_typed.specs.Operations.{is_integer, is_apart}
 use Rattle.ep_typed.specs.Steps.{is_within}
-use Rattle.ep_typed.specs.Trees.{Fixed, Denoter, Required, Named, Subrange, Enumeration, Array, Callee, Place, Variable, Own, Standard, Indexed, Expr, Constant, Text, Read, One, Two, Short, Step, Function, Actual, Evaluated, Accessed, Actuals, no_actual, next_actual, Item, Plain, Wide, Stmt, Stmts, Empty, Compound, Assign, If, While, Repeat, Control, For, Procedure, Halt, Write, none, next, Case, Arms, no_arm, next_arm, Other, no_other, otherwise_do, entire}
+use Rattle.ep_typed.specs.Trees.{Fixed, Denoter, Required, Named, Subrange, Enumeration, Array, Record, Denoters, no_denoter, next_denoter, Callee, Place, Variable, Own, Standard, Indexed, Field, Expr, Constant, Text, Read, One, Two, Short, Step, Function, Actual, Evaluated, Accessed, Actuals, no_actual, next_actual, Item, Plain, Wide, Stmt, Stmts, Empty, Compound, Assign, If, While, Repeat, Control, For, Procedure, Halt, Write, none, next, Case, Arms, no_arm, next_arm, Other, no_other, otherwise_do, entire}
 pub use Rattle.ep_typed.specs.Routines.{heading_of, formal_variable, variables_of, unit_variables}
 use Rattle.ep_typed.specs.Viewed.{denoter_of, stmt_of}
 use Rattle.ep_typed.specs.declared.operations.Unary.{Unary}
@@ -23,7 +23,7 @@ use Rattle.ep_typed.specs.declared.interface.FormalMode.TheVariants as mode
 use Rattle.ep_typed.specs.declared.interface.RoutineEntry.{RoutineEntry}
 use Rattle.ep_typed.specs.declared.interface.RoutineResult.{RoutineResult}
 use Rattle.ep_typed.specs.declared.tree.CaseRange.{CaseRange}
-use Rattle.ep_typed.specs.TypeValues.{TypeValue}
+use Rattle.ep_typed.specs.TypeValues.{TypeValue, ComponentTypes}
 use Rattle.ep_typed.specs.TypeValues as type
 use Rattle.ep_typed.specs.declared.value.Value.{Value}
 use Rattle.ep_typed.specs.declared.value.Value.TheVariants as value
@@ -155,6 +155,8 @@ module _ (declared : Declarations) where
     IsPlaceWhere Holds (Standard file) = ⊥
     IsPlaceWhere Holds (Indexed p x) =
         IsPlaceWhere (λ types d. (a : ArrayParts) × (array_of types d ≡ Some a) × Holds types a.component × ((h : Host) × (host_of types a.index ≡ Some h) × IsExpr (Ordinal h) x)) p
+    IsPlaceWhere Holds (Field p number) =
+        IsPlaceWhere (λ types d. (ds : Denoters) × (record_of types d ≡ Some ds) × (c : Denoter) × (denoter_at ds number ≡ Some c) × Holds types c) p
 
     -- an expression of this kind
     pub IsExpr : Kind → Expr → Type 0
@@ -256,24 +258,39 @@ abbrev pub IsTypeOf : Host → TypeValue → Type 0
 IsTypeOf h (type.Ordinal low high) = IsTrue (int_le low high) × IsTrue (is_of_host h low) × IsTrue (is_of_host h high) × IsTrue (is_integer low) × IsTrue (is_integer high)
 IsTypeOf h type.Text = ⊥
 IsTypeOf h (type.Array low high of) = ⊥
+IsTypeOf h (type.Record ts) = ⊥
 
--- no type that a type value is made of is empty, and bounds are integers
-abbrev pub IsTypeValue : TypeValue → Type 0
-IsTypeValue (type.Ordinal low high) = IsTrue (int_le low high) × IsTrue (is_integer low) × IsTrue (is_integer high)
-IsTypeValue type.Text = ⊥
-IsTypeValue (type.Array low high of) = (IsTrue (int_le low high) × IsTrue (is_integer low) × IsTrue (is_integer high)) × IsTypeValue of
+abbrev mutual
+  -- no type that a type value is made of is empty, and bounds are integers
+  pub IsTypeValue : TypeValue → Type 0
+  IsTypeValue (type.Ordinal low high) = IsTrue (int_le low high) × IsTrue (is_integer low) × IsTrue (is_integer high)
+  IsTypeValue type.Text = ⊥
+  IsTypeValue (type.Array low high of) = (IsTrue (int_le low high) × IsTrue (is_integer low) × IsTrue (is_integer high)) × IsTypeValue of
+  IsTypeValue (type.Record ts) = AreTypeValues ts
+
+  pub AreTypeValues : ComponentTypes → Type 0
+  AreTypeValues type.no_component = ⊤
+  AreTypeValues (type.next_component t ts) = IsTypeValue t × AreTypeValues ts
 
 -- The denoter has the type value and breaks no rule: the bounds of a subrange are in order and of its host, and an
 -- enumeration has no more constants than there are integers.
-pub data IsTyped (types : List UnitType) : Denoter → TypeValue → Type 0 where
-  required : (r : RequiredType) → IsTyped types (Required r) (required_type r)
-  named : (index : ℕ) (t : UnitType) {v : TypeValue} → slice_get types index ≡ Some t → IsTyped types (definition_of t) v → IsTyped types (Named index []) v
-  subrange : (of : Denoter) (low high : ℤ) (h : Host) → host_of types of ≡ Some h → IsTypeOf h (type.Ordinal low high)
-      → IsTyped types (Subrange of (Fixed low) (Fixed high)) (type.Ordinal low high)
-  enumeration : (first : List ℕ) (others : List (List ℕ)) → IsTrue (is_integer (pos (length others)))
-      → IsTyped types (Enumeration (first ∷ others)) (type.Ordinal (pos 0) (pos (length others)))
-  array : (index component : Denoter) (low high : ℤ) (of : TypeValue) → IsTyped types index (type.Ordinal low high) → IsTyped types component of
-      → IsTyped types (Array index component) (type.Array low high of)
+mutual
+  pub data IsTyped (types : List UnitType) : Denoter → TypeValue → Type 0 where
+    required : (r : RequiredType) → IsTyped types (Required r) (required_type r)
+    named : (index : ℕ) (t : UnitType) {v : TypeValue} → slice_get types index ≡ Some t → IsTyped types (definition_of t) v → IsTyped types (Named index []) v
+    subrange : (of : Denoter) (low high : ℤ) (h : Host) → host_of types of ≡ Some h → IsTypeOf h (type.Ordinal low high)
+        → IsTyped types (Subrange of (Fixed low) (Fixed high)) (type.Ordinal low high)
+    enumeration : (first : List ℕ) (others : List (List ℕ)) → IsTrue (is_integer (pos (length others)))
+        → IsTyped types (Enumeration (first ∷ others)) (type.Ordinal (pos 0) (pos (length others)))
+    array : (index component : Denoter) (low high : ℤ) (of : TypeValue) → IsTyped types index (type.Ordinal low high) → IsTyped types component of
+        → IsTyped types (Array index component) (type.Array low high of)
+    components : (ds : Denoters) (ts : ComponentTypes) → AreTyped types ds ts → IsTyped types (Record ds) (type.Record ts)
+
+  -- one for one
+  pub data AreTyped (types : List UnitType) : Denoters → ComponentTypes → Type 0 where
+    none_typed : AreTyped types no_denoter type.no_component
+    next_typed : (d : Denoter) (ds : Denoters) (t : TypeValue) (ts : ComponentTypes) → IsTyped types d t → AreTyped types ds ts
+        → AreTyped types (next_denoter d ds) (type.next_component t ts)
 
 -- under a list of types a valid denoter has a type value
 pub record IsDenoter (types : List UnitType) (d : Denoter) : Type 0 where

@@ -6,7 +6,7 @@ use Rattle.ep_typed.specs.declared.denoter.Bound.{Bound}
 use Rattle.ep_typed.specs.declared.denoter.Bound.TheVariants.{Constant}
 use Rattle.ep_typed.specs.declared.denoter.Denoter.{Denoter}
 use Rattle.ep_typed.specs.declared.denoter.Denoter.TheOpen as denoter
-use Rattle.ep_typed.specs.declared.denoter.Denoter.TheOpen.{Denoter-F}
+use Rattle.ep_typed.specs.declared.denoter.Denoter.TheOpen.{Denoter-F, RecordField-F}
 use Rattle.ep_typed.specs.declared.denoter.Denoter.TheFolds.{fold-Denoter}
 use Rattle.ep_typed.specs.declared.operations.Print.{Print}
 use Rattle.ep_typed.specs.declared.tree.Actual.{Actual}
@@ -29,15 +29,20 @@ use Rattle.ep_typed.specs.declared.tree.CaseArm.{CaseArm}
 abbrev pub bound_of : Bound → tree.Bound
 bound_of (Constant value) = tree.Fixed value
 
-abbrev pub denoter_step : Denoter-F tree.Denoter → tree.Denoter
+abbrev pub denoter_step : Denoter-F tree.Denoter tree.Denoter → tree.Denoter
 denoter_step (denoter.Required required) = tree.Required required
 denoter_step (denoter.Named index tuple) = tree.Named index (map bound_of tuple)
 denoter_step (denoter.Subrange host low high) = tree.Subrange host (bound_of low) (bound_of high)
 denoter_step (denoter.Enumeration names) = tree.Enumeration names
 denoter_step (denoter.Array index component) = tree.Array index component
+denoter_step (denoter.Record fields) = tree.Record (tree.denoters fields)
+
+-- a field by its type
+abbrev pub field_step : RecordField-F tree.Denoter tree.Denoter → tree.Denoter
+field_step f = f.denoter
 
 abbrev pub denoter_of : Denoter → tree.Denoter
-denoter_of = fold-Denoter tree.Denoter denoter_step
+denoter_of = fold-Denoter tree.Denoter tree.Denoter denoter_step field_step
 
 abbrev pub callee_of : Callee → tree.Callee
 callee_of c = record { unit = c.unit; number = c.number; levels = c.levels }
@@ -47,6 +52,7 @@ place_step (expr.«TypedPlace::Variable» unit number) = tree.Variable unit numb
 place_step (expr.Own levels number) = tree.Own levels number
 place_step (expr.Standard file) = tree.Standard file
 place_step (expr.Indexed array index) = tree.Indexed array index
+place_step (expr.Field whole number) = tree.Field whole number
 
 abbrev pub expr_step : TypedExpr-F tree.Actual tree.Expr tree.Place → tree.Expr
 expr_step (expr.Constant value) = tree.Constant value

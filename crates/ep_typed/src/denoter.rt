@@ -23,7 +23,11 @@ pub enum Bound {
 /// An owned list of bounds.
 pub type Bounds = List<Bound>;
 
+/// An owned list of fields.
+pub type RecordFields = List<RecordField>;
+
 /// A type denoter, in which every name is settled.
+#[cycle(denoters)]
 #[derive(Drop)]
 pub enum Denoter {
     /// A required type.
@@ -36,4 +40,16 @@ pub enum Denoter {
     Enumeration(Names),
     /// An array: the denoters of its index type and of its components (ISO 10206, 6.4.3.2).
     Array(Boxed<Denoter>, Boxed<Denoter>),
+    /// A record, by its fields in order (ISO 10206, 6.4.3.4).
+    Record(RecordFields),
+}
+
+/// A field of a record.
+#[cycle(denoters)]
+#[derive(Drop)]
+pub struct RecordField {
+    /// Its name.
+    pub name: Name,
+    /// The denoter of its type.
+    pub denoter: Denoter,
 }

@@ -18,7 +18,7 @@ mod unit;
 mod value;
 
 pub use auxiliary::{auxiliary_variables, first_for};
-pub use denoter::{Bound, Bounds, Denoter, RequiredType};
+pub use denoter::{Bound, Bounds, Denoter, RecordField, RecordFields, RequiredType};
 pub use interface::{
     ConstantEntries, ConstantEntry, Constituent, ConstituentKind, Constituents, ExportEntries,
     ExportEntry, Formal, FormalMode, Formals, ImportSpec, ImportSpecs, Interface, NamePair,

@@ -4,9 +4,9 @@ ghost use Rattle.std.specs.Prelude.{◌≡◌, min, map, sum};
 ghost use Rattle.ep_typed.specs.Nodes as nodes;
 ghost use Rattle.ep_typed.specs.Viewed.{actual_of, arm_of, denoter_of, entire_of, expr_of, item_of, place_of, stmt_of};
 ghost use Rattle.ep_typed.specs.Trees as tree;
-ghost use Rattle.ep_typed.specs.Trees.{stmts};
+ghost use Rattle.ep_typed.specs.Trees.{denoters, stmts};
 
-use crate::denoter::Denoter;
+use crate::denoter::{Denoter, RecordField};
 use crate::interface::{ConstantEntry, Formal, RoutineResult, SchemaFormal};
 use crate::tree::{Actual, CaseArm, EntireVariable, TypedExpr, TypedPlace, TypedStmt, WriteItem};
 use crate::unit::{Unit, UnitRoutine, UnitType, UnitVariable};
@@ -148,7 +148,20 @@ fn denoter(d: &Denoter) -> u64
         Denoter::Array(index, component) => denoter(index.get())
             .saturating_add(denoter(component.get()))
             .saturating_add(1),
+        Denoter::Record(fields) => components(fields.items()).saturating_add(1),
     }
+}
+
+/// The nodes of the denoters of a record's components.
+#[cycle(denoters)]
+fn components(all: &[RecordField]) -> u64
+    ensures { result ≡ min (nodes.denoters_nodes (denoters (map (λ f. denoter_of f.denoter) all.now))) u64.MAX }
+{
+    let mut total = 0;
+    for field in all {
+        total = denoter(&field.denoter).saturating_add(total);
+    }
+    total
 }
 
 #[cycle(statements)]
@@ -283,6 +296,7 @@ fn place(p: &TypedPlace) -> u64
                 .saturating_add(expression(index.get()))
                 .saturating_add(1)
         }
+        TypedPlace::Field(whole, _) => place(whole.get()).saturating_add(1),
     }
 }
 

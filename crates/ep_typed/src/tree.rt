@@ -24,6 +24,8 @@ pub enum TypedPlace {
     Standard(StandardFile),
     /// The component of an array at an index (ISO 10206, 6.5.3.2).
     Indexed(Boxed<TypedPlace>, Boxed<TypedExpr>),
+    /// The component of a record by its number (ISO 10206, 6.5.3.3).
+    Field(Boxed<TypedPlace>, u32),
 }
 
 /// An entire variable (ISO 10206, 6.5.2).

@@ -6,7 +6,7 @@ use Rattle.ep_typed.specs.Denoters.{ArrayParts, array_of, array_type, array_with
 use Rattle.ep_typed.specs.Hosts as host
 use Rattle.ep_typed.specs.Hosts.{Host, least, greatest, is_of_host}
 use Rattle.ep_typed.specs.Operations.{is_integer, last_char, maxint}
-use Rattle.ep_typed.specs.Trees.{Array, Denoter, Fixed, Required, Named, Subrange, Enumeration}
+use Rattle.ep_typed.specs.Trees.{Array, Denoter, Fixed, Required, Named, Subrange, Enumeration, Record}
 use Rattle.ep_typed.specs.Valid.{IsDenoter, IsOrdinal, IsTyped, array, enumeration, named, required, subrange}
 use Rattle.ep_typed.specs.declared.denoter.RequiredType.{RequiredType}
 use Rattle.ep_typed.specs.declared.denoter.RequiredType.TheVariants as simple
@@ -159,6 +159,7 @@ module _ (types : List UnitType) where
   ordinal_value (suc n) (Enumeration []) h v e f = cc
   ordinal_value (suc n) (Enumeration (first ∷ others)) h v e f = ordinal_some (pos 0) (pos (length others)) v f
   ordinal_value (suc n) (Array index component) h v e f = cc
+  ordinal_value (suc n) (Record ds) h v e f = cc
 
   pub parts_found : (index component : Denoter) (n : ℕ) → 0 < n → array_within types n (Array index component) ≡ Some (record { index = index; component = component })
   parts_found index component zero lt = absurd (omega (arith, lt))

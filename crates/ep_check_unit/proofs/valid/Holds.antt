@@ -8,12 +8,11 @@ use Rattle.ep_typed.specs.Hosts as typed
 use Rattle.ep_typed.specs.Hosts.{is_of_host}
 use Rattle.ep_typed.specs.Trees as tree
 use Rattle.ep_typed.specs.Valid.{IsAround, IsConstant, IsFormal, IsFormalBy, IsOrdinal, IsProcedure, IsResult, IsStmt, IsType, IsVariable, Level, heading_of, in_routine, levels_of, own, variables_at, variables_in}
-use Rattle.ep_typed.specs.Viewed.{bound_of, denoter_of, denoter_step}
+use Rattle.ep_typed.specs.Viewed.{bound_of, denoter_of}
 use Rattle.ep_typed.specs.declared.denoter.Bound.{Bound}
 use Rattle.ep_typed.specs.declared.denoter.Denoter.{Denoter}
 use Rattle.ep_typed.specs.declared.denoter.Denoter.TheVariants as denoter
-use Rattle.ep_typed.specs.declared.denoter.Denoter.TheOpen as layer
-use Rattle.ep_typed.specs.declared.denoter.Denoter.TheFolds.{fold-roll-Denoter}
+use Rattle.ep_typed.proofs.Forms.{required_is, named_is, subrange_is, enumeration_is}
 use Rattle.ep_typed.specs.declared.denoter.RequiredType.{RequiredType}
 use Rattle.ep_typed.specs.declared.denoter.RequiredType.TheVariants as simple
 use Rattle.ep_typed.specs.declared.interface.FormalMode.{FormalMode}
@@ -52,18 +51,6 @@ use Rattle.ep_check_unit.proofs.valid.Open.{AreUnderWay}
 use Rattle.ep_check_unit.proofs.valid.Denoting.{Denotes, DenotesKind, IsSmall, full_type, denotes_more, denotes_required, denotes_named, denotes_enumeration, denotes_ordinal, kind_more, kind_valid}
 
 -- ---- denoters as plain data
-
-pub required_is : (r : RequiredType) → denoter_of (denoter.Required r) ≡ tree.Required r
-required_is r = ap denoter_of (sym (denoter.rolls-Required r)) ∙ fold-roll-Denoter tree.Denoter denoter_step (layer.Required r)
-
-pub named_is : (index : ℕ) (tuple : List Bound) → denoter_of (denoter.Named index tuple) ≡ tree.Named index (map bound_of tuple)
-named_is index tuple = ap denoter_of (sym (denoter.rolls-Named index tuple)) ∙ fold-roll-Denoter tree.Denoter denoter_step (layer.Named index tuple)
-
-pub subrange_is : (of : Denoter) (low high : Bound) → denoter_of (denoter.Subrange of low high) ≡ tree.Subrange (denoter_of of) (bound_of low) (bound_of high)
-subrange_is of low high = ap denoter_of (sym (denoter.rolls-Subrange of low high)) ∙ fold-roll-Denoter tree.Denoter denoter_step (layer.Subrange of low high)
-
-pub enumeration_is : (names : List (List ℕ)) → denoter_of (denoter.Enumeration names) ≡ tree.Enumeration names
-enumeration_is names = ap denoter_of (sym (denoter.rolls-Enumeration names)) ∙ fold-roll-Denoter tree.Denoter denoter_step (layer.Enumeration names)
 
 -- a type by its name, as plain data
 abbrev pub named_tree : TypeName → tree.Denoter

@@ -32,7 +32,8 @@ use Rattle.ep_check_unit.specs.declared.block.OwnVariables.{OwnVariables}
 use Rattle.ep_check_unit.proofs.valid.Constants.{constant_definition-leads}
 use Rattle.ep_check_unit.proofs.valid.Arrays.{core_written-writes, settled_type-settles}
 use Rattle.ep_check_unit.proofs.valid.Denoting.{DenotesKind, kind_valid}
-use Rattle.ep_check_unit.proofs.valid.Holds.{HasTypeHere, Holds, ListsKind, innermost, levels_at, named_is, own_innermost, things_push}
+use Rattle.ep_typed.proofs.Forms.{named_is}
+use Rattle.ep_check_unit.proofs.valid.Holds.{HasTypeHere, Holds, ListsKind, innermost, levels_at, own_innermost, things_push}
 use Rattle.ep_check_unit.proofs.valid.Open.{open_push}
 use Rattle.ep_check_unit.proofs.valid.Leading.{Enters, Extends, Leads, bodies_refl, enters_refl, enters_then, entered_leads, extends_before, grows_trans, head_in, leads_refl, leads_then, leads_trans, length_push, named_grows, named_holds, prefix_last, prefix_length, prefix_more, prefix_refl, result_in, variables_in}
 use Rattle.ep_check_unit.proofs.valid.Types.{Settles, Writes, new_entry, written_settles}

@@ -50,7 +50,8 @@ use Rattle.ep_check_unit.specs.Blocks.{Block}
 use Rattle.ep_check_unit.proofs.valid.Constants.{ListsWithin, enumerated_counts, enumerated_enters}
 use Rattle.ep_check_unit.proofs.valid.Denoting.{Denotes, DenotesKind, IsSmall, denotes_enumeration, denotes_more, denotes_required, denotes_subrange, full_type, kind_more, kind_named, kind_valid}
 use Rattle.ep_check_unit.proofs.valid.Agreeing.{holds_agrees, within}
-use Rattle.ep_check_unit.proofs.valid.Holds.{HasKindHere, HasTypeHere, Holds, HoldsDeclaration, Lists, ListsEnumeration, ListsKind, enumeration_is, holds_more, host_denotes, known_listed, lists_kind_more, lists_more, lists_small, named_is, named_tree, required_lists, subrange_is}
+use Rattle.ep_typed.proofs.Forms.{enumeration_is, named_is, subrange_is}
+use Rattle.ep_check_unit.proofs.valid.Holds.{HasKindHere, HasTypeHere, Holds, HoldsDeclaration, Lists, ListsEnumeration, ListsKind, holds_more, host_denotes, known_listed, lists_kind_more, lists_more, lists_small, named_tree, required_lists}
 use Rattle.ep_check_unit.proofs.valid.Open.{IsOpen}
 use Rattle.ep_check_unit.proofs.valid.Leading.{Extends, Enters, Grows, bodies_refl, extends_before, grows_refl, grows_trans, head_in, length_push, prefix_last, prefix_length, prefix_more, prefix_refl, waits_some}
 use Rattle.ep_check_unit.proofs.valid.Meant.{HoldsMeant, meant_holds, meant_in_holds}

@@ -315,7 +315,7 @@ pub gives_up : {G : Image} {v number : ℕ} {unit : List ℕ} {line : ℕ} {k : 
 gives_up {G = G} {v = v} {number = number} {unit = unit} {line = line} {k = k} {trace = trace} o limit begins lost =
     record { lost = lost; ticks = suc v; fast = omega arith; number = number; is_limit = limit; unit = unit; line = line; trace = trace; runs = run_instruction G k v (Stopped (Error number unit line) trace) o; begins = begins }
 
--- where room was lost already, at the next tick
-pub follows_gives_up : {A : Type 0} {Within : State → Type 0} {G : Image} {n : ℕ} {k : State} {s : meaning.State} {c : Computation A} {P : A → meaning.State → State → Type 0} {d : ℕ} {e : A → ℕ}
-    → Steady c → 1 ≤ d → GivesUp G k 0 1 s → Follows Within G n k s c P d e
+-- where room was lost already, within what is to spare
+pub follows_gives_up : {A : Type 0} {Within : State → Type 0} {G : Image} {n cost : ℕ} {k : State} {s : meaning.State} {c : Computation A} {P : A → meaning.State → State → Type 0} {d : ℕ} {e : A → ℕ}
+    → Steady c → cost ≤ d → GivesUp G k 0 cost s → Follows Within G n k s c P d e
 follows_gives_up {Within = Within} {G = G} {k = k} {s = s} {c = c} steady enough h = record { by = λ m l. inr (gives_up_grown s (state_of (c m s)) (steady.by m s) (gives_up_weaken (omega (arith, enough)) h)) }

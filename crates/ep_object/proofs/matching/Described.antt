@@ -1,17 +1,18 @@
 -- Which entry of a table of types describes a type value.
-use Rattle.std.proofs.Common.{◌≡◌, ℕ, ℤ, ◌*◌, List, Some, slice_get, refl, sym, ap, ◌∙◌, subst}
+use Rattle.std.proofs.Common.{◌≡◌, ℕ, ℤ, ◌+◌, ◌*◌, List, [], ◌∷◌, Some, slice_get, refl, sym, ap, ◌∙◌, subst, arith}
 use Rattle.std.proofs.lemmas.Option.{same_Some}
-use Rattle.ep_object.specs.Matching.{Describes, HasSize, MatchesTypes}
+use Rattle.ep_object.specs.Matching.{DescribeEach, Describes, HasSize, HaveSize, MatchesTypes}
 use Rattle.ep_object.specs.State.{TypeTable, text_entry}
-use Rattle.ep_object.specs.Types.{ordinal_entry, array_entry}
+use Rattle.ep_object.specs.Types.{ordinal_entry, array_entry, record_entry}
 use Rattle.ep_object.specs.declared.state.Kind.{Kind}
 use Rattle.ep_object.specs.declared.state.Kind.TheVariants as kind
+use Rattle.ep_object.specs.declared.state.RecordPart.{RecordPart}
 use Rattle.ep_object.specs.declared.state.TypeEntry.{TypeEntry}
-use Rattle.ep_object.proofs.matching.Growing.{described-longer}
+use Rattle.ep_object.proofs.matching.Growing.{described-longer, each_described-longer}
 use Rattle.ep_outside.specs.Known.{IsPrefix}
 use Rattle.ep_typed.specs.Bounds.{count_of}
 use Rattle.ep_typed.specs.TypeValues as type
-use Rattle.ep_typed.specs.TypeValues.{TypeValue, size_of}
+use Rattle.ep_typed.specs.TypeValues.{ComponentTypes, TypeValue, size_of, sizes_of}
 
 -- the entry is that of the type value, in a table that has the types of its components
 abbrev pub IsEntryOf : TypeTable → TypeValue → TypeEntry → Type 0
@@ -19,6 +20,8 @@ IsEntryOf types (type.Ordinal low high) e = e ≡ ordinal_entry low high
 IsEntryOf types type.Text e = e ≡ text_entry
 IsEntryOf types (type.Array low high of) e =
     (c : ℕ) × (e ≡ array_entry low high c (size_of (type.Array low high of))) × Describes types c of
+IsEntryOf types (type.Record ts) e =
+    (ps : List RecordPart) × (e ≡ record_entry ps (size_of (type.Record ts))) × DescribeEach types 0 ps ts
 
 -- what describes a type value is its entry
 pub described_entry : (types : TypeTable) (n : ℕ) (t : TypeValue) → Describes types n t
@@ -27,6 +30,7 @@ described_entry types n (type.Ordinal low high) h = (ordinal_entry low high, h, 
 described_entry types n type.Text h = (text_entry, h, refl)
 described_entry types n (type.Array low high of) h =
     (array_entry low high h.0 (size_of (type.Array low high of)), h.1, (h.0, refl, h.2))
+described_entry types n (type.Record ts) h = (record_entry h.0 (size_of (type.Record ts)), h.1, (h.0, refl, h.2))
 
 -- and the other way
 pub entry_describes : (types : TypeTable) (n : ℕ) (t : TypeValue) (e : TypeEntry) → slice_get types n ≡ Some e
@@ -34,12 +38,14 @@ pub entry_describes : (types : TypeTable) (n : ℕ) (t : TypeValue) (e : TypeEnt
 entry_describes types n (type.Ordinal low high) e there h = there ∙ ap Some h
 entry_describes types n type.Text e there h = there ∙ ap Some h
 entry_describes types n (type.Array low high of) e there h = (h.0, there ∙ ap Some h.1, h.2)
+entry_describes types n (type.Record ts) e there h = (h.0, there ∙ ap Some h.1, h.2)
 
 -- it has the size of the type value
 pub entry_size : (types : TypeTable) (t : TypeValue) (e : TypeEntry) → IsEntryOf types t e → e.size ≡ size_of t
 entry_size types (type.Ordinal low high) e h = ap (λ (x : TypeEntry). x.size) h
 entry_size types type.Text e h = ap (λ (x : TypeEntry). x.size) h
 entry_size types (type.Array low high of) e h = ap (λ (x : TypeEntry). x.size) h.1
+entry_size types (type.Record ts) e h = ap (λ (x : TypeEntry). x.size) h.1
 
 -- in a longer table too
 pub entry-longer : (types longer : TypeTable) (t : TypeValue) (e : TypeEntry) → IsPrefix types longer
@@ -47,6 +53,18 @@ pub entry-longer : (types longer : TypeTable) (t : TypeValue) (e : TypeEntry) �
 entry-longer types longer (type.Ordinal low high) e p h = h
 entry-longer types longer type.Text e p h = h
 entry-longer types longer (type.Array low high of) e p h = (h.0, h.1, described-longer types longer h.0 of p h.2)
+entry-longer types longer (type.Record ts) e p h = (h.0, h.1, each_described-longer types longer 0 h.0 ts p h.2)
+
+-- components have as many words as their types
+each_sized : (types : TypeTable) (before : ℕ) (ps : List RecordPart) (ts : ComponentTypes) → DescribeEach types before ps ts → HaveSize types before ps (before + sizes_of ts)
+each_sized types before [] type.no_component h = omega arith
+each_sized types before [] (type.next_component t ts) h = absurd h
+each_sized types before (p ∷ ps) type.no_component h = absurd h
+each_sized types before (p ∷ ps) (type.next_component t ts) h =
+    let c = described_entry types p.type_number t h.1 in
+    let size : c.0.size ≡ size_of t = entry_size types t c.0 c.2 in
+    let total : before + size_of t + sizes_of ts ≡ before + (size_of t + sizes_of ts) = omega arith in
+    (h.0, c.0, c.1, subst (λ n. HaveSize types (before + n) ps (before + (size_of t + sizes_of ts))) (sym size) (subst (HaveSize types (before + size_of t) ps) total (each_sized types (before + size_of t) ps ts h.2)))
 
 -- its size is the one that its kind has
 pub entry_sized : (types : TypeTable) (t : TypeValue) (e : TypeEntry) → IsEntryOf types t e → HasSize types e.kind e.size
@@ -55,6 +73,16 @@ entry_sized types type.Text e h = subst (λ (x : TypeEntry). HasSize types x.kin
 entry_sized types (type.Array low high of) e h =
     let c = described_entry types h.0 of h.2 in
     subst (λ (x : TypeEntry). HasSize types x.kind x.size) (sym h.1) (c.0, c.1, ap (λ n. count_of low high * n) (sym (entry_size types of c.0 c.2)))
+entry_sized types (type.Record ts) e h =
+    let total : 0 + sizes_of ts ≡ sizes_of ts = omega arith in
+    subst (λ (x : TypeEntry). HasSize types x.kind x.size) (sym h.1) (subst (HaveSize types 0 h.0) total (each_sized types 0 h.0 ts h.2))
+
+-- components have one size
+one_size_behind : (types : TypeTable) (before : ℕ) (ps : List RecordPart) (size other : ℕ) → HaveSize types before ps size → HaveSize types before ps other → size ≡ other
+one_size_behind types before [] size other a b = a ∙ sym b
+one_size_behind types before (p ∷ ps) size other a b =
+    let same : b.1 ≡ a.1 = same_Some b.1 a.1 (sym b.2 ∙ a.2) in
+    one_size_behind types (before + a.1.size) ps size other a.3 (subst (λ (e : TypeEntry). HaveSize types (before + e.size) ps other) same b.3)
 
 -- a kind has one size
 pub one_size : (types : TypeTable) (k : Kind) (size other : ℕ) → HasSize types k size → HasSize types k other → size ≡ other
@@ -64,6 +92,14 @@ one_size types kind.Text size other a b = a ∙ sym b
 one_size types (kind.Array low high c) size other a b =
     let same : a.0 ≡ b.0 = same_Some a.0 b.0 (sym a.1 ∙ b.1) in
     a.2 ∙ (ap (λ (e : TypeEntry). count_of low high * e.size) same ∙ sym b.2)
+one_size types (kind.Record ps) size other a b = one_size_behind types 0 ps size other a b
+
+-- in a longer table too
+have_size-longer : (types longer : TypeTable) (before : ℕ) (ps : List RecordPart) (size : ℕ)
+    → ((n : ℕ) (e : TypeEntry) → slice_get types n ≡ Some e → slice_get longer n ≡ Some e)
+    → HaveSize types before ps size → HaveSize longer before ps size
+have_size-longer types longer before [] size keeps h = h
+have_size-longer types longer before (p ∷ ps) size keeps h = (h.0, h.1, keeps p.type_number h.1 h.2, have_size-longer types longer (before + h.1.size) ps size keeps h.3)
 
 -- in a longer table too
 pub has_size-longer : (types longer : TypeTable) (k : Kind) (size : ℕ)
@@ -73,6 +109,7 @@ has_size-longer types longer (kind.Ord low high) size keeps h = h
 has_size-longer types longer kind.Pointer size keeps h = h
 has_size-longer types longer kind.Text size keeps h = h
 has_size-longer types longer (kind.Array low high c) size keeps h = (h.0, keeps c h.0 h.1, h.2)
+has_size-longer types longer (kind.Record ps) size keeps h = have_size-longer types longer 0 ps size keeps h
 
 -- ---- a number is that of one type value, and a type value has one number
 
@@ -82,31 +119,65 @@ same_bounds_of e = (cc, cc)
 same_array : {a b c d : ℤ} {m n : ℕ} → kind.Array a b m ≡ kind.Array c d n → (a ≡ c) × (b ≡ d) × (m ≡ n)
 same_array e = (cc, cc, cc)
 
--- an entry is that of one type value
-pub entry_of_one : (types : TypeTable) (t u : TypeValue) (e : TypeEntry) → IsEntryOf types t e → IsEntryOf types u e → t ≡ u
-entry_of_one types (type.Ordinal l h) (type.Ordinal m k) e a b =
-    let s = same_bounds_of (sym (ap (λ (x : TypeEntry). x.kind) a) ∙ ap (λ (x : TypeEntry). x.kind) b) in
-    λ i. type.Ordinal (s.0 i) (s.1 i)
-entry_of_one types (type.Ordinal l h) type.Text e a b =
-    let s : kind.Ord l h ≡ kind.Text = sym (ap (λ (x : TypeEntry). x.kind) a) ∙ ap (λ (x : TypeEntry). x.kind) b in cc
-entry_of_one types (type.Ordinal l h) (type.Array m k of) e a b =
-    let s : kind.Ord l h ≡ kind.Array m k b.0 = sym (ap (λ (x : TypeEntry). x.kind) a) ∙ ap (λ (x : TypeEntry). x.kind) b.1 in cc
-entry_of_one types type.Text (type.Ordinal m k) e a b =
-    let s : kind.Text ≡ kind.Ord m k = sym (ap (λ (x : TypeEntry). x.kind) a) ∙ ap (λ (x : TypeEntry). x.kind) b in cc
-entry_of_one types type.Text type.Text e a b = refl
-entry_of_one types type.Text (type.Array m k of) e a b =
-    let s : kind.Text ≡ kind.Array m k b.0 = sym (ap (λ (x : TypeEntry). x.kind) a) ∙ ap (λ (x : TypeEntry). x.kind) b.1 in cc
-entry_of_one types (type.Array l h of) (type.Ordinal m k) e a b =
-    let s : kind.Array l h a.0 ≡ kind.Ord m k = sym (ap (λ (x : TypeEntry). x.kind) a.1) ∙ ap (λ (x : TypeEntry). x.kind) b in cc
-entry_of_one types (type.Array l h of) type.Text e a b =
-    let s : kind.Array l h a.0 ≡ kind.Text = sym (ap (λ (x : TypeEntry). x.kind) a.1) ∙ ap (λ (x : TypeEntry). x.kind) b in cc
-entry_of_one types (type.Array l h of) (type.Array m k other) e a b =
-    let s = same_array (sym (ap (λ (x : TypeEntry). x.kind) a.1) ∙ ap (λ (x : TypeEntry). x.kind) b.1) in
-    let p = described_entry types b.0 of (subst (λ n. Describes types n of) s.2 a.2) in
-    let q = described_entry types b.0 other b.2 in
-    let same : q.0 ≡ p.0 = same_Some q.0 p.0 (sym q.1 ∙ p.1) in
-    let c : of ≡ other = entry_of_one types of other p.0 p.2 (subst (λ x. IsEntryOf types other x) same q.2) in
-    λ i. type.Array (s.0 i) (s.1 i) (c i)
+same_record : {ps qs : List RecordPart} → kind.Record ps ≡ kind.Record qs → ps ≡ qs
+same_record e = cc
+
+mutual
+  -- an entry is that of one type value
+  pub entry_of_one : (types : TypeTable) (t u : TypeValue) (e : TypeEntry) → IsEntryOf types t e → IsEntryOf types u e → t ≡ u
+  entry_of_one types (type.Ordinal l h) (type.Ordinal m k) e a b =
+      let s = same_bounds_of (sym (ap (λ (x : TypeEntry). x.kind) a) ∙ ap (λ (x : TypeEntry). x.kind) b) in
+      λ i. type.Ordinal (s.0 i) (s.1 i)
+  entry_of_one types (type.Ordinal l h) type.Text e a b =
+      let s : kind.Ord l h ≡ kind.Text = sym (ap (λ (x : TypeEntry). x.kind) a) ∙ ap (λ (x : TypeEntry). x.kind) b in cc
+  entry_of_one types (type.Ordinal l h) (type.Array m k of) e a b =
+      let s : kind.Ord l h ≡ kind.Array m k b.0 = sym (ap (λ (x : TypeEntry). x.kind) a) ∙ ap (λ (x : TypeEntry). x.kind) b.1 in cc
+  entry_of_one types (type.Ordinal l h) (type.Record us) e a b =
+      let s : kind.Ord l h ≡ kind.Record b.0 = sym (ap (λ (x : TypeEntry). x.kind) a) ∙ ap (λ (x : TypeEntry). x.kind) b.1 in cc
+  entry_of_one types type.Text (type.Ordinal m k) e a b =
+      let s : kind.Text ≡ kind.Ord m k = sym (ap (λ (x : TypeEntry). x.kind) a) ∙ ap (λ (x : TypeEntry). x.kind) b in cc
+  entry_of_one types type.Text type.Text e a b = refl
+  entry_of_one types type.Text (type.Array m k of) e a b =
+      let s : kind.Text ≡ kind.Array m k b.0 = sym (ap (λ (x : TypeEntry). x.kind) a) ∙ ap (λ (x : TypeEntry). x.kind) b.1 in cc
+  entry_of_one types type.Text (type.Record us) e a b =
+      let s : kind.Text ≡ kind.Record b.0 = sym (ap (λ (x : TypeEntry). x.kind) a) ∙ ap (λ (x : TypeEntry). x.kind) b.1 in cc
+  entry_of_one types (type.Array l h of) (type.Ordinal m k) e a b =
+      let s : kind.Array l h a.0 ≡ kind.Ord m k = sym (ap (λ (x : TypeEntry). x.kind) a.1) ∙ ap (λ (x : TypeEntry). x.kind) b in cc
+  entry_of_one types (type.Array l h of) type.Text e a b =
+      let s : kind.Array l h a.0 ≡ kind.Text = sym (ap (λ (x : TypeEntry). x.kind) a.1) ∙ ap (λ (x : TypeEntry). x.kind) b in cc
+  entry_of_one types (type.Array l h of) (type.Array m k other) e a b =
+      let s = same_array (sym (ap (λ (x : TypeEntry). x.kind) a.1) ∙ ap (λ (x : TypeEntry). x.kind) b.1) in
+      let p = described_entry types b.0 of (subst (λ n. Describes types n of) s.2 a.2) in
+      let q = described_entry types b.0 other b.2 in
+      let same : q.0 ≡ p.0 = same_Some q.0 p.0 (sym q.1 ∙ p.1) in
+      let c : of ≡ other = entry_of_one types of other p.0 p.2 (subst (λ x. IsEntryOf types other x) same q.2) in
+      λ i. type.Array (s.0 i) (s.1 i) (c i)
+  entry_of_one types (type.Array l h of) (type.Record us) e a b =
+      let s : kind.Array l h a.0 ≡ kind.Record b.0 = sym (ap (λ (x : TypeEntry). x.kind) a.1) ∙ ap (λ (x : TypeEntry). x.kind) b.1 in cc
+  entry_of_one types (type.Record ts) (type.Ordinal m k) e a b =
+      let s : kind.Record a.0 ≡ kind.Ord m k = sym (ap (λ (x : TypeEntry). x.kind) a.1) ∙ ap (λ (x : TypeEntry). x.kind) b in cc
+  entry_of_one types (type.Record ts) type.Text e a b =
+      let s : kind.Record a.0 ≡ kind.Text = sym (ap (λ (x : TypeEntry). x.kind) a.1) ∙ ap (λ (x : TypeEntry). x.kind) b in cc
+  entry_of_one types (type.Record ts) (type.Array m k other) e a b =
+      let s : kind.Record a.0 ≡ kind.Array m k b.0 = sym (ap (λ (x : TypeEntry). x.kind) a.1) ∙ ap (λ (x : TypeEntry). x.kind) b.1 in cc
+  entry_of_one types (type.Record ts) (type.Record us) e a b =
+      let s : a.0 ≡ b.0 = same_record (sym (ap (λ (x : TypeEntry). x.kind) a.1) ∙ ap (λ (x : TypeEntry). x.kind) b.1) in
+      ap type.Record (each_one types 0 b.0 ts us (subst (λ ps. DescribeEach types 0 ps ts) s a.2) b.2)
+
+  -- and components are those of one list of types
+  each_one : (types : TypeTable) (before : ℕ) (ps : List RecordPart) (ts us : ComponentTypes) → DescribeEach types before ps ts → DescribeEach types before ps us → ts ≡ us
+  each_one types before [] type.no_component type.no_component a b = refl
+  each_one types before [] type.no_component (type.next_component u us) a b = absurd b
+  each_one types before [] (type.next_component t ts) us a b = absurd a
+  each_one types before (p ∷ ps) type.no_component us a b = absurd a
+  each_one types before (p ∷ ps) (type.next_component t ts) type.no_component a b = absurd b
+  each_one types before (p ∷ ps) (type.next_component t ts) (type.next_component u us) a b =
+      let x = described_entry types p.type_number t a.1 in
+      let y = described_entry types p.type_number u b.1 in
+      let same : y.0 ≡ x.0 = same_Some y.0 x.0 (sym y.1 ∙ x.1) in
+      let first : t ≡ u = entry_of_one types t u x.0 x.2 (subst (λ e. IsEntryOf types u e) same y.2) in
+      let rest : ts ≡ us = each_one types (before + size_of t) ps ts us a.2 (subst (λ v. DescribeEach types (before + size_of v) ps us) (sym first) b.2) in
+      λ i. type.next_component (first i) (rest i)
 
 -- and a number too
 pub describes_one : (types : TypeTable) (n : ℕ) (t u : TypeValue) → Describes types n t → Describes types n u → t ≡ u
@@ -116,17 +187,38 @@ describes_one types n t u p q =
     let same : b.0 ≡ a.0 = same_Some b.0 a.0 (sym b.1 ∙ a.1) in
     entry_of_one types t u a.0 a.2 (subst (λ e. IsEntryOf types u e) same b.2)
 
--- a type value has one entry, and one number
-pub one_entry : {elaborated : List TypeValue} (types : TypeTable) (t : TypeValue) (e f : TypeEntry)
-    → MatchesTypes elaborated types → IsEntryOf types t e → IsEntryOf types t f → e ≡ f
-one_entry types (type.Ordinal low high) e f m a b = a ∙ sym b
-one_entry types type.Text e f m a b = a ∙ sym b
-one_entry types (type.Array low high of) e f m a b =
-    let p = described_entry types a.0 of a.2 in
-    let q = described_entry types b.0 of b.2 in
-    let same : q.0 ≡ p.0 = one_entry types of q.0 p.0 m q.2 p.2 in
-    let c : a.0 ≡ b.0 = m.shared a.0 b.0 p.0 p.1 (q.1 ∙ ap Some same) in
-    a.1 ∙ (ap (λ n. array_entry low high n (size_of (type.Array low high of))) c ∙ sym b.1)
+mutual
+  -- a type value has one entry, and one number
+  pub one_entry : {elaborated : List TypeValue} (types : TypeTable) (t : TypeValue) (e f : TypeEntry)
+      → MatchesTypes elaborated types → IsEntryOf types t e → IsEntryOf types t f → e ≡ f
+  one_entry types (type.Ordinal low high) e f m a b = a ∙ sym b
+  one_entry types type.Text e f m a b = a ∙ sym b
+  one_entry types (type.Array low high of) e f m a b =
+      let p = described_entry types a.0 of a.2 in
+      let q = described_entry types b.0 of b.2 in
+      let same : q.0 ≡ p.0 = one_entry types of q.0 p.0 m q.2 p.2 in
+      let c : a.0 ≡ b.0 = m.shared a.0 b.0 p.0 p.1 (q.1 ∙ ap Some same) in
+      a.1 ∙ (ap (λ n. array_entry low high n (size_of (type.Array low high of))) c ∙ sym b.1)
+  one_entry types (type.Record ts) e f m a b =
+      let same : a.0 ≡ b.0 = each_part types 0 a.0 b.0 ts m a.2 b.2 in
+      a.1 ∙ (ap (λ ps. record_entry ps (size_of (type.Record ts))) same ∙ sym b.1)
+
+  -- and types have one list of components
+  each_part : {elaborated : List TypeValue} (types : TypeTable) (before : ℕ) (ps qs : List RecordPart) (ts : ComponentTypes)
+      → MatchesTypes elaborated types → DescribeEach types before ps ts → DescribeEach types before qs ts → ps ≡ qs
+  each_part types before [] [] type.no_component m a b = refl
+  each_part types before [] (q ∷ qs) type.no_component m a b = absurd b
+  each_part types before (p ∷ ps) qs type.no_component m a b = absurd a
+  each_part types before [] qs (type.next_component t ts) m a b = absurd a
+  each_part types before (p ∷ ps) [] (type.next_component t ts) m a b = absurd b
+  each_part types before (p ∷ ps) (q ∷ qs) (type.next_component t ts) m a b =
+      let x = described_entry types p.type_number t a.1 in
+      let y = described_entry types q.type_number t b.1 in
+      let same : y.0 ≡ x.0 = one_entry types t y.0 x.0 m y.2 x.2 in
+      let number : p.type_number ≡ q.type_number = m.shared p.type_number q.type_number x.0 x.1 (y.1 ∙ ap Some same) in
+      let offset : p.offset ≡ q.offset = a.0 ∙ sym b.0 in
+      let rest : ps ≡ qs = each_part types (before + size_of t) ps qs ts m a.2 b.2 in
+      λ i. record { type_number = number i; offset = offset i } ∷ rest i
 
 pub one_number : {elaborated : List TypeValue} (types : TypeTable) (t : TypeValue) (m n : ℕ)
     → MatchesTypes elaborated types → Describes types m t → Describes types n t → m ≡ n

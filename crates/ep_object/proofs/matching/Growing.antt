@@ -1,22 +1,23 @@
 -- Memory grows while a routine runs.
-use Rattle.std.proofs.Common.{◌≡◌, ℕ, zero, suc, ◌≤◌, ◌<◌, ◌⊎◌, inl, inr, List, [], ◌∷◌, ◌++◌, length, Option, Some, None, option_map, slice_get, refl, sym, ap, ◌∙◌, subst, arith}
+use Rattle.std.proofs.Common.{◌≡◌, ℕ, zero, suc, ◌+◌, ◌≤◌, ◌<◌, ◌⊎◌, inl, inr, List, [], ◌∷◌, ◌++◌, length, Option, Some, None, option_map, slice_get, refl, sym, ap, ◌∙◌, subst, arith}
 use Rattle.std.proofs.lemmas.Option.{slice_get_within}
 use Rattle.ep_object.specs.Follows.{Facts, IsStillCall, IsSameCall, IsNotLeft, StillRuns, HasGrown, Lasts, Since, SameRoutine, Inside, Operands}
 use Rattle.ep_typed.specs.Steps.{Component}
 use Rattle.ep_typed.specs.Steps as meaning
 use Rattle.ep_object.specs.Frames.{routine_over}
-use Rattle.ep_object.specs.Matching.{Memory, Injection, IsIn, IsOf, IsSpot, Describes, Slots, every_slot, AreAmong, Grown}
+use Rattle.ep_object.specs.Matching.{Memory, Injection, IsIn, IsOf, IsSpot, DescribeEach, Describes, Slots, every_slot, AreAmong, Grown}
 use Rattle.ep_object.specs.Operands.{Operand}
 use Rattle.ep_object.specs.Routines.{unit_of}
 use Rattle.ep_object.specs.Runs.{name_of, unit_in}
 use Rattle.ep_object.specs.State.{Frame, Frames, TypeTable, text_entry}
-use Rattle.ep_object.specs.Types.{ordinal_entry, array_entry}
+use Rattle.ep_object.specs.Types.{ordinal_entry, array_entry, record_entry}
 use Rattle.ep_object.specs.declared.code.Image.{Image}
 use Rattle.ep_object.specs.declared.state.Place.{Place}
+use Rattle.ep_object.specs.declared.state.RecordPart.{RecordPart}
 use Rattle.ep_object.specs.declared.state.Segment.{Segment}
 use Rattle.ep_object.proofs.Grows.{is_prefix, prefix_then}
 use Rattle.ep_outside.specs.Known.{IsPrefix}
-use Rattle.ep_typed.specs.TypeValues.{TypeValue, size_of}
+use Rattle.ep_typed.specs.TypeValues.{ComponentTypes, TypeValue, size_of}
 use Rattle.ep_typed.specs.TypeValues as type
 
 -- an element of a front is the same one of the whole
@@ -111,13 +112,24 @@ grown_trans {longer = longer} {last = last} {memory = memory} {after = after} {f
         let y = q.ended segment z (omega (arith, old)) hz in
         let n = p.allocated segment y.0 le y.1 in (n.0, is_in-longer longer last n.0 segment q.larger n.1)
 
--- a number keeps its type in a longer table
-pub described-longer : (types longer : TypeTable) (n : ℕ) (t : TypeValue) → IsPrefix types longer
-    → Describes types n t → Describes longer n t
-described-longer types longer n (type.Ordinal low high) p h = slice_get-prefix types longer n (ordinal_entry low high) p h
-described-longer types longer n type.Text p h = slice_get-prefix types longer n text_entry p h
-described-longer types longer n (type.Array low high of) p h =
-    (h.0, slice_get-prefix types longer n (array_entry low high h.0 (size_of (type.Array low high of))) p h.1, described-longer types longer h.0 of p h.2)
+mutual
+  -- a number keeps its type in a longer table
+  pub described-longer : (types longer : TypeTable) (n : ℕ) (t : TypeValue) → IsPrefix types longer
+      → Describes types n t → Describes longer n t
+  described-longer types longer n (type.Ordinal low high) p h = slice_get-prefix types longer n (ordinal_entry low high) p h
+  described-longer types longer n type.Text p h = slice_get-prefix types longer n text_entry p h
+  described-longer types longer n (type.Array low high of) p h =
+      (h.0, slice_get-prefix types longer n (array_entry low high h.0 (size_of (type.Array low high of))) p h.1, described-longer types longer h.0 of p h.2)
+  described-longer types longer n (type.Record ts) p h =
+      (h.0, slice_get-prefix types longer n (record_entry h.0 (size_of (type.Record ts))) p h.1, each_described-longer types longer 0 h.0 ts p h.2)
+
+  pub each_described-longer : (types longer : TypeTable) (before : ℕ) (parts : List RecordPart) (ts : ComponentTypes) → IsPrefix types longer
+      → DescribeEach types before parts ts → DescribeEach longer before parts ts
+  each_described-longer types longer before [] type.no_component p h = tt
+  each_described-longer types longer before [] (type.next_component t ts) p h = absurd h
+  each_described-longer types longer before (q ∷ qs) type.no_component p h = absurd h
+  each_described-longer types longer before (q ∷ qs) (type.next_component t ts) p h =
+      (h.0, described-longer types longer q.type_number t p h.1, each_described-longer types longer (before + size_of t) qs ts p h.2)
 
 -- a type stays what it is
 pub describes-grown : {untouched : Slots} {injection longer : Injection} {memory after : Memory} (n : ℕ) (type_value : TypeValue)

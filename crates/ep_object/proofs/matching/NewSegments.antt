@@ -24,26 +24,11 @@ pub has_entry : (types : TypeTable) (number : ℕ) (t : TypeValue) → Describes
 has_entry types number (type.Ordinal low high) h = record { kind = kind.Ord low high; is = h }
 has_entry types number type.Text h = record { kind = kind.Text; is = h }
 has_entry types number (type.Array low high of) h = record { kind = kind.Array low high h.0; is = h.1 }
+has_entry types number (type.Record ts) h = record { kind = kind.Record h.0; is = h.1 }
 
 -- its number is one of the table
 pub described_within : (types : TypeTable) (number : ℕ) (t : TypeValue) → Describes types number t → number < length types
 described_within types number t h = let entry = has_entry types number t h in slice_get_within types number (record { kind = entry.kind; size = size_of t }) entry.is
-
--- bounds that are not empty have numbers within them
-counts_some : (low high : ℤ) → IsTrue (int_le low high) → (n : ℕ) × (count_of low high ≡ suc n)
-counts_some (pos a) (pos b) h = let e : leb a b ≡ true = grind (arith, nat_tests) in (b - a, ap (λ t. one_more (cond t (Some (b - a)) None)) e)
-counts_some (pos a) (negsuc b) h = cc
-counts_some (negsuc a) (pos b) h = (suc a + b, refl)
-counts_some (negsuc a) (negsuc b) h = let e : leb b a ≡ true = grind (arith, nat_tests) in (a - b, ap (λ t. one_more (cond t (Some (a - b)) None)) e)
-
--- so a variable of a type has at least one word
-pub has_words : (t : TypeValue) → IsTypeValue t → (n : ℕ) × (size_of t ≡ suc n)
-has_words (type.Ordinal low high) valid = (0, refl)
-has_words type.Text valid = absurd valid
-has_words (type.Array low high of) valid =
-    let c = counts_some low high valid.0.0 in
-    let w = has_words of valid.1 in
-    (w.0 + c.0 * suc w.0, ap (λ n. n * size_of of) c.1 ∙ (ap (λ n. suc c.0 * n) w.1 ∙ omega arith))
 
 -- each of so many elements that are the same is that one
 slice_get-replicate : {A : Type 0} (n : ℕ) (x : A) (i : ℕ) → i < n → slice_get (replicate n x) i ≡ Some x

@@ -6,12 +6,13 @@ use Rattle.std.proofs.lemmas.Option.{slice_get-get_or}
 use Rattle.std.proofs.lemmas.List.Quantifiers.{position-Some}
 use Rattle.std.proofs.lemmas.Bool.Decides.{nat_tests}
 use Rattle.std.proofs.lemmas.Int.{ints}
-use Rattle.ep_object.specs.Matching.{Memory, Injection, Describes, HasSize, MatchesSlot, MatchesTypes, IsRepresentedWhere, MatchesStore, MatchesUnits, MatchesCounts, Matches, Slots, Grown}
+use Rattle.ep_object.specs.Matching.{Memory, Injection, DescribeEach, Describes, HasSize, MatchesSlot, MatchesTypes, IsRepresentedWhere, MatchesStore, MatchesUnits, MatchesCounts, Matches, Slots, Grown}
 use Rattle.ep_object.specs.Runs.{after}
 use Rattle.ep_object.specs.State.{Segments, TypeTable, integer_entry, char_entry, boolean_entry, text_entry, pointer_entry, first_types}
-use Rattle.ep_object.specs.Types.{same_kind, kind_number, words_of_kind}
+use Rattle.ep_object.specs.Types.{same_kind, same_parts, kind_number, words_of_kind}
 use Rattle.ep_object.specs.declared.state.Kind.{Kind}
-use Rattle.ep_object.specs.declared.state.Kind.TheVariants.{Ord, Pointer, Text, Array}
+use Rattle.ep_object.specs.declared.state.Kind.TheVariants.{Ord, Pointer, Text, Array, Record}
+use Rattle.ep_object.specs.declared.state.RecordPart.{RecordPart}
 use Rattle.ep_object.specs.declared.state.TypeEntry.{TypeEntry}
 use Rattle.ep_object.proofs.Grows.{prefix_then}
 use Rattle.ep_object.proofs.matching.Described.{IsEntryOf, described_entry, entry_describes, entry-longer, entry_sized, one_size, has_size-longer, one_entry}
@@ -24,7 +25,7 @@ use Rattle.ep_typed.specs.Valid.{Declarations}
 use Rattle.ep_outside.specs.Known.{IsPrefix}
 use Rattle.ep_object.specs.declared.code.Image.{Image}
 use Rattle.ep_object.specs.declared.state.Place.{Place}
-use Rattle.ep_typed.specs.TypeValues.{TypeValue, same_bounds}
+use Rattle.ep_typed.specs.TypeValues.{ComponentTypes, TypeValue, components_of, same_bounds, same_types, size_of}
 use Rattle.ep_typed.specs.TypeValues as type
 
 pub both : (a b : Bool) → IsTrue (a && b) → IsTrue a × IsTrue b
@@ -43,28 +44,50 @@ bounds_are low high l h t = let p = both (int_le l low && int_le low l) (int_le 
 same_count : (m n : ℕ) → IsTrue (m == n) → m ≡ n
 same_count m n h = grind (arith, nat_tests)
 
+-- components that are told to be the same are
+parts_are : (ps qs : List RecordPart) → IsTrue (same_parts ps qs) → ps ≡ qs
+parts_are [] [] t = refl
+parts_are [] (q ∷ qs) t = cc
+parts_are (p ∷ ps) [] t = cc
+parts_are (p ∷ ps) (q ∷ qs) t =
+    let x = both (p.type_number == q.type_number && p.offset == q.offset) (same_parts ps qs) t in
+    let y = both (p.type_number == q.type_number) (p.offset == q.offset) x.0 in
+    let number = same_count p.type_number q.type_number y.0 in
+    let offset = same_count p.offset q.offset y.1 in
+    let rest = parts_are ps qs x.1 in
+    λ i. record { type_number = number i; offset = offset i } ∷ rest i
+
 -- kinds that are told to be the same are
 kinds_are : (k l : Kind) → IsTrue (same_kind k l) → k ≡ l
 kinds_are (Ord lo hi) (Ord l h) t = let e = bounds_are l h lo hi t in λ i. Ord (e.0 i) (e.1 i)
 kinds_are (Ord lo hi) Pointer t = cc
 kinds_are (Ord lo hi) Text t = cc
+kinds_are (Ord lo hi) (Record qs) t = cc
 kinds_are (Ord lo hi) (Array l h d) t = cc
 kinds_are Pointer (Ord l h) t = cc
 kinds_are Pointer Pointer t = refl
 kinds_are Pointer Text t = cc
+kinds_are Pointer (Record qs) t = cc
 kinds_are Pointer (Array l h d) t = cc
 kinds_are Text (Ord l h) t = cc
 kinds_are Text Pointer t = cc
 kinds_are Text Text t = refl
+kinds_are Text (Record qs) t = cc
 kinds_are Text (Array l h d) t = cc
 kinds_are (Array lo hi c) (Ord l h) t = cc
 kinds_are (Array lo hi c) Pointer t = cc
 kinds_are (Array lo hi c) Text t = cc
+kinds_are (Array lo hi c) (Record qs) t = cc
 kinds_are (Array lo hi c) (Array l h d) t =
     let p = both (same_bounds lo hi l h) (c == d) t in
     let e = bounds_are l h lo hi p.0 in
     let f = same_count c d p.1 in
     λ i. Array (e.0 i) (e.1 i) (f i)
+kinds_are (Record ps) (Ord l h) t = cc
+kinds_are (Record ps) Pointer t = cc
+kinds_are (Record ps) Text t = cc
+kinds_are (Record ps) (Array l h d) t = cc
+kinds_are (Record ps) (Record qs) t = ap Record (parts_are ps qs t)
 
 -- a kind is the same as itself
 both_true : (a b : Bool) → IsTrue a → IsTrue b → IsTrue (a && b)
@@ -77,11 +100,17 @@ bounds-refl lo hi = grind (arith, ints)
 count-refl : (n : ℕ) → IsTrue (n == n)
 count-refl n = grind (arith, nat_tests)
 
+parts-refl : (ps : List RecordPart) → IsTrue (same_parts ps ps)
+parts-refl [] = refl
+parts-refl (p ∷ ps) =
+    both_true (p.type_number == p.type_number && p.offset == p.offset) (same_parts ps ps) (both_true (p.type_number == p.type_number) (p.offset == p.offset) (count-refl p.type_number) (count-refl p.offset)) (parts-refl ps)
+
 kind-refl : (k : Kind) → IsTrue (same_kind k k)
 kind-refl (Ord lo hi) = bounds-refl lo hi
 kind-refl Pointer = refl
 kind-refl Text = refl
 kind-refl (Array lo hi c) = both_true (same_bounds lo hi lo hi) (c == c) (bounds-refl lo hi) (count-refl c)
+kind-refl (Record ps) = parts-refl ps
 
 -- a number that was found is that of the type value
 pub described-found : {elaborated : List TypeValue} {types : TypeTable} (t : TypeValue) (e : TypeEntry) (n : ℕ)
@@ -177,21 +206,39 @@ met_among u t r = go (list_any (same_type u) r.types)
     go true h = inr h
     go false h = either (same_type t u) (list_any (same_type t) r.types) h
 
--- type values that are told to be the same are
-types_are : (t u : TypeValue) → IsTrue (same_type t u) → t ≡ u
-types_are (type.Ordinal l h) (type.Ordinal m k) same = let e = bounds_are m k l h same in λ i. type.Ordinal (e.0 i) (e.1 i)
-types_are (type.Ordinal l h) type.Text same = cc
-types_are (type.Ordinal l h) (type.Array m k of) same = cc
-types_are type.Text (type.Ordinal m k) same = cc
-types_are type.Text type.Text same = refl
-types_are type.Text (type.Array m k of) same = cc
-types_are (type.Array l h of) (type.Ordinal m k) same = cc
-types_are (type.Array l h of) type.Text same = cc
-types_are (type.Array l h of) (type.Array m k other) same =
-    let p = both (same_bounds l h m k) (same_type of other) same in
-    let e = bounds_are m k l h p.0 in
-    let c = types_are of other p.1 in
-    λ i. type.Array (e.0 i) (e.1 i) (c i)
+mutual
+  -- type values that are told to be the same are
+  types_are : (t u : TypeValue) → IsTrue (same_type t u) → t ≡ u
+  types_are (type.Ordinal l h) (type.Ordinal m k) same = let e = bounds_are m k l h same in λ i. type.Ordinal (e.0 i) (e.1 i)
+  types_are (type.Ordinal l h) type.Text same = cc
+  types_are (type.Ordinal l h) (type.Array m k of) same = cc
+  types_are (type.Ordinal l h) (type.Record us) same = cc
+  types_are type.Text (type.Ordinal m k) same = cc
+  types_are type.Text type.Text same = refl
+  types_are type.Text (type.Array m k of) same = cc
+  types_are type.Text (type.Record us) same = cc
+  types_are (type.Array l h of) (type.Ordinal m k) same = cc
+  types_are (type.Array l h of) type.Text same = cc
+  types_are (type.Array l h of) (type.Array m k other) same =
+      let p = both (same_bounds l h m k) (same_type of other) same in
+      let e = bounds_are m k l h p.0 in
+      let c = types_are of other p.1 in
+      λ i. type.Array (e.0 i) (e.1 i) (c i)
+  types_are (type.Array l h of) (type.Record us) same = cc
+  types_are (type.Record ts) (type.Ordinal m k) same = cc
+  types_are (type.Record ts) type.Text same = cc
+  types_are (type.Record ts) (type.Array m k of) same = cc
+  types_are (type.Record ts) (type.Record us) same = ap type.Record (components_are ts us same)
+
+  components_are : (ts us : ComponentTypes) → IsTrue (same_types ts us) → ts ≡ us
+  components_are type.no_component type.no_component same = refl
+  components_are type.no_component (type.next_component u us) same = cc
+  components_are (type.next_component t ts) type.no_component same = cc
+  components_are (type.next_component t ts) (type.next_component u us) same =
+      let p = both (same_type t u) (same_types ts us) same in
+      let first = types_are t u p.0 in
+      let rest = components_are ts us p.1 in
+      λ i. type.next_component (first i) (rest i)
 
 -- the type has a number already
 pub types-found : (r : Resources) {types : TypeTable} (u : TypeValue) (e : TypeEntry) (n : ℕ) → MatchesTypes r.types types
@@ -250,6 +297,13 @@ first_known low high rest h =
     is_this : TypeEntry → Bool
     is_this e = same_kind (Ord low high) e.kind
 
+-- as many components as types
+each_counted : (types : TypeTable) (before : ℕ) (ps : List RecordPart) (ts : ComponentTypes) → DescribeEach types before ps ts → components_of ts ≡ length ps
+each_counted types before [] type.no_component h = refl
+each_counted types before [] (type.next_component t ts) h = absurd h
+each_counted types before (p ∷ ps) type.no_component h = absurd h
+each_counted types before (p ∷ ps) (type.next_component t ts) h = ap suc (each_counted types (before + size_of t) ps ts h.2)
+
 -- a type value whose kind has no number is none of the first ones, and so it has its words
 pub new_words : {elaborated : List TypeValue} {types : TypeTable} (u : TypeValue) (e : TypeEntry) → MatchesTypes elaborated types
     → IsEntryOf types u e → kind_number e.kind types ≡ None → words_of_type u ≡ words_of_kind e.kind
@@ -274,6 +328,9 @@ new_words {types = types} type.Text e m is none =
     nothing : {n : ℕ} → ◌≡◌ {A = Option ℕ} None (Some n) → ⊥
     nothing e = cc
 new_words (type.Array low high of) e m is none = ap (λ (x : TypeEntry). words_of_kind x.kind) (sym is.1)
+new_words {types = types} (type.Record ts) e m is none =
+    let words : 1 + components_of ts ≡ suc (length is.0) = omega (arith, each_counted types 0 is.0 ts is.2) in
+    words ∙ ap (λ (x : TypeEntry). words_of_kind x.kind) (sym is.1)
 
 -- the type gets a new number
 pub types-added : (r : Resources) {types : TypeTable} (u : TypeValue) (new : TypeEntry) → MatchesTypes r.types types

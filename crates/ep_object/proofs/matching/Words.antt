@@ -5,15 +5,15 @@ use Rattle.std.proofs.lemmas.Bool.Decides.{nat_tests}
 use Rattle.std.proofs.lemmas.Option.{same_Some}
 use native.Mathlib.Decide.{ℕ_discrete}
 use Rattle.ep_outside.specs.Known.{IsPrefix}
-use Rattle.ep_object.specs.Matching.{Injection, Part, part_behind, part_of, part_along, all_of, Words, OrdinalAt, HasAt}
+use Rattle.ep_object.specs.Matching.{Injection, Part, part_among, part_behind, part_of, part_along, all_of, Words, OrdinalAt, HasAt, HaveAt}
 use Rattle.ep_object.specs.State.{undefined}
 use Rattle.ep_object.proofs.matching.Elements.{slice_get-set-same, slice_get-set-other}
 use Rattle.ep_typed.specs.Bounds.{count_of}
 use Rattle.ep_typed.specs.Steps.{Value, Undefined, component_of, values_with, with_component, value_along, value_with, type_along}
 use Rattle.ep_typed.specs.Steps as meaning
 use Rattle.ep_typed.specs.TypeValues as type
-use Rattle.ep_typed.specs.TypeValues.{TypeValue, component_type, is_within, size_of}
-use Rattle.ep_typed.specs.Valid.{IsTypeValue}
+use Rattle.ep_typed.specs.TypeValues.{ComponentTypes, TypeValue, component_type, is_within, size_of, sizes_of, type_among}
+use Rattle.ep_typed.specs.Valid.{AreTypeValues, IsTypeValue}
 
 -- ---- components that stand side by side
 
@@ -64,6 +64,15 @@ first_step t offset k path p h = go (part_of t k) refl h
     go None e found = absurd (nowhere path found)
     go (Some part) e found = record { part = part; is = e; rest = found }
 
+-- a component of a record lies behind those before it and within all of them
+pub among_within : (before : ℕ) (ts : ComponentTypes) (k : ℕ) (p : Part) → part_among before ts k ≡ Some p
+    → (before ≤ p.offset) × (p.offset + size_of p.type_value ≤ before + sizes_of ts)
+among_within before type.no_component k p h = cc
+among_within before (type.next_component t ts) zero p h =
+    subst (λ (q : Part). (before ≤ q.offset) × (q.offset + size_of q.type_value ≤ before + (size_of t + sizes_of ts))) (same_Some (record { offset = before; type_value = t }) p h) (omega arith, omega arith)
+among_within before (type.next_component t ts) (suc k) p h =
+    let x = among_within (before + size_of t) ts k p h in (omega (arith, x.0), omega (arith, x.1))
+
 -- a component lies within its type
 component_within : (t : TypeValue) (k : ℕ) (p : Part) → part_of t k ≡ Some p → p.offset + size_of p.type_value ≤ size_of t
 component_within (type.Ordinal low high) k p h = cc
@@ -71,6 +80,7 @@ component_within type.Text k p h = cc
 component_within (type.Array low high of) k p h =
     let c = array_part low high of k p h in
     subst (λ (q : Part). q.offset + size_of q.type_value ≤ count_of low high * size_of of) (sym c.is) (ends_before k (count_of low high) (size_of of) c.less)
+component_within (type.Record ts) k p h = let x = among_within 0 ts k p h in omega (arith, x.1)
 
 -- a part lies within that in which it is
 pub part_within : (path : List ℕ) (t : TypeValue) (offset : ℕ) (p : Part)
@@ -92,6 +102,12 @@ part_along-on [] o k p leads = ap (λ (q : Option Part). part_along q (k ∷ [])
 part_along-on (i ∷ path) None k p leads = cc
 part_along-on (i ∷ path) (Some q) k p leads = part_along-on path (part_behind q.offset (part_of q.type_value i)) k p leads
 
+-- the type of a component of a record
+among_type : (before : ℕ) (ts : ComponentTypes) (k : ℕ) (p : Part) → part_among before ts k ≡ Some p → type_among ts k ≡ Some p.type_value
+among_type before type.no_component k p h = cc
+among_type before (type.next_component t ts) zero p h = ap (λ (q : Part). Some q.type_value) (same_Some (record { offset = before; type_value = t }) p h)
+among_type before (type.next_component t ts) (suc k) p h = among_type (before + size_of t) ts k p h
+
 -- the type of a component
 component_type-is : (t : TypeValue) (k : ℕ) (p : Part) → part_of t k ≡ Some p → component_type t k ≡ Some p.type_value
 component_type-is (type.Ordinal low high) k p h = cc
@@ -99,6 +115,7 @@ component_type-is type.Text k p h = cc
 component_type-is (type.Array low high of) k p h =
     let c = array_part low high of k p h in
     ap (λ b. cond b (Some of) None) (less_true k (count_of low high) c.less) ∙ ap (λ (q : Part). Some q.type_value) (sym c.is)
+component_type-is (type.Record ts) k p h = among_type 0 ts k p h
 
 -- the type at a path is that of the part
 type_is-from : (path : List ℕ) (t : TypeValue) (offset : ℕ) (p : Part)
@@ -115,41 +132,70 @@ type_is-along t path p leads = type_is-from path t 0 p leads
 
 -- ---- words that go on holding a value
 
--- where more allocations are made
-pub has_at-longer : {injection longer : Injection} → IsPrefix injection longer
-    → (t : TypeValue) (value : Value) (words : Words) (offset : ℕ)
-    → HasAt injection t value words offset → HasAt longer t value words offset
-has_at-longer larger (type.Ordinal low high) value words offset h = h
-has_at-longer larger type.Text value words offset h = h
-has_at-longer larger (type.Array low high of) value words offset h =
-    λ k less. has_at-longer larger of (component_of value k) words (offset + k * size_of of) (h k less)
+mutual
+  -- where more allocations are made
+  pub has_at-longer : {injection longer : Injection} → IsPrefix injection longer
+      → (t : TypeValue) (value : Value) (words : Words) (offset : ℕ)
+      → HasAt injection t value words offset → HasAt longer t value words offset
+  has_at-longer larger (type.Ordinal low high) value words offset h = h
+  has_at-longer larger type.Text value words offset h = h
+  has_at-longer larger (type.Array low high of) value words offset h =
+      λ k less. has_at-longer larger of (component_of value k) words (offset + k * size_of of) (h k less)
+  has_at-longer larger (type.Record ts) value words offset h = have_at-longer larger ts (component_of value) words offset h
+
+  have_at-longer : {injection longer : Injection} → IsPrefix injection longer
+      → (ts : ComponentTypes) (values : ℕ → Value) (words : Words) (offset : ℕ)
+      → HaveAt injection ts values words offset → HaveAt longer ts values words offset
+  have_at-longer larger type.no_component values words offset h = tt
+  have_at-longer larger (type.next_component t ts) values words offset h =
+      (has_at-longer larger t (values 0) words offset h.0, have_at-longer larger ts (λ k. values (suc k)) words (offset + size_of t) h.1)
 
 -- words from an offset on that are the same as others
 abbrev pub AreSame : Words → Words → ℕ → ℕ → Type 0
 AreSame words later offset size = (i : ℕ) → offset ≤ i → i < offset + size → later i ≡ words i
 
--- where they are the same
-pub has_at-same : (injection : Injection) (t : TypeValue) (value : Value) (words later : Words) (offset : ℕ)
-    → AreSame words later offset (size_of t) → HasAt injection t value words offset → HasAt injection t value later offset
-has_at-same injection (type.Ordinal low high) value words later offset same h =
-    subst (λ w. OrdinalAt low high value w) (sym (same offset (omega arith) (omega arith))) h
-has_at-same injection type.Text value words later offset same h =
-    subst (λ w. HasAt injection type.Text value (λ i. w) 0) (sym (same offset (omega arith) (omega arith))) h
-has_at-same injection (type.Array low high of) value words later offset same h =
-    λ k less.
-    let ends = ends_before k (count_of low high) (size_of of) less in
-    has_at-same injection of (component_of value k) words later (offset + k * size_of of) (λ i from before. same i (omega (arith, from)) (omega (arith, before, ends))) (h k less)
+mutual
+  -- where they are the same
+  pub has_at-same : (injection : Injection) (t : TypeValue) (value : Value) (words later : Words) (offset : ℕ)
+      → AreSame words later offset (size_of t) → HasAt injection t value words offset → HasAt injection t value later offset
+  has_at-same injection (type.Ordinal low high) value words later offset same h =
+      subst (λ w. OrdinalAt low high value w) (sym (same offset (omega arith) (omega arith))) h
+  has_at-same injection type.Text value words later offset same h =
+      subst (λ w. HasAt injection type.Text value (λ i. w) 0) (sym (same offset (omega arith) (omega arith))) h
+  has_at-same injection (type.Array low high of) value words later offset same h =
+      λ k less.
+      let ends = ends_before k (count_of low high) (size_of of) less in
+      has_at-same injection of (component_of value k) words later (offset + k * size_of of) (λ i from before. same i (omega (arith, from)) (omega (arith, before, ends))) (h k less)
+  has_at-same injection (type.Record ts) value words later offset same h = have_at-same injection ts (component_of value) words later offset same h
 
--- words of which each is the undefined one hold the undefined value
-pub has_undefined : (injection : Injection) (t : TypeValue) (words : Words) (offset : ℕ) → IsTypeValue t
-    → ((i : ℕ) → offset ≤ i → i < offset + size_of t → words i ≡ Some undefined) → HasAt injection t Undefined words offset
-has_undefined injection (type.Ordinal low high) words offset valid each =
-    record { low_fits = valid.1; high_fits = valid.2; is = each offset (omega arith) (omega arith) }
-has_undefined injection type.Text words offset valid each = absurd valid
-has_undefined injection (type.Array low high of) words offset valid each =
-    λ k less.
-    let ends = ends_before k (count_of low high) (size_of of) less in
-    has_undefined injection of words (offset + k * size_of of) valid.1 (λ i from before. each i (omega (arith, from)) (omega (arith, before, ends)))
+  pub have_at-same : (injection : Injection) (ts : ComponentTypes) (values : ℕ → Value) (words later : Words) (offset : ℕ)
+      → AreSame words later offset (sizes_of ts) → HaveAt injection ts values words offset → HaveAt injection ts values later offset
+  have_at-same injection type.no_component values words later offset same h = tt
+  have_at-same injection (type.next_component t ts) values words later offset same h = (
+    has_at-same injection t (values 0) words later offset (λ i from before. same i from (omega (arith, before))) h.0,
+    have_at-same injection ts (λ k. values (suc k)) words later (offset + size_of t) (λ i from before. same i (omega (arith, from)) (omega (arith, before))) h.1,
+  )
+
+mutual
+  -- words of which each is the undefined one hold the undefined value
+  pub has_undefined : (injection : Injection) (t : TypeValue) (words : Words) (offset : ℕ) → IsTypeValue t
+      → ((i : ℕ) → offset ≤ i → i < offset + size_of t → words i ≡ Some undefined) → HasAt injection t Undefined words offset
+  has_undefined injection (type.Ordinal low high) words offset valid each =
+      record { low_fits = valid.1; high_fits = valid.2; is = each offset (omega arith) (omega arith) }
+  has_undefined injection type.Text words offset valid each = absurd valid
+  has_undefined injection (type.Array low high of) words offset valid each =
+      λ k less.
+      let ends = ends_before k (count_of low high) (size_of of) less in
+      has_undefined injection of words (offset + k * size_of of) valid.1 (λ i from before. each i (omega (arith, from)) (omega (arith, before, ends)))
+  has_undefined injection (type.Record ts) words offset valid each = have_undefined injection ts words offset valid each
+
+  have_undefined : (injection : Injection) (ts : ComponentTypes) (words : Words) (offset : ℕ) → AreTypeValues ts
+      → ((i : ℕ) → offset ≤ i → i < offset + sizes_of ts → words i ≡ Some undefined) → HaveAt injection ts (λ k. Undefined) words offset
+  have_undefined injection type.no_component words offset valid each = tt
+  have_undefined injection (type.next_component t ts) words offset valid each = (
+    has_undefined injection t words offset valid.0 (λ i from before. each i from (omega (arith, before))),
+    have_undefined injection ts words (offset + size_of t) valid.1 (λ i from before. each i (omega (arith, from)) (omega (arith, before))),
+  )
 
 -- ---- words of one type
 
@@ -187,6 +233,24 @@ ordinal-undefined value words offset h =
 
 -- ---- parts of what words hold
 
+-- the words of a component of a record hold it
+have_among : (injection : Injection) (before : ℕ) (ts : ComponentTypes) (k : ℕ) (values : ℕ → Value) (words : Words) (offset : ℕ) (p : Part)
+    → part_among before ts k ≡ Some p → HaveAt injection ts values words (offset + before)
+    → HasAt injection p.type_value (values k) words (offset + p.offset)
+have_among injection before type.no_component k values words offset p is h = cc
+have_among injection before (type.next_component t ts) zero values words offset p is h =
+    subst (λ (q : Part). HasAt injection q.type_value (values 0) words (offset + q.offset)) (same_Some (record { offset = before; type_value = t }) p is) h.0
+have_among injection before (type.next_component t ts) (suc k) values words offset p is h =
+    let next : offset + before + size_of t ≡ offset + (before + size_of t) = omega arith in
+    have_among injection (before + size_of t) ts k (λ i. values (suc i)) words offset p is (subst (HaveAt injection ts (λ i. values (suc i)) words) next h.1)
+
+-- where a record begins
+from_start : (injection : Injection) (ts : ComponentTypes) (values : ℕ → Value) (words : Words) (offset : ℕ) → HaveAt injection ts values words offset → HaveAt injection ts values words (offset + 0)
+from_start injection ts values words offset h = let same : offset ≡ offset + 0 = omega arith in subst (HaveAt injection ts values words) same h
+
+to_start : (injection : Injection) (ts : ComponentTypes) (values : ℕ → Value) (words : Words) (offset : ℕ) → HaveAt injection ts values words (offset + 0) → HaveAt injection ts values words offset
+to_start injection ts values words offset h = let same : offset + 0 ≡ offset = omega arith in subst (HaveAt injection ts values words) same h
+
 -- the words of a component hold it
 component_has : (injection : Injection) (t : TypeValue) (k : ℕ) (value : Value) (words : Words) (offset : ℕ) (p : Part)
     → part_of t k ≡ Some p → HasAt injection t value words offset
@@ -196,6 +260,7 @@ component_has injection type.Text k value words offset p is h = cc
 component_has injection (type.Array low high of) k value words offset p is h =
     let c = array_part low high of k p is in
     subst (λ (q : Part). HasAt injection q.type_value (component_of value k) words (offset + q.offset)) (sym c.is) (h k c.less)
+component_has injection (type.Record ts) k value words offset p is h = have_among injection 0 ts k (component_of value) words offset p is (from_start injection ts (component_of value) words offset h)
 
 -- the words at a path hold the value there
 has_from : (injection : Injection) (path : List ℕ) (t : TypeValue) (value : Value) (words : Words) (offset : ℕ) (p : Part)
@@ -265,6 +330,26 @@ array_with injection low high of k value changed words later offset p same insid
     each : (i : ℕ) → i < count_of low high → HasAt injection of (values_with (component_of value) k changed i) later (offset + i * size_of of)
     each i less = elim (ℕ_discrete k i) [ yes e ↦ own i e | no e ↦ others i less e ]
 
+-- words that hold another value of a component of a record, and else what they were, hold the record with that one
+have_with : (injection : Injection) (before : ℕ) (ts : ComponentTypes) (k : ℕ) (values : ℕ → Value) (changed : Value) (words later : Words) (offset : ℕ) (q p : Part)
+    → part_among before ts k ≡ Some q → AreSameBut words later p → (offset + q.offset ≤ p.offset) × (p.offset + size_of p.type_value ≤ offset + q.offset + size_of q.type_value)
+    → HaveAt injection ts values words (offset + before) → HasAt injection q.type_value changed later (offset + q.offset)
+    → HaveAt injection ts (values_with values k changed) later (offset + before)
+have_with injection before type.no_component k values changed words later offset q p is same inside h this = cc
+have_with injection before (type.next_component t ts) zero values changed words later offset q p is same inside h this =
+    let part : record { offset = before; type_value = t } ≡ q = same_Some (record { offset = before; type_value = t }) q is in
+    let ends : p.offset + size_of p.type_value ≤ offset + before + size_of t = subst (λ (r : Part). p.offset + size_of p.type_value ≤ offset + r.offset + size_of r.type_value) (sym part) inside.1 in (
+      subst (λ (r : Part). HasAt injection r.type_value changed later (offset + r.offset)) (sym part) this,
+      have_at-same injection ts (λ i. values (suc i)) words later (offset + before + size_of t) (λ i from behind. same i (inr (omega (arith, from, ends)))) h.1,
+    )
+have_with injection before (type.next_component t ts) (suc k) values changed words later offset q p is same inside h this =
+    let next : offset + before + size_of t ≡ offset + (before + size_of t) = omega arith in
+    let behind = among_within (before + size_of t) ts k q is in (
+      has_at-same injection t (values 0) words later (offset + before) (λ i from ahead. same i (inl (omega (arith, ahead, behind.0, inside.0)))) h.0,
+      subst (HaveAt injection ts (values_with (λ i. values (suc i)) k changed) later) (sym next)
+          (have_with injection (before + size_of t) ts k (λ i. values (suc i)) changed words later offset q p is same inside (subst (HaveAt injection ts (λ i. values (suc i)) words) next h.1) this),
+    )
+
 no_part : {q : Part} → ◌≡◌ {A = Option Part} None (Some q) → ⊥
 no_part e = cc
 
@@ -285,6 +370,13 @@ has_with-from injection (k ∷ path) (type.Array low high of) value other words 
     let rest : part_along (Some (record { offset = offset + k * size_of of; type_value = of })) path ≡ Some p = subst (λ (q : Part). part_along (Some (record { offset = offset + q.offset; type_value = q.type_value })) path ≡ Some p) here.is x.rest in
     array_with injection low high of k value (value_with (component_of value k) path other) words later offset p same (part_within path of (offset + k * size_of of) p rest) h
     (has_with-from injection path of (component_of value k) other words later (offset + k * size_of of) p rest same (h k here.less) new)
+has_with-from injection (k ∷ path) (type.Record ts) value other words later offset p leads same h new =
+    let x = first_step (type.Record ts) offset k path p leads in
+    let part : Part = x.part in
+    let of : TypeValue = part.type_value in
+    to_start injection ts (values_with (component_of value) k (value_with (component_of value k) path other)) later offset
+    (have_with injection 0 ts k (component_of value) (value_with (component_of value k) path other) words later offset part p x.is same (part_within path of (offset + part.offset) p x.rest) (from_start injection ts (component_of value) words offset h)
+    (has_with-from injection path of (component_of value k) other words later (offset + part.offset) p x.rest same (component_has injection (type.Record ts) k value words offset part x.is h) new))
 
 pub has_with : (injection : Injection) (t : TypeValue) (path : List ℕ) (value other : Value) (words later : Words) (p : Part)
     → part_along (Some (all_of t)) path ≡ Some p → AreSameBut words later p → HasAt injection t value words 0

@@ -13,6 +13,9 @@ decreases-place_code l = 4 * size-TypedPlace l.p.now
 abbrev pub decreases-index_code : goal.decreases-index_code
 decreases-index_code l = 4 * max (size-TypedPlace l.array.now) (size-TypedExpr l.index.now) + 1
 
+abbrev pub decreases-field_code : goal.decreases-field_code
+decreases-field_code l = 4 * size-TypedPlace l.variable.now + 1
+
 abbrev pub decreases-read_code : goal.decreases-read_code
 decreases-read_code l = 4 * size-TypedPlace l.place.now + 1
 
