@@ -11,12 +11,13 @@
 -- - the type denoter, for an initial state
 -- - the type denoter without its initial state, for `bindable`
 -- - the type itself, for `packed`, for what is no name, no subrange, no enumeration and no structure, for a name with a tuple, and for a name that is not built
--- - the structure, for a record and for a set
--- - the statement, for an assignment to something else than a name that is built, alone or with index selectors, for a call with other selectors than one pair of parentheses, for a call of a name that is not built, for a `for` with bounds whose control variable has a name that is not built, for a `for` over the members of a set, and for what is no assignment, call, compound, empty, `if`, `case`, `while`, `repeat` or `for` statement
+-- - the structure, for a set
+-- - the variant part of a record
+-- - the statement, for an assignment to something else than a name that is built, alone or with indexes and fields, for a call with other selectors than one pair of parentheses, for a call of a name that is not built, for a `for` with bounds whose control variable has a name that is not built, for a `for` over the members of a set, and for what is no assignment, call, compound, empty, `if`, `case`, `while`, `repeat` or `for` statement
 -- - the structured value, with the name of its type or without
 -- - the expression, the simple expression or the term, for an operator that is not built
 -- - the factor, for `nil`, for a set, and for a character string of another length than one that is not the whole value of an argument of a `write` or `writeln` statement
--- - the access, for a name that is not built, and for selectors that are neither one pair of parentheses nor index selectors alone.
+-- - the access, for a name that is not built, and for selectors that are neither one pair of parentheses nor indexes and fields alone.
 --
 -- An identifier that is spelled as a required one counts as the required one, also where the text declares it anew. Only uses of names count, and not their declarations.
 use Rattle.std.specs.Prelude.{ℕ, pos, int_le, Bool, true, false, if◌then◌else◌, ◌&&◌, ◌||◌, not, is_none, is_some, length, ◌==◌, List, [], ◌∷◌, map, codes, Option, Some, None}
@@ -47,9 +48,12 @@ use Rattle.ep_tree.specs.declared.expression.Term.{Term, fold-Term}
 use Rattle.ep_tree.specs.declared.expression.Values.{Values, fold-Values}
 use Rattle.ep_tree.specs.declared.types.Core.TheOpen.{Core-F, FieldSection-F, Fields-F, Plain-F, Structure-F, TypeDenoter-F, Variant-F, VariantPart-F}
 use Rattle.ep_tree.specs.declared.types.Core.{Core, fold-Core}
+use Rattle.ep_tree.specs.declared.types.FieldSection.{FieldSection, fold-FieldSection}
+use Rattle.ep_tree.specs.declared.types.Fields.{Fields, fold-Fields}
 use Rattle.ep_tree.specs.declared.types.Plain.{Plain, fold-Plain}
 use Rattle.ep_tree.specs.declared.types.Structure.{Structure, fold-Structure}
 use Rattle.ep_tree.specs.declared.types.TypeDenoter.{TypeDenoter, fold-TypeDenoter}
+use Rattle.ep_tree.specs.declared.types.VariantPart.{VariantPart, fold-VariantPart}
 use Rattle.ep_tree.specs.declared.declaration.ConstantDefinition.{ConstantDefinition}
 use Rattle.ep_tree.specs.declared.declaration.FormalSection.{FormalSection}
 use Rattle.ep_tree.specs.declared.declaration.FormalType.{FormalType}
@@ -169,20 +173,27 @@ built_core (Core-F.Enumeration line names) = true
 built_core (Core-F.Structured line packed structure) = not packed
 built_core _ = false
 
--- a structure is an array (ISO 10206, 6.4.3.2)
+-- a structure is an array or a record (ISO 10206, 6.4.3.2 and 6.4.3.4)
 abbrev pub built_structure : {A B C D E F G H : Type 0} → Structure-F A B C D E F G H → Bool
 built_structure (Structure-F.Array line indexes component) = true
-built_structure _ = false
+built_structure (Structure-F.Record line fields) = true
+built_structure (Structure-F.Set line base) = false
+
+-- the variants of a record
+abbrev pub variants_are_built : Bool
+variants_are_built = false
 
 -- what a selector is to its access
 pub data SelectorForm : Type 0 where
   Indexes : SelectorForm
+  Field : SelectorForm
   Parentheses : SelectorForm
   Other : SelectorForm
 
 -- the form of a selector, by what it has
 abbrev pub form_of_selector : {A B C D E F G H I J K L M N : Type 0} → Selector-F A B C D E F G H I J K L M N → SelectorForm
 form_of_selector (Selector-F.Index line indexes) = Indexes
+form_of_selector (Selector-F.Field line name) = Field
 form_of_selector (Selector-F.Arguments line arguments) = Parentheses
 form_of_selector _ = Other
 
@@ -190,19 +201,20 @@ form_of_selector _ = Other
 abbrev pub selector_form : Selector → SelectorForm
 selector_form selector = form_of_selector (out-Selector selector)
 
--- whether a selector is an index selector (ISO 10206, 6.5.3.2)
-abbrev pub is_index : SelectorForm → Bool
-is_index Indexes = true
-is_index _ = false
+-- whether a selector is one of components: indexes, or a field (ISO 10206, 6.5.3.2 and 6.5.3.3)
+abbrev pub is_component : SelectorForm → Bool
+is_component Indexes = true
+is_component Field = true
+is_component _ = false
 
 -- whether a selector is a pair of parentheses
 abbrev pub is_call : SelectorForm → Bool
 is_call Parentheses = true
 is_call _ = false
 
--- what is assigned to is a name that is built, alone or with index selectors
+-- what is assigned to is a name that is built, alone or with indexes and fields
 abbrev pub built_target : Access → Bool
-built_target a = list_all is_index (map selector_form (out-Access a).selectors) && not (is_later (out-Access a).name)
+built_target a = list_all is_component (map selector_form (out-Access a).selectors) && not (is_later (out-Access a).name)
 
 -- the control variable of a `for` with bounds has a name that is built
 abbrev pub built_control : List ℕ → Bool
@@ -267,9 +279,9 @@ abbrev pub are_one_call : List SelectorForm → Bool
 are_one_call (form ∷ []) = is_call form
 are_one_call _ = false
 
--- an access is a name that is built, called (ISO 10206, 6.8.5), alone or with index selectors
+-- an access is a name that is built, called (ISO 10206, 6.8.5), alone or with indexes and fields
 abbrev pub built_access : List ℕ → List SelectorForm → Bool
-built_access name forms = (are_one_call forms || list_all is_index forms) && not (is_later name)
+built_access name forms = (are_one_call forms || list_all is_component forms) && not (is_later name)
 
 -- `"[" values "]"` without the name of a type
 abbrev pub brackets_are_built : Bool
@@ -485,20 +497,20 @@ values_unbuilt = fold-Values Found Found Found Selecting Placed Belonging Found 
 abbrev pub access_unbuilt : Access → Found
 access_unbuilt a = (placed_access a).1
 
--- ---- types. Nothing inside a tuple, a record or a set is reached while none of their forms is built.
+-- ---- types. Nothing inside a tuple, a variant part or a set is reached while none of their forms is built.
 
 -- what is known of a node that is not reached
 abbrev pub Skipped : Type 0
 Skipped = Unit {0}
 
 -- the first line inside a type
-abbrev pub in_core : Core-F Found Found Skipped Skipped Found Found Skipped Skipped → Found
+abbrev pub in_core : Core-F Found Found Found Found Found Found Skipped Found → Found
 in_core (Core-F.Range line low high) = option_or (expression_unbuilt low) (expression_unbuilt high)
 in_core (Core-F.Structured line packed structure) = structure
 in_core _ = None
 
 -- the line of a type
-abbrev pub core_line : Core-F Found Found Skipped Skipped Found Found Skipped Skipped → ℕ
+abbrev pub core_line : Core-F Found Found Found Found Found Found Skipped Found → ℕ
 core_line (Core-F.Named line name tuple) = line
 core_line (Core-F.Range line low high) = line
 core_line (Core-F.Enumeration line names) = line
@@ -508,61 +520,75 @@ core_line (Core-F.Restricted line name) = line
 core_line (Core-F.TypeOf line name) = line
 
 -- a type before what stands in it
-abbrev pub at_core : Core-F Found Found Skipped Skipped Found Found Skipped Skipped → Found
+abbrev pub at_core : Core-F Found Found Found Found Found Found Skipped Found → Found
 at_core c = at_node (built_core c) (core_line c) (in_core c)
 
--- the index types before the type of the components
-abbrev pub in_structure : Structure-F Found Found Skipped Skipped Found Found Skipped Skipped → Found
+-- the index types before the type of the components, or the fields
+abbrev pub in_structure : Structure-F Found Found Found Found Found Found Skipped Found → Found
 in_structure (Structure-F.Array line indexes component) = option_or (first_in indexes) component
-in_structure _ = None
+in_structure (Structure-F.Record line fields) = fields
+in_structure (Structure-F.Set line base) = None
 
 -- the line of a structure
-abbrev pub structure_line : Structure-F Found Found Skipped Skipped Found Found Skipped Skipped → ℕ
+abbrev pub structure_line : Structure-F Found Found Found Found Found Found Skipped Found → ℕ
 structure_line (Structure-F.Array line indexes component) = line
 structure_line (Structure-F.Record line fields) = line
 structure_line (Structure-F.Set line base) = line
 
 -- a structure before what stands in it
-abbrev pub at_structure : Structure-F Found Found Skipped Skipped Found Found Skipped Skipped → Found
+abbrev pub at_structure : Structure-F Found Found Found Found Found Found Skipped Found → Found
 at_structure s = at_node (built_structure s) (structure_line s) (in_structure s)
 
--- fields, which are not reached
-abbrev pub at_field_section : FieldSection-F Found Found Skipped Skipped Found Found Skipped Skipped → Skipped
-at_field_section s = tt
+-- the type of fields
+abbrev pub at_field_section : FieldSection-F Found Found Found Found Found Found Skipped Found → Found
+at_field_section s = s.of
 
-abbrev pub at_fields : Fields-F Found Found Skipped Skipped Found Found Skipped Skipped → Skipped
-at_fields f = tt
+-- the sections before the variant part
+abbrev pub at_fields : Fields-F Found Found Found Found Found Found Skipped Found → Found
+at_fields f = option_or (first_in f.sections) (first_if f.variants)
 
 -- a type denoter without its initial state before its type
-abbrev pub at_plain : Plain-F Found Found Skipped Skipped Found Found Skipped Skipped → Found
+abbrev pub at_plain : Plain-F Found Found Found Found Found Found Skipped Found → Found
 at_plain p = at_node (built_plain p) p.line p.core
 
 -- a type denoter before what stands in it
-abbrev pub at_type_denoter : TypeDenoter-F Found Found Skipped Skipped Found Found Skipped Skipped → Found
+abbrev pub at_type_denoter : TypeDenoter-F Found Found Found Found Found Found Skipped Found → Found
 at_type_denoter t = at_node (built_type_denoter t) t.line t.plain
 
 -- variants, which are not reached
-abbrev pub at_variant : Variant-F Found Found Skipped Skipped Found Found Skipped Skipped → Skipped
+abbrev pub at_variant : Variant-F Found Found Found Found Found Found Skipped Found → Skipped
 at_variant v = tt
 
-abbrev pub at_variant_part : VariantPart-F Found Found Skipped Skipped Found Found Skipped Skipped → Skipped
-at_variant_part p = tt
+abbrev pub at_variant_part : VariantPart-F Found Found Found Found Found Found Skipped Found → Found
+at_variant_part p = at_node variants_are_built p.line None
 
 -- the first line in a type
 abbrev pub core_unbuilt : Core → Found
-core_unbuilt = fold-Core Found Found Skipped Skipped Found Found Skipped Skipped at_core at_structure at_field_section at_fields at_plain at_type_denoter at_variant at_variant_part
+core_unbuilt = fold-Core Found Found Found Found Found Found Skipped Found at_core at_structure at_field_section at_fields at_plain at_type_denoter at_variant at_variant_part
 
 -- the first line in a structure
 abbrev pub structure_unbuilt : Structure → Found
-structure_unbuilt = fold-Structure Found Found Skipped Skipped Found Found Skipped Skipped at_core at_structure at_field_section at_fields at_plain at_type_denoter at_variant at_variant_part
+structure_unbuilt = fold-Structure Found Found Found Found Found Found Skipped Found at_core at_structure at_field_section at_fields at_plain at_type_denoter at_variant at_variant_part
+
+-- the first line in a field section
+abbrev pub field_section_unbuilt : FieldSection → Found
+field_section_unbuilt = fold-FieldSection Found Found Found Found Found Found Skipped Found at_core at_structure at_field_section at_fields at_plain at_type_denoter at_variant at_variant_part
+
+-- the first line in the fields of a record
+abbrev pub fields_unbuilt : Fields → Found
+fields_unbuilt = fold-Fields Found Found Found Found Found Found Skipped Found at_core at_structure at_field_section at_fields at_plain at_type_denoter at_variant at_variant_part
+
+-- the first line in a variant part
+abbrev pub variant_part_unbuilt : VariantPart → Found
+variant_part_unbuilt = fold-VariantPart Found Found Found Found Found Found Skipped Found at_core at_structure at_field_section at_fields at_plain at_type_denoter at_variant at_variant_part
 
 -- the first line in a type denoter without its initial state
 abbrev pub plain_unbuilt : Plain → Found
-plain_unbuilt = fold-Plain Found Found Skipped Skipped Found Found Skipped Skipped at_core at_structure at_field_section at_fields at_plain at_type_denoter at_variant at_variant_part
+plain_unbuilt = fold-Plain Found Found Found Found Found Found Skipped Found at_core at_structure at_field_section at_fields at_plain at_type_denoter at_variant at_variant_part
 
 -- the first line in a type denoter
 abbrev pub type_denoter_unbuilt : TypeDenoter → Found
-type_denoter_unbuilt = fold-TypeDenoter Found Found Skipped Skipped Found Found Skipped Skipped at_core at_structure at_field_section at_fields at_plain at_type_denoter at_variant at_variant_part
+type_denoter_unbuilt = fold-TypeDenoter Found Found Found Found Found Found Skipped Found at_core at_structure at_field_section at_fields at_plain at_type_denoter at_variant at_variant_part
 
 -- ---- statements
 

@@ -11,11 +11,12 @@ use Rattle.ep_tree.specs.declared.expression.Term.{Term}
 use Rattle.ep_tree.specs.declared.operator.AddingOperator.TheVariants as adding
 use Rattle.ep_tree.specs.declared.operator.MultiplyingOperator.TheVariants as multiplying
 use Rattle.ep_tree.specs.declared.operator.RelationalOperator.TheVariants as relation
-use Rattle.ep_typed.specs.Trees.{Accessed, Callee, Constant, Evaluated, Function, Indexed, Own, Place, Read, Two, Step, Variable, next_actual, no_actual}
+use Rattle.ep_typed.specs.Trees.{Field, Accessed, Callee, Constant, Evaluated, Function, Indexed, Own, Place, Read, Two, Step, Variable, next_actual, no_actual}
 use Rattle.ep_typed.specs.declared.operations.Binary.TheVariants as binary
 use Rattle.ep_typed.specs.declared.value.Value.TheVariants as value
 use Rattle.ep_scope.specs.Scopes.{Region}
-use Rattle.ep_scope.specs.declared.array.ArrayType.{ArrayType}
+use Rattle.ep_scope.specs.declared.structure.Composition.TheVariants as composition
+use Rattle.ep_scope.specs.declared.structure.StructuredType.{StructuredType}
 use Rattle.ep_scope.specs.declared.kind.Host.{Host}
 use Rattle.ep_scope.specs.declared.kind.Host.TheVariants as host
 use Rattle.ep_scope.specs.declared.kind.Kind.TheVariants as kind
@@ -30,7 +31,7 @@ use Rattle.ep_scope.specs.declared.thing.Declaration.{Declaration}
 use Rattle.ep_scope.specs.declared.thing.Declaration.TheVariants as declaration
 use Rattle.ep_scope.specs.declared.thing.Thing.{Thing}
 use Rattle.ep_scope.specs.declared.thing.Thing.TheVariants as thing
-use Rattle.ep_check_expr.proofs.Nodes.{expression-judged, comparison-judged, simple-judged, addend-judged, term-judged, multiplier-judged, name-judged, indexes-judged, arguments-judged, argument-judged, wide-judged, number-judged, parenthesized-judged, string-judged}
+use Rattle.ep_check_expr.proofs.Nodes.{expression-judged, comparison-judged, simple-judged, addend-judged, term-judged, multiplier-judged, name-judged, field-judged, indexes-judged, arguments-judged, argument-judged, wide-judged, number-judged, parenthesized-judged, string-judged}
 use Rattle.ep_check_expr.specs.declared.access.Access.TheVariants as access
 use Rattle.ep_check_expr.specs.Arguments.{given_to}
 use Rattle.ep_check_expr.specs.Constants.{constant_expression, bound_judged}
@@ -102,22 +103,22 @@ abbrev function_of : FormalMode → Declaration
 function_of how = declaration.Function (integer_parameter how ∷ []) (type_name.Entry 0) (kind.Ordinal color)
 
 -- an array of integers by colors, and one of such arrays by Booleans
-abbrev row : ArrayType
-row = record { number = 3; index = color; component = type_name.Required simple.Integer; kind = integer }
+abbrev row : StructuredType
+row = record { number = 3; composition = composition.Array (record { index = color; component = type_name.Required simple.Integer; kind = integer }) }
 
-abbrev table : ArrayType
-table = record { number = 4; index = host.Boolean; component = type_name.Entry 3; kind = kind.Array 3 }
+abbrev table : StructuredType
+table = record { number = 4; composition = composition.Array (record { index = host.Boolean; component = type_name.Entry 3; kind = kind.Structured 3 }) }
 
 -- a function of such an array, whose result is a color
 abbrev row_parameter : FormalMode → FormalParameter
-row_parameter how = record { name = codes "n"; mode = how; section = 0; of = type_name.Entry 3; kind = kind.Array 3 }
+row_parameter how = record { name = codes "n"; mode = how; section = 0; of = type_name.Entry 3; kind = kind.Structured 3 }
 
 abbrev function_of_row : FormalMode → Declaration
 function_of_row how = declaration.Function (row_parameter how ∷ []) (type_name.Entry 0) (kind.Ordinal color)
 
 -- a function with these formal parameters, whose result is such an array
 abbrev giving_row : List FormalParameter → Declaration
-giving_row parameters = declaration.Function parameters (type_name.Entry 3) (kind.Array 3)
+giving_row parameters = declaration.Function parameters (type_name.Entry 3) (kind.Structured 3)
 
 -- red, of the colors, the integer x, f with a value parameter, g with a variable parameter, h without any, the arrays a and b,
 -- r with a value parameter and s without any, which give arrays, and k and l, which take one as f and g take an integer
@@ -125,10 +126,10 @@ abbrev scope : List Region
 scope = record {
   entries = (codes "red", declares 0 (declaration.Constant (kind.Ordinal color) (value.Word (pos 0)))) ∷ (codes "x", declares 0 (declaration.Variable (type_name.Required simple.Integer) integer))
       ∷ (codes "f", declares 0 (function_of mode.Value)) ∷ (codes "g", declares 1 (function_of mode.Variable)) ∷ (codes "h", declares 2 (declaration.Function [] (type_name.Required simple.Integer) integer))
-      ∷ (codes "a", declares 6 (declaration.Variable (type_name.Entry 3) (kind.Array 3))) ∷ (codes "b", declares 7 (declaration.Variable (type_name.Entry 4) (kind.Array 4)))
+      ∷ (codes "a", declares 6 (declaration.Variable (type_name.Entry 3) (kind.Structured 3))) ∷ (codes "b", declares 7 (declaration.Variable (type_name.Entry 4) (kind.Structured 4)))
       ∷ (codes "r", declares 3 (giving_row (integer_parameter mode.Value ∷ []))) ∷ (codes "s", declares 4 (giving_row [])) ∷ (codes "k", declares 5 (function_of_row mode.Value)) ∷ (codes "l", declares 6 (function_of_row mode.Variable)) ∷ [];
   qualified = [];
-  arrays = row ∷ table ∷ [];
+  structures = row ∷ table ∷ [];
 } ∷ []
 
 -- a function of the program
@@ -141,8 +142,8 @@ integer_variable = declaration.Own (type_name.Required simple.Integer) integer p
 
 -- In the block of a routine in a routine, of which the outer one has the integer y and the function i, and the inner one the integer z.
 abbrev inside : List Region
-inside = record { entries = (codes "z", declares_at 2 4 integer_variable) ∷ []; qualified = []; arrays = [] }
-    ∷ record { entries = (codes "y", declares_at 1 3 integer_variable) ∷ (codes "i", declares_at 1 5 (declaration.Function [] (type_name.Required simple.Integer) integer)) ∷ []; qualified = []; arrays = [] } ∷ scope
+inside = record { entries = (codes "z", declares_at 2 4 integer_variable) ∷ []; qualified = []; structures = [] }
+    ∷ record { entries = (codes "y", declares_at 1 3 integer_variable) ∷ (codes "i", declares_at 1 5 (declaration.Function [] (type_name.Required simple.Integer) integer)) ∷ []; qualified = []; structures = [] } ∷ scope
 
 -- y + z, by the levels between
 levels_between : judged inside (sum (name (codes "y")) (name (codes "z"))) ≡ Accepts (record { form = Some (Two binary.Add (Read (Own 1 3)) (Read (Own 0 4))); kind = integer; depth = 3; access = access.Value })
@@ -260,7 +261,7 @@ selectors_in_a_row = simp (expression-judged, simple-judged, term-judged, name-j
 
 -- b[true], which is an array
 array_of_arrays : judged scope (bare (indexed (codes "b") (bare (name (codes "true")) ∷ [])))
-    ≡ Accepts (record { form = Some (Read (Indexed (Variable (codes "p") 7) (Constant (pos 1)))); kind = kind.Array 3; depth = 3; access = access.Variable (type_name.Entry 3) protection.Unprotected })
+    ≡ Accepts (record { form = Some (Read (Indexed (Variable (codes "p") 7) (Constant (pos 1)))); kind = kind.Structured 3; depth = 3; access = access.Variable (type_name.Entry 3) protection.Unprotected })
 array_of_arrays = simp (expression-judged, simple-judged, term-judged, name-judged, indexes-judged) refl
 
 -- a[1], where the index is a color
@@ -293,7 +294,7 @@ constant_array : constant_expression scope (bare (name (codes "a"))) ≡ Breaks 
 constant_array = simp (expression-judged, simple-judged, term-judged, name-judged) refl
 
 -- r(3), an array, which has no code yet
-array_given : judged scope (bare (call (codes "r") (plain (number 3) ∷ []))) ≡ Accepts (record { form = None; kind = kind.Array 3; depth = 2; access = access.Value })
+array_given : judged scope (bare (call (codes "r") (plain (number 3) ∷ []))) ≡ Accepts (record { form = None; kind = kind.Structured 3; depth = 2; access = access.Value })
 array_given = simp (expression-judged, simple-judged, term-judged, name-judged, arguments-judged, argument-judged, number-judged) refl
 
 -- r(3), where an integer is assigned to
@@ -327,3 +328,57 @@ given_array_for_variable = simp (expression-judged, simple-judged, term-judged, 
 -- s, where a constant is asked for
 constant_given_array : constant_expression scope (bare (name (codes "s"))) ≡ Breaks (rule.CONSTANT ∷ [])
 constant_given_array = simp (expression-judged, simple-judged, term-judged, name-judged) refl
+
+-- ---- fields of records
+
+-- a record of an integer x and a color y, and an array of such records by colors
+abbrev point : StructuredType
+point = record { number = 5; composition = composition.Record (record { name = codes "x"; of = type_name.Required simple.Integer; kind = integer } ∷ record { name = codes "y"; of = type_name.Entry 0; kind = kind.Ordinal color } ∷ []) }
+
+abbrev points : StructuredType
+points = record { number = 6; composition = composition.Array (record { index = color; component = type_name.Entry 5; kind = kind.Structured 5 }) }
+
+-- the record c, the array d, the integer x, and an interface that exports a color x
+abbrev with_records : List Region
+with_records = record {
+  entries = (codes "c", declares 8 (declaration.Variable (type_name.Entry 5) (kind.Structured 5))) ∷ (codes "d", declares 9 (declaration.Variable (type_name.Entry 6) (kind.Structured 6)))
+      ∷ (codes "x", declares 0 (declaration.Variable (type_name.Required simple.Integer) integer)) ∷ (codes "red", declares 0 (declaration.Constant (kind.Ordinal color) (value.Word (pos 0)))) ∷ [];
+  qualified = (codes "shades", (codes "x", declares 1 (declaration.Constant (kind.Ordinal color) (value.Word (pos 1)))) ∷ []) ∷ [];
+  structures = point ∷ points ∷ [];
+} ∷ []
+
+abbrev field : List ℕ → List ℕ → Factor
+field r f = factor.Access (access_node 1 r (selector.Field 1 f ∷ []))
+
+-- c.y
+second_field : judged with_records (bare (field (codes "c") (codes "y")))
+    ≡ Accepts (record { form = Some (Read (Field (Variable (codes "p") 8) 1)); kind = kind.Ordinal color; depth = 3; access = access.Variable (type_name.Entry 0) protection.Unprotected })
+second_field = simp (expression-judged, simple-judged, term-judged, name-judged, field-judged) refl
+
+-- d[red].x
+field_of_component : judged with_records (bare (factor.Access (access_node 1 (codes "d") (selector.Index 1 (bare (name (codes "red")) ∷ []) ∷ selector.Field 1 (codes "x") ∷ []))))
+    ≡ Accepts (record { form = Some (Read (Field (Indexed (Variable (codes "p") 9) (Constant (pos 0))) 0)); kind = integer; depth = 4; access = access.Variable (type_name.Required simple.Integer) protection.Unprotected })
+field_of_component = simp (expression-judged, simple-judged, term-judged, name-judged, indexes-judged, field-judged) refl
+
+-- c.z, which the record has not
+no_such_field : judged with_records (bare (field (codes "c") (codes "z"))) ≡ Breaks (rule.FIELD ∷ [])
+no_such_field = simp (expression-judged, simple-judged, term-judged, name-judged, field-judged) refl
+
+-- x.y and d.x, which are no records
+field_of_integer : judged with_records (bare (field (codes "x") (codes "y"))) ≡ Breaks (rule.FIELD ∷ [])
+field_of_integer = simp (expression-judged, simple-judged, term-judged, name-judged, field-judged) refl
+
+field_of_array : judged with_records (bare (field (codes "d") (codes "x"))) ≡ Breaks (rule.FIELD ∷ [])
+field_of_array = simp (expression-judged, simple-judged, term-judged, name-judged, field-judged) refl
+
+-- c[red], which is no array
+index_of_record : judged with_records (bare (indexed (codes "c") (bare (name (codes "red")) ∷ []))) ≡ Breaks (rule.INDEX ∷ [])
+index_of_record = simp (expression-judged, simple-judged, term-judged, name-judged, indexes-judged) refl
+
+-- shades.x, which the interface has
+constituent : judged with_records (bare (field (codes "shades") (codes "x"))) ≡ Accepts (record { form = Some (Constant (pos 1)); kind = kind.Ordinal color; depth = 1; access = access.Constant })
+constituent = simp (expression-judged, simple-judged, term-judged, name-judged, field-judged) refl
+
+-- tints.x, which stands for nothing
+field_of_nothing : judged with_records (bare (field (codes "tints") (codes "x"))) ≡ Breaks (rule.UNDECLARED ∷ [])
+field_of_nothing = simp (expression-judged, simple-judged, term-judged, name-judged, field-judged) refl

@@ -1,5 +1,5 @@
 -- The host of what the rules accept is a required type, or that of something that the scopes declare.
-use Rattle.std.proofs.Common.{◌≡◌, ◌==◌, ◌∙◌, ℕ, ℤ, Bool, true, false, ◌&&◌, nat_le, List, [], ◌∷◌, Option, Some, None, inl, inr, refl, sym, subst}
+use Rattle.std.proofs.Common.{◌≡◌, ◌==◌, ◌∙◌, ℕ, ℤ, zero, suc, slice_get, Bool, true, false, ◌&&◌, nat_le, List, [], ◌∷◌, Option, Some, None, inl, inr, refl, sym, subst}
 use Rattle.std.specs.Prelude.{⊤, if◌then◌else◌}
 use Rattle.std.specs.Str.{bytes_eq}
 use Rattle.ep_tree.specs.declared.operator.AddingOperator.{AddingOperator}
@@ -15,9 +15,13 @@ use Rattle.ep_typed.specs.declared.operations.Unary.{Unary}
 use Rattle.ep_typed.specs.declared.operations.Binary.{Binary}
 use Rattle.ep_typed.specs.declared.operations.ShortOperation.{ShortOperation}
 use Rattle.ep_scope.specs.Required.{look_up, required_of}
-use Rattle.ep_scope.specs.Scopes.{Entries, Region, Meant, Declares, Requires, Nothing, array_among, array_in, array_or, as_required, as_thing, depth_in, look_up_if, look_up_in, meant, meant_in, or_outside, unless_hidden}
+use Rattle.ep_scope.specs.Scopes.{Entries, Region, Meant, Declares, Requires, Nothing, structure_among, structure_in, structure_or, as_required, as_thing, depth_in, look_up_if, look_up_in, meant, meant_in, or_outside, unless_hidden}
 use Rattle.ep_scope.specs.Scopes as meaning
-use Rattle.ep_scope.specs.declared.array.ArrayType.{ArrayType}
+use Rattle.ep_scope.specs.declared.structure.ArrayType.{ArrayType}
+use Rattle.ep_scope.specs.declared.structure.Composition.{Composition}
+use Rattle.ep_scope.specs.declared.structure.Composition.TheVariants as composition
+use Rattle.ep_scope.specs.declared.structure.FieldType.{FieldType}
+use Rattle.ep_scope.specs.declared.structure.StructuredType.{StructuredType}
 use Rattle.ep_scope.specs.declared.kind.Host.{Host}
 use Rattle.ep_scope.specs.declared.kind.Host.TheVariants as host
 use Rattle.ep_scope.specs.declared.kind.Kind.{Kind}
@@ -36,13 +40,15 @@ use Rattle.ep_scope.specs.declared.rule.TheConstants as rule
 use Rattle.ep_check_expr.specs.declared.access.Access.TheVariants as access
 use Rattle.ep_check_expr.specs.Arguments.{Taken, arguments_judged, callee_at, function_typed}
 use Rattle.ep_check_expr.specs.Expressions.{spelled}
+use Rattle.ep_check_expr.specs.FieldDesignators.{field_typed}
 use Rattle.ep_check_expr.specs.Functions.{Given, applied_one, applied_two, ordinal_by, other_argument, step_typed, stepped_by, one}
 use Rattle.ep_check_expr.specs.Hosts.{typed_host}
 use Rattle.ep_check_expr.specs.Indexing.{component_depth, component_typed}
 use Rattle.ep_check_expr.specs.Judgements.{Judged, Accepts, Breaks, Typed, unbuilt, when_accepted}
 use Rattle.ep_check_expr.specs.Names.{call_declared, leaf, value_declared, value_named, value_required}
 use Rattle.ep_check_expr.specs.Operators.{added, are_compatible, arithmetic, binary_typed, boolean, character, compared, comparison, integer, is_boolean, is_integer, is_string, logical, misfit, multiplied, short_circuit, short_typed, sign_of, signed, unary_typed, unbuilt_typed, within_depth}
-use Rattle.ep_check_expr.specs.Origins.{ArraysHaveHost, DeclaresHost, EntriesHaveHost, HasHost, InterfacesHaveHost, IsKnownHost, IsKnownKind, ScopesHaveHost, ThingHasHost}
+use Rattle.ep_check_expr.specs.Origins.{CompositionHasHost, DeclaresHost, EntriesHaveHost, FieldsHaveHost, HasHost, StructuresHaveHost, InterfacesHaveHost, IsKnownHost, IsKnownKind, ScopesHaveHost, ThingHasHost}
+use Rattle.ep_check_expr.proofs.Designated.{field-given}
 use Rattle.ep_check_expr.proofs.Indexed.{index-given}
 use Rattle.ep_check_expr.proofs.Keeping.{IsCalled, IsKept, Satisfies, if-satisfies}
 
@@ -117,25 +123,31 @@ meant_in_comes (r ∷ rs) interface name =
     (thing_wider (InterfacesHaveHost r.qualified) (ScopesHaveHost (r ∷ rs)) (look_up_in r interface name) (λ h p. inr (inl p)) (interface_comes r.qualified interface name))
     (meant_wider (ScopesHaveHost rs) (ScopesHaveHost (r ∷ rs)) (meant_in rs interface name) (λ h p. inr (inr (inr p))) (meant_in_comes rs interface name)))
 
--- ---- array types
+-- ---- structured types
 
--- the host of the components of an array type is one of those that array types have
-among_comes : (n : ℕ) (arrays : List ArrayType) (a : ArrayType) (h : Host) → array_among n arrays ≡ Some a → HasHost a.kind h → ArraysHaveHost arrays h
-among_comes n [] a h e p = cc
-among_comes n (b ∷ more) a h e p = chosen (b.number == n) (λ later. among_comes n more a h later p) e
+-- the host of the components of a structured type is one of those that structured types have
+among_comes : (n : ℕ) (structures : List StructuredType) (c : Composition) (h : Host) → structure_among n structures ≡ Some c → CompositionHasHost c h → StructuresHaveHost structures h
+among_comes n [] c h e p = cc
+among_comes n (s ∷ more) c h e p = chosen (s.number == n) (λ later. among_comes n more c h later p) e
   where
-    chosen : (c : Bool) → (array_among n more ≡ Some a → ArraysHaveHost more h) → (if c then Some b else array_among n more) ≡ Some a → ArraysHaveHost (b ∷ more) h
-    chosen true later e = let is : b ≡ a = cc in inl (subst (λ x. HasHost x.kind h) (sym is) p)
+    chosen : (b : Bool) → (structure_among n more ≡ Some c → StructuresHaveHost more h) → (if b then Some s.composition else structure_among n more) ≡ Some c → StructuresHaveHost (s ∷ more) h
+    chosen true later e = let is : s.composition ≡ c = cc in inl (subst (λ x. CompositionHasHost x h) (sym is) p)
     chosen false later e = inr (later e)
 
 -- so it is one that the scopes have
-array_comes : (n : ℕ) (scopes : List Region) (a : ArrayType) (h : Host) → array_in scopes n ≡ Some a → HasHost a.kind h → ScopesHaveHost scopes h
-array_comes n [] a h e p = cc
-array_comes n (r ∷ rs) a h e p = found (array_among n r.arrays) refl (λ later. array_comes n rs a h later p) e
+structure_comes : (n : ℕ) (scopes : List Region) (c : Composition) (h : Host) → structure_in scopes n ≡ Some c → CompositionHasHost c h → ScopesHaveHost scopes h
+structure_comes n [] c h e p = cc
+structure_comes n (r ∷ rs) c h e p = found (structure_among n r.structures) refl (λ later. structure_comes n rs c h later p) e
   where
-    found : (o : Option ArrayType) → array_among n r.arrays ≡ o → (array_in rs n ≡ Some a → ScopesHaveHost rs h) → array_or o (array_in rs n) ≡ Some a → ScopesHaveHost (r ∷ rs) h
+    found : (o : Option Composition) → structure_among n r.structures ≡ o → (structure_in rs n ≡ Some c → ScopesHaveHost rs h) → structure_or o (structure_in rs n) ≡ Some c → ScopesHaveHost (r ∷ rs) h
     found None is later e = inr (inr (inr (later e)))
-    found (Some b) is later e = inr (inr (inl (among_comes n r.arrays a h (is ∙ e) p)))
+    found (Some d) is later e = inr (inr (inl (among_comes n r.structures c h (is ∙ e) p)))
+
+-- the host of a field is one of those that the fields have
+field_has : (fs : List FieldType) (number : ℕ) (f : FieldType) (h : Host) → slice_get fs number ≡ Some f → HasHost f.kind h → FieldsHaveHost fs h
+field_has [] number f h e p = cc
+field_has (g ∷ gs) zero f h e p = let is : g ≡ f = cc in inl (subst (λ (x : FieldType). HasHost x.kind h) (sym is) p)
+field_has (g ∷ gs) (suc number) f h e p = inr (field_has gs number f h e p)
 
 -- ---- rules
 
@@ -149,7 +161,7 @@ module _ (scopes : List Region) where
 
   kind_comes : (k : Kind) → ((h : Host) → HasHost k h → ScopesHaveHost scopes h) → IsKnownKind scopes k
   kind_comes (kind.Ordinal h) f = inr (f h refl)
-  kind_comes (kind.Array n) f = tt
+  kind_comes (kind.Structured n) f = tt
   kind_comes kind.Text f = tt
   kind_comes kind.File f = tt
 
@@ -162,7 +174,7 @@ module _ (scopes : List Region) where
 
   declared_comes : (depth : ℕ) (d : Declared) (what : Declaration) → ((h : Host) → DeclaresHost what h → ScopesHaveHost scopes h) → Comes (value_declared depth d what)
   declared_comes depth d (declaration.Constant k v) f = kind_comes k f
-  declared_comes depth d (declaration.«Type» of h) f = tt
+  declared_comes depth d (declaration.«Type» of h nodes) f = tt
   declared_comes depth d (declaration.Variable of k) f = kind_comes k f
   declared_comes depth d (declaration.Own of k guarded) f = kind_comes k f
   declared_comes depth d (declaration.Procedure parameters) f = tt
@@ -170,7 +182,7 @@ module _ (scopes : List Region) where
 
   call_comes : (depth : ℕ) (d : Declared) (what : Declaration) (gs : List Given) → ((h : Host) → DeclaresHost what h → ScopesHaveHost scopes h) → Comes (call_declared depth d what gs)
   call_comes depth d (declaration.Constant k v) gs f = tt
-  call_comes depth d (declaration.«Type» of h) gs f = tt
+  call_comes depth d (declaration.«Type» of h nodes) gs f = tt
   call_comes depth d (declaration.Variable of k) gs f = tt
   call_comes depth d (declaration.Own of k guarded) gs f = tt
   call_comes depth d (declaration.Procedure parameters) gs f = tt
@@ -252,13 +264,13 @@ module _ (scopes : List Region) where
 
   ordinal_comes : (k : Kind) (x : Typed) → Comes (ordinal_by k x)
   ordinal_comes (kind.Ordinal h) x = depth_comes _ integer _ (inl tt)
-  ordinal_comes (kind.Array n) x = tt
+  ordinal_comes (kind.Structured n) x = tt
   ordinal_comes kind.Text x = tt
   ordinal_comes kind.File x = tt
 
   stepped_comes : (k : Kind) (down : Bool) (x count : Typed) → IsKnownKind scopes k → Comes (stepped_by k down x count)
   stepped_comes (kind.Ordinal h) down x count p = if-satisfies IsKnown (is_integer count.kind) (step_typed down h x count) other_argument (λ e. depth_comes _ (kind.Ordinal h) _ p) tt
-  stepped_comes (kind.Array n) down x count p = tt
+  stepped_comes (kind.Structured n) down x count p = tt
   stepped_comes kind.Text down x count p = tt
   stepped_comes kind.File down x count p = tt
 
@@ -280,9 +292,13 @@ module _ (scopes : List Region) where
   two_comes function.Ordinal x y p = tt
   two_comes function.Character x y p = tt
 
-  component_comes : (n : ℕ) (a : ArrayType) (x i : Typed) → array_in scopes n ≡ Some a → Comes (component_typed a x i)
+  component_comes : (n : ℕ) (a : ArrayType) (x i : Typed) → structure_in scopes n ≡ Some (composition.Array a) → Comes (component_typed a x i)
   component_comes n a x i e =
-      if-satisfies IsKnown (nat_le (component_depth x.depth i.depth) 1000) (Accepts _) (Breaks (rule.TOO_DEEP ∷ [])) (λ d. kind_comes a.kind (λ h p. array_comes n scopes a h e p)) tt
+      if-satisfies IsKnown (nat_le (component_depth x.depth i.depth) 1000) (Accepts _) (Breaks (rule.TOO_DEEP ∷ [])) (λ d. kind_comes a.kind (λ h p. structure_comes n scopes (composition.Array a) h e p)) tt
+
+  field_comes : (n : ℕ) (fs : List FieldType) (number : ℕ) (f : FieldType) (x : Typed) → structure_in scopes n ≡ Some (composition.Record fs) → slice_get fs number ≡ Some f → Comes (field_typed number f x)
+  field_comes n fs number f x e there =
+      if-satisfies IsKnown (nat_le (suc x.depth) 1000) (Accepts _) (Breaks (rule.TOO_DEEP ∷ [])) (λ d. kind_comes f.kind (λ h p. structure_comes n scopes (composition.Record fs) h e (field_has fs number f h there p))) tt
 
   -- each rule gives a known host for known ones
   pub knowledge_is_kept : IsKept IsKnown scopes
@@ -294,6 +310,7 @@ module _ (scopes : List Region) where
     within = λ interface name. named_comes name (meant_in scopes interface name) (meant_in_comes scopes interface name);
     called = λ name. called_comes (meant scopes name) (meant_comes scopes name);
     indexes = λ x i p q. index-given IsKnown scopes x.kind x i (λ n a is e same. component_comes n a x i e) (depth_comes _ character _ (inl tt));
+    fields = λ name x p. field-given IsKnown scopes x.kind name x (λ n fs number f is e there. field_comes n fs number f x e there);
     parenthesizes = λ x p. p;
     signs = signed_comes;
     negates = λ x p. unary_comes (is_boolean x.kind) _ boolean x misfit (inl tt) tt;

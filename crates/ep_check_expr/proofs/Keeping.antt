@@ -13,6 +13,7 @@ use Rattle.ep_scope.specs.declared.kind.Kind.TheVariants as kind
 use Rattle.ep_scope.specs.declared.required.Function.{Function}
 use Rattle.ep_check_expr.specs.declared.access.Access.TheVariants as access
 use Rattle.ep_check_expr.specs.Expressions.{spelled}
+use Rattle.ep_check_expr.specs.FieldDesignators.{designated}
 use Rattle.ep_check_expr.specs.Functions.{Given, applied_one, applied_two}
 use Rattle.ep_check_expr.specs.Indexing.{indexed}
 use Rattle.ep_check_expr.specs.Judgements.{Judged, Accepts, Breaks, Typed, both, when_accepted}
@@ -73,6 +74,7 @@ pub record IsKept (Q : Typed → Type 0) (scopes : List Region) : Type 0 where
   pub within : (interface name : List ℕ) → Satisfies Q (value_named (depth_in scopes) name (meant_in scopes interface name))
   pub called : (name : List ℕ) → IsCalled (depth_in scopes) Q (meant scopes name)
   pub indexes : (x i : Typed) → Q x → Q i → Satisfies Q (indexed scopes x i)
+  pub fields : (name : List ℕ) (x : Typed) → Q x → Satisfies Q (designated scopes name x)
   pub parenthesizes : (x : Typed) → Q x → Q (parenthesized x)
   pub signs : (o : Option Sign) (x : Typed) → Q x → Satisfies Q (signed o x)
   pub negates : (x : Typed) → Q x → Satisfies Q (negated x)

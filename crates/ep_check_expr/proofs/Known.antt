@@ -14,7 +14,7 @@ use Rattle.ep_typed.specs.declared.operations.Binary.{Binary}
 use Rattle.ep_typed.specs.declared.operations.Binary.TheVariants as binary
 use Rattle.ep_typed.specs.declared.operations.ShortOperation.{ShortOperation}
 use Rattle.ep_typed.specs.declared.run_error.TheConstants as run_error
-use Rattle.ep_scope.specs.declared.array.ArrayType.{ArrayType}
+use Rattle.ep_scope.specs.declared.structure.StructuredType.{StructuredType}
 use Rattle.ep_scope.specs.declared.kind.Host as scope
 use Rattle.ep_scope.specs.declared.kind.Kind.TheVariants as kind
 use Rattle.ep_scope.specs.declared.kind.Kind.{Kind}
@@ -209,14 +209,14 @@ abbrev pub IsJudgedConstant : Judged ConstantForm → Type 0
 IsJudgedConstant (Accepts c) = IsConstantOf c.kind c.value
 IsJudgedConstant (Breaks rules) = ⊤
 
-module _ (declared : Declarations) (types : TypeValues) (arrays : List ArrayType) where
+module _ (declared : Declarations) (types : TypeValues) (structures : List StructuredType) where
   folded-constant : (h : scope.Host) (x : Expr) (r : Folded) → folded x ≡ r → IsHost h → IsExpr declared (valid.Ordinal (typed_host h)) x → IsJudgedConstant (constant_folded (kind.Ordinal h) r)
   folded-constant h x (Known z) e s v = (s, known-of_host declared x (typed_host h) z v e)
   folded-constant h x Varies e s v = tt
   folded-constant h x Errs e s v = tt
 
   -- a valid form is a constant of its kind, if it is one
-  pub constant-fits : (k : Kind) (form : Option Expr) → IsFormOf declared types arrays k form → IsJudgedConstant (constant_of k form)
+  pub constant-fits : (k : Kind) (form : Option Expr) → IsFormOf declared types structures k form → IsJudgedConstant (constant_of k form)
   constant-fits (kind.Ordinal h) None s = (s, zero_of_host (typed_host h))
   constant-fits (kind.Ordinal h) (Some (Text bytes)) s = let e = s.1 in cc
   constant-fits (kind.Ordinal h) (Some (Constant z)) s = folded-constant h (Constant z) (Known z) refl s.0 s.1
@@ -226,15 +226,15 @@ module _ (declared : Declarations) (types : TypeValues) (arrays : List ArrayType
   constant-fits (kind.Ordinal h) (Some (Short operation x y)) s = folded-constant h (Short operation x y) (folded (Short operation x y)) refl s.0 s.1
   constant-fits (kind.Ordinal h) (Some (Step down low high x y)) s = folded-constant h (Step down low high x y) (folded (Step down low high x y)) refl s.0 s.1
   constant-fits (kind.Ordinal h) (Some (Function callee given)) s = tt
-  constant-fits (kind.Array n) None s = tt
-  constant-fits (kind.Array n) (Some (Text bytes)) s = let e = s.1 in cc
-  constant-fits (kind.Array n) (Some (Constant z)) s = let e = s.1 in cc
-  constant-fits (kind.Array n) (Some (Read place)) s = tt
-  constant-fits (kind.Array n) (Some (One operation x)) s = let e = s.1 in cc
-  constant-fits (kind.Array n) (Some (Two operation x y)) s = let e = s.1 in cc
-  constant-fits (kind.Array n) (Some (Short operation x y)) s = let e = s.1 in cc
-  constant-fits (kind.Array n) (Some (Step down low high x y)) s = let e = s.1 in cc
-  constant-fits (kind.Array n) (Some (Function callee given)) s = tt
+  constant-fits (kind.Structured n) None s = tt
+  constant-fits (kind.Structured n) (Some (Text bytes)) s = let e = s.1 in cc
+  constant-fits (kind.Structured n) (Some (Constant z)) s = let e = s.1 in cc
+  constant-fits (kind.Structured n) (Some (Read place)) s = tt
+  constant-fits (kind.Structured n) (Some (One operation x)) s = let e = s.1 in cc
+  constant-fits (kind.Structured n) (Some (Two operation x y)) s = let e = s.1 in cc
+  constant-fits (kind.Structured n) (Some (Short operation x y)) s = let e = s.1 in cc
+  constant-fits (kind.Structured n) (Some (Step down low high x y)) s = let e = s.1 in cc
+  constant-fits (kind.Structured n) (Some (Function callee given)) s = tt
   constant-fits kind.Text None s = tt
   constant-fits kind.Text (Some (Text bytes)) s = tt
   constant-fits kind.Text (Some (Constant z)) s = let e = s.1 in cc

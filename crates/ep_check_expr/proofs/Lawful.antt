@@ -10,13 +10,13 @@ use Rattle.ep_tree.specs.declared.expression.Argument.{Argument, out-Argument}
 use Rattle.ep_tree.specs.declared.expression.ComponentValue.{ComponentValue}
 use Rattle.ep_tree.specs.declared.expression.Expression.{Expression}
 use Rattle.ep_scope.specs.Scopes.{Region, depth_in, meant, meant_in}
-use Rattle.ep_scope.specs.declared.array.ArrayType.{ArrayType}
+use Rattle.ep_scope.specs.declared.structure.StructuredType.{StructuredType}
 use Rattle.ep_scope.specs.declared.kind.Host.{Host}
 use Rattle.ep_scope.specs.declared.kind.Host.TheVariants as host
 use Rattle.ep_scope.specs.declared.kind.Kind.{Kind}
 use Rattle.ep_scope.specs.declared.kind.Kind.TheVariants as kind
 use Rattle.ep_scope.specs.declared.rule.TheConstants as rule
-use Rattle.ep_check_expr.specs.Agreement.{AgreesBy, AreActuals, IsAccessOf, IsFormOf, IsHost, TypeValues, arrays_of}
+use Rattle.ep_check_expr.specs.Agreement.{AgreesBy, AreActuals, IsAccessOf, IsFormOf, IsHost, TypeValues, structures_of}
 use Rattle.ep_check_expr.specs.Constants.{IsSoundConstant, as_constant, as_bound, as_label, constant_expression, constant_folded, constant_of, stand_in, unbuilt_constant, varies}
 use Rattle.ep_check_expr.specs.Expressions.{given, judged, judged_value, name_judged, spelled}
 use Rattle.ep_check_expr.specs.Hosts.{typed_host}
@@ -36,6 +36,7 @@ use Rattle.ep_check_expr.proofs.Passing.{IsForm, arguments-fit}
 use Rattle.ep_check_expr.proofs.Nodes.{given-value}
 use Rattle.ep_check_expr.proofs.Accepted.{accesses-fit, expressions-fit, values-fit}
 use Rattle.ep_check_expr.proofs.Hosted.{IsKnown, knowledge_is_kept}
+use Rattle.ep_check_expr.proofs.Designated.{designated-fits}
 use Rattle.ep_check_expr.proofs.Indexed.{indexed-fits}
 use Rattle.ep_check_expr.proofs.Keeping.{AreGiven, IsKept, Satisfies, if-satisfies, pair-satisfies, weaker-satisfies}
 use Rattle.ep_check_expr.proofs.Known.{IsJudgedConstant, constant-fits}
@@ -43,16 +44,16 @@ use Rattle.ep_check_expr.proofs.Meant.{called-fits, meant-declared, meant_in-dec
 use Rattle.ep_check_expr.proofs.Sound.{Fits, signed-fits, negated-fits, added-fits, multiplied-fits, compared-fits, applied_one-fits, applied_two-fits}
 
 -- a number or a character of the text
-spelled-fits : (declared : Declarations) (types : TypeValues) (arrays : List ArrayType) (h : Host) → IsHost h → (z : ℤ) → Fits declared types arrays (spelled h z)
-spelled-fits declared types arrays h s z = if-satisfies (λ t. IsFormOf declared types arrays t.kind t.form) (is_of_host (typed_host h) z) (leaf (Constant z) (kind.Ordinal h) access.Value) unbuilt (λ e. (s, (typed_host h, refl, e))) tt
+spelled-fits : (declared : Declarations) (types : TypeValues) (structures : List StructuredType) (h : Host) → IsHost h → (z : ℤ) → Fits declared types structures (spelled h z)
+spelled-fits declared types structures h s z = if-satisfies (λ t. IsFormOf declared types structures t.kind t.form) (is_of_host (typed_host h) z) (leaf (Constant z) (kind.Ordinal h) access.Value) unbuilt (λ e. (s, (typed_host h, refl, e))) tt
 
-text-fits : (declared : Declarations) (types : TypeValues) (arrays : List ArrayType) (bytes : List ℕ) → Fits declared types arrays (leaf (Text bytes) kind.Text access.Value)
-text-fits declared types arrays bytes = refl
+text-fits : (declared : Declarations) (types : TypeValues) (structures : List StructuredType) (bytes : List ℕ) → Fits declared types structures (leaf (Text bytes) kind.Text access.Value)
+text-fits declared types structures bytes = refl
 
 module _ (declared : Declarations) (types : TypeValues) (scopes : List Region) where
   -- a valid form where these scopes are in view
   abbrev IsValid : Typed → Type 0
-  IsValid = IsForm declared types (arrays_of scopes)
+  IsValid = IsForm declared types (structures_of scopes)
 
   -- what is accepted is valid, of its kind and by what it is the bare name of
   abbrev Holds : Judged Typed → Type 0
@@ -60,7 +61,7 @@ module _ (declared : Declarations) (types : TypeValues) (scopes : List Region) w
 
   -- alike, of its kind alone
   abbrev HasForm : Judged Typed → Type 0
-  HasForm = Fits declared types (arrays_of scopes)
+  HasForm = Fits declared types (structures_of scopes)
 
   -- read of a variable of its type, where it is one
   abbrev IsRead : Typed → Type 0
@@ -70,30 +71,31 @@ module _ (declared : Declarations) (types : TypeValues) (scopes : List Region) w
   plain form k depth = tt
 
   holds : (J : Judged Typed) → HasForm J → Satisfies IsRead J → Holds J
-  holds J p q = pair-satisfies (λ t. IsFormOf declared types (arrays_of scopes) t.kind t.form) IsRead J p q
+  holds J p q = pair-satisfies (λ t. IsFormOf declared types (structures_of scopes) t.kind t.form) IsRead J p q
 
   of_kind : (J : Judged Typed) → Holds J → HasForm J
-  of_kind J p = weaker-satisfies IsValid (λ t. IsFormOf declared types (arrays_of scopes) t.kind t.form) J (λ t q. q.0) p
+  of_kind J p = weaker-satisfies IsValid (λ t. IsFormOf declared types (structures_of scopes) t.kind t.form) J (λ t q. q.0) p
 
-  module _ (agrees : AgreesBy declared types (arrays_of scopes) (depth_in scopes) scopes) where
+  module _ (agrees : AgreesBy declared types (structures_of scopes) (depth_in scopes) scopes) where
     -- each rule gives valid forms of valid ones
     validity_is_kept : IsKept IsValid scopes
     validity_is_kept = record {
-      number = λ z. holds (spelled host.Integer z) (spelled-fits declared types (arrays_of scopes) host.Integer refl z) (spelled-plain IsRead plain host.Integer z);
-      character = λ z. holds (spelled host.Char z) (spelled-fits declared types (arrays_of scopes) host.Char refl z) (spelled-plain IsRead plain host.Char z);
-      text = λ bytes. (text-fits declared types (arrays_of scopes) bytes, tt);
-      named = λ name. value_named-fits declared types (arrays_of scopes) (depth_in scopes) name (meant scopes name) (meant-declared declared types (arrays_of scopes) (depth_in scopes) scopes name agrees);
-      within = λ interface name. value_named-fits declared types (arrays_of scopes) (depth_in scopes) name (meant_in scopes interface name) (meant_in-declared declared types (arrays_of scopes) (depth_in scopes) scopes interface name agrees);
-      called = λ name. called-fits declared types (arrays_of scopes) (depth_in scopes) (meant scopes name) (meant-declared declared types (arrays_of scopes) (depth_in scopes) scopes name agrees);
+      number = λ z. holds (spelled host.Integer z) (spelled-fits declared types (structures_of scopes) host.Integer refl z) (spelled-plain IsRead plain host.Integer z);
+      character = λ z. holds (spelled host.Char z) (spelled-fits declared types (structures_of scopes) host.Char refl z) (spelled-plain IsRead plain host.Char z);
+      text = λ bytes. (text-fits declared types (structures_of scopes) bytes, tt);
+      named = λ name. value_named-fits declared types (structures_of scopes) (depth_in scopes) name (meant scopes name) (meant-declared declared types (structures_of scopes) (depth_in scopes) scopes name agrees);
+      within = λ interface name. value_named-fits declared types (structures_of scopes) (depth_in scopes) name (meant_in scopes interface name) (meant_in-declared declared types (structures_of scopes) (depth_in scopes) scopes interface name agrees);
+      called = λ name. called-fits declared types (structures_of scopes) (depth_in scopes) (meant scopes name) (meant-declared declared types (structures_of scopes) (depth_in scopes) scopes name agrees);
       indexes = λ x i p q. indexed-fits declared types scopes x i p q;
+      fields = λ name x p. designated-fits declared types scopes name x p;
       parenthesizes = λ x p. (p.0, tt);
-      signs = λ o x p. holds (signed o x) (signed-fits declared types (arrays_of scopes) o x p.0) (signed-plain IsRead plain o x p.1);
-      negates = λ x p. holds (negated x) (negated-fits declared types (arrays_of scopes) x p.0) (negated-plain IsRead plain x);
-      adds = λ o x y p q. holds (added o x y) (added-fits declared types (arrays_of scopes) o x y p.0 q.0) (added-plain IsRead plain o x y);
-      multiplies = λ o x y p q. holds (multiplied o x y) (multiplied-fits declared types (arrays_of scopes) o x y p.0 q.0) (multiplied-plain IsRead plain o x y);
-      compares = λ o x y p q. holds (compared o x y) (compared-fits declared types (arrays_of scopes) o x y p.0 q.0) (compared-plain IsRead plain o x y);
-      applies_one = λ f x p. holds (applied_one f x) (applied_one-fits declared types (arrays_of scopes) f x p.0) (applied_one-plain IsRead plain f x);
-      applies_two = λ f x y p q. holds (applied_two f x y) (applied_two-fits declared types (arrays_of scopes) f x y p.0 q.0) (applied_two-plain IsRead plain f x y);
+      signs = λ o x p. holds (signed o x) (signed-fits declared types (structures_of scopes) o x p.0) (signed-plain IsRead plain o x p.1);
+      negates = λ x p. holds (negated x) (negated-fits declared types (structures_of scopes) x p.0) (negated-plain IsRead plain x);
+      adds = λ o x y p q. holds (added o x y) (added-fits declared types (structures_of scopes) o x y p.0 q.0) (added-plain IsRead plain o x y);
+      multiplies = λ o x y p q. holds (multiplied o x y) (multiplied-fits declared types (structures_of scopes) o x y p.0 q.0) (multiplied-plain IsRead plain o x y);
+      compares = λ o x y p q. holds (compared o x y) (compared-fits declared types (structures_of scopes) o x y p.0 q.0) (compared-plain IsRead plain o x y);
+      applies_one = λ f x p. holds (applied_one f x) (applied_one-fits declared types (structures_of scopes) f x p.0) (applied_one-plain IsRead plain f x);
+      applies_two = λ f x y p q. holds (applied_two f x y) (applied_two-fits declared types (structures_of scopes) f x y p.0 q.0) (applied_two-plain IsRead plain f x y);
     }
 
     -- so every expression and every value that is accepted is valid
@@ -129,7 +131,7 @@ variables_are_sound scopes a t accepted =
 
 pub arguments_are_sound : ArgumentsAreSound
 arguments_are_sound scopes ps arguments t accepted declared types agrees list fs is =
-    subst (Satisfies (λ x. AreActuals declared list fs x.actuals)) accepted (arguments-fit declared types (arrays_of scopes) list ps fs (map (given scopes) arguments) is (arguments-hold declared types scopes agrees arguments))
+    subst (Satisfies (λ x. AreActuals declared list fs x.actuals)) accepted (arguments-fit declared types (structures_of scopes) list ps fs (map (given scopes) arguments) is (arguments-hold declared types scopes agrees arguments))
 
 pub values_are_sound : ValuesAreSound
 values_are_sound scopes v t accepted declared types agrees = subst (HasForm declared types scopes) accepted (value-fits declared types scopes agrees v)
@@ -137,12 +139,12 @@ values_are_sound scopes v t accepted declared types agrees = subst (HasForm decl
 module _ (declared : Declarations) (types : TypeValues) (scopes : List Region) where
   -- a constant of a valid form is of its kind
   as_constant-fits : (J : Judged Typed) → HasForm declared types scopes J → IsJudgedConstant (when_accepted as_constant J)
-  as_constant-fits (Accepts t) p = constant-fits declared types (arrays_of scopes) t.kind t.form p
+  as_constant-fits (Accepts t) p = constant-fits declared types (structures_of scopes) t.kind t.form p
   as_constant-fits (Breaks rules) p = tt
 
   -- so is a bound
   as_bound-fits : (J : Judged Typed) → HasForm declared types scopes J → IsJudgedConstant (when_accepted as_bound J)
-  as_bound-fits (Accepts t) p = bound-fits (varies t) (as_constant t) (constant-fits declared types (arrays_of scopes) t.kind t.form p)
+  as_bound-fits (Accepts t) p = bound-fits (varies t) (as_constant t) (constant-fits declared types (structures_of scopes) t.kind t.form p)
     where
       bound-fits : (b : Bool) (C : Judged ConstantForm) → IsJudgedConstant C → IsJudgedConstant (if b then Breaks (rule.BOUND_CONSTANT ∷ rule.CONSTANT ∷ []) else C)
       bound-fits true C q = tt
@@ -151,7 +153,7 @@ module _ (declared : Declarations) (types : TypeValues) (scopes : List Region) w
 
   -- and an end of a label
   as_label-fits : (J : Judged Typed) → HasForm declared types scopes J → IsJudgedConstant (when_accepted as_label J)
-  as_label-fits (Accepts t) p = label-fits (varies t) (as_constant t) (constant-fits declared types (arrays_of scopes) t.kind t.form p)
+  as_label-fits (Accepts t) p = label-fits (varies t) (as_constant t) (constant-fits declared types (structures_of scopes) t.kind t.form p)
     where
       label-fits : (b : Bool) (C : Judged ConstantForm) → IsJudgedConstant C → IsJudgedConstant (if b then Breaks (rule.CASE_LABELS ∷ rule.CONSTANT ∷ []) else C)
       label-fits true C q = tt
@@ -184,7 +186,7 @@ folded_kind k Errs c e = cc
 
 unbuilt_kind : (k : Kind) (c : ConstantForm) → unbuilt_constant k ≡ Accepts c → k ≡ c.kind
 unbuilt_kind (kind.Ordinal h) c e = let is : record { value = stand_in (kind.Ordinal h); kind = kind.Ordinal h; built = false } ≡ c = cc in ap (λ x. x.kind) is
-unbuilt_kind (kind.Array n) c e = cc
+unbuilt_kind (kind.Structured n) c e = cc
 unbuilt_kind kind.Text c e = let is : record { value = stand_in kind.Text; kind = kind.Text; built = false } ≡ c = cc in ap (λ x. x.kind) is
 unbuilt_kind kind.File c e = let is : record { value = stand_in kind.File; kind = kind.File; built = false } ≡ c = cc in ap (λ x. x.kind) is
 

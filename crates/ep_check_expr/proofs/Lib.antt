@@ -1,6 +1,5 @@
 pub mod Accepted
 pub mod Plain
-pub mod Alone
 pub mod Passing
 pub mod Breaking
 pub mod Calls
@@ -11,6 +10,8 @@ pub mod Known
 pub mod Meant
 pub mod Nodes
 pub mod Places
+pub mod Components
+pub mod Designated
 pub mod Indexed
 pub mod Parts
 pub mod Reading

@@ -10,7 +10,7 @@ use Rattle.ep_typed.specs.Trees.{Place, Read, Variable}
 use Rattle.ep_scope.specs.Required.{look_up, required_of}
 use Rattle.ep_scope.specs.Scopes.{Entries, Region, Meant, Declares, Requires, Nothing, meant, meant_in, look_up_in, look_up_if, as_thing, as_required, or_outside, unless_hidden}
 use Rattle.ep_scope.specs.Scopes as meaning
-use Rattle.ep_scope.specs.declared.array.ArrayType.{ArrayType}
+use Rattle.ep_scope.specs.declared.structure.StructuredType.{StructuredType}
 use Rattle.ep_scope.specs.declared.kind.Kind.{Kind}
 use Rattle.ep_scope.specs.declared.kind.Kind.TheVariants as kind
 use Rattle.ep_scope.specs.declared.required.Required.{Required}
@@ -30,37 +30,37 @@ use Rattle.ep_check_expr.specs.Judgements.{Judged, Typed}
 use Rattle.ep_check_expr.proofs.Passing.{IsForm, function_called-fits}
 use Rattle.ep_check_expr.proofs.Keeping.{AreGiven, IsCalled, Satisfies}
 
-module _ (declared : Declarations) (types : TypeValues) (arrays : List ArrayType) (depth : ℕ) where
+module _ (declared : Declarations) (types : TypeValues) (structures : List StructuredType) (depth : ℕ) where
   -- what is found is declared
   abbrev IsThingIf : Option Thing → Type 0
   IsThingIf None = ⊤
-  IsThingIf (Some t) = IsThing declared types arrays depth t
+  IsThingIf (Some t) = IsThing declared types structures depth t
 
   -- what is meant is declared
   abbrev pub IsMeant : Meant → Type 0
-  IsMeant (Declares d) = IsDeclaration declared types arrays depth d d.what
+  IsMeant (Declares d) = IsDeclaration declared types structures depth d d.what
   IsMeant (meaning.Standard file) = ⊤
   IsMeant (Requires r) = ⊤
   IsMeant Nothing = ⊤
 
-  found-thing : (b : Bool) (t : Thing) (o : Option Thing) → IsThing declared types arrays depth t → IsThingIf o → IsThingIf (if b then Some t else o)
+  found-thing : (b : Bool) (t : Thing) (o : Option Thing) → IsThing declared types structures depth t → IsThingIf o → IsThingIf (if b then Some t else o)
   found-thing true t o h g = h
   found-thing false t o h g = g
 
-  look_up-thing : (es : Entries) (name : List ℕ) → AreThings declared types arrays depth es → IsThingIf (look_up es name)
+  look_up-thing : (es : Entries) (name : List ℕ) → AreThings declared types structures depth es → IsThingIf (look_up es name)
   look_up-thing [] name h = tt
   look_up-thing (e ∷ es) name h = found-thing (bytes_eq name e.0) e.1 (look_up es name) h.0 (look_up-thing es name h.1)
 
   -- the names of an interface that is found
   abbrev AreThingsIf : Option Entries → Type 0
   AreThingsIf None = ⊤
-  AreThingsIf (Some es) = AreThings declared types arrays depth es
+  AreThingsIf (Some es) = AreThings declared types structures depth es
 
-  found-things : (b : Bool) (t : Entries) (o : Option Entries) → AreThings declared types arrays depth t → AreThingsIf o → AreThingsIf (if b then Some t else o)
+  found-things : (b : Bool) (t : Entries) (o : Option Entries) → AreThings declared types structures depth t → AreThingsIf o → AreThingsIf (if b then Some t else o)
   found-things true t o h g = h
   found-things false t o h g = g
 
-  look_up-things : (es : List (List ℕ × Entries)) (name : List ℕ) → AreInterfaces declared types arrays depth es → AreThingsIf (look_up es name)
+  look_up-things : (es : List (List ℕ × Entries)) (name : List ℕ) → AreInterfaces declared types structures depth es → AreThingsIf (look_up es name)
   look_up-things [] name h = tt
   look_up-things (e ∷ es) name h = found-things (bytes_eq name e.0) e.1 (look_up es name) h.0 (look_up-things es name h.1)
 
@@ -68,7 +68,7 @@ module _ (declared : Declarations) (types : TypeValues) (arrays : List ArrayType
   look_up_if-thing None name h = tt
   look_up_if-thing (Some es) name h = look_up-thing es name h
 
-  as_thing-meant : (t : Thing) → IsThing declared types arrays depth t → IsMeant (as_thing t)
+  as_thing-meant : (t : Thing) → IsThing declared types structures depth t → IsMeant (as_thing t)
   as_thing-meant (thing.Declared d) h = h
   as_thing-meant (thing.Standard file) h = tt
 
@@ -84,42 +84,42 @@ module _ (declared : Declarations) (types : TypeValues) (arrays : List ArrayType
   unless_hidden-meant None m h = h
   unless_hidden-meant (Some t) m h = tt
 
-  pub meant-declared : (scopes : List Region) (name : List ℕ) → AgreesBy declared types arrays depth scopes → IsMeant (meant scopes name)
+  pub meant-declared : (scopes : List Region) (name : List ℕ) → AgreesBy declared types structures depth scopes → IsMeant (meant scopes name)
   meant-declared [] name h = as_required-meant (required_of name)
   meant-declared (r ∷ rs) name h = or_outside-meant (look_up r.entries name) (meant rs name) (look_up-thing r.entries name h.0) (meant-declared rs name h.2)
 
-  pub meant_in-declared : (scopes : List Region) (interface name : List ℕ) → AgreesBy declared types arrays depth scopes → IsMeant (meant_in scopes interface name)
+  pub meant_in-declared : (scopes : List Region) (interface name : List ℕ) → AgreesBy declared types structures depth scopes → IsMeant (meant_in scopes interface name)
   meant_in-declared [] interface name h = tt
   meant_in-declared (r ∷ rs) interface name h =
       unless_hidden-meant (look_up r.entries interface) (or_outside (look_up_in r interface name) (meant_in rs interface name))
       (or_outside-meant (look_up_in r interface name) (meant_in rs interface name) (look_up_if-thing (look_up r.qualified interface) name (look_up-things r.qualified interface h.1)) (meant_in-declared rs interface name h.2))
 
-  constant-fits : (k : Kind) (v : Value) → IsConstantOf k v → IsFormOf declared types arrays k (Some (value_form v))
+  constant-fits : (k : Kind) (v : Value) → IsConstantOf k v → IsFormOf declared types structures k (Some (value_form v))
   constant-fits (kind.Ordinal h) (value.Word z) s = (s.0, (typed_host h, refl, s.1))
   constant-fits (kind.Ordinal h) (value.Text bytes) s = absurd s
-  constant-fits (kind.Array n) v s = absurd s
+  constant-fits (kind.Structured n) v s = absurd s
   constant-fits kind.Text (value.Word z) s = absurd s
   constant-fits kind.Text (value.Text bytes) s = refl
   constant-fits kind.File v s = absurd s
 
   -- a variable that is declared is valid as a value
-  variable-fits : (place : Place) (k : Kind) → IsStoredIn declared types arrays place k → IsFormOf declared types arrays k (Some (Read place))
+  variable-fits : (place : Place) (k : Kind) → IsStoredIn declared types structures place k → IsFormOf declared types structures k (Some (Read place))
   variable-fits place (kind.Ordinal h) s = (s.0, (typed_host h, refl, s.1))
-  variable-fits place (kind.Array n) s = (place, refl, s)
+  variable-fits place (kind.Structured n) s = (place, refl, s)
   variable-fits place kind.Text s = absurd s
   variable-fits place kind.File s = tt
 
   -- what is accepted is valid
   abbrev Holds : Judged Typed → Type 0
-  Holds = Satisfies (IsForm declared types arrays)
+  Holds = Satisfies (IsForm declared types structures)
 
-  value_declared-fits : (d : Declared) (what : Declaration) → IsDeclaration declared types arrays depth d what → Holds (value_declared depth d what)
+  value_declared-fits : (d : Declared) (what : Declaration) → IsDeclaration declared types structures depth d what → Holds (value_declared depth d what)
   value_declared-fits d (declaration.Constant k v) s = (constant-fits k v s, tt)
-  value_declared-fits d (declaration.«Type» of host) s = tt
+  value_declared-fits d (declaration.«Type» of host nodes) s = tt
   value_declared-fits d (declaration.Variable of k) s = (variable-fits (Variable d.unit d.number) k s.0, (Variable d.unit d.number, refl, s.1))
   value_declared-fits d (declaration.Own of k guarded) s = (variable-fits (own_place depth d) k s.0, (own_place depth d, refl, s.1))
   value_declared-fits d (declaration.Procedure parameters) s = tt
-  value_declared-fits d (declaration.Function parameters of k) s = function_called-fits declared types arrays (callee_at depth d) parameters k [] s tt
+  value_declared-fits d (declaration.Function parameters of k) s = function_called-fits declared types structures (callee_at depth d) parameters k [] s tt
 
   value_required-fits : (r : Required) → Holds (value_required r)
   value_required-fits (required.Constant constant.MaxInt) = ((refl, (hosts.Integer, refl, refl)), tt)
@@ -136,16 +136,16 @@ module _ (declared : Declarations) (types : TypeValues) (arrays : List ArrayType
   value_named-fits name (Requires r) s = value_required-fits r
   value_named-fits name Nothing s = tt
 
-  call_declared-fits : (d : Declared) (what : Declaration) (gs : List Given) → IsDeclaration declared types arrays depth d what → AreGiven (IsForm declared types arrays) gs → Holds (call_declared depth d what gs)
+  call_declared-fits : (d : Declared) (what : Declaration) (gs : List Given) → IsDeclaration declared types structures depth d what → AreGiven (IsForm declared types structures) gs → Holds (call_declared depth d what gs)
   call_declared-fits d (declaration.Constant k v) gs s p = tt
-  call_declared-fits d (declaration.«Type» of host) gs s p = tt
+  call_declared-fits d (declaration.«Type» of host nodes) gs s p = tt
   call_declared-fits d (declaration.Variable of k) gs s p = tt
   call_declared-fits d (declaration.Own of k guarded) gs s p = tt
   call_declared-fits d (declaration.Procedure parameters) gs s p = tt
-  call_declared-fits d (declaration.Function parameters of k) gs s p = function_called-fits declared types arrays (callee_at depth d) parameters k gs s p
+  call_declared-fits d (declaration.Function parameters of k) gs s p = function_called-fits declared types structures (callee_at depth d) parameters k gs s p
 
   -- what is called with valid arguments is valid
-  pub called-fits : (m : Meant) → IsMeant m → IsCalled depth (IsForm declared types arrays) m
+  pub called-fits : (m : Meant) → IsMeant m → IsCalled depth (IsForm declared types structures) m
   called-fits (Declares d) s = λ gs p. call_declared-fits d d.what gs s p
   called-fits (meaning.Standard file) s = tt
   called-fits (Requires r) s = tt

@@ -20,7 +20,7 @@ use Rattle.ep_tree.specs.declared.operator.MultiplyingOperator.{MultiplyingOpera
 use Rattle.ep_tree.specs.declared.operator.RelationalOperator.{RelationalOperator}
 use Rattle.ep_tree.specs.declared.operator.Sign.{Sign}
 use Rattle.ep_scope.specs.declared.kind.Host.TheVariants as host
-use Rattle.ep_check_expr.specs.Expressions.{Arguments, Indexes, chained, spelled, string_judged, access_judged, judged, simple_judged, term_judged, factor_judged, addend_judged, multiplier_judged, comparison_judged, name_judged, selected, given}
+use Rattle.ep_check_expr.specs.Expressions.{Arguments, Field, Indexes, chained, spelled, string_judged, access_judged, judged, simple_judged, term_judged, factor_judged, addend_judged, multiplier_judged, comparison_judged, name_judged, selected, given}
 use Rattle.ep_check_expr.specs.Judgements.{Judged, Accepts, Breaks, Typed, both, when_accepted}
 use Rattle.ep_check_expr.specs.Names.{parenthesized}
 use Rattle.ep_check_expr.specs.Operators.{signed, added, multiplied, compared}
@@ -70,6 +70,9 @@ module _ (scopes : List Region) where
 
   pub indexes-judged : (at : ℕ) (more : List Expression) → selected scopes (selector.Index at more) ≡ Indexes (map (judged scopes) more)
   indexes-judged at more = ap (selected scopes) (sym (selector.rolls-Index at more)) ∙ simp fold-roll-Selector
+
+  pub field-judged : (at : ℕ) (name : List ℕ) → selected scopes (selector.Field at name) ≡ Field name
+  field-judged at name = ap (selected scopes) (sym (selector.rolls-Field at name)) ∙ simp fold-roll-Selector
 
   pub argument-judged : (at : ℕ) (e : Expression) → given scopes (argument_node at e None) ≡ record { value = judged scopes e; width = None }
   argument-judged at e = simp fold-roll-Argument

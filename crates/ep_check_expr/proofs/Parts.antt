@@ -1,18 +1,18 @@
 -- A form has a property that the rules keep where its parts have it: chains of operands, calls with arguments, and accesses.
-use Rattle.std.proofs.Common.{ℕ, pos, List, [], ◌∷◌, ◌++◌, length, Option, Some, None}
+use Rattle.std.proofs.Common.{ℕ, pos, List, [], ◌∷◌, ◌++◌, length}
 use Rattle.std.specs.Prelude.{⊤}
-use Rattle.std.specs.Option.{option_map}
 use Rattle.ep_tree.specs.declared.operator.RelationalOperator.{RelationalOperator}
 use Rattle.ep_scope.specs.Scopes.{Region, Meant, Declares, Requires, Nothing, depth_in, meant, meant_in}
 use Rattle.ep_scope.specs.Scopes as meaning
 use Rattle.ep_scope.specs.declared.required.Function.{Function}
 use Rattle.ep_scope.specs.declared.required.Required.{Required}
 use Rattle.ep_scope.specs.declared.required.Required.TheVariants as required
-use Rattle.ep_check_expr.specs.Expressions.{Operand, Selected, Field, Indexes, Arguments, Other, chained, string_judged, access_judged, indexed_if_all, indexes_of}
+use Rattle.ep_check_expr.specs.Expressions.{Operand, Selected, Field, Indexes, Arguments, Other, chained, string_judged, access_judged, selected_all}
+use Rattle.ep_check_expr.specs.FieldDesignators.{designated}
 use Rattle.ep_check_expr.specs.Functions.{Given, all_faults, accepted, accepted_first, called, number_faults, takes, unless_faults, applied}
 use Rattle.ep_check_expr.specs.Indexing.{indexed, indexed_all}
 use Rattle.ep_check_expr.specs.Judgements.{Judged, Accepts, Breaks, Typed, both, when_accepted}
-use Rattle.ep_check_expr.specs.Names.{call_required, call_named, no_field, is_nothing, constituent_value, value_named}
+use Rattle.ep_check_expr.specs.Names.{call_required, call_named, is_nothing, qualified_value, value_named}
 use Rattle.ep_check_expr.specs.Operators.{compared}
 use Rattle.ep_check_expr.proofs.Keeping.{AreGiven, IsCalled, IsKept, Satisfies, if-satisfies}
 
@@ -46,27 +46,6 @@ module _ (Q : Typed → Type 0) where
   abbrev AreForms : List Typed → Type 0
   AreForms [] = ⊤
   AreForms (x ∷ xs) = Q x × AreForms xs
-
-  -- where there are indexes alone
-  abbrev AreIndexesIf : Option (List (Judged Typed)) → Type 0
-  AreIndexesIf None = ⊤
-  AreIndexesIf (Some is) = AreIndexes is
-
-  -- those of one selector after another
-  indexes-joined : (is js : List (Judged Typed)) → AreIndexes is → AreIndexes js → AreIndexes (is ++ js)
-  indexes-joined [] js p q = q
-  indexes-joined (i ∷ is) js p q = (p.0, indexes-joined is js p.1 q)
-
-  more-indexes : (is : List (Judged Typed)) (o : Option (List (Judged Typed))) → AreIndexes is → AreIndexesIf o → AreIndexesIf (option_map (λ js. is ++ js) o)
-  more-indexes is None p q = tt
-  more-indexes is (Some js) p q = indexes-joined is js p q
-
-  indexes_of-fit : (ss : List Selected) → AreSelected ss → AreIndexesIf (indexes_of ss)
-  indexes_of-fit [] p = tt
-  indexes_of-fit (Indexes is ∷ more) p = more-indexes is (indexes_of more) p.0 (indexes_of-fit more p.1)
-  indexes_of-fit (Field name ∷ more) p = tt
-  indexes_of-fit (Arguments gs ∷ more) p = tt
-  indexes_of-fit (Other ∷ more) p = tt
 
   -- a form of one part
   pub when_accepted-fits : (f : Typed → Judged Typed) → ((x : Typed) → Q x → Satisfies Q (f x)) → (a : Judged Typed) → Satisfies Q a → Satisfies Q (when_accepted f a)
@@ -136,32 +115,30 @@ module _ (Q : Typed → Type 0) where
     call_named-fits depth name (Requires r) gs c p = call_required-fits r gs p
     call_named-fits depth name Nothing gs c p = tt
 
-    -- what has no field is not accepted
-    no_field-fits : (name : List ℕ) (m : Meant) → Satisfies Q (no_field name m)
-    no_field-fits name (Declares d) = tt
-    no_field-fits name (meaning.Standard file) = tt
-    no_field-fits name (Requires r) = tt
-    no_field-fits name Nothing = tt
-
-    -- a name that an interface has
-    constituent_value-fits : (depth : ℕ) (interface name : List ℕ) (alone within : Meant) → Satisfies Q (value_named depth name within) → Satisfies Q (constituent_value depth interface name alone within)
-    constituent_value-fits depth interface name alone within p = if-satisfies Q (is_nothing within) (no_field interface alone) (value_named depth name within) (λ e. no_field-fits interface alone) p
-
     -- a value with indexes
     indexed_all-fits : (x : Judged Typed) (is : List (Judged Typed)) → Satisfies Q x → AreIndexes is → Satisfies Q (indexed_all scopes x is)
     indexed_all-fits x [] p q = p
     indexed_all-fits x (i ∷ is) p q = indexed_all-fits (both (indexed scopes) x i) is (both-fits (indexed scopes) kept.indexes x i p q.0) q.1
 
-    indexed_if_all-fits : (x : Judged Typed) (o : Option (List (Judged Typed))) → Satisfies Q x → AreIndexesIf o → Satisfies Q (indexed_if_all scopes x o)
-    indexed_if_all-fits x None p q = tt
-    indexed_if_all-fits x (Some is) p q = indexed_all-fits x is p q
+    -- a value with indexes and fields
+    selected_all-fits : (x : Judged Typed) (ss : List Selected) → Satisfies Q x → AreSelected ss → Satisfies Q (selected_all scopes x ss)
+    selected_all-fits x [] p q = p
+    selected_all-fits x (Indexes is ∷ ss) p q = selected_all-fits (indexed_all scopes x is) ss (indexed_all-fits x is p q.0) q.1
+    selected_all-fits x (Field name ∷ ss) p q = selected_all-fits (when_accepted (designated scopes name) x) ss (when_accepted-fits (designated scopes name) (kept.fields name) x p) q.1
+    selected_all-fits x (Arguments gs ∷ ss) p q = tt
+    selected_all-fits x (Other ∷ ss) p q = tt
+
+    -- a name that an interface has, or a field
+    qualified-fits : (first second : List ℕ) → Satisfies Q (qualified_value scopes first second)
+    qualified-fits first second =
+        if-satisfies Q (is_nothing (meant_in scopes first second)) (when_accepted (designated scopes second) (value_named (depth_in scopes) first (meant scopes first))) (value_named (depth_in scopes) second (meant_in scopes first second))
+        (λ e. when_accepted-fits (designated scopes second) (kept.fields second) (value_named (depth_in scopes) first (meant scopes first)) (kept.named first)) (kept.within first second)
 
     -- a name with what follows it
     pub access_judged-fits : (name : List ℕ) (ss : List Selected) → AreSelected ss → Satisfies Q (access_judged scopes name ss)
     access_judged-fits name [] p = kept.named name
     access_judged-fits name (Arguments gs ∷ []) p = call_named-fits (depth_in scopes) name (meant scopes name) gs (kept.called name) p.0
-    access_judged-fits name (Field field ∷ []) p = constituent_value-fits (depth_in scopes) name field (meant scopes name) (meant_in scopes name field) (kept.within name field)
-    access_judged-fits name (Indexes is ∷ ss) p = indexed_if_all-fits (value_named (depth_in scopes) name (meant scopes name)) (indexes_of (Indexes is ∷ ss)) (kept.named name) (indexes_of-fit (Indexes is ∷ ss) p)
+    access_judged-fits name (Field field ∷ ss) p = selected_all-fits (qualified_value scopes name field) ss (qualified-fits name field) p.1
+    access_judged-fits name (Indexes is ∷ ss) p = selected_all-fits (value_named (depth_in scopes) name (meant scopes name)) (Indexes is ∷ ss) (kept.named name) p
     access_judged-fits name (Other ∷ ss) p = tt
     access_judged-fits name (Arguments gs ∷ s ∷ ss) p = tt
-    access_judged-fits name (Field field ∷ s ∷ ss) p = tt

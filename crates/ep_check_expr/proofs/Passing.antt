@@ -13,7 +13,7 @@ use Rattle.ep_typed.specs.declared.interface.FormalMode.TheVariants as mode
 use Rattle.ep_typed.specs.declared.unit.UnitType.{UnitType}
 use Rattle.ep_scope.specs.Kinds.{same_host}
 use Rattle.ep_scope.specs.Parameters.{same_type}
-use Rattle.ep_scope.specs.declared.array.ArrayType.{ArrayType}
+use Rattle.ep_scope.specs.declared.structure.StructuredType.{StructuredType}
 use Rattle.ep_scope.specs.declared.kind.Host.{Host}
 use Rattle.ep_scope.specs.declared.kind.Host.TheVariants as host
 use Rattle.ep_scope.specs.declared.kind.Kind.{Kind}
@@ -54,21 +54,21 @@ unless_faults-satisfies Q (r ∷ rs) J h = tt
 
 -- ---- values that are given
 
-module _ (declared : Declarations) (types : TypeValues) (arrays : List ArrayType) {A : Type 0} (P : A → Type 0) (form : Expr → A) (h : Host) (fits : (x : Expr) → IsExpr declared (valid.Ordinal (typed_host h)) x → P (form x)) where
-  given_form : (g : Host) (value : Option Expr) → same_host h g ≡ true → IsFormOf declared types arrays (kind.Ordinal g) value → IfForm P (option_map form value)
+module _ (declared : Declarations) (types : TypeValues) (structures : List StructuredType) {A : Type 0} (P : A → Type 0) (form : Expr → A) (h : Host) (fits : (x : Expr) → IsExpr declared (valid.Ordinal (typed_host h)) x → P (form x)) where
+  given_form : (g : Host) (value : Option Expr) → same_host h g ≡ true → IsFormOf declared types structures (kind.Ordinal g) value → IfForm P (option_map form value)
   given_form g None s f = tt
   given_form g (Some x) s f = fits x (subst (λ k. IsExpr declared (valid.Ordinal k) x) (host_same h g s) f.1)
 
-  given_if : (same : Bool) (g : Host) (value : Option Expr) → same_host h g ≡ same → IsFormOf declared types arrays (kind.Ordinal g) value → Satisfies (IfForm P) (if same then Accepts (option_map form value) else Breaks (rule.ASSIGNMENT ∷ []))
+  given_if : (same : Bool) (g : Host) (value : Option Expr) → same_host h g ≡ same → IsFormOf declared types structures (kind.Ordinal g) value → Satisfies (IfForm P) (if same then Accepts (option_map form value) else Breaks (rule.ASSIGNMENT ∷ []))
   given_if true g value s f = given_form g value s f
   given_if false g value s f = tt
 
   -- what is made of a value that is given has the property, where its making gives it that
-  pub given-fits : (from : Kind) (value : Option Expr) → IsFormOf declared types arrays from value → Satisfies (IfForm P) (given_to form (kind.Ordinal h) from value)
+  pub given-fits : (from : Kind) (value : Option Expr) → IsFormOf declared types structures from value → Satisfies (IfForm P) (given_to form (kind.Ordinal h) from value)
   given-fits (kind.Ordinal g) value f = given_if (same_host h g) g value refl f
-  given-fits (kind.Array n) value f = array_fits h value
+  given-fits (kind.Structured n) value f = array_fits h value
     where
-      array_fits : (h : Host) (value : Option Expr) → Satisfies (IfForm P) (given_to form (kind.Ordinal h) (kind.Array n) value)
+      array_fits : (h : Host) (value : Option Expr) → Satisfies (IfForm P) (given_to form (kind.Ordinal h) (kind.Structured n) value)
       array_fits host.Char value = tt
       array_fits host.Integer value = tt
       array_fits host.Boolean value = tt
@@ -88,10 +88,10 @@ module _ (declared : Declarations) (types : TypeValues) (arrays : List ArrayType
       file_fits host.Boolean value = tt
       file_fits (host.Enumeration e) value = tt
 
-module _ (declared : Declarations) (types : TypeValues) (arrays : List ArrayType) where
+module _ (declared : Declarations) (types : TypeValues) (structures : List StructuredType) where
   -- a valid form of its kind, read of a variable of its type where it is the bare name of one
   abbrev pub IsForm : Typed → Type 0
-  IsForm t = IsFormOf declared types arrays t.kind t.form × IsAccessOf declared types t.access t.form
+  IsForm t = IsFormOf declared types structures t.kind t.form × IsAccessOf declared types t.access t.form
 
   module _ (list : List UnitType) where
     module _ (p : FormalParameter) (f : Formal) (is : IsParameter types list p f) where
@@ -119,9 +119,9 @@ module _ (declared : Declarations) (types : TypeValues) (arrays : List ArrayType
       -- ---- arguments
 
       -- a value for a parameter of an array type is not built
-      array-given : (m : ℕ) (from : Kind) (form : Option Expr) → Satisfies (IfForm (IsGiven declared list mode.Value f)) (given_to tree.Evaluated (kind.Array m) from form)
+      array-given : (m : ℕ) (from : Kind) (form : Option Expr) → Satisfies (IfForm (IsGiven declared list mode.Value f)) (given_to tree.Evaluated (kind.Structured m) from form)
       array-given m (kind.Ordinal h) form = tt
-      array-given m (kind.Array n) form = nothing-given (m == n)
+      array-given m (kind.Structured n) form = nothing-given (m == n)
         where
           nothing-given : (same : Bool) → Satisfies (IfForm (IsGiven declared list mode.Value f)) (if same then Accepts None else Breaks (rule.ASSIGNMENT ∷ []))
           nothing-given true = tt
@@ -130,8 +130,8 @@ module _ (declared : Declarations) (types : TypeValues) (arrays : List ArrayType
       array-given m kind.File form = tt
 
       kind-given : (k : Kind) → HasKind list (denoter_of f.denoter) k → (v : Typed) → IsForm v → Satisfies (IfForm (IsGiven declared list mode.Value f)) (value_taken k v)
-      kind-given (kind.Ordinal h) has v x = given-fits declared types arrays (IsGiven declared list mode.Value f) tree.Evaluated h (λ e q. (typed_host h, has.1, q)) v.kind v.form x.0
-      kind-given (kind.Array m) has v x = array-given m v.kind v.form
+      kind-given (kind.Ordinal h) has v x = given-fits declared types structures (IsGiven declared list mode.Value f) tree.Evaluated h (λ e q. (typed_host h, has.1, q)) v.kind v.form x.0
+      kind-given (kind.Structured m) has v x = array-given m v.kind v.form
       kind-given kind.Text has v x = absurd has
       kind-given kind.File has v x = absurd has
 
@@ -191,16 +191,16 @@ module _ (declared : Declarations) (types : TypeValues) (arrays : List ArrayType
   -- ---- function designators
 
   -- what is built of a call is valid; an array is not built
-  function-form : (callee : Callee) (ps : List FormalParameter) (k : Kind) (s : IsFunctionOf declared types arrays callee ps k) (xs : Option (List Actual))
-      → AreActuals declared (declared.types callee.unit) s.0.formals xs → IsFormOf declared types arrays k (call_form callee k xs)
+  function-form : (callee : Callee) (ps : List FormalParameter) (k : Kind) (s : IsFunctionOf declared types structures callee ps k) (xs : Option (List Actual))
+      → AreActuals declared (declared.types callee.unit) s.0.formals xs → IsFormOf declared types structures k (call_form callee k xs)
   function-form callee ps (kind.Ordinal h) s None x = s.2.1
   function-form callee ps (kind.Ordinal h) s (Some xs) x = (s.2.1, (typed_host h, refl, s.0, s.1, s.2.0, x))
-  function-form callee ps (kind.Array n) s xs x = (declared.types callee.unit, s.2.3)
+  function-form callee ps (kind.Structured n) s xs x = (declared.types callee.unit, s.2.3)
   function-form callee ps kind.Text s xs x = absurd s.2
   function-form callee ps kind.File s xs x = absurd s.2
 
   -- a call of a function that is accepted is valid
-  pub function_called-fits : (callee : Callee) (ps : List FormalParameter) (k : Kind) (gs : List Given) → IsFunctionOf declared types arrays callee ps k → AreGiven IsForm gs → Satisfies IsForm (function_called callee ps k gs)
+  pub function_called-fits : (callee : Callee) (ps : List FormalParameter) (k : Kind) (gs : List Given) → IsFunctionOf declared types structures callee ps k → AreGiven IsForm gs → Satisfies IsForm (function_called callee ps k gs)
   function_called-fits callee ps k gs s given =
       then-satisfies (IsTaken (declared.types callee.unit) s.0.formals) IsForm (function_typed callee k) (arguments_judged ps gs) (arguments-fit (declared.types callee.unit) ps s.0.formals gs s.3 given)
       (λ t x. if-satisfies IsForm (nat_le (suc t.depth) limit.DEPTH) (Accepts _) (Breaks (rule.TOO_DEEP ∷ [])) (λ e. (function-form callee ps k s t.actuals x, tt)) tt)

@@ -1,20 +1,25 @@
--- What is known of the places of arrays and of their components, and of places within records.
-use Rattle.std.proofs.Common.{◌≡◌, ◌==◌, ℕ, Bool, true, false, List, [], ◌∷◌, ◌++◌, Option, Some, None, refl, sym, ap, ◌∙◌, subst, arith}
-use Rattle.std.specs.Prelude.{⊤, All, if◌then◌else◌}
+-- What is known of the places of structures and of their components, and of places within records.
+use Rattle.std.proofs.Common.{◌≡◌, ◌==◌, ℕ, zero, suc, Bool, true, false, List, [], ◌∷◌, ◌++◌, length, slice_get, Option, Some, None, refl, sym, ◌∙◌, subst, arith}
+use Rattle.std.specs.Prelude.{All, if◌then◌else◌}
 use Rattle.std.proofs.lemmas.Bool.Decides.{nat_tests}
 use Rattle.std.proofs.lemmas.List.Elements.{All-head, All-tail}
-use Rattle.ep_typed.specs.Denoters.{ArrayParts, array_of, denoter_at, host_of, record_of, type_of}
+use Rattle.ep_typed.specs.Denoters.{ArrayParts, array_of, array_within, definition_of, denoter_at, found_of, host_of, record_of, record_within}
 use Rattle.ep_typed.specs.Hosts as hosts
-use Rattle.ep_typed.specs.Trees.{Denoter, Denoters, Named, Expr, Place, Variable, Own, Standard, Indexed, Field}
-use Rattle.ep_typed.specs.TypeValues.{TypeValue}
+use Rattle.ep_typed.specs.Trees.{Array, Denoter, Denoters, Enumeration, Expr, Field, Indexed, Named, Own, Place, Record, Required, Standard, Subrange, Variable, next_denoter, no_denoter}
 use Rattle.ep_typed.specs.Valid as valid
 use Rattle.ep_typed.specs.Valid.{Declarations, IsExpr, IsPlaceWhere}
 use Rattle.ep_typed.specs.Viewed.{denoter_of}
 use Rattle.ep_typed.specs.declared.unit.UnitType.{UnitType}
-use Rattle.ep_scope.specs.Scopes.{Region, array_among, array_in, array_or}
-use Rattle.ep_scope.specs.declared.array.ArrayType.{ArrayType}
+use Rattle.ep_scope.specs.Scopes.{Region, structure_among, structure_in, structure_or}
+use Rattle.ep_scope.specs.declared.kind.Kind.{Kind}
 use Rattle.ep_scope.specs.declared.kind.Kind.TheVariants as kind
-use Rattle.ep_check_expr.specs.Agreement.{HasKind, HoldsArray, IsArrayAt, TypeValues, arrays_of}
+use Rattle.ep_scope.specs.declared.parameter.TypeName.{TypeName}
+use Rattle.ep_scope.specs.declared.structure.ArrayType.{ArrayType}
+use Rattle.ep_scope.specs.declared.structure.Composition.{Composition}
+use Rattle.ep_scope.specs.declared.structure.Composition.TheVariants as composition
+use Rattle.ep_scope.specs.declared.structure.FieldType.{FieldType}
+use Rattle.ep_scope.specs.declared.structure.StructuredType.{StructuredType}
+use Rattle.ep_check_expr.specs.Agreement.{AreFields, Arrays, HasKind, HasStructure, HoldsStructure, IsArrayOf, IsDenoterOf, IsMadeOf, IsStructuredAt, IsStructuredDenoter, Records, Structure, TypeValues, structures_of}
 use Rattle.ep_check_expr.specs.Hosts.{typed_host}
 
 -- ---- places
@@ -44,67 +49,150 @@ module _ (declared : Declarations) where
   place_at P (Indexed p x) h = let c = place_at (IsComponentWhere P x) p h in (c.0, c.2.0.component, c.2.2)
   place_at P (Field p number) h = let c = place_at (IsFieldWhere P number) p h in (c.0, c.2.2, c.2.4)
 
--- ---- array types in view
+-- ---- structured types in view
 
 -- numbers that the test finds the same are one
 same_number : (m n : ℕ) → (m == n) ≡ true → m ≡ n
 same_number m n e = grind (arith, nat_tests)
 
-module _ (P : ArrayType → Type 0) where
-  -- what is known of the array type of a number
-  abbrev pub IsOfNumber : ℕ → ArrayType → Type 0
-  IsOfNumber n a = P a × (a.number ≡ n)
+-- the structured type of a number that is made so
+abbrev pub made_so : ℕ → Composition → StructuredType
+made_so n c = record { number = n; composition = c }
 
-  -- what all array types of a list are is the one that is found among the first ones
-  among-holds : (n : ℕ) (arrays rest : List ArrayType) (a : ArrayType) → All P (arrays ++ rest) → array_among n arrays ≡ Some a → IsOfNumber n a
-  among-holds n [] rest a all e = cc
-  among-holds n (b ∷ more) rest a all e = chosen (b.number == n) refl (among-holds n more rest a (All-tail P b (more ++ rest) all)) e
+module _ (P : StructuredType → Type 0) where
+  chosen_made : (s : StructuredType) (n : ℕ) (c : Composition) → P s → (s.number == n) ≡ true → s.composition ≡ c → P (made_so n c)
+  chosen_made s n c h number is = subst (λ m. P (made_so m c)) (same_number s.number n number) (subst (λ k. P (made_so s.number k)) is h)
+
+  -- what all structured types of a list are is the one that is found among the first ones
+  among-holds : (n : ℕ) (structures rest : List StructuredType) (c : Composition) → All P (structures ++ rest) → structure_among n structures ≡ Some c → P (made_so n c)
+  among-holds n [] rest c all e = cc
+  among-holds n (s ∷ more) rest c all e = chosen (s.number == n) refl (among-holds n more rest c (All-tail P s (more ++ rest) all)) e
     where
-      chosen : (c : Bool) → (b.number == n) ≡ c → (array_among n more ≡ Some a → IsOfNumber n a) → (if c then Some b else array_among n more) ≡ Some a → IsOfNumber n a
-      chosen true s later e = let is : b ≡ a = cc in subst (IsOfNumber n) is (All-head P b (more ++ rest) all, same_number b.number n s)
-      chosen false s later e = later e
+      chosen : (b : Bool) → (s.number == n) ≡ b → (structure_among n more ≡ Some c → P (made_so n c)) → (if b then Some s.composition else structure_among n more) ≡ Some c → P (made_so n c)
+      chosen true number later e = let is : s.composition ≡ c = cc in chosen_made s n c (All-head P s (more ++ rest) all) number is
+      chosen false number later e = later e
 
   -- and the ones after those
-  rest-holds : (arrays rest : List ArrayType) → All P (arrays ++ rest) → All P rest
+  rest-holds : (structures rest : List StructuredType) → All P (structures ++ rest) → All P rest
   rest-holds [] rest all = all
-  rest-holds (b ∷ more) rest all = rest-holds more rest (All-tail P b (more ++ rest) all)
+  rest-holds (s ∷ more) rest all = rest-holds more rest (All-tail P s (more ++ rest) all)
 
-  -- what all array types in view are is the one that is found
-  pub array_in-holds : (n : ℕ) (scopes : List Region) (a : ArrayType) → All P (arrays_of scopes) → array_in scopes n ≡ Some a → IsOfNumber n a
-  array_in-holds n [] a all e = cc
-  array_in-holds n (r ∷ rs) a all e = found (array_among n r.arrays) refl (array_in-holds n rs a (rest-holds r.arrays (arrays_of rs) all)) e
+  -- what all structured types in view are is the one that is found
+  pub structure_in-holds : (n : ℕ) (scopes : List Region) (c : Composition) → All P (structures_of scopes) → structure_in scopes n ≡ Some c → P (made_so n c)
+  structure_in-holds n [] c all e = cc
+  structure_in-holds n (r ∷ rs) c all e = found (structure_among n r.structures) refl (structure_in-holds n rs c (rest-holds r.structures (structures_of rs) all)) e
     where
-      found : (o : Option ArrayType) → array_among n r.arrays ≡ o → (array_in rs n ≡ Some a → IsOfNumber n a) → array_or o (array_in rs n) ≡ Some a → IsOfNumber n a
+      found : (o : Option Composition) → structure_among n r.structures ≡ o → (structure_in rs n ≡ Some c → P (made_so n c)) → structure_or o (structure_in rs n) ≡ Some c → P (made_so n c)
       found None h later e = later e
-      found (Some b) h later e = among-holds n r.arrays (arrays_of rs) a all (h ∙ e)
+      found (Some d) h later e = among-holds n r.structures (structures_of rs) c all (h ∙ e)
 
--- and it has the number
-pub number_in : (n : ℕ) (scopes : List Region) (a : ArrayType) → array_in scopes n ≡ Some a → a.number ≡ n
-number_in n scopes a e = (array_in-holds (λ b. ⊤) n scopes a (λ k d within. tt) e).1
+-- ---- one structure of a denoter
+
+module _ (list : List UnitType) where
+  -- no denoter is that of an array and of a record
+  apart_if : (n : ℕ) (o : Option UnitType) (p : ArrayParts) (ds : Denoters) → ((t : UnitType) → array_within list n (definition_of t) ≡ Some p → record_within list n (definition_of t) ≡ Some ds → ⊥)
+      → found_of (array_within list n) o ≡ Some p → found_of (record_within list n) o ≡ Some ds → ⊥
+  apart_if n None p ds below e f = cc
+  apart_if n (Some t) p ds below e f = below t e f
+
+  apart : (n : ℕ) (d : Denoter) (p : ArrayParts) (ds : Denoters) → array_within list n d ≡ Some p → record_within list n d ≡ Some ds → ⊥
+  apart zero d p ds e f = cc
+  apart (suc n) (Required r) p ds e f = cc
+  apart (suc n) (Named index []) p ds e f = apart_if n (slice_get list index) p ds (λ t. apart n (definition_of t) p ds) e f
+  apart (suc n) (Named index (b ∷ bs)) p ds e f = cc
+  apart (suc n) (Subrange of low high) p ds e f = cc
+  apart (suc n) (Enumeration names) p ds e f = cc
+  apart (suc n) (Array index component) p ds e f = cc
+  apart (suc n) (Record more) p ds e f = cc
+
+  -- a denoter of a number is made like the definition of that number
+  alike : (d : Denoter) (n : ℕ) (s m : Structure) → HasStructure list d s → HasStructure list (Named n []) s → HasStructure list (Named n []) m → HasStructure list d m
+  alike d n (Arrays p) (Arrays q) h same made = h ∙ (sym same ∙ made)
+  alike d n (Arrays p) (Records ds) h same made = absurd (apart (suc (length list)) (Named n []) p ds same made)
+  alike d n (Records ds) (Arrays p) h same made = absurd (apart (suc (length list)) (Named n []) p ds made same)
+  alike d n (Records ds) (Records es) h same made = h ∙ (sym same ∙ made)
+
+  module _ (types : TypeValues) (d : Denoter) (n : ℕ) (of : IsStructuredDenoter list d n) where
+    -- the parts of an array
+    array_parts : (a : ArrayType) → HoldsStructure types list (made_so n (composition.Array a)) → (p : ArrayParts) × (array_of list d ≡ Some p) × IsArrayOf types list a p
+    array_parts a h = within h.0 h.1 h.2
+      where
+        within : (m : Structure) → HasStructure list (Named n []) m → IsMadeOf types list (composition.Array a) m → (p : ArrayParts) × (array_of list d ≡ Some p) × IsArrayOf types list a p
+        within (Arrays p) there made = (p, alike d n of.0 (Arrays p) of.1 of.2 there, made)
+        within (Records ds) there made = absurd made
+
+    -- the components of a record
+    record_parts : (fs : List FieldType) → HoldsStructure types list (made_so n (composition.Record fs)) → (ds : Denoters) × (record_of list d ≡ Some ds) × AreFields types list fs ds
+    record_parts fs h = within h.0 h.1 h.2
+      where
+        within : (m : Structure) → HasStructure list (Named n []) m → IsMadeOf types list (composition.Record fs) m → (ds : Denoters) × (record_of list d ≡ Some ds) × AreFields types list fs ds
+        within (Arrays p) there made = absurd made
+        within (Records ds) there made = (ds, alike d n of.0 (Records ds) of.1 of.2 there, made)
+
+  -- a field of the fields
+  field_there : (types : TypeValues) (fs : List FieldType) (ds : Denoters) (number : ℕ) (f : FieldType) → AreFields types list fs ds → slice_get fs number ≡ Some f → (c : Denoter) × (denoter_at ds number ≡ Some c) × IsDenoterOf types list f.of f.kind c
+  field_there types [] no_denoter number f all e = cc
+  field_there types [] (next_denoter d ds) number f all e = absurd all
+  field_there types (g ∷ gs) no_denoter number f all e = absurd all
+  field_there types (g ∷ gs) (next_denoter d ds) zero f all e = let is : g ≡ f = cc in (d, refl, subst (λ (x : FieldType). IsDenoterOf types list x.of x.kind d) is all.0)
+  field_there types (g ∷ gs) (next_denoter d ds) (suc number) f all e = field_there types gs ds number f all.1 e
 
 -- ---- components
 
-module _ (declared : Declarations) (types : TypeValues) (arrays : List ArrayType) where
-  -- what is known of the denoter of a component of an array type
-  abbrev pub IsComponent : ArrayType → List UnitType → Denoter → Type 0
-  IsComponent a list d = HasKind list d a.kind × ((v : TypeValue) × (types a.component ≡ Some v) × (type_of list d ≡ Some v)) × All (HoldsArray types list) arrays
+module _ (declared : Declarations) (types : TypeValues) (structures : List StructuredType) where
+  -- what is known of the denoter of a component of this type and kind
+  abbrev pub IsComponent : TypeName → Kind → List UnitType → Denoter → Type 0
+  IsComponent of k list d = IsDenoterOf types list of k d × All (HoldsStructure types list) structures
 
-  -- and of that of an array, by its number
-  abbrev IsArray : ℕ → List UnitType → Denoter → Type 0
-  IsArray n list d = HasKind list d (kind.Array n) × All (HoldsArray types list) arrays
+  -- so the place is that of a component of this type and kind
+  abbrev pub IsComponentAt : TypeName → Kind → Place → Type 0
+  IsComponentAt of k place = IsPlaceWhere declared (IsComponent of k) place
 
-  module _ (a : ArrayType) (n : ℕ) (in_view : (list : List UnitType) → All (HoldsArray types list) arrays → HoldsArray types list a) (number : a.number ≡ n) where
-    -- what holds of the denoter of a component is known of the place of one
-    pub component-place : (R : List UnitType → Denoter → Type 0) → ((list : List UnitType) (d : Denoter) → IsComponent a list d → R list d)
-        → (place : Place) (x : Expr) → IsArrayAt declared types arrays n place → IsExpr declared (valid.Ordinal (typed_host a.index)) x → IsPlaceWhere declared R (Indexed place x)
-    component-place R f place x at index = place_wider declared (IsArray n) (IsComponentWhere declared R x) place within at
+  -- and of the denoter of a structured variable, by its number
+  abbrev IsStructured : ℕ → List UnitType → Denoter → Type 0
+  IsStructured n list d = HasKind list d (kind.Structured n) × All (HoldsStructure types list) structures
+
+  -- some list of types holds the structured types
+  pub some-list : (n : ℕ) (place : Place) → IsStructuredAt declared types structures n place → (list : List UnitType) × All (HoldsStructure types list) structures
+  some-list n place at = let p = place_at declared (IsStructured n) place at in (p.0, p.2.1)
+
+  module _ (n : ℕ) (c : Composition) (in_view : (list : List UnitType) → All (HoldsStructure types list) structures → HoldsStructure types list (made_so n c)) where
+    -- a component of an array
+    pub component-place : (a : ArrayType) → c ≡ composition.Array a → (place : Place) (x : Expr) → IsStructuredAt declared types structures n place → IsExpr declared (valid.Ordinal (typed_host a.index)) x → IsComponentAt a.component a.kind (Indexed place x)
+    component-place a is place x at index = place_wider declared (IsStructured n) (IsComponentWhere declared (IsComponent a.component a.kind) x) place within at
       where
-        within : (list : List UnitType) (d : Denoter) → IsArray n list d → IsComponentWhere declared R x list d
+        within : (list : List UnitType) (d : Denoter) → IsStructured n list d → IsComponentWhere declared (IsComponent a.component a.kind) x list d
         within list d k =
-            let h = in_view list k.1 in
-            let one : array_of list d ≡ Some h.0 = k.0.1 ∙ (sym k.0.2 ∙ (ap (λ m. array_of list (Named m [])) (sym number) ∙ h.1)) in
-            (h.0, one, f list h.0.component (h.4, h.5, k.1), (typed_host a.index, h.3, index))
+            let p = array_parts list types d n k.0 a (subst (λ z. HoldsStructure types list (made_so n z)) is (in_view list k.1)) in
+            (p.0, p.1, (p.2.2, k.1), (typed_host a.index, p.2.1, index))
 
-  -- some list of types holds the array types
-  pub some-list : (n : ℕ) (place : Place) → IsArrayAt declared types arrays n place → (list : List UnitType) × All (HoldsArray types list) arrays
-  some-list n place at = let p = place_at declared (IsArray n) place at in (p.0, p.2.1)
+    -- a field of a record
+    pub field-place : (fs : List FieldType) → c ≡ composition.Record fs → (number : ℕ) (f : FieldType) → slice_get fs number ≡ Some f → (place : Place) → IsStructuredAt declared types structures n place → IsComponentAt f.of f.kind (Field place number)
+    field-place fs is number f there place at = place_wider declared (IsStructured n) (IsFieldWhere declared (IsComponent f.of f.kind) number) place within at
+      where
+        within : (list : List UnitType) (d : Denoter) → IsStructured n list d → IsFieldWhere declared (IsComponent f.of f.kind) number list d
+        within list d k =
+            let p = record_parts list types d n k.0 fs (subst (λ z. HoldsStructure types list (made_so n z)) is (in_view list k.1)) in
+            let q = field_there list types fs p.0 number f p.2 there in
+            (p.0, p.1, q.0, q.1, (q.2, k.1))
+
+    -- some denoter is that of a component
+    pub some-component : (a : ArrayType) → c ≡ composition.Array a → (list : List UnitType) → All (HoldsStructure types list) structures → (d : Denoter) × HasKind list d a.kind
+    some-component a is list all = within h.0 h.2
+      where
+        h : HoldsStructure types list (made_so n (composition.Array a))
+        h = subst (λ z. HoldsStructure types list (made_so n z)) is (in_view list all)
+
+        within : (m : Structure) → IsMadeOf types list (composition.Array a) m → (d : Denoter) × HasKind list d a.kind
+        within (Arrays p) made = (p.component, made.2.0)
+        within (Records ds) made = absurd made
+
+    pub some-field : (fs : List FieldType) → c ≡ composition.Record fs → (number : ℕ) (f : FieldType) → slice_get fs number ≡ Some f → (list : List UnitType) → All (HoldsStructure types list) structures → (d : Denoter) × HasKind list d f.kind
+    some-field fs is number f there list all = within h.0 h.2
+      where
+        h : HoldsStructure types list (made_so n (composition.Record fs))
+        h = subst (λ z. HoldsStructure types list (made_so n z)) is (in_view list all)
+
+        within : (m : Structure) → IsMadeOf types list (composition.Record fs) m → (d : Denoter) × HasKind list d f.kind
+        within (Arrays p) made = absurd made
+        within (Records ds) made = let q = field_there list types fs ds number f made there in (q.0, q.2.0)

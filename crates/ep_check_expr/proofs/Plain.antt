@@ -92,13 +92,13 @@ module _ (Q : Typed → Type 0) (every : (form : Option Expr) (k : Kind) (depth 
 
   ordinal-plain : (k : Kind) (x : Typed) → Has (ordinal_by k x)
   ordinal-plain (kind.Ordinal h) x = deep-plain _ _ _
-  ordinal-plain (kind.Array n) x = tt
+  ordinal-plain (kind.Structured n) x = tt
   ordinal-plain kind.Text x = tt
   ordinal-plain kind.File x = tt
 
   stepped-plain : (k : Kind) (down : Bool) (x count : Typed) → Has (stepped_by k down x count)
   stepped-plain (kind.Ordinal h) down x count = chosen (is_integer count.kind) (step_typed down h x count) other_argument (deep-plain _ _ _) tt
-  stepped-plain (kind.Array n) down x count = tt
+  stepped-plain (kind.Structured n) down x count = tt
   stepped-plain kind.Text down x count = tt
   stepped-plain kind.File down x count = tt
 

@@ -1,14 +1,13 @@
 -- What is the bare name of a variable is read of a place.
-use Rattle.std.proofs.Common.{◌≡◌, ℕ, nat_le, List, [], ◌∷◌, Option, Some, None, Result, Ok, Err, refl, subst, sym, ◌∙◌}
+use Rattle.std.proofs.Common.{◌≡◌, ℕ, suc, nat_le, List, [], ◌∷◌, Option, Some, None, Result, Ok, Err, refl, subst, sym, ◌∙◌}
 use Rattle.std.specs.Prelude.{IfOk}
 use Rattle.std.specs.Option.{option_map}
 use Rattle.ep_tree.specs.declared.expression.Access as syntax
 use Rattle.ep_tree.specs.declared.expression.Argument.{Argument, out-Argument}
-use Rattle.ep_typed.specs.Trees.{Callee, Expr, Constant, Text, Read, One, Two, Short, Step, Function, Indexed, Variable}
+use Rattle.ep_typed.specs.Trees.{Callee, Expr, Constant, Text, Read, One, Two, Short, Step, Field, Function, Indexed, Variable}
 use Rattle.ep_typed.specs.Viewed.{expr_of}
 use Rattle.ep_scope.specs.Scopes.{Region, Meant, Declares, Requires, Nothing, depth_in, meant, meant_in}
 use Rattle.ep_scope.specs.Scopes as meaning
-use Rattle.ep_scope.specs.declared.array.ArrayType.{ArrayType}
 use Rattle.ep_scope.specs.declared.kind.Host.TheVariants as host
 use Rattle.ep_scope.specs.declared.kind.Kind.{Kind}
 use Rattle.ep_scope.specs.declared.parameter.TypeName.{TypeName}
@@ -16,6 +15,8 @@ use Rattle.ep_scope.specs.declared.required.Required.{Required}
 use Rattle.ep_scope.specs.declared.required.Required.TheVariants as required
 use Rattle.ep_scope.specs.declared.required.RequiredConstant.TheVariants as constant
 use Rattle.ep_scope.specs.declared.rule.TheConstants as rule
+use Rattle.ep_scope.specs.declared.structure.ArrayType.{ArrayType}
+use Rattle.ep_scope.specs.declared.structure.FieldType.{FieldType}
 use Rattle.ep_scope.specs.declared.thing.Declaration.{Declaration}
 use Rattle.ep_scope.specs.declared.thing.Declaration.TheVariants as declaration
 use Rattle.ep_scope.specs.declared.thing.Declared.{Declared}
@@ -27,11 +28,13 @@ use Rattle.ep_check_expr.specs.declared.forms.Typed as code
 use Rattle.ep_check_expr.specs.Answers.{AnswersTyped, typed_of}
 use Rattle.ep_check_expr.specs.Arguments.{IsReading, IsReadingIf, Taken, arguments_judged, callee_at, function_typed, own_place}
 use Rattle.ep_check_expr.specs.Expressions.{given, name_judged}
+use Rattle.ep_check_expr.specs.FieldDesignators.{field_form, field_typed}
 use Rattle.ep_check_expr.specs.Functions.{Given}
 use Rattle.ep_check_expr.specs.Indexing.{component_access, component_depth, component_form, component_typed}
 use Rattle.ep_check_expr.specs.Judgements.{Judged, Accepts, Breaks, Typed, when_accepted}
 use Rattle.ep_check_expr.specs.Names.{call_declared, value_declared, value_named, value_required}
 use Rattle.ep_check_expr.proofs.Accepted.{accesses-fit, expressions-fit}
+use Rattle.ep_check_expr.proofs.Designated.{field-given}
 use Rattle.ep_check_expr.proofs.Indexed.{index-given}
 use Rattle.ep_check_expr.proofs.Plain.{deep-plain, spelled-plain, signed-plain, negated-plain, added-plain, multiplied-plain, compared-plain, applied_one-plain, applied_two-plain}
 use Rattle.ep_check_expr.proofs.Keeping.{IsCalled, IsKept, Satisfies, if-satisfies}
@@ -49,7 +52,7 @@ function-placed callee k (Breaks rules) = tt
 
 declared-placed : (depth : ℕ) (d : Declared) (what : Declaration) → Satisfies IsPlaced (value_declared depth d what)
 declared-placed depth d (declaration.Constant k v) = tt
-declared-placed depth d (declaration.«Type» of h) = tt
+declared-placed depth d (declaration.«Type» of h nodes) = tt
 declared-placed depth d (declaration.Variable of k) = (Variable d.unit d.number, refl)
 declared-placed depth d (declaration.Own of k guarded) = (own_place depth d, refl)
 declared-placed depth d (declaration.Procedure parameters) = tt
@@ -57,7 +60,7 @@ declared-placed depth d (declaration.Function parameters of k) = function-placed
 
 called-placed : (depth : ℕ) (d : Declared) (what : Declaration) (gs : List Given) → Satisfies IsPlaced (call_declared depth d what gs)
 called-placed depth d (declaration.Constant k v) gs = tt
-called-placed depth d (declaration.«Type» of h) gs = tt
+called-placed depth d (declaration.«Type» of h nodes) gs = tt
 called-placed depth d (declaration.Variable of k) gs = tt
 called-placed depth d (declaration.Own of k guarded) gs = tt
 called-placed depth d (declaration.Procedure parameters) gs = tt
@@ -109,6 +112,21 @@ index-placed : (a : ArrayType) (x i : Typed) → Satisfies IsPlaced (component_t
 index-placed a x i =
     if-satisfies IsPlaced (nat_le (component_depth x.depth i.depth) limit.DEPTH) (Accepts _) (Breaks (rule.TOO_DEEP ∷ [])) (λ e. access-placed a.component x.access (component_form x.form i.form) (component-placed x.form i.form)) tt
 
+-- so is a field
+field-built : (x : Option Expr) (number : ℕ) → IsReadingIf (field_form x number)
+field-built None number = tt
+field-built (Some (Read place)) number = (Field place number, refl)
+field-built (Some (Constant z)) number = tt
+field-built (Some (Text bytes)) number = tt
+field-built (Some (One operation x)) number = tt
+field-built (Some (Two operation x y)) number = tt
+field-built (Some (Short operation x y)) number = tt
+field-built (Some (Step down low high x y)) number = tt
+field-built (Some (Function callee given)) number = tt
+
+field-placed : (number : ℕ) (f : FieldType) (x : Typed) → Satisfies IsPlaced (field_typed number f x)
+field-placed number f x = if-satisfies IsPlaced (nat_le (suc x.depth) limit.DEPTH) (Accepts _) (Breaks (rule.TOO_DEEP ∷ [])) (λ e. access-placed f.of x.access (field_form x.form number) (field-built x.form number)) tt
+
 -- each rule keeps it
 placing_is_kept : (scopes : List Region) → IsKept IsPlaced scopes
 placing_is_kept scopes = record {
@@ -119,6 +137,7 @@ placing_is_kept scopes = record {
   within = λ interface name. named-placed (depth_in scopes) name (meant_in scopes interface name);
   called = λ name. call-placed (depth_in scopes) (meant scopes name);
   indexes = λ x i p q. index-given IsPlaced scopes x.kind x i (λ n a is e same. index-placed a x i) (deep-plain IsPlaced plain _ _ _);
+  fields = λ name x p. field-given IsPlaced scopes x.kind name x (λ n fs number f is e there. field-placed number f x);
   parenthesizes = λ x p. tt;
   signs = signed-plain IsPlaced plain;
   negates = λ x p. negated-plain IsPlaced plain x;

@@ -1,11 +1,11 @@
--- Rows of index selectors and of indexes, read from the left.
-use Rattle.std.proofs.Common.{◌≡◌, ℕ, ◌+◌, ◌<◌, Bool, true, false, ◌||◌, not, List, [], ◌∷◌, ◌++◌, drop, get_or, length, map, Option, Some, None, refl, sym, ap, ◌∙◌, subst}
+-- Rows of indexes and fields, read from the left.
+use Rattle.std.proofs.Common.{◌≡◌, ℕ, ◌+◌, ◌<◌, Bool, true, false, ◌||◌, not, List, [], ◌∷◌, drop, get_or, length, map, Option, Some, None, ◌⊎◌, inl, inr, refl, sym, ap, ◌∙◌, subst}
 use Rattle.std.specs.List.{list_all}
-use Rattle.std.specs.Option.{option_map, option_or}
+use Rattle.std.specs.Option.{option_or}
 use Rattle.ep_built.specs.Built as built
-use Rattle.ep_built.specs.Built.{Belonging, Found, Placed, Selecting, access_unbuilt, are_one_call, argument_unbuilt, at_node, built_access, expression_unbuilt, first_in, form_told, is_call, is_index, is_later, lines_in, placed_access, selector_belonging}
+use Rattle.ep_built.specs.Built.{Belonging, Found, Placed, Selecting, access_unbuilt, are_one_call, argument_unbuilt, at_node, built_access, expression_unbuilt, first_in, form_told, is_call, is_component, is_later, lines_in, placed_access, selector_belonging}
 use Rattle.ep_scope.specs.Scopes.{Region, depth_in, meant}
-use Rattle.ep_tree.specs.Shapes.{arguments_in}
+use Rattle.ep_tree.specs.Shapes.{arguments_in, field_in, when_some}
 use Rattle.ep_tree.specs.declared.expression.ComponentValue.TheFolds.{fold_out-Access, fold-roll-Selector}
 use Rattle.ep_tree.specs.declared.expression.ComponentValue.TheOpen.{Selector-F}
 use Rattle.ep_tree.specs.declared.expression.ComponentValue.{ComponentValue}
@@ -23,132 +23,134 @@ use Rattle.ep_tree.specs.declared.expression.Selector.TheVariants as selector
 use Rattle.ep_tree.specs.declared.expression.Simple.{Simple}
 use Rattle.ep_tree.specs.declared.expression.Term.{Term}
 use Rattle.ep_tree.specs.declared.expression.Values.{Values}
-use Rattle.ep_check_expr.specs.Expressions.{Indexes, access_judged, indexed_if_all, indexes_of, judged, name_judged, selected}
+use Rattle.ep_check_expr.specs.Expressions.{Indexes, access_judged, judged, name_judged, selected, selected_all}
+use Rattle.ep_check_expr.specs.FieldDesignators.{designated}
 use Rattle.ep_check_expr.specs.Indexing.{indexed, indexed_all}
-use Rattle.ep_check_expr.specs.Judgements.{Judged, Accepts, Typed, both, breaks}
-use Rattle.ep_check_expr.specs.Names.{value_named}
-use Rattle.ep_check_expr.specs.Qualified.{only_arguments}
-use Rattle.ep_check_expr.proofs.Breaking.{both-first, both-second}
+use Rattle.ep_check_expr.specs.Judgements.{Judged, Accepts, Typed, both, breaks, when_accepted}
+use Rattle.ep_check_expr.specs.Names.{qualified_value, value_named}
+use Rattle.ep_check_expr.specs.Shapes.{field_first, only_arguments}
+use Rattle.ep_check_expr.proofs.Breaking.{both-first, both-second, when_accepted-part}
 use Rattle.ep_check_expr.proofs.Folds.{name_judged-is}
-use Rattle.ep_check_expr.proofs.Nodes.{indexes-judged}
+use Rattle.ep_check_expr.proofs.Nodes.{field-judged, indexes-judged}
 use Rattle.ep_check_expr.proofs.Rows.{and_first, and_second, at_node-built, at_node-inner, left-cons, or-first, or-second}
 
--- ---- index selectors
+-- ---- indexes and fields
 
 -- what an index selector is told to its access
 pub index_belonging : (at : ℕ) (more : List Expression) → selector_belonging (selector.Index at more) ≡ (built.Indexes, first_in (map expression_unbuilt more))
 index_belonging at more = ap selector_belonging (sym (selector.rolls-Index at more)) ∙ simp fold-roll-Selector
 
--- whether a selector is one
-abbrev pub IsIndex : Selector → Type 0
-IsIndex s = is_index (form_told (selector_belonging s)) ≡ true
+-- whether a selector is one of components
+abbrev pub IsComponent : Selector → Type 0
+IsComponent s = is_component (form_told (selector_belonging s)) ≡ true
 
--- its node
+-- all of them are
+abbrev pub AreComponents : List Selector → Type 0
+AreComponents ss = list_all is_component (map form_told (map selector_belonging ss)) ≡ true
+
+pub first_component : (s : Selector) (ss : List Selector) → AreComponents (s ∷ ss) → IsComponent s
+first_component s ss h = and_first (is_component (form_told (selector_belonging s))) (list_all is_component (map form_told (map selector_belonging ss))) h
+
+pub other_components : (s : Selector) (ss : List Selector) → AreComponents (s ∷ ss) → AreComponents ss
+other_components s ss h = and_second (is_component (form_told (selector_belonging s))) (list_all is_component (map form_told (map selector_belonging ss))) h
+
+-- a selector that is neither an index nor a field is none
 abbrev pub IndexNode : Selector → Type 0
 IndexNode s = (line : ℕ) × (indexes : List Expression) × (s ≡ selector.Index line indexes)
 
+abbrev pub FieldNode : Selector → Type 0
+FieldNode s = (line : ℕ) × (name : List ℕ) × (s ≡ selector.Field line name)
+
 -- by the layers of selectors
-index-layer : (l : Selector-F ComponentValue Element Factor Selector Access Addend Argument Comparison Expression Label Multiplier Simple Term Values) → IsIndex (roll-Selector l) → IndexNode (roll-Selector l)
-index-layer (Selector-F.Index line indexes) h = (line, indexes, selector.rolls-Index line indexes)
-index-layer (Selector-F.Field line name) h = let e = rw fold-roll-Selector at h in cc
-index-layer (Selector-F.Dereference line) h = let e = rw fold-roll-Selector at h in cc
-index-layer (Selector-F.Arguments line arguments) h = let e = rw fold-roll-Selector at h in cc
+component-layer : (l : Selector-F ComponentValue Element Factor Selector Access Addend Argument Comparison Expression Label Multiplier Simple Term Values) → IsComponent (roll-Selector l) → IndexNode (roll-Selector l) ⊎ FieldNode (roll-Selector l)
+component-layer (Selector-F.Index line indexes) h = inl (line, indexes, selector.rolls-Index line indexes)
+component-layer (Selector-F.Field line name) h = inr (line, name, selector.rolls-Field line name)
+component-layer (Selector-F.Dereference line) h = let e = rw fold-roll-Selector at h in cc
+component-layer (Selector-F.Arguments line arguments) h = let e = rw fold-roll-Selector at h in cc
 
--- an index selector has such a node
-pub index-node : (s : Selector) → IsIndex s → IndexNode s
-index-node s = subst (λ z. IsIndex z → IndexNode z) (roll-out-Selector s) (index-layer (out-Selector s))
-
--- all of them are index selectors
-abbrev pub AreIndexes : List Selector → Type 0
-AreIndexes ss = list_all is_index (map form_told (map selector_belonging ss)) ≡ true
+pub component-node : (s : Selector) → IsComponent s → IndexNode s ⊎ FieldNode s
+component-node s = subst (λ z. IsComponent z → IndexNode z ⊎ FieldNode z) (roll-out-Selector s) (component-layer (out-Selector s))
 
 module _ (scopes : List Region) where
-  -- an index selector has indexes
-  index-selected : (s : Selector) → IsIndex s → (is : List (Judged Typed)) × (selected scopes s ≡ Indexes is)
-  index-selected s h = let n = index-node s h in (map (judged scopes) n.1, ap (selected scopes) n.2 ∙ indexes-judged scopes n.0 n.1)
-
-  -- so all of them do
-  all-indexes : (ss : List Selector) → AreIndexes ss → (is : List (Judged Typed)) × (indexes_of (map (selected scopes) ss) ≡ Some is)
-  all-indexes [] h = ([], refl)
-  all-indexes (s ∷ ss) h =
-      let p = index-selected s (and_first (is_index (form_told (selector_belonging s))) (list_all is_index (map form_told (map selector_belonging ss))) h) in
-      let q = all-indexes ss (and_second (is_index (form_told (selector_belonging s))) (list_all is_index (map form_told (map selector_belonging ss))) h) in
-      (p.0 ++ q.0, ap (λ x. indexes_of (x ∷ map (selected scopes) ss)) p.1 ∙ ap (option_map (λ js. p.0 ++ js)) q.1)
-
-  -- a name with index selectors
-  pub name-indexed : (name : List ℕ) (ss : List Selector) → AreIndexes ss
-      → access_judged scopes name (map (selected scopes) ss) ≡ indexed_if_all scopes (value_named (depth_in scopes) name (meant scopes name)) (indexes_of (map (selected scopes) ss))
-  name-indexed name [] h = refl
-  name-indexed name (s ∷ ss) h =
-      let p = index-selected s (and_first (is_index (form_told (selector_belonging s))) (list_all is_index (map form_told (map selector_belonging ss))) h) in
-      subst (λ x. access_judged scopes name (x ∷ map (selected scopes) ss) ≡ indexed_if_all scopes (value_named (depth_in scopes) name (meant scopes name)) (indexes_of (x ∷ map (selected scopes) ss))) (sym p.1) refl
-
-  -- ---- indexes
-
-  -- indexes after indexes
-  indexed_all-append : (x : Judged Typed) (is js : List (Judged Typed)) → indexed_all scopes x (is ++ js) ≡ indexed_all scopes (indexed_all scopes x is) js
-  indexed_all-append x [] js = refl
-  indexed_all-append x (i ∷ is) js = indexed_all-append (both (indexed scopes) x i) is js
-
   -- a rule that fails in what is indexed
   pub indexed_all-first : (n : ℕ) (x : Judged Typed) (is : List (Judged Typed)) → breaks n x ≡ true → breaks n (indexed_all scopes x is) ≡ true
   indexed_all-first n x [] h = h
   indexed_all-first n x (i ∷ is) h = indexed_all-first n (both (indexed scopes) x i) is (both-first n (indexed scopes) x i h)
 
-  -- and before those of the other selectors
-  more-indexed : (x : Judged Typed) (is : List (Judged Typed)) (o : Option (List (Judged Typed))) → indexed_if_all scopes x (option_map (λ js. is ++ js) o) ≡ indexed_if_all scopes (indexed_all scopes x is) o
-  more-indexed x is None = refl
-  more-indexed x is (Some js) = indexed_all-append x is js
+  -- what a selector does to what stands before it
+  abbrev pub ActsAs : Selector → (Judged Typed → Judged Typed) → Type 0
+  ActsAs s act = (x : Judged Typed) (rest : List Selector) → selected_all scopes x (map (selected scopes) (s ∷ rest)) ≡ selected_all scopes (act x) (map (selected scopes) rest)
 
-  -- a selector after what it indexes
-  selector-indexed : (x : Judged Typed) (s : Selector) (rest : List Selector) (is : List (Judged Typed)) → selected scopes s ≡ Indexes is
-      → indexed_if_all scopes x (indexes_of (map (selected scopes) (s ∷ rest))) ≡ indexed_if_all scopes (indexed_all scopes x is) (indexes_of (map (selected scopes) rest))
-  selector-indexed x s rest is e = ap (λ z. indexed_if_all scopes x (indexes_of (z ∷ map (selected scopes) rest))) e ∙ more-indexed x is (indexes_of (map (selected scopes) rest))
+  -- where a rule fails there it fails behind
+  abbrev pub KeepsFaults : (Judged Typed → Judged Typed) → Type 0
+  KeepsFaults act = (n : ℕ) (x : Judged Typed) → breaks n x ≡ true → breaks n (act x) ≡ true
 
-  -- a rule that fails before the rest of them
-  pub selectors-first : (n : ℕ) (x : Judged Typed) (ss : List Selector) → AreIndexes ss → breaks n x ≡ true → breaks n (indexed_if_all scopes x (indexes_of (map (selected scopes) ss))) ≡ true
-  selectors-first n x ss all h = let q = all-indexes ss all in subst (λ o. breaks n (indexed_if_all scopes x o) ≡ true) (sym q.1) (indexed_all-first n x q.0 h)
+  abbrev pub by_indexes : List Expression → Judged Typed → Judged Typed
+  by_indexes indexes x = indexed_all scopes x (map (judged scopes) indexes)
+
+  abbrev pub by_field : List ℕ → Judged Typed → Judged Typed
+  by_field name x = when_accepted (designated scopes name) x
+
+  pub index-acts : (s : Selector) (line : ℕ) (indexes : List Expression) → s ≡ selector.Index line indexes → ActsAs s (by_indexes indexes)
+  index-acts s line indexes is x rest = ap (λ z. selected_all scopes x (z ∷ map (selected scopes) rest)) (ap (selected scopes) is ∙ indexes-judged scopes line indexes)
+
+  pub field-acts : (s : Selector) (line : ℕ) (name : List ℕ) → s ≡ selector.Field line name → ActsAs s (by_field name)
+  field-acts s line name is x rest = ap (λ z. selected_all scopes x (z ∷ map (selected scopes) rest)) (ap (selected scopes) is ∙ field-judged scopes line name)
+
+  -- so all components do
+  abbrev Act : Selector → Type 0
+  Act s = (act : Judged Typed → Judged Typed) × ActsAs s act × KeepsFaults act
+
+  acts : (s : Selector) → IndexNode s ⊎ FieldNode s → Act s
+  acts s (inl i) = (by_indexes i.1, index-acts s i.0 i.1 i.2, λ n x h. indexed_all-first n x (map (judged scopes) i.1) h)
+  acts s (inr f) = (by_field f.1, field-acts s f.0 f.1 f.2, λ n x h. when_accepted-part n (designated scopes f.1) x h)
+
+  -- a rule that fails before them
+  pub selected_all-first : (n : ℕ) (x : Judged Typed) (ss : List Selector) → AreComponents ss → breaks n x ≡ true → breaks n (selected_all scopes x (map (selected scopes) ss)) ≡ true
+  selected_all-first n x [] all h = h
+  selected_all-first n x (s ∷ ss) all h =
+      let a = acts s (component-node s (first_component s ss all)) in
+      rw (a.1 x ss) (selected_all-first n (a.0 x) ss (other_components s ss all) (a.2 n x h))
 
   -- ---- the turn of a loop over selectors
 
   module _ (xs : List Selector) (i : ℕ) (x : Selector) (within : i < length xs) (is : x ≡ get_or xs i x) where
-    -- the selectors that are left are indexes
-    pub next-index : AreIndexes (drop i xs) → IsIndex x
-    next-index h = and_first (is_index (form_told (selector_belonging x))) (list_all is_index (map form_told (map selector_belonging (drop (i + 1) xs)))) (subst AreIndexes (left-cons xs i x within is) h)
+    -- the selectors that are left are components
+    left-components : AreComponents (drop i xs) → AreComponents (x ∷ drop (i + 1) xs)
+    left-components h = subst AreComponents (left-cons xs i x within is) h
 
-    pub rest-indexes : AreIndexes (drop i xs) → AreIndexes (drop (i + 1) xs)
-    rest-indexes h = and_second (is_index (form_told (selector_belonging x))) (list_all is_index (map form_told (map selector_belonging (drop (i + 1) xs)))) (subst AreIndexes (left-cons xs i x within is) h)
+    pub next-component : AreComponents (drop i xs) → IsComponent x
+    next-component h = first_component x (drop (i + 1) xs) (left-components h)
+
+    pub rest-components : AreComponents (drop i xs) → AreComponents (drop (i + 1) xs)
+    rest-components h = other_components x (drop (i + 1) xs) (left-components h)
 
     -- and built
     lines-left : lines_in (map selector_belonging (drop i xs)) ≡ option_or (selector_belonging x).1 (lines_in (map selector_belonging (drop (i + 1) xs)))
     lines-left = ap (λ ys. lines_in (map selector_belonging ys)) (left-cons xs i x within is)
 
-    pub next-lines : lines_in (map selector_belonging (drop i xs)) ≡ None → (selector_belonging x).1 ≡ None
+    next-lines : lines_in (map selector_belonging (drop i xs)) ≡ None → (selector_belonging x).1 ≡ None
     next-lines h = or-first (selector_belonging x).1 (lines_in (map selector_belonging (drop (i + 1) xs))) (sym lines-left ∙ h)
 
     pub rest-lines : lines_in (map selector_belonging (drop i xs)) ≡ None → lines_in (map selector_belonging (drop (i + 1) xs)) ≡ None
     rest-lines h = or-second (selector_belonging x).1 (lines_in (map selector_belonging (drop (i + 1) xs))) (sym lines-left ∙ h)
 
-    module _ (line : ℕ) (indexes : List Expression) (node : x ≡ selector.Index line indexes) where
-      -- so are the indexes of the next one
-      pub node-lines : lines_in (map selector_belonging (drop i xs)) ≡ None → first_in (map expression_unbuilt indexes) ≡ None
-      node-lines h = ap (λ p. p.1) (sym (ap selector_belonging node ∙ index_belonging line indexes)) ∙ next-lines h
+    -- so are the indexes of the next one
+    pub node-lines : (line : ℕ) (indexes : List Expression) → x ≡ selector.Index line indexes → lines_in (map selector_belonging (drop i xs)) ≡ None → first_in (map expression_unbuilt indexes) ≡ None
+    node-lines line indexes node h = ap (λ p. p.1) (sym (ap selector_belonging node ∙ index_belonging line indexes)) ∙ next-lines h
 
-      -- the next one, after what it indexes
-      turn : (a : Judged Typed) → indexed_if_all scopes a (indexes_of (map (selected scopes) (drop i xs))) ≡ indexed_if_all scopes (indexed_all scopes a (map (judged scopes) indexes)) (indexes_of (map (selected scopes) (drop (i + 1) xs)))
-      turn a =
-          ap (λ ys. indexed_if_all scopes a (indexes_of (map (selected scopes) ys))) (left-cons xs i x within is)
-          ∙ selector-indexed a x (drop (i + 1) xs) (map (judged scopes) indexes) (ap (selected scopes) node ∙ indexes-judged scopes line indexes)
+    module _ (act : Judged Typed → Judged Typed) (does : ActsAs x act) where
+      -- the next one, after what it acts on
+      turn : (a : Judged Typed) → selected_all scopes a (map (selected scopes) (drop i xs)) ≡ selected_all scopes (act a) (map (selected scopes) (drop (i + 1) xs))
+      turn a = ap (λ ys. selected_all scopes a (map (selected scopes) ys)) (left-cons xs i x within is) ∙ does a (drop (i + 1) xs)
 
       -- which is accepted
-      pub selector-turned : (a c : Typed) → indexed_all scopes (Accepts a) (map (judged scopes) indexes) ≡ Accepts c
-          → indexed_if_all scopes (Accepts c) (indexes_of (map (selected scopes) (drop (i + 1) xs))) ≡ indexed_if_all scopes (Accepts a) (indexes_of (map (selected scopes) (drop i xs)))
-      selector-turned a c e = sym (turn (Accepts a) ∙ ap (λ z. indexed_if_all scopes z (indexes_of (map (selected scopes) (drop (i + 1) xs)))) e)
+      pub selector-turned : (a c : Typed) → act (Accepts a) ≡ Accepts c → selected_all scopes (Accepts c) (map (selected scopes) (drop (i + 1) xs)) ≡ selected_all scopes (Accepts a) (map (selected scopes) (drop i xs))
+      selector-turned a c e = sym (turn (Accepts a) ∙ ap (λ z. selected_all scopes z (map (selected scopes) (drop (i + 1) xs))) e)
 
       -- or in which a rule fails
-      pub selector-fails : (n : ℕ) (a : Typed) → AreIndexes (drop i xs) → breaks n (indexed_all scopes (Accepts a) (map (judged scopes) indexes)) ≡ true
-          → breaks n (indexed_if_all scopes (Accepts a) (indexes_of (map (selected scopes) (drop i xs)))) ≡ true
-      selector-fails n a all h = rw (turn (Accepts a)) (selectors-first n (indexed_all scopes (Accepts a) (map (judged scopes) indexes)) (drop (i + 1) xs) (rest-indexes all) h)
+      pub selector-fails : (n : ℕ) (a : Typed) → AreComponents (drop i xs) → breaks n (act (Accepts a)) ≡ true → breaks n (selected_all scopes (Accepts a) (map (selected scopes) (drop i xs))) ≡ true
+      selector-fails n a all h = rw (turn (Accepts a)) (selected_all-first n (act (Accepts a)) (drop (i + 1) xs) (rest-components all) h)
 
   -- ---- the turn of a loop over indexes
 
@@ -201,19 +203,90 @@ module _ (a : Access) (built_is : access_unbuilt a ≡ None) where
   pub access-lines : lines_in (map selector_belonging (out-Access a).selectors) ≡ None
   access-lines = at_node-inner _ _ _ (sym (unbuilt-is a) ∙ built_is)
 
-  -- and they are indexes, where it is no call
-  pub access-indexes : only_arguments (out-Access a).selectors ≡ None → AreIndexes (out-Access a).selectors
-  access-indexes none =
-      second_of (are_one_call (map form_told (map selector_belonging (out-Access a).selectors))) (list_all is_index (map form_told (map selector_belonging (out-Access a).selectors))) (no_call (out-Access a).selectors none)
-      (and_first (are_one_call (map form_told (map selector_belonging (out-Access a).selectors)) || list_all is_index (map form_told (map selector_belonging (out-Access a).selectors))) (not (is_later (out-Access a).name)) (at_node-built _ _ _ (sym (unbuilt-is a) ∙ built_is)))
+  -- and they are of components, where it is no call
+  pub access-components : only_arguments (out-Access a).selectors ≡ None → AreComponents (out-Access a).selectors
+  access-components none =
+      second_of (are_one_call (map form_told (map selector_belonging (out-Access a).selectors))) (list_all is_component (map form_told (map selector_belonging (out-Access a).selectors))) (no_call (out-Access a).selectors none)
+      (and_first (are_one_call (map form_told (map selector_belonging (out-Access a).selectors)) || list_all is_component (map form_told (map selector_belonging (out-Access a).selectors))) (not (is_later (out-Access a).name)) (at_node-built _ _ _ (sym (unbuilt-is a) ∙ built_is)))
 
-  module _ (scopes : List Region) where
-    -- so it is a name with indexes
-    pub access-indexed : only_arguments (out-Access a).selectors ≡ None
-        → name_judged scopes a ≡ indexed_if_all scopes (value_named (depth_in scopes) (out-Access a).name (meant scopes (out-Access a).name)) (indexes_of (map (selected scopes) (out-Access a).selectors))
-    access-indexed none = name_judged-is scopes a ∙ name-indexed scopes (out-Access a).name (out-Access a).selectors (access-indexes none)
+-- ---- a field that comes first
 
-    -- where a rule fails in the name, it fails
-    pub access-name : (n : ℕ) → only_arguments (out-Access a).selectors ≡ None → breaks n (value_named (depth_in scopes) (out-Access a).name (meant scopes (out-Access a).name)) ≡ true → breaks n (name_judged scopes a) ≡ true
-    access-name n none h =
-        rw (access-indexed none) (selectors-first scopes n (value_named (depth_in scopes) (out-Access a).name (meant scopes (out-Access a).name)) (out-Access a).selectors (access-indexes none) h)
+-- the first selector and the others
+abbrev pub FirstField : List Selector → List Selector → List ℕ → Type 0
+FirstField ss more field = (s : Selector) × (line : ℕ) × (s ≡ selector.Field line field) × (ss ≡ s ∷ more)
+
+split_layer : (l : Selector-F ComponentValue Element Factor Selector Access Addend Argument Comparison Expression Label Multiplier Simple Term Values) (rest more : List Selector) (field : List ℕ)
+    → when_some {B = List ℕ × List Selector} (field_in l) (λ f. Some (f, rest)) ≡ Some (field, more) → FirstField (roll-Selector l ∷ rest) more field
+split_layer (Selector-F.Field line name) rest more field h =
+    let both : ◌≡◌ {A = List ℕ × List Selector} (name, rest) (field, more) = cc in
+    (roll-Selector (Selector-F.Field line name), line, selector.rolls-Field line name ∙ ap (λ z. selector.Field line z.0) both, ap (λ z. roll-Selector (Selector-F.Field line name) ∷ z.1) both)
+split_layer (Selector-F.Index line indexes) rest more field h = cc
+split_layer (Selector-F.Dereference line) rest more field h = cc
+split_layer (Selector-F.Arguments line arguments) rest more field h = cc
+
+pub field-split : (ss more : List Selector) (field : List ℕ) → field_first ss ≡ Some (field, more) → FirstField ss more field
+field-split [] more field h = cc
+field-split (s ∷ rest) more field h = subst (λ z. FirstField (z ∷ rest) more field) (roll-out-Selector s) (split_layer (out-Selector s) rest more field h)
+
+-- where there is none, a component comes by an index
+index-layer : (l : Selector-F ComponentValue Element Factor Selector Access Addend Argument Comparison Expression Label Multiplier Simple Term Values) → field_in l ≡ None → IsComponent (roll-Selector l) → IndexNode (roll-Selector l)
+index-layer (Selector-F.Index line indexes) none h = (line, indexes, selector.rolls-Index line indexes)
+index-layer (Selector-F.Field line name) none h = cc
+index-layer (Selector-F.Dereference line) none h = let e = rw fold-roll-Selector at h in cc
+index-layer (Selector-F.Arguments line arguments) none h = let e = rw fold-roll-Selector at h in cc
+
+no-name : (more : List Selector) (o : Option (List ℕ)) → when_some {B = List ℕ × List Selector} o (λ name. Some (name, more)) ≡ None → o ≡ None
+no-name more None h = refl
+no-name more (Some name) h = cc
+
+index-node : (s : Selector) (more : List Selector) → field_first (s ∷ more) ≡ None → IsComponent s → IndexNode s
+index-node s more none h = subst IndexNode (roll-out-Selector s) (index-layer (out-Selector s) (no-name more (field_in (out-Selector s)) none) (subst IsComponent (sym (roll-out-Selector s)) h))
+
+-- ---- the name of an access with what follows it
+
+module _ (scopes : List Region) (name : List ℕ) where
+  abbrev pub alone : Judged Typed
+  alone = value_named (depth_in scopes) name (meant scopes name)
+
+  -- a field comes first
+  pub field-first : (ss more : List Selector) (field : List ℕ) → field_first ss ≡ Some (field, more) → access_judged scopes name (map (selected scopes) ss) ≡ selected_all scopes (qualified_value scopes name field) (map (selected scopes) more)
+  field-first ss more field h =
+      let p = field-split ss more field h in
+      ap (λ zs. access_judged scopes name (map (selected scopes) zs)) p.3 ∙ ap (λ z. access_judged scopes name (z ∷ map (selected scopes) more)) (ap (selected scopes) p.2 ∙ field-judged scopes p.1 field)
+
+  -- none does
+  pub no-field-first : (ss : List Selector) → AreComponents ss → field_first ss ≡ None → access_judged scopes name (map (selected scopes) ss) ≡ selected_all scopes alone (map (selected scopes) ss)
+  no-field-first [] all none = refl
+  no-field-first (s ∷ more) all none =
+      let i = index-node s more none (first_component s more all) in
+      let e : selected scopes s ≡ Indexes (map (judged scopes) i.1) = ap (selected scopes) i.2 ∙ indexes-judged scopes i.0 i.1 in
+      ap (λ z. access_judged scopes name (z ∷ map (selected scopes) more)) e ∙ sym (ap (λ z. selected_all scopes alone (z ∷ map (selected scopes) more)) e)
+
+module _ (a : Access) (built_is : access_unbuilt a ≡ None) (none : only_arguments (out-Access a).selectors ≡ None) (scopes : List Region) where
+  abbrev Selectors : List Selector
+  Selectors = (out-Access a).selectors
+
+  module _ (field : List ℕ) (more : List Selector) (split : field_first Selectors ≡ Some (field, more)) where
+    both_split : FirstField Selectors more field
+    both_split = field-split Selectors more field split
+
+    -- the selectors behind the first field
+    pub more-components : AreComponents more
+    more-components = other_components both_split.0 more (subst AreComponents both_split.3 (access-components a built_is none))
+
+    pub more-lines : lines_in (map selector_belonging more) ≡ None
+    more-lines = or-second (selector_belonging both_split.0).1 (lines_in (map selector_belonging more)) (subst (λ ss. lines_in (map selector_belonging ss) ≡ None) both_split.3 (access-lines a built_is))
+
+    pub access-field : name_judged scopes a ≡ selected_all scopes (qualified_value scopes (out-Access a).name field) (map (selected scopes) more)
+    access-field = name_judged-is scopes a ∙ field-first scopes (out-Access a).name Selectors more field split
+
+    -- a rule that fails in what is named
+    pub access-field-fails : (n : ℕ) → breaks n (qualified_value scopes (out-Access a).name field) ≡ true → breaks n (name_judged scopes a) ≡ true
+    access-field-fails n h = rw access-field (selected_all-first scopes n (qualified_value scopes (out-Access a).name field) more more-components h)
+
+  module _ (plain : field_first Selectors ≡ None) where
+    pub access-alone : name_judged scopes a ≡ selected_all scopes (alone scopes (out-Access a).name) (map (selected scopes) Selectors)
+    access-alone = name_judged-is scopes a ∙ no-field-first scopes (out-Access a).name Selectors (access-components a built_is none) plain
+
+    pub access-alone-fails : (n : ℕ) → breaks n (alone scopes (out-Access a).name) ≡ true → breaks n (name_judged scopes a) ≡ true
+    access-alone-fails n h = rw access-alone (selected_all-first scopes n (alone scopes (out-Access a).name) Selectors (access-components a built_is none) h)

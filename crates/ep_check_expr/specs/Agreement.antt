@@ -1,9 +1,9 @@
 -- Declarations that hold what scopes declare, under which typed forms are valid.
 use Rattle.std.specs.Prelude.{◌≡◌, ℕ, pos, All, List, [], ◌∷◌, ◌++◌, Option, Some, None, IsTrue, int_le, ⊤}
-use Rattle.ep_typed.specs.Denoters.{ArrayParts, array_of, host_of, type_of}
+use Rattle.ep_typed.specs.Denoters.{ArrayParts, array_of, host_of, record_of, type_of}
 use Rattle.ep_typed.specs.Hosts.{greatest, is_of_host}
 use Rattle.ep_typed.specs.Operations.{maxint}
-use Rattle.ep_typed.specs.Trees.{Denoter, Named, Callee, Place, Variable, Expr, Constant, Text, Read, One, Two, Short, Step, Function, Actual, actuals}
+use Rattle.ep_typed.specs.Trees.{Denoter, Denoters, Named, no_denoter, next_denoter, Callee, Place, Variable, Expr, Constant, Text, Read, One, Two, Short, Step, Function, Actual, actuals}
 use Rattle.ep_typed.specs.Valid.{Declarations, AreGiven, IsCallee, IsFunction, IsPlace, IsPlaceWhere, IsExpr, IsProcedure, IsVariableOf}
 use Rattle.ep_typed.specs.Valid as valid
 use Rattle.ep_typed.specs.Viewed.{denoter_of}
@@ -15,12 +15,16 @@ use Rattle.ep_typed.specs.TypeValues.{TypeValue}
 use Rattle.ep_typed.specs.declared.value.Value.{Value}
 use Rattle.ep_typed.specs.declared.value.Value.TheVariants as value
 use Rattle.ep_scope.specs.Scopes.{Entries, Region, depth_in}
-use Rattle.ep_scope.specs.declared.array.ArrayType.{ArrayType}
 use Rattle.ep_scope.specs.declared.kind.Host.{Host}
 use Rattle.ep_scope.specs.declared.kind.Kind.{Kind}
 use Rattle.ep_scope.specs.declared.kind.Kind.TheVariants as kind
 use Rattle.ep_scope.specs.declared.parameter.FormalParameter.{FormalParameter}
 use Rattle.ep_scope.specs.declared.parameter.TypeName.{TypeName}
+use Rattle.ep_scope.specs.declared.structure.ArrayType.{ArrayType}
+use Rattle.ep_scope.specs.declared.structure.Composition.{Composition}
+use Rattle.ep_scope.specs.declared.structure.Composition.TheVariants as composition
+use Rattle.ep_scope.specs.declared.structure.FieldType.{FieldType}
+use Rattle.ep_scope.specs.declared.structure.StructuredType.{StructuredType}
 use Rattle.ep_scope.specs.declared.thing.Declaration.{Declaration}
 use Rattle.ep_scope.specs.declared.thing.Declaration.TheVariants as declaration
 use Rattle.ep_scope.specs.declared.thing.Declared.{Declared}
@@ -39,15 +43,15 @@ IsHost h = IsTrue (int_le (greatest (typed_host h)) (pos maxint))
 -- those of the host of the kind are, where it has one
 abbrev pub IsKind : Kind → Type 0
 IsKind (kind.Ordinal h) = IsHost h
-IsKind (kind.Array n) = ⊤
+IsKind (kind.Structured n) = ⊤
 IsKind kind.Text = ⊤
 IsKind kind.File = ⊤
 
--- the constant is of its kind; none is of an array type so far
+-- the constant is of its kind; none is of a structured type so far
 abbrev pub IsConstantOf : Kind → Value → Type 0
 IsConstantOf (kind.Ordinal h) (value.Word z) = IsHost h × IsTrue (is_of_host (typed_host h) z)
 IsConstantOf (kind.Ordinal h) (value.Text bytes) = ⊥
-IsConstantOf (kind.Array n) v = ⊥
+IsConstantOf (kind.Structured n) v = ⊥
 IsConstantOf kind.Text (value.Word z) = ⊥
 IsConstantOf kind.Text (value.Text bytes) = ⊤
 IsConstantOf kind.File v = ⊥
@@ -69,27 +73,55 @@ TypeValues = TypeName → Option TypeValue
 
 -- ---- kinds of denoters, under the list of types in which they name
 
--- the denoter is that of the array type of this number
-abbrev pub IsArrayDenoter : List UnitType → Denoter → ℕ → Type 0
-IsArrayDenoter list d n = (p : ArrayParts) × (array_of list d ≡ Some p) × (array_of list (Named n []) ≡ Some p)
+-- what the denoter of a structured type is made of
+pub data Structure : Type 0 where
+  Arrays : (parts : ArrayParts) → Structure
+  Records : (components : Denoters) → Structure
+
+-- the denoter is made of this
+abbrev pub HasStructure : List UnitType → Denoter → Structure → Type 0
+HasStructure list d (Arrays p) = array_of list d ≡ Some p
+HasStructure list d (Records ds) = record_of list d ≡ Some ds
+
+-- the denoter is that of the structured type of this number
+abbrev pub IsStructuredDenoter : List UnitType → Denoter → ℕ → Type 0
+IsStructuredDenoter list d n = (s : Structure) × HasStructure list d s × HasStructure list (Named n []) s
 
 -- the denoter is one of the kind; none is of a string type or of a file type so far
 abbrev pub HasKind : List UnitType → Denoter → Kind → Type 0
 HasKind list d (kind.Ordinal h) = IsHost h × (host_of list d ≡ Some (typed_host h))
-HasKind list d (kind.Array n) = IsArrayDenoter list d n
+HasKind list d (kind.Structured n) = IsStructuredDenoter list d n
 HasKind list d kind.Text = ⊥
 HasKind list d kind.File = ⊥
 
--- the list has the array type under its number, with an index type of its host and components of their kind and type
-abbrev pub HoldsArray : TypeValues → List UnitType → ArrayType → Type 0
-HoldsArray types list a =
-    (p : ArrayParts) × (array_of list (Named a.number []) ≡ Some p) × IsHost a.index × (host_of list p.index ≡ Some (typed_host a.index)) × HasKind list p.component a.kind
-    × ((v : TypeValue) × (types a.component ≡ Some v) × (type_of list p.component ≡ Some v))
+module _ (types : TypeValues) (list : List UnitType) where
+  -- the denoter is one of this type and kind
+  abbrev pub IsDenoterOf : TypeName → Kind → Denoter → Type 0
+  IsDenoterOf of k d = HasKind list d k × ((v : TypeValue) × (types of ≡ Some v) × (type_of list d ≡ Some v))
 
--- the array types of the scopes in view
-abbrev pub arrays_of : List Region → List ArrayType
-arrays_of [] = []
-arrays_of (r ∷ rs) = r.arrays ++ arrays_of rs
+  -- an array has an index type of its host, and components of their type and kind
+  abbrev pub IsArrayOf : ArrayType → ArrayParts → Type 0
+  IsArrayOf a p = IsHost a.index × (host_of list p.index ≡ Some (typed_host a.index)) × IsDenoterOf a.component a.kind p.component
+
+  -- a record has components of the types and kinds of its fields, one for one
+  abbrev pub AreFields : List FieldType → Denoters → Type 0
+  AreFields [] no_denoter = ⊤
+  AreFields (f ∷ fs) (next_denoter d ds) = IsDenoterOf f.of f.kind d × AreFields fs ds
+  AreFields fs ds = ⊥
+
+  abbrev pub IsMadeOf : Composition → Structure → Type 0
+  IsMadeOf (composition.Array a) (Arrays p) = IsArrayOf a p
+  IsMadeOf (composition.Record fs) (Records ds) = AreFields fs ds
+  IsMadeOf _ _ = ⊥
+
+  -- the list has the structured type under its number
+  abbrev pub HoldsStructure : StructuredType → Type 0
+  HoldsStructure s = (m : Structure) × HasStructure list (Named s.number []) m × IsMadeOf s.composition m
+
+-- the structured types of the scopes in view
+abbrev pub structures_of : List Region → List StructuredType
+structures_of [] = []
+structures_of (r ∷ rs) = r.structures ++ structures_of rs
 
 -- ---- formal parameters
 
@@ -111,26 +143,26 @@ module _ (declared : Declarations) where
   AreActuals list fs None = ⊤
   AreActuals list fs (Some given) = AreGiven declared list fs (actuals given)
 
--- where each type has one type value wherever it is named, and these array types are in view
-module _ (declared : Declarations) (types : TypeValues) (arrays : List ArrayType) where
-  -- the place is that of an array of this number, under a list of types that holds the array types
-  abbrev pub IsArrayAt : ℕ → Place → Type 0
-  IsArrayAt n place = IsPlaceWhere declared (λ list d. HasKind list d (kind.Array n) × All (HoldsArray types list) arrays) place
+-- where each type has one type value wherever it is named, and these structured types are in view
+module _ (declared : Declarations) (types : TypeValues) (structures : List StructuredType) where
+  -- the place is that of a variable of the structured type of this number, under a list of types that holds the structured types
+  abbrev pub IsStructuredAt : ℕ → Place → Type 0
+  IsStructuredAt n place = IsPlaceWhere declared (λ list d. HasKind list d (kind.Structured n) × All (HoldsStructure types list) structures) place
 
   -- the place is that of a variable that is declared, with a type of this kind; there are no variables of string types so far
   abbrev pub IsStoredIn : Place → Kind → Type 0
   IsStoredIn place (kind.Ordinal h) = IsHost h × IsPlace declared (typed_host h) place
-  IsStoredIn place (kind.Array n) = IsArrayAt n place
+  IsStoredIn place (kind.Structured n) = IsStructuredAt n place
   IsStoredIn place kind.Text = ⊥
   IsStoredIn place kind.File = ⊤
 
-  -- The form is a valid expression of the kind. An array is read of its place, which is no expression by itself; where its
-  -- form is not built, some list of types holds the array types.
+  -- The form is a valid expression of the kind. A structured value is read of its place, which is no expression by itself; where its
+  -- form is not built, some list of types holds the structured types.
   abbrev pub IsFormOf : Kind → Option Expr → Type 0
   IsFormOf (kind.Ordinal h) None = IsHost h
   IsFormOf (kind.Ordinal h) (Some x) = IsHost h × IsExpr declared (valid.Ordinal (typed_host h)) x
-  IsFormOf (kind.Array n) None = (list : List UnitType) × All (HoldsArray types list) arrays
-  IsFormOf (kind.Array n) (Some x) = (place : Place) × (x ≡ Read place) × IsArrayAt n place
+  IsFormOf (kind.Structured n) None = (list : List UnitType) × All (HoldsStructure types list) structures
+  IsFormOf (kind.Structured n) (Some x) = (place : Place) × (x ≡ Read place) × IsStructuredAt n place
   IsFormOf kind.Text None = ⊤
   IsFormOf kind.Text (Some x) = IsExpr declared valid.Bytes x
   IsFormOf kind.File None = ⊥
@@ -153,11 +185,11 @@ module _ (declared : Declarations) (types : TypeValues) where
   abbrev pub IsProcedureOf : Callee → List FormalParameter → Type 0
   IsProcedureOf callee ps = (r : RoutineEntry) × IsCallee declared callee r × IsProcedure r × AreParameters types (declared.types callee.unit) ps r.formals
 
-module _ (declared : Declarations) (types : TypeValues) (arrays : List ArrayType) where
-  -- The heading of a function whose result is of this kind, in a unit with this list of types, which holds the array types where it is an array. None is of a string type or of a file type so far.
+module _ (declared : Declarations) (types : TypeValues) (structures : List StructuredType) where
+  -- The heading of a function whose result is of this kind, in a unit with this list of types, which holds the structured types where it is structured. None is of a string type or of a file type so far.
   abbrev pub IsFunctionWith : List UnitType → Kind → RoutineEntry → Type 0
   IsFunctionWith list (kind.Ordinal h) r = IsFunction list (typed_host h) r × IsHost h
-  IsFunctionWith list (kind.Array n) r = (result : RoutineResult) × (r.result ≡ Some result) × HasKind list (denoter_of result.denoter) (kind.Array n) × All (HoldsArray types list) arrays
+  IsFunctionWith list (kind.Structured n) r = (result : RoutineResult) × (r.result ≡ Some result) × HasKind list (denoter_of result.denoter) (kind.Structured n) × All (HoldsStructure types list) structures
   IsFunctionWith list kind.Text r = ⊥
   IsFunctionWith list kind.File r = ⊥
 
@@ -167,14 +199,14 @@ module _ (declared : Declarations) (types : TypeValues) (arrays : List ArrayType
       (r : RoutineEntry) × IsCallee declared callee r × IsFunctionWith (declared.types callee.unit) k r × AreParameters types (declared.types callee.unit) ps r.formals
 
 -- for code that so many routines are around
-module _ (declared : Declarations) (types : TypeValues) (arrays : List ArrayType) (depth : ℕ) where
+module _ (declared : Declarations) (types : TypeValues) (structures : List StructuredType) (depth : ℕ) where
   abbrev pub IsDeclaration : Declared → Declaration → Type 0
   IsDeclaration d (declaration.Constant kind value) = IsConstantOf kind value
-  IsDeclaration d (declaration.«Type» of kind) = IsKind kind
-  IsDeclaration d (declaration.Variable of kind) = IsStoredIn declared types arrays (Variable d.unit d.number) kind × IsOfType declared types (Variable d.unit d.number) of
-  IsDeclaration d (declaration.Own of kind guarded) = IsStoredIn declared types arrays (own_place depth d) kind × IsOfType declared types (own_place depth d) of
+  IsDeclaration d (declaration.«Type» of kind nodes) = IsKind kind
+  IsDeclaration d (declaration.Variable of kind) = IsStoredIn declared types structures (Variable d.unit d.number) kind × IsOfType declared types (Variable d.unit d.number) of
+  IsDeclaration d (declaration.Own of kind guarded) = IsStoredIn declared types structures (own_place depth d) kind × IsOfType declared types (own_place depth d) of
   IsDeclaration d (declaration.Procedure parameters) = IsProcedureOf declared types (callee_at depth d) parameters
-  IsDeclaration d (declaration.Function parameters of kind) = IsFunctionOf declared types arrays (callee_at depth d) parameters kind
+  IsDeclaration d (declaration.Function parameters of kind) = IsFunctionOf declared types structures (callee_at depth d) parameters kind
 
   abbrev pub IsThing : Thing → Type 0
   IsThing (thing.Declared d) = IsDeclaration d d.what
@@ -195,17 +227,17 @@ module _ (declared : Declarations) (types : TypeValues) (arrays : List ArrayType
 
 -- alike, where each type has one type value wherever it is named
 abbrev pub Agrees : Declarations → List Region → Type 0
-Agrees declared scopes = (types : TypeValues) × AgreesBy declared types (arrays_of scopes) (depth_in scopes) scopes
+Agrees declared scopes = (types : TypeValues) × AgreesBy declared types (structures_of scopes) (depth_in scopes) scopes
 
 -- under all declarations that hold what the scopes declare, the typed form is valid
 abbrev pub IsSound : List Region → Typed → Type 0
-IsSound scopes t = (declared : Declarations) (types : TypeValues) → AgreesBy declared types (arrays_of scopes) (depth_in scopes) scopes → IsFormOf declared types (arrays_of scopes) t.kind t.form
+IsSound scopes t = (declared : Declarations) (types : TypeValues) → AgreesBy declared types (structures_of scopes) (depth_in scopes) scopes → IsFormOf declared types (structures_of scopes) t.kind t.form
 
 -- alike, what is a variable is read of the place of a variable of its type
 abbrev pub IsSoundAccess : List Region → Typed → Type 0
-IsSoundAccess scopes t = (declared : Declarations) (types : TypeValues) → AgreesBy declared types (arrays_of scopes) (depth_in scopes) scopes → IsAccessOf declared types t.access t.form
+IsSoundAccess scopes t = (declared : Declarations) (types : TypeValues) → AgreesBy declared types (structures_of scopes) (depth_in scopes) scopes → IsAccessOf declared types t.access t.form
 
 -- alike, what is given is valid for the formal parameters of each routine that has these
 abbrev pub IsSoundTaken : List Region → List FormalParameter → Taken → Type 0
 IsSoundTaken scopes ps t =
-    (declared : Declarations) (types : TypeValues) → AgreesBy declared types (arrays_of scopes) (depth_in scopes) scopes → (list : List UnitType) (fs : List Formal) → AreParameters types list ps fs → AreActuals declared list fs t.actuals
+    (declared : Declarations) (types : TypeValues) → AgreesBy declared types (structures_of scopes) (depth_in scopes) scopes → (list : List UnitType) (fs : List Formal) → AreParameters types list ps fs → AreActuals declared list fs t.actuals

@@ -22,7 +22,7 @@ use Rattle.ep_check_expr.specs.declared.folding.Folded.TheVariants.{Known, Varie
 -- the value of a form that is not built stands for none: the number 0, or the empty text (own)
 abbrev pub stand_in : Kind → Value
 stand_in (kind.Ordinal h) = value.Word (pos 0)
-stand_in (kind.Array n) = value.Text []
+stand_in (kind.Structured n) = value.Text []
 stand_in kind.Text = value.Text []
 stand_in kind.File = value.Text []
 
@@ -36,9 +36,9 @@ constant_folded kind (Known z) = known kind (value.Word z)
 constant_folded kind Varies = Breaks (rule.CONSTANT ∷ [])
 constant_folded kind Errs = Breaks (rule.CONSTANT ∷ [])
 
--- A constant that is not built. An array is that of a variable or of a function so far, which is not constant.
+-- A constant that is not built. A structured value is that of a variable or of a function so far, which is not constant.
 abbrev pub unbuilt_constant : Kind → Judged ConstantForm
-unbuilt_constant (kind.Array n) = Breaks (rule.CONSTANT ∷ [])
+unbuilt_constant (kind.Structured n) = Breaks (rule.CONSTANT ∷ [])
 unbuilt_constant k = Accepts (record { value = stand_in k; kind = k; built = false })
 
 abbrev pub constant_of : Kind → Option Expr → Judged ConstantForm

@@ -1,6 +1,5 @@
 -- What the static rules say of each expression, by its parts: one clause for each production (ISO 10206, 6.8.1).
-use Rattle.std.specs.Prelude.{ℕ, ℤ, pos, List, [], ◌∷◌, ◌++◌, Option, Some, None, if◌then◌else◌}
-use Rattle.std.specs.Option.{option_map}
+use Rattle.std.specs.Prelude.{ℕ, ℤ, pos, List, [], ◌∷◌, Option, Some, None, if◌then◌else◌}
 use Rattle.ep_tree.specs.declared.operator.RelationalOperator.{RelationalOperator}
 use Rattle.ep_tree.specs.declared.operator.AddingOperator.{AddingOperator}
 use Rattle.ep_tree.specs.declared.operator.MultiplyingOperator.{MultiplyingOperator}
@@ -23,6 +22,7 @@ use Rattle.ep_scope.specs.declared.kind.Host.{Host}
 use Rattle.ep_scope.specs.declared.kind.Host.TheVariants as host
 use Rattle.ep_scope.specs.declared.kind.Kind.TheVariants as kind
 use Rattle.ep_check_expr.specs.declared.access.Access.TheVariants as access
+use Rattle.ep_check_expr.specs.FieldDesignators.{designated}
 use Rattle.ep_check_expr.specs.Functions.{Given}
 use Rattle.ep_check_expr.specs.Hosts.{typed_host}
 use Rattle.ep_check_expr.specs.Indexing.{indexed_all}
@@ -64,14 +64,6 @@ pub data Selected : Type 0 where
   Arguments : (given : List Given) → Selected
   Other : Selected
 
--- the indexes of selectors that have nothing else: `a[i, j]` is `a[i][j]` (ISO 10206, 6.5.3.2)
-abbrev pub indexes_of : List Selected → Option (List (Judged Typed))
-indexes_of [] = Some []
-indexes_of (Indexes is ∷ more) = option_map (λ js. is ++ js) (indexes_of more)
-indexes_of (Field name ∷ more) = None
-indexes_of (Arguments given ∷ more) = None
-indexes_of (Other ∷ more) = None
-
 -- a number or a character as the text spells it, which is a value of its host: no text has a number above `maxint` (ISO 10206, 6.1.7 and 6.4.2.2)
 abbrev pub spelled : Host → ℤ → Judged Typed
 spelled h z = if is_of_host (typed_host h) z then leaf (tree.Constant z) (kind.Ordinal h) access.Value else unbuilt
@@ -87,16 +79,20 @@ compared_if left None = left
 compared_if left (Some right) = both (compared right.operator) left right.operand
 
 module _ (scopes : List Region) where
-  -- what has these selectors, which are built where they are indexes alone
-  abbrev pub indexed_if_all : Judged Typed → Option (List (Judged Typed)) → Judged Typed
-  indexed_if_all x None = unbuilt
-  indexed_if_all x (Some is) = indexed_all scopes x is
+  -- what has these selectors, from left to right; `a[i, j]` is `a[i][j]` (ISO 10206, 6.5.3). They are built where they are
+  -- indexes and fields alone.
+  abbrev pub selected_all : Judged Typed → List Selected → Judged Typed
+  selected_all x [] = x
+  selected_all x (Indexes is ∷ more) = selected_all (indexed_all scopes x is) more
+  selected_all x (Field name ∷ more) = selected_all (when_accepted (designated scopes name) x) more
+  selected_all x (Arguments given ∷ more) = unbuilt
+  selected_all x (Other ∷ more) = unbuilt
 
-  -- a name with arguments, a name that an interface has, or a name, alone or with indexes
+  -- a name with arguments; or a name, one that an interface has or a field, alone or with what follows
   abbrev pub access_judged : List ℕ → List Selected → Judged Typed
   access_judged name (Arguments given ∷ []) = call_named (depth_in scopes) name (meant scopes name) given
-  access_judged name (Field field ∷ []) = qualified_value scopes name field
-  access_judged name selectors = indexed_if_all (value_named (depth_in scopes) name (meant scopes name)) (indexes_of selectors)
+  access_judged name (Field field ∷ more) = selected_all (qualified_value scopes name field) more
+  access_judged name selectors = selected_all (value_named (depth_in scopes) name (meant scopes name)) selectors
 
   -- the results of the parts of a node
   abbrev pub at_component_value : ComponentValue-F Result Skipped Result Selected Result Addition Given Relation Result Skipped Multiplication Result Result Skipped → Judged Typed

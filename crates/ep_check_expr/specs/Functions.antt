@@ -6,7 +6,7 @@ use Rattle.ep_typed.specs.declared.operations.Unary.{Unary}
 use Rattle.ep_typed.specs.declared.operations.Unary.TheVariants as unary
 use Rattle.ep_scope.specs.declared.kind.Host.{Host}
 use Rattle.ep_scope.specs.declared.kind.Kind.{Kind}
-use Rattle.ep_scope.specs.declared.kind.Kind.TheVariants.{Ordinal, Array, Text, File}
+use Rattle.ep_scope.specs.declared.kind.Kind.TheVariants.{Ordinal, Structured, Text, File}
 use Rattle.ep_scope.specs.declared.required.Function.{Function}
 use Rattle.ep_scope.specs.declared.required.Function.TheVariants as function
 use Rattle.ep_scope.specs.declared.rule.TheConstants as rule
@@ -54,7 +54,7 @@ of_integer operation kind x = if is_integer x.kind then unary_typed operation ki
 -- `ord` of any ordinal value (ISO 10206, 6.7.6.4)
 abbrev pub ordinal_by : Kind → Typed → Judged Typed
 ordinal_by (Ordinal h) x = unary_typed unary.Same integer x
-ordinal_by (Array n) x = other_argument
+ordinal_by (Structured n) x = other_argument
 ordinal_by Text x = other_argument
 ordinal_by File x = other_argument
 
@@ -65,7 +65,7 @@ step_typed down h x count =
 
 abbrev pub stepped_by : Kind → Bool → Typed → Typed → Judged Typed
 stepped_by (Ordinal h) down x count = if is_integer count.kind then step_typed down h x count else other_argument
-stepped_by (Array n) down x count = other_argument
+stepped_by (Structured n) down x count = other_argument
 stepped_by Text down x count = other_argument
 stepped_by File down x count = other_argument
 

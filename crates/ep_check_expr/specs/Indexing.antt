@@ -1,12 +1,14 @@
 -- What an index gives of an array (ISO 10206, 6.5.3.2).
 use Rattle.std.specs.Prelude.{ℕ, suc, ◌-◌, max, nat_le, List, [], ◌∷◌, Option, Some, None, if◌then◌else◌}
 use Rattle.ep_typed.specs.Trees.{Expr, Indexed, Read}
-use Rattle.ep_scope.specs.Scopes.{Region, array_in}
-use Rattle.ep_scope.specs.declared.array.ArrayType.{ArrayType}
+use Rattle.ep_scope.specs.Scopes.{Region, structure_in}
 use Rattle.ep_scope.specs.declared.kind.Kind.{Kind}
 use Rattle.ep_scope.specs.declared.kind.Kind.TheVariants as kind
 use Rattle.ep_scope.specs.declared.parameter.TypeName.{TypeName}
 use Rattle.ep_scope.specs.declared.rule.TheConstants as rule
+use Rattle.ep_scope.specs.declared.structure.ArrayType.{ArrayType}
+use Rattle.ep_scope.specs.declared.structure.Composition.{Composition}
+use Rattle.ep_scope.specs.declared.structure.Composition.TheVariants as composition
 use Rattle.ep_check_expr.specs.Judgements.{Judged, Accepts, Breaks, Typed, both}
 use Rattle.ep_check_expr.specs.Operators.{are_compatible, character, is_integer, unbuilt_typed}
 use Rattle.ep_check_expr.specs.declared.access.Access.{Access}
@@ -18,10 +20,10 @@ abbrev pub component_form : Option Expr → Option Expr → Option Expr
 component_form (Some (Read place)) (Some index) = Some (Read (Indexed place index))
 component_form array index = None
 
--- a component is a variable where the array is one, and protected where that is (ISO 10206, 6.5.1)
+-- a component is a variable where the array or the record is one, and protected where that is (ISO 10206, 6.5.1)
 abbrev pub component_access : TypeName → Access → Access
 component_access component (access.Variable of guarded) = access.Variable component guarded
-component_access component array = array
+component_access component whole = whole
 
 -- what is read stands above its place, and that above the place of the array and the index
 abbrev pub component_depth : ℕ → ℕ → ℕ
@@ -42,10 +44,11 @@ no_index = Breaks (rule.INDEX ∷ [])
 abbrev pub indexed_array : ArrayType → Typed → Typed → Judged Typed
 indexed_array a x i = if are_compatible (kind.Ordinal a.index) i.kind then component_typed a x i else no_index
 
--- an array type is one that is in view
-abbrev pub indexed_if : Option ArrayType → Typed → Typed → Judged Typed
+-- a structured type is one that is in view; a record has no index
+abbrev pub indexed_if : Option Composition → Typed → Typed → Judged Typed
 indexed_if None x i = no_index
-indexed_if (Some a) x i = indexed_array a x i
+indexed_if (Some (composition.Array a)) x i = indexed_array a x i
+indexed_if (Some (composition.Record fs)) x i = no_index
 
 -- an index of a string is an integer, which gives a character that has no code yet
 abbrev pub indexed_text : Typed → Typed → Judged Typed
@@ -55,7 +58,7 @@ module _ (scopes : List Region) where
   -- what has an index is an array or a string
   abbrev pub indexed_by : Kind → Typed → Typed → Judged Typed
   indexed_by (kind.Ordinal h) x i = no_index
-  indexed_by (kind.Array n) x i = indexed_if (array_in scopes n) x i
+  indexed_by (kind.Structured n) x i = indexed_if (structure_in scopes n) x i
   indexed_by kind.Text x i = indexed_text x i
   indexed_by kind.File x i = no_index
 

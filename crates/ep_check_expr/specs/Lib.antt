@@ -3,6 +3,7 @@ pub mod Answers
 pub mod Arguments
 pub mod Constants
 pub mod Expressions
+pub mod FieldDesignators
 pub mod Folding
 pub mod Functions
 pub mod Hosts
@@ -12,5 +13,5 @@ pub mod Laws
 pub mod Names
 pub mod Operators
 pub mod Origins
-pub mod Qualified
+pub mod Shapes
 pub mod Public

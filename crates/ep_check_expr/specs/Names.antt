@@ -22,8 +22,9 @@ use Rattle.ep_scope.specs.declared.thing.Declared.{Declared}
 use Rattle.ep_check_expr.specs.declared.access.Access.{Access}
 use Rattle.ep_check_expr.specs.declared.access.Access.TheVariants as access
 use Rattle.ep_check_expr.specs.Arguments.{callee_at, function_called, own_place}
+use Rattle.ep_check_expr.specs.FieldDesignators.{designated}
 use Rattle.ep_check_expr.specs.Functions.{Given, all_faults, applied}
-use Rattle.ep_check_expr.specs.Judgements.{Judged, Accepts, Breaks, Typed}
+use Rattle.ep_check_expr.specs.Judgements.{Judged, Accepts, Breaks, Typed, when_accepted}
 use Rattle.ep_check_expr.specs.Operators.{integer, character, boolean}
 
 -- a form without parts
@@ -46,7 +47,7 @@ reading form kind access = Accepts (record { form = Some form; kind = kind; dept
 -- what is declared as a value, in code of a depth
 abbrev pub value_declared : ℕ → Declared → Declaration → Judged Typed
 value_declared depth d (declaration.Constant kind value) = leaf (value_form value) kind access.Constant
-value_declared depth d (declaration.«Type» of host) = Breaks (rule.OTHER_THING ∷ [])
+value_declared depth d (declaration.«Type» of host nodes) = Breaks (rule.OTHER_THING ∷ [])
 value_declared depth d (declaration.Variable of kind) = reading (Read (Variable d.unit d.number)) kind (access.Variable of protection.Unprotected)
 value_declared depth d (declaration.Own of kind guarded) = reading (Read (own_place depth d)) kind (access.Variable of guarded)
 value_declared depth d (declaration.Procedure parameters) = Breaks (rule.PROCEDURE ∷ rule.OTHER_THING ∷ [])
@@ -96,7 +97,7 @@ abbrev pub call_declared : ℕ → Declared → Declaration → List Given → J
 call_declared depth d (declaration.Function parameters of kind) gs = function_called (callee_at depth d) parameters kind gs
 call_declared depth d (declaration.Procedure parameters) gs = Breaks (rule.PROCEDURE ∷ rule.OTHER_THING ∷ all_faults gs)
 call_declared depth d (declaration.Constant kind value) gs = Breaks (rule.OTHER_THING ∷ all_faults gs)
-call_declared depth d (declaration.«Type» of host) gs = Breaks (rule.OTHER_THING ∷ all_faults gs)
+call_declared depth d (declaration.«Type» of host nodes) gs = Breaks (rule.OTHER_THING ∷ all_faults gs)
 call_declared depth d (declaration.Variable of kind) gs = Breaks (rule.OTHER_THING ∷ all_faults gs)
 call_declared depth d (declaration.Own of kind guarded) gs = Breaks (rule.OTHER_THING ∷ all_faults gs)
 
@@ -107,18 +108,16 @@ call_named depth name (meaning.Standard file) gs = Breaks (rule.OTHER_THING ∷ 
 call_named depth name (Requires r) gs = call_required r gs
 call_named depth name Nothing gs = Breaks (undeclared name ++ all_faults gs)
 
--- what has no field: a name that stands for something, or for nothing
-abbrev pub no_field : List ℕ → Meant → Judged Typed
-no_field name Nothing = Breaks (undeclared name)
-no_field name _ = Breaks (rule.FIELD ∷ [])
-
 abbrev pub is_nothing : Meant → Bool
 is_nothing Nothing = true
 is_nothing _ = false
 
-abbrev pub constituent_value : ℕ → List ℕ → List ℕ → Meant → Meant → Judged Typed
-constituent_value depth interface name alone within = if is_nothing within then no_field interface alone else value_named depth name within
+module _ (scopes : List Region) where
+  -- by what the first name means alone, and what the second one means in the interface of the first
+  abbrev pub constituent_or_field : List ℕ → List ℕ → Meant → Judged Typed
+  constituent_or_field first second within =
+      if is_nothing within then when_accepted (designated scopes second) (value_named (depth_in scopes) first (meant scopes first)) else value_named (depth_in scopes) second within
 
--- `i.a`, a name that an interface has (ISO 10206, 6.11.3)
-abbrev pub qualified_value : List Region → List ℕ → List ℕ → Judged Typed
-qualified_value scopes interface name = constituent_value (depth_in scopes) interface name (meant scopes interface) (meant_in scopes interface name)
+  -- `i.a`, a name that an interface has (ISO 10206, 6.11.3), or else a field
+  abbrev pub qualified_value : List ℕ → List ℕ → Judged Typed
+  qualified_value first second = constituent_or_field first second (meant_in scopes first second)

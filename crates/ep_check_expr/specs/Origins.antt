@@ -1,11 +1,14 @@
 -- Where the host of an expression comes from: it is a required type, or the host of something that the scopes declare.
 use Rattle.std.specs.Prelude.{◌≡◌, ℕ, List, [], ◌∷◌, ◌⊎◌, ⊤}
 use Rattle.ep_scope.specs.Scopes.{Entries, Region}
-use Rattle.ep_scope.specs.declared.array.ArrayType.{ArrayType}
 use Rattle.ep_scope.specs.declared.kind.Host.{Host}
 use Rattle.ep_scope.specs.declared.kind.Host.TheVariants as host
 use Rattle.ep_scope.specs.declared.kind.Kind.{Kind}
 use Rattle.ep_scope.specs.declared.kind.Kind.TheVariants as kind
+use Rattle.ep_scope.specs.declared.structure.Composition.{Composition}
+use Rattle.ep_scope.specs.declared.structure.Composition.TheVariants as composition
+use Rattle.ep_scope.specs.declared.structure.FieldType.{FieldType}
+use Rattle.ep_scope.specs.declared.structure.StructuredType.{StructuredType}
 use Rattle.ep_scope.specs.declared.thing.Declaration.{Declaration}
 use Rattle.ep_scope.specs.declared.thing.Declaration.TheVariants as declaration
 use Rattle.ep_scope.specs.declared.thing.Thing.{Thing}
@@ -21,14 +24,14 @@ IsRequiredHost (host.Enumeration e) = ⊥
 -- the kind is ordinal with this host
 abbrev pub HasHost : Kind → Host → Type 0
 HasHost (kind.Ordinal g) h = g ≡ h
-HasHost (kind.Array n) h = ⊥
+HasHost (kind.Structured n) h = ⊥
 HasHost kind.Text h = ⊥
 HasHost kind.File h = ⊥
 
 -- a constant or variable of the host is declared, or a type or the result of a function with it
 abbrev pub DeclaresHost : Declaration → Host → Type 0
 DeclaresHost (declaration.Constant k v) h = HasHost k h
-DeclaresHost (declaration.«Type» of k) h = HasHost k h
+DeclaresHost (declaration.«Type» of k nodes) h = HasHost k h
 DeclaresHost (declaration.Variable of k) h = HasHost k h
 DeclaresHost (declaration.Own of k guarded) h = HasHost k h
 DeclaresHost (declaration.Procedure parameters) h = ⊥
@@ -47,22 +50,32 @@ abbrev pub InterfacesHaveHost : List (List ℕ × Entries) → Host → Type 0
 InterfacesHaveHost [] h = ⊥
 InterfacesHaveHost (e ∷ es) h = EntriesHaveHost e.1 h ⊎ InterfacesHaveHost es h
 
--- the components of some array type have it
-abbrev pub ArraysHaveHost : List ArrayType → Host → Type 0
-ArraysHaveHost [] h = ⊥
-ArraysHaveHost (a ∷ more) h = HasHost a.kind h ⊎ ArraysHaveHost more h
+-- some field has it
+abbrev pub FieldsHaveHost : List FieldType → Host → Type 0
+FieldsHaveHost [] h = ⊥
+FieldsHaveHost (f ∷ fs) h = HasHost f.kind h ⊎ FieldsHaveHost fs h
+
+-- the components have it
+abbrev pub CompositionHasHost : Composition → Host → Type 0
+CompositionHasHost (composition.Array a) h = HasHost a.kind h
+CompositionHasHost (composition.Record fs) h = FieldsHaveHost fs h
+
+-- those of some structured type have it
+abbrev pub StructuresHaveHost : List StructuredType → Host → Type 0
+StructuresHaveHost [] h = ⊥
+StructuresHaveHost (s ∷ more) h = CompositionHasHost s.composition h ⊎ StructuresHaveHost more h
 
 abbrev pub ScopesHaveHost : List Region → Host → Type 0
 ScopesHaveHost [] h = ⊥
-ScopesHaveHost (r ∷ rs) h = EntriesHaveHost r.entries h ⊎ (InterfacesHaveHost r.qualified h ⊎ (ArraysHaveHost r.arrays h ⊎ ScopesHaveHost rs h))
+ScopesHaveHost (r ∷ rs) h = EntriesHaveHost r.entries h ⊎ (InterfacesHaveHost r.qualified h ⊎ (StructuresHaveHost r.structures h ⊎ ScopesHaveHost rs h))
 
 -- the host is required, or the scopes declare something that has it
 abbrev pub IsKnownHost : List Region → Host → Type 0
 IsKnownHost scopes h = IsRequiredHost h ⊎ ScopesHaveHost scopes h
 
--- alike of a kind; arrays, texts and files have no host
+-- alike of a kind; structured types, texts and files have no host
 abbrev pub IsKnownKind : List Region → Kind → Type 0
 IsKnownKind scopes (kind.Ordinal h) = IsKnownHost scopes h
-IsKnownKind scopes (kind.Array n) = ⊤
+IsKnownKind scopes (kind.Structured n) = ⊤
 IsKnownKind scopes kind.Text = ⊤
 IsKnownKind scopes kind.File = ⊤

@@ -1,16 +1,17 @@
 //! What is answered of an expression on its own.
 
 ghost use Rattle.std.specs.Prelude.{◌≡◌, IfOk};
+ghost use Rattle.ep_built.specs.Built.{expression_unbuilt};
 ghost use Rattle.ep_tree.specs.declared.expression.Expression.{out-Expression};
 ghost use Rattle.ep_check_expr.specs.Constants.{constant_expression};
 ghost use Rattle.ep_check_expr.specs.Expressions.{judged};
 ghost use Rattle.ep_check_expr.specs.Public.{AnswersExpression, AnswersConstant, IsValidForm, IsValidConstant, UnlessUnbuilt, refused};
-ghost use Rattle.ep_check_expr.specs.Qualified.{unjudged};
 
 use crate::constants::as_constant;
+use crate::expressions::typed_expression;
 use crate::forms::Refusal;
-use crate::shapes::{any_form, unjudged};
 use ep_base::Line;
+use ep_built::expression_unbuilt;
 use ep_scope::Scope;
 use ep_tree::Expression;
 use ep_typed::{TypedExpr, Value};
@@ -38,23 +39,23 @@ pub enum ExpressionRefusal {
 }
 
 /// The typed form of an expression. It is refused as `NotBuilt`, with the line of the first node
-/// that is not built, exactly where there is one and the expression is not `i.a`: no rule is tried
-/// then, and no memory is taken. Else it is `Broken` exactly where rules fail, with one of them, and
-/// `NotBuilt` exactly where none fails and it has no code yet, both with the line of its first token;
-/// where memory is wanting, `NoMemory` takes the place of each of these answers.
+/// that is not built, exactly where there is one: no rule is tried then, and no memory is taken. Else
+/// it is `Broken` exactly where rules fail, with one of them, and `NotBuilt` exactly where none fails
+/// and it has no code yet, both with the line of its first token; where memory is wanting, `NoMemory`
+/// takes the place of each of these answers.
 pub fn expression(
     alloc: Global,
     tree: &Expression,
     scopes: &[Scope],
 ) -> Result<TypedExpr, ExpressionRefusal>
-    ensures judged { UnlessUnbuilt (unjudged tree.now) result
+    ensures judged { UnlessUnbuilt (expression_unbuilt tree.now) result
         (AnswersExpression result (out-Expression tree.now).line (judged scopes.now tree.now)) }
     ensures valid { IfOk result (λ e. IsValidForm scopes.now (judged scopes.now tree.now)) }
 {
-    if let Some(line) = unjudged(tree) {
+    if let Some(line) = expression_unbuilt(tree) {
         return Err(ExpressionRefusal::NotBuilt(line));
     }
-    match any_form(alloc, tree, scopes) {
+    match typed_expression(alloc, tree, scopes) {
         Ok(typed) => match typed.into_form() {
             Some(form) => Ok(form.into_inner()),
             None => Err(ExpressionRefusal::NotBuilt(tree.line)),
@@ -69,14 +70,14 @@ pub fn constant(
     tree: &Expression,
     scopes: &[Scope],
 ) -> Result<Value, ExpressionRefusal>
-    ensures judged { UnlessUnbuilt (unjudged tree.now) result
+    ensures judged { UnlessUnbuilt (expression_unbuilt tree.now) result
         (AnswersConstant result (out-Expression tree.now).line (constant_expression scopes.now tree.now)) }
     ensures valid { IfOk result (λ v. IsValidConstant scopes.now (constant_expression scopes.now tree.now)) }
 {
-    if let Some(line) = unjudged(tree) {
+    if let Some(line) = expression_unbuilt(tree) {
         return Err(ExpressionRefusal::NotBuilt(line));
     }
-    match any_form(alloc, tree, scopes) {
+    match typed_expression(alloc, tree, scopes) {
         Ok(typed) => match as_constant(alloc, &typed) {
             Ok(form) => {
                 if form.built {

@@ -159,7 +159,7 @@ fn unbuilt_constant(alloc: Global, kind: Kind) -> Result<ConstantForm, Refusal>
 {
     let value = match kind {
         Kind::Ordinal(_) => Value::Word(0),
-        Kind::Array(_) => return Err(Refusal::Rule(rule::CONSTANT)),
+        Kind::Structured(_) => return Err(Refusal::Rule(rule::CONSTANT)),
         Kind::Text => Value::Text(Bytes::new(alloc)),
         Kind::File => Value::Text(Bytes::new(alloc)),
     };

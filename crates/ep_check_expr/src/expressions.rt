@@ -3,12 +3,12 @@
 ghost use Rattle.std.specs.Prelude.{◌≡◌, true, None, IfOk, map};
 ghost use Rattle.std.specs.List.{list_all};
 ghost use Rattle.std.specs.Option.{option_map};
-ghost use Rattle.ep_built.specs.Built.{component_value_unbuilt, expression_unbuilt, simple_unbuilt, term_unbuilt, factor_unbuilt, access_unbuilt, argument_unbuilt, addend_belonging, multiplier_belonging, form_told, is_index, selector_belonging, written_unbuilt, written_value_unbuilt, all_are_built, lines_in, first_in};
+ghost use Rattle.ep_built.specs.Built.{component_value_unbuilt, expression_unbuilt, simple_unbuilt, term_unbuilt, factor_unbuilt, access_unbuilt, argument_unbuilt, addend_belonging, multiplier_belonging, form_told, is_component, selector_belonging, written_unbuilt, written_value_unbuilt, all_are_built, lines_in, first_in};
 ghost use Rattle.ep_typed.specs.Viewed.{expr_of};
 ghost use Rattle.ep_scope.specs.Scopes.{depth_in, meant};
 ghost use Rattle.ep_check_expr.specs.Answers.{taken_of, typed_of, AnswersJudged, AnswersTyped, AnswersGiven};
 ghost use Rattle.ep_check_expr.specs.Arguments.{IsReading, arguments_judged};
-ghost use Rattle.ep_check_expr.specs.Expressions.{chained, judged, judged_value, addend_judged, multiplier_judged, simple_judged, term_judged, factor_judged, name_judged, indexed_if_all, indexes_of, selected, given, string_judged};
+ghost use Rattle.ep_check_expr.specs.Expressions.{chained, judged, judged_value, addend_judged, multiplier_judged, simple_judged, term_judged, factor_judged, name_judged, selected, selected_all, given, string_judged};
 ghost use Rattle.ep_check_expr.specs.Functions.{applied};
 ghost use Rattle.ep_check_expr.specs.Indexing.{indexed_all};
 ghost use Rattle.ep_check_expr.specs.Judgements.{Accepts};
@@ -16,12 +16,13 @@ ghost use Rattle.ep_check_expr.specs.Names.{call_declared, call_named};
 ghost use Rattle.ep_check_expr.specs.Operators.{added, multiplied};
 
 use crate::arguments::Taken;
+use crate::fields::designated;
 use crate::forms::{Refusal, Typed};
 use crate::functions::{applied_to_one, applied_to_two, takes};
 use crate::indexing::indexed;
-use crate::names::{named, undeclared};
+use crate::names::{named, qualified, undeclared};
 use crate::operators::{added, compared, multiplied, negated, signed};
-use crate::shapes::{bare, only_arguments};
+use crate::shapes::{bare, field_first, only_arguments};
 use ep_base::Name;
 use ep_scope::{
     Declaration, Declared, FormalParameter, Function, Host, Meaning, Required, Scope, depth_in,
@@ -186,14 +187,20 @@ pub(crate) fn string(alloc: Global, bytes: &[u8]) -> Result<Typed, Refusal>
     }
 }
 
-/// `access`, which is a name, called, alone or with indexes
+/// `access`, which is a name, called, alone or with indexes and fields
 #[cycle(typed)]
 fn access(alloc: Global, a: &Access, scopes: &[Scope]) -> Result<Typed, Refusal>
     requires built { access_unbuilt a.now ≡ None }
     ensures { AnswersTyped result (name_judged scopes.now a.now) }
 {
-    match only_arguments(a.selectors.items()) {
-        Some(arguments) => call(alloc, &a.name, arguments, scopes),
+    if let Some(arguments) = only_arguments(a.selectors.items()) {
+        return call(alloc, &a.name, arguments, scopes);
+    }
+    match field_first(a.selectors.items()) {
+        Some((field, more)) => {
+            let variable = qualified(alloc, &a.name, field, scopes)?;
+            selected(alloc, variable, more, scopes)
+        }
         None => {
             let variable = named(alloc, &a.name, scopes)?;
             selected(alloc, variable, a.selectors.items(), scopes)
@@ -201,7 +208,7 @@ fn access(alloc: Global, a: &Access, scopes: &[Scope]) -> Result<Typed, Refusal>
     }
 }
 
-/// `{ "[" expr { "," expr } "]" }`, after what has these indexes
+/// `{ "[" expr { "," expr } "]" | "." id }`, after what has these indexes and fields
 #[cycle(typed)]
 fn selected(
     alloc: Global,
@@ -209,17 +216,17 @@ fn selected(
     all: &[Selector],
     scopes: &[Scope],
 ) -> Result<Typed, Refusal>
-    requires selectors { list_all is_index (map form_told (map selector_belonging all.now)) ≡ true }
+    requires selectors { list_all is_component (map form_told (map selector_belonging all.now)) ≡ true }
     requires built { lines_in (map selector_belonging all.now) ≡ None }
-    ensures { AnswersTyped result (indexed_if_all scopes.now (Accepts (typed_of first))
-        (indexes_of (map (selected scopes.now) all.now))) }
+    ensures { AnswersTyped result (selected_all scopes.now (Accepts (typed_of first)) (map (selected scopes.now) all.now)) }
 {
     let mut variable = first;
     for selector in all {
-        let Selector::Index(_, indexes) = selector else {
-            unreachable!();
+        variable = match selector {
+            Selector::Index(_, indexes) => with_indexes(alloc, variable, indexes.items(), scopes)?,
+            Selector::Field(_, name) => designated(alloc, name, variable, scopes)?,
+            _ => unreachable!(),
         };
-        variable = with_indexes(alloc, variable, indexes.items(), scopes)?;
     }
     Ok(variable)
 }

@@ -70,7 +70,7 @@ impl From<AllocError> for Refusal {
 }
 
 /// The depth of a form whose parts have this one.
-fn above(depth: u32) -> Result<u32, Refusal>
+pub(crate) fn above(depth: u32) -> Result<u32, Refusal>
     ensures { AnswersDepth depth result }
 {
     if depth < DEPTH {

@@ -46,7 +46,7 @@ fn ordinal(alloc: Global, x: Typed) -> Result<Typed, Refusal>
 {
     match x.kind {
         Kind::Ordinal(_) => Typed::unary(alloc, Unary::Same, Kind::Ordinal(Host::Integer), x),
-        Kind::Array(_) => Err(Refusal::Rule(rule::REQUIRED_ARGUMENT)),
+        Kind::Structured(_) => Err(Refusal::Rule(rule::REQUIRED_ARGUMENT)),
         Kind::Text => Err(Refusal::Rule(rule::REQUIRED_ARGUMENT)),
         Kind::File => Err(Refusal::Rule(rule::REQUIRED_ARGUMENT)),
     }

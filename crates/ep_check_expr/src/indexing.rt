@@ -10,15 +10,15 @@ use crate::access::Access;
 use crate::forms::{DEPTH, Refusal, Typed};
 use crate::operators::{are_compatible, is_integer};
 use ep_base::{Boxed, NoMemory};
-use ep_scope::{ArrayType, Host, Kind, Scope, TypeName, array_of, rule};
+use ep_scope::{ArrayType, Composition, Host, Kind, Scope, TypeName, rule, structure_of};
 use ep_typed::{TypedExpr, TypedPlace};
 use std::alloc::Global;
 
-/// A component is a variable where the array is one, and protected where that is (ISO 10206, 6.5.1).
-fn component_access(component: TypeName, array: Access) -> Access
-    ensures { result ≡ component_access component array }
+/// A component is a variable where the array or the record is one, and protected where that is (ISO 10206, 6.5.1).
+pub(crate) fn component_access(component: TypeName, whole: Access) -> Access
+    ensures { result ≡ component_access component whole }
 {
-    match array {
+    match whole {
         Access::Variable(_, guarded) => Access::Variable(component, guarded),
         other => other,
     }
@@ -114,9 +114,9 @@ pub(crate) fn indexed(
     ensures { AnswersTyped result (indexed scopes.now (typed_of value) (typed_of index)) }
 {
     match value.kind {
-        Kind::Array(number) => match array_of(scopes, number) {
-            Some(of) => indexed_array(alloc, of, value, index),
-            None => Err(Refusal::Rule(rule::INDEX)),
+        Kind::Structured(number) => match structure_of(scopes, number) {
+            Some(Composition::Array(of)) => indexed_array(alloc, *of, value, index),
+            _ => Err(Refusal::Rule(rule::INDEX)),
         },
         Kind::Text => indexed_text(value, index),
         _ => Err(Refusal::Rule(rule::INDEX)),

@@ -13,6 +13,7 @@ mod answers;
 mod arguments;
 mod constants;
 mod expressions;
+mod fields;
 mod folding;
 mod forms;
 mod functions;

@@ -5,12 +5,12 @@ ghost use Rattle.ep_scope.specs.Meanings.{meant_by};
 ghost use Rattle.ep_scope.specs.Scopes.{depth_in, meant};
 ghost use Rattle.ep_check_expr.specs.Answers.{AnswersTyped};
 ghost use Rattle.ep_check_expr.specs.Arguments.{callee_at, function_called};
-ghost use Rattle.ep_check_expr.specs.Judgements.{breaks};
 ghost use Rattle.ep_check_expr.specs.Names as spec;
 ghost use Rattle.ep_check_expr.specs.Names.{value_declared, value_required, constant_required, value_named, qualified_value, is_nothing, undeclared, is_one_of};
 
 use crate::access::Access;
 use crate::arguments::Taken;
+use crate::fields::designated;
 use crate::forms::{Refusal, Typed};
 use crate::levels::own_place;
 use ep_base::Name;
@@ -61,7 +61,7 @@ fn declared_value(alloc: Global, depth: u32, d: &Declared) -> Result<Typed, Refu
 {
     match &d.what {
         Declaration::Constant(kind, value) => Typed::value(alloc, value, *kind),
-        Declaration::Type(_, _) => Err(Refusal::Rule(rule::OTHER_THING)),
+        Declaration::Type(_, _, _) => Err(Refusal::Rule(rule::OTHER_THING)),
         Declaration::Variable(of, kind) => {
             let unit = d.unit.copy(alloc)?;
             let access = Access::Variable(*of, Protection::Unprotected);
@@ -125,20 +125,21 @@ pub(crate) fn named(alloc: Global, name: &Name, scopes: &[Scope]) -> Result<Type
     value_of(alloc, depth_in(scopes)?, name, meaning_of(scopes, name))
 }
 
-/// `i.a` as a value.
+/// `i.a` as a value: a name that an interface has, or else a field.
 pub(crate) fn qualified(
     alloc: Global,
-    interface: &Name,
-    name: &Name,
+    first: &Name,
+    second: &Name,
     scopes: &[Scope],
 ) -> Result<Typed, Refusal>
-    ensures { AnswersTyped result (qualified_value scopes.now interface.now name.now) }
+    ensures { AnswersTyped result (qualified_value scopes.now first.now second.now) }
 {
-    let within = meaning_in(scopes, interface, name);
+    let within = meaning_in(scopes, first, second);
     if is_nothing(within) {
-        Err(Refusal::Rule(no_field(interface, scopes)))
+        let variable = named(alloc, first, scopes)?;
+        designated(alloc, second, variable, scopes)
     } else {
-        value_of(alloc, depth_in(scopes)?, name, within)
+        value_of(alloc, depth_in(scopes)?, second, within)
     }
 }
 
@@ -149,15 +150,5 @@ fn is_nothing(meaning: Meaning<'_>) -> bool
     match meaning {
         Meaning::Nothing => true,
         _ => false,
-    }
-}
-
-/// A rule that fails where a name has no field.
-fn no_field(name: &Name, scopes: &[Scope]) -> u32
-    ensures { IsTrue (breaks result (spec.no_field name.now (meant scopes.now name.now))) }
-{
-    match meaning_of(scopes, name) {
-        Meaning::Nothing => undeclared(name),
-        _ => rule::FIELD,
     }
 }

@@ -1,20 +1,12 @@
-//! Expressions that are one factor and nothing more, and accesses with one selector.
+//! Expressions that are one factor and nothing more, and accesses by what comes first behind their name.
 
-ghost use Rattle.std.specs.Prelude.{◌≡◌, None};
+ghost use Rattle.std.specs.Prelude.{◌≡◌};
 ghost use Rattle.std.specs.Option.{option_copied, option_map};
 ghost use Rattle.ep_tree.specs.Shapes.{bare};
-ghost use Rattle.ep_check_expr.specs.Answers.{AnswersTyped};
-ghost use Rattle.ep_check_expr.specs.Expressions.{judged};
-ghost use Rattle.ep_check_expr.specs.Qualified.{field_alone, only_arguments, qualified_name, unjudged, names_of};
+ghost use Rattle.ep_check_expr.specs.Shapes.{field_first, only_arguments, split_of};
 
-use crate::expressions::typed_expression;
-use crate::forms::{Refusal, Typed};
-use crate::names::qualified;
-use ep_base::{Line, Name};
-use ep_built::expression_unbuilt;
-use ep_scope::Scope;
-use ep_tree::{Access, Argument, Expression, Factor, Selector};
-use std::alloc::Global;
+use ep_base::Name;
+use ep_tree::{Argument, Expression, Factor, Selector};
 
 /// The factor of an expression that is nothing more.
 pub(crate) fn bare(e: &Expression) -> Option<&Factor>
@@ -45,43 +37,13 @@ pub(crate) fn only_arguments(selectors: &[Selector]) -> Option<&[Argument]>
     }
 }
 
-/// The two names of an access `i.a`.
-fn two_names(a: &Access) -> Option<(&Name, &Name)>
-    ensures { option_map names_of result ≡ field_alone a.now }
+/// The name of a field that comes first, and the selectors behind it.
+pub(crate) fn field_first(selectors: &[Selector]) -> Option<(&Name, &[Selector])>
+    ensures { option_map split_of result ≡ field_first selectors.now }
 {
-    match a.selectors.items() {
-        [Selector::Field(_, name)] => Some((&a.name, name)),
+    let (first, more) = selectors.split_first()?;
+    match first {
+        Selector::Field(_, name) => Some((name, more)),
         _ => None,
-    }
-}
-
-/// The two names of an expression that is `i.a`.
-fn qualified_name(e: &Expression) -> Option<(&Name, &Name)>
-    ensures { option_map names_of result ≡ qualified_name e.now }
-{
-    match bare(e) {
-        Some(Factor::Access(a)) => two_names(a),
-        _ => None,
-    }
-}
-
-/// The line of the first node that is not built in an expression that is not `i.a`.
-pub(crate) fn unjudged(e: &Expression) -> Option<Line>
-    ensures { result ≡ unjudged e.now }
-{
-    match qualified_name(e) {
-        Some(_) => None,
-        None => expression_unbuilt(e),
-    }
-}
-
-/// The typed form of an expression whose forms are all built, or of `i.a`, or a rule that fails in it.
-pub(crate) fn any_form(alloc: Global, e: &Expression, scopes: &[Scope]) -> Result<Typed, Refusal>
-    requires { unjudged e.now ≡ None }
-    ensures { AnswersTyped result (judged scopes.now e.now) }
-{
-    match qualified_name(e) {
-        Some((interface, name)) => qualified(alloc, interface, name, scopes),
-        None => typed_expression(alloc, e, scopes),
     }
 }

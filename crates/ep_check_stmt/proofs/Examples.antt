@@ -14,7 +14,8 @@ use Rattle.ep_typed.specs.declared.denoter.RequiredType.TheVariants as simple
 use Rattle.ep_typed.specs.declared.interface.FormalMode.{FormalMode}
 use Rattle.ep_typed.specs.declared.interface.FormalMode.TheVariants as mode
 use Rattle.ep_typed.specs.declared.value.Value.TheVariants as value
-use Rattle.ep_scope.specs.declared.array.ArrayType.{ArrayType}
+use Rattle.ep_scope.specs.declared.structure.Composition.TheVariants as composition
+use Rattle.ep_scope.specs.declared.structure.StructuredType.{StructuredType}
 use Rattle.ep_scope.specs.declared.kind.Host.{Host}
 use Rattle.ep_scope.specs.declared.kind.Host.TheVariants as host
 use Rattle.ep_scope.specs.declared.kind.Kind.TheVariants as kind
@@ -75,7 +76,7 @@ context =
                 (codes "x", thing.Declared (declares 0 (declaration.Variable (type_name.Required simple.Integer) (kind.Ordinal host.Integer))))
                 ∷ (codes "c", thing.Declared (declares 1 (declaration.Variable (type_name.Required simple.Char) (kind.Ordinal host.Char)))) ∷ [];
             qualified = [];
-            arrays = [];
+            structures = [];
           } ∷ [];
       output = false;
       results = [];
@@ -178,16 +179,16 @@ abbrev color : Host
 color = host.Enumeration (record { number = 0; last = 1 })
 
 -- an array of integers by colors
-abbrev row : ArrayType
-row = record { number = 3; index = color; component = type_name.Required simple.Integer; kind = kind.Ordinal host.Integer }
+abbrev row : StructuredType
+row = record { number = 3; composition = composition.Array (record { index = color; component = type_name.Required simple.Integer; kind = kind.Ordinal host.Integer }) }
 
 -- a variable of the array type of a number
 abbrev array : ℕ → Declaration
-array number = declaration.Variable (type_name.Entry number) (kind.Array number)
+array number = declaration.Variable (type_name.Entry number) (kind.Structured number)
 
 -- a protected parameter of the type of the row
 abbrev guarded : Declaration
-guarded = declaration.Own (type_name.Entry 3) (kind.Array 3) protection.Protected
+guarded = declaration.Own (type_name.Entry 3) (kind.Structured 3) protection.Protected
 
 -- the integer x, the color red, the row a, b of another array type, and the protected row g
 abbrev rows : Context
@@ -199,7 +200,7 @@ rows =
                 (codes "x", thing.Declared (declares 0 x)) ∷ (codes "red", thing.Declared (declares 0 (declaration.Constant (kind.Ordinal color) (value.Word (pos 0)))))
                 ∷ (codes "a", thing.Declared (declares 2 (array 3))) ∷ (codes "b", thing.Declared (declares 3 (array 4))) ∷ (codes "g", thing.Declared (declares 4 guarded)) ∷ [];
             qualified = [];
-            arrays = row ∷ [];
+            structures = row ∷ [];
           } ∷ [];
     }
 
@@ -244,7 +245,7 @@ protected_array : assigns (access_node 1 (codes "g") []) (name_alone (codes "a")
 protected_array = simp (expression-judged, simple-judged, term-judged, name-judged) refl
 
 -- no array counts, so none is a control variable, nor is a component of one
-array_does_not_count : counted_by (tree.OfUnit (codes "u") 2) (kind.Array 3) ≡ Breaks (rule.ORDINAL ∷ [])
+array_does_not_count : counted_by (tree.OfUnit (codes "u") 2) (kind.Structured 3) ≡ Breaks (rule.ORDINAL ∷ [])
 array_does_not_count = refl
 
 -- a[v] := 3 threatens a, and not the control variable v

@@ -15,7 +15,7 @@ use Rattle.ep_check_stmt.specs.Statements.{Context, FunctionResult, Locals, Pass
 -- The place is that of a variable for results of this kind. No function has a result of another kind than an ordinal one that is built.
 abbrev pub IsResultAt : Declarations → Kind → Place → Type 0
 IsResultAt declared (kind.Ordinal h) place = IsHost h × IsPlace declared (typed_host h) place
-IsResultAt declared (kind.Array n) place = ⊤
+IsResultAt declared (kind.Structured n) place = ⊤
 IsResultAt declared kind.Text place = ⊤
 IsResultAt declared kind.File place = ⊤
 

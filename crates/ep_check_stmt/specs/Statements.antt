@@ -133,7 +133,7 @@ module _ (depth : ℕ) (unit : List ℕ) (results : List FunctionResult) where
   declared_target d (declaration.Variable of k) = Accepts (record { place = Some (tree.Variable d.unit d.number); kind = k })
   declared_target d (declaration.Own of k guarded) = when_accepted (λ done. Accepts (record { place = Some (own_place depth d); kind = k })) (unless_protected guarded)
   declared_target d (declaration.Constant k value) = Breaks (rule.CONSTANT_THREATENED ∷ rule.VARIABLE_NEEDED ∷ [])
-  declared_target d (declaration.«Type» of h) = Breaks (rule.OTHER_THING ∷ rule.VARIABLE_NEEDED ∷ [])
+  declared_target d (declaration.«Type» of h nodes) = Breaks (rule.OTHER_THING ∷ rule.VARIABLE_NEEDED ∷ [])
   declared_target d (declaration.Procedure parameters) = Breaks (rule.OTHER_THING ∷ rule.VARIABLE_NEEDED ∷ [])
   declared_target d (declaration.Function parameters of h) = function_target depth unit d results
 
@@ -172,7 +172,7 @@ printed (kind.Ordinal host.Integer) = Accepts print.Integer
 printed (kind.Ordinal host.Char) = Accepts print.Char
 printed (kind.Ordinal host.Boolean) = Accepts print.Boolean
 printed (kind.Ordinal (host.Enumeration e)) = Breaks (rule.WRITTEN_TYPE ∷ [])
-printed (kind.Array n) = Breaks (rule.WRITTEN_TYPE ∷ [])
+printed (kind.Structured n) = Breaks (rule.WRITTEN_TYPE ∷ [])
 printed kind.Text = Accepts print.Text
 printed kind.File = Breaks (rule.WRITTEN_TYPE ∷ [])
 
@@ -334,7 +334,7 @@ abbrev pub declared_control : Locals → ℕ → Declared → Declaration → Ju
 declared_control locals depth d (declaration.Variable of k) = control_if (declares_variable locals d.unit) (record { variable = tree.OfUnit d.unit d.number; kind = k })
 declared_control locals depth d (declaration.Own of k guarded) = control_if (declares_own locals depth d) (record { variable = tree.OfRoutine (depth - d.level) d.number; kind = k })
 declared_control locals depth d (declaration.Constant k value) = no_control (rule.CONSTANT_THREATENED ∷ rule.VARIABLE_NEEDED ∷ [])
-declared_control locals depth d (declaration.«Type» of h) = no_control (rule.OTHER_THING ∷ rule.VARIABLE_NEEDED ∷ [])
+declared_control locals depth d (declaration.«Type» of h nodes) = no_control (rule.OTHER_THING ∷ rule.VARIABLE_NEEDED ∷ [])
 declared_control locals depth d (declaration.Procedure parameters) = no_control (rule.OTHER_THING ∷ rule.VARIABLE_NEEDED ∷ [])
 declared_control locals depth d (declaration.Function parameters of h) = no_control (rule.OTHER_THING ∷ rule.VARIABLE_NEEDED ∷ [])
 
@@ -483,7 +483,7 @@ module _ (context : Context) where
   declared_called line d (declaration.Procedure parameters) arguments = own_called line d parameters arguments
   declared_called line d (declaration.Function parameters of h) arguments = Breaks (rule.PROCEDURE ∷ [])
   declared_called line d (declaration.Constant k value) arguments = Breaks (rule.OTHER_THING ∷ [])
-  declared_called line d (declaration.«Type» of h) arguments = Breaks (rule.OTHER_THING ∷ [])
+  declared_called line d (declaration.«Type» of h nodes) arguments = Breaks (rule.OTHER_THING ∷ [])
   declared_called line d (declaration.Variable of k) arguments = Breaks (rule.OTHER_THING ∷ [])
   declared_called line d (declaration.Own of k guarded) arguments = Breaks (rule.OTHER_THING ∷ [])
 

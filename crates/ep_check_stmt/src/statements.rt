@@ -478,7 +478,7 @@ impl<'a> Context<'a> {
             }
             Declaration::Function(_, _, _) => Err(Refusal::Rule(rule::PROCEDURE)),
             Declaration::Constant(_, _) => Err(Refusal::Rule(rule::OTHER_THING)),
-            Declaration::Type(_, _) => Err(Refusal::Rule(rule::OTHER_THING)),
+            Declaration::Type(_, _, _) => Err(Refusal::Rule(rule::OTHER_THING)),
             Declaration::Variable(_, _) => Err(Refusal::Rule(rule::OTHER_THING)),
             Declaration::Own(_, _, _) => Err(Refusal::Rule(rule::OTHER_THING)),
         }

@@ -163,7 +163,7 @@ impl Context<'_> {
                 Ok(Target { place, kind: *kind })
             }
             Declaration::Constant(_, _) => Err(Refusal::Rule(rule::CONSTANT_THREATENED)),
-            Declaration::Type(_, _) => Err(Refusal::Rule(rule::OTHER_THING)),
+            Declaration::Type(_, _, _) => Err(Refusal::Rule(rule::OTHER_THING)),
             Declaration::Procedure(_) => Err(Refusal::Rule(rule::OTHER_THING)),
             Declaration::Function(_, _, _) => {
                 function_target(depth_in(self.scopes)?, self.unit, declared, self.results)

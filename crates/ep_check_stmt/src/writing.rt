@@ -30,7 +30,7 @@ fn printed(kind: Kind) -> Result<Print, Refusal>
         Kind::Ordinal(Host::Char) => Ok(Print::Char),
         Kind::Ordinal(Host::Boolean) => Ok(Print::Boolean),
         Kind::Ordinal(Host::Enumeration(_)) => Err(Refusal::Rule(rule::WRITTEN_TYPE)),
-        Kind::Array(_) => Err(Refusal::Rule(rule::WRITTEN_TYPE)),
+        Kind::Structured(_) => Err(Refusal::Rule(rule::WRITTEN_TYPE)),
         Kind::Text => Ok(Print::Text),
         Kind::File => Err(Refusal::Rule(rule::WRITTEN_TYPE)),
     }

@@ -1,21 +1,25 @@
 -- What the rules of each denoter keep holds of all denoters, by the tree.
-use Rattle.std.proofs.Common.{ℕ, true, false, List, [], ◌∷◌, map, sym, subst}
+use Rattle.std.proofs.Common.{ℕ, true, false, List, [], ◌∷◌, map, Option, Some, None, sym, subst}
 use Rattle.std.specs.Prelude.{⊤}
 use Rattle.ep_tree.specs.declared.expression.Expression.{Expression}
 use Rattle.ep_tree.specs.declared.operator.QualifiedName.{QualifiedName}
-use Rattle.ep_tree.specs.declared.types.Core.TheFolds.{fold-roll-Core, fold-roll-Plain, fold-roll-Structure, ind-Core}
-use Rattle.ep_tree.specs.declared.types.Core.TheOpen.{Core-F, Plain-F, Structure-F}
+use Rattle.ep_tree.specs.declared.types.Core.TheFolds.{fold-roll-Core, fold-roll-FieldSection, fold-roll-Fields, fold-roll-Plain, fold-roll-Structure, fold-roll-TypeDenoter, ind-Core}
+use Rattle.ep_tree.specs.declared.types.Core.TheOpen.{Core-F, FieldSection-F, Fields-F, Plain-F, Structure-F, TypeDenoter-F}
 use Rattle.ep_tree.specs.declared.types.Core.{Core, map-Core, roll-Core}
-use Rattle.ep_tree.specs.declared.types.FieldSection.{FieldSection}
-use Rattle.ep_tree.specs.declared.types.Fields.{Fields}
+use Rattle.ep_tree.specs.declared.types.FieldSection.{FieldSection, map-FieldSection, roll-FieldSection}
+use Rattle.ep_tree.specs.declared.types.Fields.{Fields, map-Fields, roll-Fields}
 use Rattle.ep_tree.specs.declared.types.Plain.{Plain, map-Plain, roll-Plain}
 use Rattle.ep_tree.specs.declared.types.Structure.{Structure, map-Structure, roll-Structure}
-use Rattle.ep_tree.specs.declared.types.TypeDenoter.{TypeDenoter}
+use Rattle.ep_tree.specs.declared.types.TypeDenoter.{TypeDenoter, fold-TypeDenoter, map-TypeDenoter, roll-TypeDenoter}
 use Rattle.ep_tree.specs.declared.types.Variant.{Variant}
 use Rattle.ep_tree.specs.declared.types.VariantPart.{VariantPart}
 use Rattle.ep_check_expr.specs.Constants.{bound_judged}
-use Rattle.ep_check_expr.specs.Judgements.{both, unbuilt}
-use Rattle.ep_check_unit.specs.Declarations.{Part, Passed, array_part, array_written, at_core, at_structure, core_part, enumeration, plain_part, range, scopes_of, structure_part, structured, type_named}
+use Rattle.ep_check_expr.specs.Judgements.{both}
+use Rattle.ep_check_unit.specs.Declarations.{Part, Passed, Section, array_part, array_written, at_core, at_field_section, at_fields, at_plain, at_structure, at_type_denoter, core_part, enumeration, fields_part, plain_part, range, record_written, scopes_of, section_part, structure_part, structured, type_named, unbuilt_part}
+
+-- the part of a denoter with or without an initial state
+abbrev pub denoter_part : TypeDenoter → Part
+denoter_part = fold-TypeDenoter Part Part Section Part Part Part Passed Passed at_core at_structure at_field_section at_fields at_plain at_type_denoter (λ v. tt) (λ v. tt)
 
 -- the parts of denoters
 abbrev pub name_part : QualifiedName → Part
@@ -27,11 +31,16 @@ range_part low high = record { is_name = false; written = λ line b. both (range
 abbrev pub enumeration_part : List (List ℕ) → Part
 enumeration_part names = record { is_name = false; written = λ line b. enumeration names b }
 
-abbrev pub unbuilt_part : Part
-unbuilt_part = record { is_name = false; written = λ line b. unbuilt }
-
 abbrev pub over_part : Part → Part → Part
 over_part index of = record { is_name = false; written = array_written index of }
+
+abbrev pub record_part : List Section → Part
+record_part sections = record { is_name = false; written = record_written sections }
+
+-- the types of all sections have it
+abbrev pub AreKept : (Part → Type 0) → List Section → Type 0
+AreKept P [] = ⊤
+AreKept P (s ∷ ss) = P s.of × AreKept P ss
 
 -- each rule keeps it
 pub record KeptByDenoters (P : Part → Type 0) : Type 0 where
@@ -40,6 +49,7 @@ pub record KeptByDenoters (P : Part → Type 0) : Type 0 where
   pub enumerations : (names : List (List ℕ)) → P (enumeration_part names)
   pub others : P unbuilt_part
   pub arrays : (index of : Part) → P index → P of → P (over_part index of)
+  pub records : (sections : List Section) → AreKept P sections → P (record_part sections)
   pub structures : (p : Part) → P p → P (structured p)
 
 module _ (P : Part → Type 0) (kept : KeptByDenoters P) where
@@ -49,8 +59,17 @@ module _ (P : Part → Type 0) (kept : KeptByDenoters P) where
   abbrev OfStructure : Structure → Type 0
   OfStructure s = P (structure_part s)
 
+  abbrev OfSection : FieldSection → Type 0
+  OfSection s = P (section_part s).of
+
+  abbrev OfFields : Fields → Type 0
+  OfFields f = P (fields_part f)
+
   abbrev OfPlain : Plain → Type 0
   OfPlain p = P (plain_part p)
+
+  abbrev OfDenoter : TypeDenoter → Type 0
+  OfDenoter t = P (denoter_part t)
 
   -- nothing is asked of other nodes
   abbrev Any : {A : Type 0} → A → Type 0
@@ -63,17 +82,17 @@ module _ (P : Part → Type 0) (kept : KeptByDenoters P) where
   abbrev KeptStructure : Type 0
   KeptStructure = (s : Structure) × OfStructure s
 
-  abbrev AnySection : Type 0
-  AnySection = (s : FieldSection) × Any s
+  abbrev KeptSection : Type 0
+  KeptSection = (s : FieldSection) × OfSection s
 
-  abbrev AnyFields : Type 0
-  AnyFields = (f : Fields) × Any f
+  abbrev KeptFields : Type 0
+  KeptFields = (f : Fields) × OfFields f
 
   abbrev KeptPlain : Type 0
   KeptPlain = (p : Plain) × OfPlain p
 
-  abbrev AnyDenoter : Type 0
-  AnyDenoter = (t : TypeDenoter) × Any t
+  abbrev KeptDenoter : Type 0
+  KeptDenoter = (t : TypeDenoter) × OfDenoter t
 
   abbrev AnyVariant : Type 0
   AnyVariant = (v : Variant) × Any v
@@ -82,46 +101,70 @@ module _ (P : Part → Type 0) (kept : KeptByDenoters P) where
   AnyVariants = (v : VariantPart) × Any v
 
   -- layers of such nodes, without what holds of them
-  abbrev core_layer : Core-F KeptCore KeptStructure AnySection AnyFields KeptPlain AnyDenoter AnyVariant AnyVariants → Core-F Core Structure FieldSection Fields Plain TypeDenoter Variant VariantPart
-  core_layer = map-Core KeptCore KeptStructure AnySection AnyFields KeptPlain AnyDenoter AnyVariant AnyVariants Core Structure FieldSection Fields Plain TypeDenoter Variant VariantPart (λ e. e.0) (λ e. e.0) (λ e. e.0) (λ e. e.0) (λ e. e.0) (λ e. e.0) (λ e. e.0) (λ e. e.0)
+  abbrev core_layer : Core-F KeptCore KeptStructure KeptSection KeptFields KeptPlain KeptDenoter AnyVariant AnyVariants → Core-F Core Structure FieldSection Fields Plain TypeDenoter Variant VariantPart
+  core_layer = map-Core KeptCore KeptStructure KeptSection KeptFields KeptPlain KeptDenoter AnyVariant AnyVariants Core Structure FieldSection Fields Plain TypeDenoter Variant VariantPart (λ e. e.0) (λ e. e.0) (λ e. e.0) (λ e. e.0) (λ e. e.0) (λ e. e.0) (λ e. e.0) (λ e. e.0)
 
-  abbrev structure_layer : Structure-F KeptCore KeptStructure AnySection AnyFields KeptPlain AnyDenoter AnyVariant AnyVariants → Structure-F Core Structure FieldSection Fields Plain TypeDenoter Variant VariantPart
-  structure_layer = map-Structure KeptCore KeptStructure AnySection AnyFields KeptPlain AnyDenoter AnyVariant AnyVariants Core Structure FieldSection Fields Plain TypeDenoter Variant VariantPart (λ e. e.0) (λ e. e.0) (λ e. e.0) (λ e. e.0) (λ e. e.0) (λ e. e.0) (λ e. e.0) (λ e. e.0)
+  abbrev structure_layer : Structure-F KeptCore KeptStructure KeptSection KeptFields KeptPlain KeptDenoter AnyVariant AnyVariants → Structure-F Core Structure FieldSection Fields Plain TypeDenoter Variant VariantPart
+  structure_layer = map-Structure KeptCore KeptStructure KeptSection KeptFields KeptPlain KeptDenoter AnyVariant AnyVariants Core Structure FieldSection Fields Plain TypeDenoter Variant VariantPart (λ e. e.0) (λ e. e.0) (λ e. e.0) (λ e. e.0) (λ e. e.0) (λ e. e.0) (λ e. e.0) (λ e. e.0)
 
-  abbrev plain_layer : Plain-F KeptCore KeptStructure AnySection AnyFields KeptPlain AnyDenoter AnyVariant AnyVariants → Plain-F Core Structure FieldSection Fields Plain TypeDenoter Variant VariantPart
-  plain_layer = map-Plain KeptCore KeptStructure AnySection AnyFields KeptPlain AnyDenoter AnyVariant AnyVariants Core Structure FieldSection Fields Plain TypeDenoter Variant VariantPart (λ e. e.0) (λ e. e.0) (λ e. e.0) (λ e. e.0) (λ e. e.0) (λ e. e.0) (λ e. e.0) (λ e. e.0)
+  abbrev plain_layer : Plain-F KeptCore KeptStructure KeptSection KeptFields KeptPlain KeptDenoter AnyVariant AnyVariants → Plain-F Core Structure FieldSection Fields Plain TypeDenoter Variant VariantPart
+  plain_layer = map-Plain KeptCore KeptStructure KeptSection KeptFields KeptPlain KeptDenoter AnyVariant AnyVariants Core Structure FieldSection Fields Plain TypeDenoter Variant VariantPart (λ e. e.0) (λ e. e.0) (λ e. e.0) (λ e. e.0) (λ e. e.0) (λ e. e.0) (λ e. e.0) (λ e. e.0)
+
+  abbrev section_layer : FieldSection-F KeptCore KeptStructure KeptSection KeptFields KeptPlain KeptDenoter AnyVariant AnyVariants → FieldSection-F Core Structure FieldSection Fields Plain TypeDenoter Variant VariantPart
+  section_layer = map-FieldSection KeptCore KeptStructure KeptSection KeptFields KeptPlain KeptDenoter AnyVariant AnyVariants Core Structure FieldSection Fields Plain TypeDenoter Variant VariantPart (λ e. e.0) (λ e. e.0) (λ e. e.0) (λ e. e.0) (λ e. e.0) (λ e. e.0) (λ e. e.0) (λ e. e.0)
+
+  abbrev fields_layer : Fields-F KeptCore KeptStructure KeptSection KeptFields KeptPlain KeptDenoter AnyVariant AnyVariants → Fields-F Core Structure FieldSection Fields Plain TypeDenoter Variant VariantPart
+  fields_layer = map-Fields KeptCore KeptStructure KeptSection KeptFields KeptPlain KeptDenoter AnyVariant AnyVariants Core Structure FieldSection Fields Plain TypeDenoter Variant VariantPart (λ e. e.0) (λ e. e.0) (λ e. e.0) (λ e. e.0) (λ e. e.0) (λ e. e.0) (λ e. e.0) (λ e. e.0)
+
+  abbrev denoter_layer : TypeDenoter-F KeptCore KeptStructure KeptSection KeptFields KeptPlain KeptDenoter AnyVariant AnyVariants → TypeDenoter-F Core Structure FieldSection Fields Plain TypeDenoter Variant VariantPart
+  denoter_layer = map-TypeDenoter KeptCore KeptStructure KeptSection KeptFields KeptPlain KeptDenoter AnyVariant AnyVariants Core Structure FieldSection Fields Plain TypeDenoter Variant VariantPart (λ e. e.0) (λ e. e.0) (λ e. e.0) (λ e. e.0) (λ e. e.0) (λ e. e.0) (λ e. e.0) (λ e. e.0)
+
+  -- the sections of a record
+  sections_kept : (ss : List KeptSection) → AreKept P (map section_part (map (λ s. s.0) ss))
+  sections_kept [] = tt
+  sections_kept (s ∷ ss) = (s.1, sections_kept ss)
 
   -- an array of several index types
   arrays_kept : (of : Part) → P of → (is : List KeptPlain) → P (array_part of (map plain_part (map (λ p. p.0) is)))
   arrays_kept of o [] = o
   arrays_kept of o (i ∷ is) = kept.arrays (plain_part i.0) (array_part of (map plain_part (map (λ p. p.0) is))) i.1 (arrays_kept of o is)
 
-  core_kept : (y : Core-F KeptCore KeptStructure AnySection AnyFields KeptPlain AnyDenoter AnyVariant AnyVariants) → OfCore (roll-Core (core_layer y))
-  core_kept (Core-F.Named at name tuple) = subst P (sym (fold-roll-Core Part Part Passed Passed Part Passed Passed Passed at_core at_structure (λ s. tt) (λ f. tt) (λ p. p.core) (λ t. tt) (λ v. tt) (λ v. tt) (Core-F.Named at name tuple))) (kept.names name)
-  core_kept (Core-F.Range at low high) = subst P (sym (fold-roll-Core Part Part Passed Passed Part Passed Passed Passed at_core at_structure (λ s. tt) (λ f. tt) (λ p. p.core) (λ t. tt) (λ v. tt) (λ v. tt) (Core-F.Range at low high))) (kept.ranges low high)
-  core_kept (Core-F.Enumeration at names) = subst P (sym (fold-roll-Core Part Part Passed Passed Part Passed Passed Passed at_core at_structure (λ s. tt) (λ f. tt) (λ p. p.core) (λ t. tt) (λ v. tt) (λ v. tt) (Core-F.Enumeration at names))) (kept.enumerations names)
-  core_kept (Core-F.Pointer at name) = subst P (sym (fold-roll-Core Part Part Passed Passed Part Passed Passed Passed at_core at_structure (λ s. tt) (λ f. tt) (λ p. p.core) (λ t. tt) (λ v. tt) (λ v. tt) (Core-F.Pointer at name))) kept.others
-  core_kept (Core-F.Structured at packed structure) = subst P (sym (fold-roll-Core Part Part Passed Passed Part Passed Passed Passed at_core at_structure (λ s. tt) (λ f. tt) (λ p. p.core) (λ t. tt) (λ v. tt) (λ v. tt) (Core-F.Structured at packed structure.0))) structure.1
-  core_kept (Core-F.Restricted at name) = subst P (sym (fold-roll-Core Part Part Passed Passed Part Passed Passed Passed at_core at_structure (λ s. tt) (λ f. tt) (λ p. p.core) (λ t. tt) (λ v. tt) (λ v. tt) (Core-F.Restricted at name))) kept.others
-  core_kept (Core-F.TypeOf at name) = subst P (sym (fold-roll-Core Part Part Passed Passed Part Passed Passed Passed at_core at_structure (λ s. tt) (λ f. tt) (λ p. p.core) (λ t. tt) (λ v. tt) (λ v. tt) (Core-F.TypeOf at name))) kept.others
+  core_kept : (y : Core-F KeptCore KeptStructure KeptSection KeptFields KeptPlain KeptDenoter AnyVariant AnyVariants) → OfCore (roll-Core (core_layer y))
+  core_kept (Core-F.Named at name tuple) = subst P (sym (fold-roll-Core Part Part Section Part Part Part Passed Passed at_core at_structure at_field_section at_fields at_plain at_type_denoter (λ v. tt) (λ v. tt) (Core-F.Named at name tuple))) (kept.names name)
+  core_kept (Core-F.Range at low high) = subst P (sym (fold-roll-Core Part Part Section Part Part Part Passed Passed at_core at_structure at_field_section at_fields at_plain at_type_denoter (λ v. tt) (λ v. tt) (Core-F.Range at low high))) (kept.ranges low high)
+  core_kept (Core-F.Enumeration at names) = subst P (sym (fold-roll-Core Part Part Section Part Part Part Passed Passed at_core at_structure at_field_section at_fields at_plain at_type_denoter (λ v. tt) (λ v. tt) (Core-F.Enumeration at names))) (kept.enumerations names)
+  core_kept (Core-F.Pointer at name) = subst P (sym (fold-roll-Core Part Part Section Part Part Part Passed Passed at_core at_structure at_field_section at_fields at_plain at_type_denoter (λ v. tt) (λ v. tt) (Core-F.Pointer at name))) kept.others
+  core_kept (Core-F.Structured at packed structure) = subst P (sym (fold-roll-Core Part Part Section Part Part Part Passed Passed at_core at_structure at_field_section at_fields at_plain at_type_denoter (λ v. tt) (λ v. tt) (Core-F.Structured at packed structure.0))) structure.1
+  core_kept (Core-F.Restricted at name) = subst P (sym (fold-roll-Core Part Part Section Part Part Part Passed Passed at_core at_structure at_field_section at_fields at_plain at_type_denoter (λ v. tt) (λ v. tt) (Core-F.Restricted at name))) kept.others
+  core_kept (Core-F.TypeOf at name) = subst P (sym (fold-roll-Core Part Part Section Part Part Part Passed Passed at_core at_structure at_field_section at_fields at_plain at_type_denoter (λ v. tt) (λ v. tt) (Core-F.TypeOf at name))) kept.others
 
-  structure_kept : (y : Structure-F KeptCore KeptStructure AnySection AnyFields KeptPlain AnyDenoter AnyVariant AnyVariants) → OfStructure (roll-Structure (structure_layer y))
-  structure_kept (Structure-F.Array at indexes component) = subst P (sym (fold-roll-Structure Part Part Passed Passed Part Passed Passed Passed at_core at_structure (λ s. tt) (λ f. tt) (λ p. p.core) (λ t. tt) (λ v. tt) (λ v. tt) (Structure-F.Array at (map (λ p. p.0) indexes) component.0))) (kept.structures (array_part (plain_part component.0) (map plain_part (map (λ p. p.0) indexes))) (arrays_kept (plain_part component.0) component.1 indexes))
-  structure_kept (Structure-F.Record at fields) = subst P (sym (fold-roll-Structure Part Part Passed Passed Part Passed Passed Passed at_core at_structure (λ s. tt) (λ f. tt) (λ p. p.core) (λ t. tt) (λ v. tt) (λ v. tt) (Structure-F.Record at fields.0))) kept.others
-  structure_kept (Structure-F.Set at base) = subst P (sym (fold-roll-Structure Part Part Passed Passed Part Passed Passed Passed at_core at_structure (λ s. tt) (λ f. tt) (λ p. p.core) (λ t. tt) (λ v. tt) (λ v. tt) (Structure-F.Set at base.0))) kept.others
+  structure_kept : (y : Structure-F KeptCore KeptStructure KeptSection KeptFields KeptPlain KeptDenoter AnyVariant AnyVariants) → OfStructure (roll-Structure (structure_layer y))
+  structure_kept (Structure-F.Array at indexes component) = subst P (sym (fold-roll-Structure Part Part Section Part Part Part Passed Passed at_core at_structure at_field_section at_fields at_plain at_type_denoter (λ v. tt) (λ v. tt) (Structure-F.Array at (map (λ p. p.0) indexes) component.0))) (kept.structures (array_part (plain_part component.0) (map plain_part (map (λ p. p.0) indexes))) (arrays_kept (plain_part component.0) component.1 indexes))
+  structure_kept (Structure-F.Record at fields) = subst P (sym (fold-roll-Structure Part Part Section Part Part Part Passed Passed at_core at_structure at_field_section at_fields at_plain at_type_denoter (λ v. tt) (λ v. tt) (Structure-F.Record at fields.0))) (kept.structures (fields_part fields.0) fields.1)
+  structure_kept (Structure-F.Set at base) = subst P (sym (fold-roll-Structure Part Part Section Part Part Part Passed Passed at_core at_structure at_field_section at_fields at_plain at_type_denoter (λ v. tt) (λ v. tt) (Structure-F.Set at base.0))) kept.others
 
-  plain_kept : (y : Plain-F KeptCore KeptStructure AnySection AnyFields KeptPlain AnyDenoter AnyVariant AnyVariants) → OfPlain (roll-Plain (plain_layer y))
-  plain_kept y = subst P (sym (fold-roll-Plain Part Part Passed Passed Part Passed Passed Passed at_core at_structure (λ s. tt) (λ f. tt) (λ p. p.core) (λ t. tt) (λ v. tt) (λ v. tt) (plain_layer y))) y.core.1
+  section_kept : (y : FieldSection-F KeptCore KeptStructure KeptSection KeptFields KeptPlain KeptDenoter AnyVariant AnyVariants) → OfSection (roll-FieldSection (section_layer y))
+  section_kept y = subst (λ (s : Section). P s.of) (sym (fold-roll-FieldSection Part Part Section Part Part Part Passed Passed at_core at_structure at_field_section at_fields at_plain at_type_denoter (λ v. tt) (λ v. tt) (section_layer y))) y.of.1
+
+  fields_kept : (at : ℕ) (ss : List KeptSection) (v : Option AnyVariants) → OfFields (roll-Fields (fields_layer (record { line = at; sections = ss; variants = v })))
+  fields_kept at ss None = subst P (sym (fold-roll-Fields Part Part Section Part Part Part Passed Passed at_core at_structure at_field_section at_fields at_plain at_type_denoter (λ v. tt) (λ v. tt) (fields_layer (record { line = at; sections = ss; variants = None })))) (kept.records (map section_part (map (λ s. s.0) ss)) (sections_kept ss))
+  fields_kept at ss (Some v) = subst P (sym (fold-roll-Fields Part Part Section Part Part Part Passed Passed at_core at_structure at_field_section at_fields at_plain at_type_denoter (λ v. tt) (λ v. tt) (fields_layer (record { line = at; sections = ss; variants = Some v })))) kept.others
+
+  denoter_kept : (y : TypeDenoter-F KeptCore KeptStructure KeptSection KeptFields KeptPlain KeptDenoter AnyVariant AnyVariants) → OfDenoter (roll-TypeDenoter (denoter_layer y))
+  denoter_kept y = subst P (sym (fold-roll-TypeDenoter Part Part Section Part Part Part Passed Passed at_core at_structure at_field_section at_fields at_plain at_type_denoter (λ v. tt) (λ v. tt) (denoter_layer y))) y.plain.1
+
+  plain_kept : (y : Plain-F KeptCore KeptStructure KeptSection KeptFields KeptPlain KeptDenoter AnyVariant AnyVariants) → OfPlain (roll-Plain (plain_layer y))
+  plain_kept y = subst P (sym (fold-roll-Plain Part Part Section Part Part Part Passed Passed at_core at_structure at_field_section at_fields at_plain at_type_denoter (λ v. tt) (λ v. tt) (plain_layer y))) y.core.1
 
   -- so it holds of all
   pub each_denoter : (c : Core) → P (core_part c)
   each_denoter =
-      ind-Core OfCore OfStructure Any Any OfPlain Any Any Any
+      ind-Core OfCore OfStructure OfSection OfFields OfPlain OfDenoter Any Any
       (λ x y is. subst (λ z. OfCore (roll-Core z)) is (core_kept y))
       (λ x y is. subst (λ z. OfStructure (roll-Structure z)) is (structure_kept y))
-      (λ x y is. tt)
-      (λ x y is. tt)
+      (λ x y is. subst (λ z. OfSection (roll-FieldSection z)) is (section_kept y))
+      (λ x y is. subst (λ z. OfFields (roll-Fields z)) is (fields_kept y.line y.sections y.variants))
       (λ x y is. subst (λ z. OfPlain (roll-Plain z)) is (plain_kept y))
-      (λ x y is. tt)
+      (λ x y is. subst (λ z. OfDenoter (roll-TypeDenoter z)) is (denoter_kept y))
       (λ x y is. tt)
       (λ x y is. tt)

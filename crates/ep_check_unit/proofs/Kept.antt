@@ -1,5 +1,5 @@
 -- A block stays that of its unit.
-use Rattle.std.proofs.Common.{◌≡◌, ℕ, pos, suc, Bool, true, false, not, ◌&&◌, ◌||◌, List, [], ◌∷◌, length, map, Option, Some, None, subst, sym}
+use Rattle.std.proofs.Common.{◌≡◌, ℕ, nat_le, pos, suc, Bool, true, false, not, ◌&&◌, ◌||◌, List, [], ◌∷◌, length, map, Option, Some, None, subst, sym}
 use Rattle.std.specs.Prelude.{⊤, is_none, if◌then◌else◌}
 use Rattle.ep_tree.specs.declared.declaration.ConstantDefinition.{ConstantDefinition}
 use Rattle.ep_tree.specs.declared.declaration.TypeDefinition.{TypeDefinition}
@@ -41,13 +41,14 @@ use Rattle.ep_check_expr.specs.Names.{undeclared}
 use Rattle.ep_check_expr.specs.declared.constants.ConstantForm.{ConstantForm}
 use Rattle.ep_check_stmt.proofs.judged.Fits.{Any, Fits, fits_then, fits_both, fits_any}
 use Rattle.ep_check_stmt.specs.Statements.{Judgement, Passes, Waits, Fails, compound_judged}
-use Rattle.ep_check_unit.specs.Declarations.{Part as DenoterPart, all_variables_declared, and_then, array_over, at_line, common_host, constant_definition, constant_entered, constants_declared, core_of, core_part, core_written, declaration_ended, declared_type, entered, enumerated, enumeration, index_host, next_enumeration, noted, ordered, range, scopes_of, settled, settled_part, settled_type, Standing, Stands, Falls, subrange, type_definition, type_definitions, type_entered, type_meant, type_named, type_written, unused, variable_declaration, variable_entered, variables_declared, variables_entered, with_constant, with_name, with_type, is_outermost, with_own_variable, with_unit_variable, with_variable, own_thing, Written}
+use Rattle.ep_check_unit.specs.Declarations.{unless_large, Fielded, Part as DenoterPart, Section, field_of, fields_named, record_over, section_written, sections_written, all_variables_declared, and_then, array_over, at_line, common_host, constant_definition, constant_entered, constants_declared, core_of, core_part, core_written, declaration_ended, declared_type, entered, enumerated, enumeration, index_host, next_enumeration, noted, ordered, range, scopes_of, settled, settled_part, settled_type, Standing, Stands, Falls, subrange, type_definition, type_definitions, type_entered, type_meant, type_named, type_written, unused, variable_declaration, variable_entered, variables_declared, variables_entered, with_constant, with_name, with_type, is_outermost, with_own_variable, with_unit_variable, with_variable, own_thing, Written}
 use Rattle.ep_check_unit.specs.Functions.{if_given, in_block, is_assigned, is_in_view, own_name_entered, result_entered, routine_declaration, row_gives, same_result}
 use Rattle.ep_check_unit.specs.Routines.{BodyJudged, Headed, PartJudged, all_declared, assigns_among, block_declared, body_closed, body_declared, body_ended, context_of, declared_routine, formals_entered, forwarded, has_body, heading_entered, inside_declared, is_repeated, headed_again, headed_first, headed_over, headed_then, identified_again, identified_over, is_built_heading, of_body, of_part, of_routine, part_judged, parts_declared, result_headed, result_judged, routine_body_judged, routine_judged, routine_there, sections_judged, scope_opened, start_headed, start_name, with_routine}
 use Rattle.ep_check_unit.specs.declared.functions.HeadingResult.{HeadingResult}
 use Rattle.ep_check_unit.specs.Units.{parameter_entered, parameters_entered, standard_file}
 use Rattle.ep_check_unit.specs.Blocks.{Block}
-use Rattle.ep_check_unit.proofs.Denoters.{KeptByDenoters, each_denoter, over_part}
+use Rattle.ep_check_unit.specs.declared.types.TheConstants as limit
+use Rattle.ep_check_unit.proofs.Denoters.{AreKept, KeptByDenoters, each_denoter, over_part, record_part}
 use Rattle.ep_check_unit.specs.declared.block.OwnResult.{OwnResult}
 use Rattle.ep_check_unit.specs.declared.block.OwnVariables.{OwnVariables}
 
@@ -67,7 +68,7 @@ module _ (n : List ℕ) where
 
   with_constant-kept : (name : List ℕ) (k : Kind) (v : Value) (b : Block) → IsOf b → IsOf (with_constant name k v b)
   with_constant-kept name (kind.Ordinal h) v b i = i
-  with_constant-kept name (kind.Array m) v b i = i
+  with_constant-kept name (kind.Structured m) v b i = i
   with_constant-kept name kind.Text v b i = i
   with_constant-kept name kind.File v b i = i
 
@@ -77,7 +78,7 @@ module _ (n : List ℕ) where
   -- ---- types
 
   declared_type-kept : (d : Declared) (what : Declaration) (b : Block) → IsOf b → Fits IsIn (declared_type d what b)
-  declared_type-kept d (declaration.«Type» of h) b i = i
+  declared_type-kept d (declaration.«Type» of h nodes) b i = i
   declared_type-kept d (declaration.Constant k v) b i = tt
   declared_type-kept d (declaration.Variable of k) b i = tt
   declared_type-kept d (declaration.Own of k guarded) b i = tt
@@ -126,9 +127,25 @@ module _ (n : List ℕ) where
 
   array_written-kept : (index of : DenoterPart) → IsKeptPart index → IsKeptPart of → IsKeptPart (over_part index of)
   array_written-kept index of h g line b i =
-      fits_then IsIn IsIn (λ w. when_accepted (λ host. when_accepted (λ below. Accepts (array_over w.denoter host below)) (settled_part of line w.block)) (index_host w.kind)) (settled_part index line b) (settled_part-kept index h line b i)
-      (λ w j. fits_then Any IsIn (λ host. when_accepted (λ below. Accepts (array_over w.denoter host below)) (settled_part of line w.block)) (index_host w.kind) (fits_any (index_host w.kind))
-      (λ host k. fits_then IsIn IsIn (λ below. Accepts (array_over w.denoter host below)) (settled_part of line w.block) (settled_part-kept of g line w.block j) (λ below l. l)))
+      fits_then IsIn IsIn (λ w. when_accepted (λ host. when_accepted (λ below. Accepts (array_over w.denoter w.nodes host below)) (settled_part of line w.block)) (index_host w.kind)) (settled_part index line b) (settled_part-kept index h line b i)
+      (λ w j. fits_then Any IsIn (λ host. when_accepted (λ below. Accepts (array_over w.denoter w.nodes host below)) (settled_part of line w.block)) (index_host w.kind) (fits_any (index_host w.kind))
+      (λ host k. fits_then IsIn IsIn (λ below. Accepts (array_over w.denoter w.nodes host below)) (settled_part of line w.block) (settled_part-kept of g line w.block j) (λ below l. l)))
+
+  abbrev IsInFields : Fielded → Type 0
+  IsInFields f = IsOf f.block
+
+  section_written-kept : (line : ℕ) (s : Section) → IsKeptPart s.of → (f : Fielded) → IsInFields f → Fits IsInFields (section_written line s f)
+  section_written-kept line s h f i =
+      fits_then IsIn IsInFields (λ w. when_accepted (λ fields. Accepts (record { fields = fields; block = w.block })) (fields_named (field_of w) s.names f.fields)) (settled_part s.of line f.block) (settled_part-kept s.of h line f.block i)
+      (λ w j. fits_then Any IsInFields (λ fields. Accepts (record { fields = fields; block = w.block })) (fields_named (field_of w) s.names f.fields) (fits_any (fields_named (field_of w) s.names f.fields)) (λ fields k. j))
+
+  sections_written-kept : (line : ℕ) (ss : List Section) → AreKept IsKeptPart ss → (f : Fielded) → IsInFields f → Fits IsInFields (sections_written line ss f)
+  sections_written-kept line [] h f i = i
+  sections_written-kept line (s ∷ ss) h f i = fits_then IsInFields IsInFields (sections_written line ss) (section_written line s f) (section_written-kept line s h.0 f i) (λ g j. sections_written-kept line ss h.1 g j)
+
+  record_written-kept : (sections : List Section) → AreKept IsKeptPart sections → IsKeptPart (record_part sections)
+  record_written-kept sections h line b i =
+      fits_then IsInFields IsIn (λ f. Accepts (record_over f)) (sections_written line sections (record { fields = []; block = b })) (sections_written-kept line sections h (record { fields = []; block = b }) i) (λ f j. j)
 
   parts_kept : KeptByDenoters IsKeptPart
   parts_kept = record {
@@ -139,6 +156,7 @@ module _ (n : List ℕ) where
     enumerations = λ names line b i. enumeration-kept names b i;
     others = λ line b i. tt;
     arrays = array_written-kept;
+    records = record_written-kept;
     structures = λ p h line b i. h line b i;
   }
 
@@ -147,6 +165,16 @@ module _ (n : List ℕ) where
 
   settled_type-kept : (line : ℕ) (c : Core) (b : Block) → IsOf b → Fits IsIn (settled_type line c b)
   settled_type-kept line c b i = settled_part-kept (core_part c) (each_denoter IsKeptPart parts_kept c) line b i
+
+  large_kept : (w : Written) → IsIn w → Fits IsIn (unless_large w)
+  large_kept w i = chosen (nat_le w.nodes limit.TYPE_NODES)
+    where
+      chosen : (c : Bool) → Fits IsIn (if c then Accepts w else Breaks (rule.LARGE_TYPE ∷ []))
+      chosen true = i
+      chosen false = tt
+
+  few_kept : (j : Judged Written) → Fits IsIn j → Fits IsIn (when_accepted unless_large j)
+  few_kept j h = fits_then IsIn IsIn unless_large j h large_kept
 
   -- ---- items
 
@@ -157,8 +185,8 @@ module _ (n : List ℕ) where
 
   type_definition-kept : (line : ℕ) (d : TypeDefinition) (b : Block) → IsOf b → Fits IsOf (type_definition line d b)
   type_definition-kept line d b i =
-      fits_then IsIn IsOf (type_entered d) (type_written line d.of b) (core_written-kept line (core_of d.of) b i)
-      (λ w j. entered-kept d.name (own_thing w.block (length w.block.types) (declaration.«Type» w.of w.kind)) (with_type (Some d.name) d.line w.denoter w.block) j)
+      fits_then IsIn IsOf (type_entered d) (when_accepted unless_large (type_written line d.of b)) (few_kept (type_written line d.of b) (core_written-kept line (core_of d.of) b i))
+      (λ w j. entered-kept d.name (own_thing w.block (length w.block.types) (declaration.«Type» w.of w.kind w.nodes)) (with_type (Some d.name) d.line w.denoter w.block) j)
 
   type_definitions-kept : (line : ℕ) (ds : List TypeDefinition) (b : Block) → IsOf b → Fits IsOf (type_definitions line ds b)
   type_definitions-kept line [] b i = i
@@ -176,7 +204,7 @@ module _ (n : List ℕ) where
 
   variable_declaration-kept : (d : VariableDeclaration) (b : Block) → IsOf b → Fits IsOf (variable_declaration d b)
   variable_declaration-kept d b i =
-      fits_then IsIn IsOf (variables_declared d) (settled_type d.line (core_of d.of) b) (settled_type-kept d.line (core_of d.of) b i)
+      fits_then IsIn IsOf (variables_declared d) (when_accepted unless_large (settled_type d.line (core_of d.of) b)) (few_kept (settled_type d.line (core_of d.of) b) (settled_type-kept d.line (core_of d.of) b i))
       (λ w j. fits_then IsOf IsOf (λ c. Accepts (declaration_ended c)) (variables_entered d.line w.denoter w.of w.kind d.names w.block) (variables_entered-kept d.line w.denoter w.of w.kind d.names w.block j) (λ c l. l))
 
   -- ---- parts
@@ -216,7 +244,7 @@ module _ (n : List ℕ) where
   declared_routine-kept number (declaration.Procedure ps) b i = i
   declared_routine-kept number (declaration.Function ps of h) b i = i
   declared_routine-kept number (declaration.Constant k v) b i = tt
-  declared_routine-kept number (declaration.«Type» of h) b i = tt
+  declared_routine-kept number (declaration.«Type» of h nodes) b i = tt
   declared_routine-kept number (declaration.Variable of k) b i = tt
   declared_routine-kept number (declaration.Own of k guarded) b i = tt
 

@@ -8,6 +8,6 @@ pub mod Kept
 pub mod Parameters
 pub mod Programs
 pub mod Refusing
+pub mod FieldSections
 pub mod Rounds
 pub mod Subranges
-pub mod valid

@@ -1,5 +1,5 @@
 -- What the functions answer of what is judged: the form, or a rule that fails first; want of memory is free.
-use Rattle.std.specs.Prelude.{◌≡◌, ℕ, Bool, true, List, [], ◌∷◌, ◌++◌, length, Option, Result, Ok, Err, IsTrue, ⊤}
+use Rattle.std.specs.Prelude.{◌≡◌, ℕ, Bool, true, List, [], ◌∷◌, ◌++◌, length, map, Option, Result, Ok, Err, IsTrue, ⊤}
 use Rattle.ep_typed.specs.declared.denoter.Denoter.{Denoter}
 use Rattle.ep_typed.specs.declared.value.Value.{Value}
 use Rattle.ep_scope.specs.declared.kind.Host.{Host}
@@ -21,6 +21,7 @@ use Rattle.ep_check_unit.specs.declared.headings.Heading.{Heading}
 use Rattle.ep_check_unit.specs.declared.types.IndexType.{IndexType}
 use Rattle.ep_check_unit.specs.declared.types.NamedType.{NamedType}
 use Rattle.ep_check_unit.specs.declared.types.Written.{Written}
+use Rattle.ep_check_unit.specs.declared.records.WrittenField.{WrittenField}
 
 -- a count as a number of 32 bits, where it is one
 abbrev pub AnswersNumber : ℕ → Result ℕ Refusal → Type 0
@@ -57,25 +58,37 @@ AnswersGiven line given (Err r) = (s : Standing) → RefusesItems r (if_given li
 
 -- types that are written, in a block
 abbrev pub named_in : Block → NamedType → spec.Written
-named_in b t = record { denoter = spec.type_denoter t.name; of = t.of; kind = t.kind; block = b }
+named_in b t = record { denoter = spec.type_denoter t.name; of = t.of; kind = t.kind; nodes = t.nodes; block = b }
 
 abbrev pub written_in : Block → Written → spec.Written
-written_in b w = record { denoter = w.denoter; of = w.of; kind = w.kind; block = b }
+written_in b w = record { denoter = w.denoter; of = w.of; kind = w.kind; nodes = w.nodes; block = b }
 
 -- an index type, as the denoter of an array has it
-abbrev pub index_of : IndexType → Denoter × Host
-index_of i = (spec.type_denoter i.name, i.host)
+abbrev pub index_of : IndexType → Denoter × ℕ × Host
+index_of i = (spec.type_denoter i.name, i.nodes, i.host)
 
 -- index types from left to right, each with an entry where it needs one, and the block behind them
-abbrev pub indexes_written : ℕ → List spec.Part → Block → Judged (List (Denoter × Host) × Block)
+abbrev pub indexes_written : ℕ → List spec.Part → Block → Judged (List (Denoter × ℕ × Host) × Block)
 indexes_written line [] b = Accepts ([], b)
 indexes_written line (p ∷ ps) b =
-    when_accepted (λ w. when_accepted (λ h. when_accepted (λ r. Accepts ((w.denoter, h) ∷ r.0, r.1)) (indexes_written line ps w.block)) (spec.index_host w.kind)) (spec.settled_part p line b)
+    when_accepted (λ w. when_accepted (λ h. when_accepted (λ r. Accepts ((w.denoter, w.nodes, h) ∷ r.0, r.1)) (indexes_written line ps w.block)) (spec.index_host w.kind)) (spec.settled_part p line b)
 
 -- arrays of these index types over a type, the innermost first, each with an entry of its own
-abbrev pub arrays_below : ℕ → List (Denoter × Host) → spec.Written → spec.Written
+abbrev pub arrays_below : ℕ → List (Denoter × ℕ × Host) → spec.Written → spec.Written
 arrays_below line [] w = w
-arrays_below line (i ∷ is) w = spec.settled line (spec.array_over i.0 i.1 (arrays_below line is w))
+arrays_below line (i ∷ is) w = spec.settled line (spec.array_over i.0 i.1 i.2 (arrays_below line is w))
+
+-- a field that is written
+abbrev pub field_in : WrittenField → spec.Field
+field_in f = record { name = f.name; denoter = spec.type_denoter f.of.name; of = f.of.of; kind = f.of.kind; nodes = f.of.nodes }
+
+-- fields of a type that is written
+abbrev pub field_named : NamedType → List ℕ → spec.Field
+field_named t name = record { name = name; denoter = spec.type_denoter t.name; of = t.of; kind = t.kind; nodes = t.nodes }
+
+-- fields that are written, in a block
+abbrev pub fields_in : Block → List WrittenField → spec.Fielded
+fields_in b fields = record { fields = map field_in fields; block = b }
 
 -- a routine that is declared, in a block
 abbrev pub headed_in : Block → Heading → Headed

@@ -1,7 +1,6 @@
 -- What a check answers of a component.
 use Rattle.std.specs.Prelude.{◌≡◌, ℕ, true, List, map, Option, Some, None, Result, Ok, Err, IsTrue, ⊤}
 use Rattle.ep_tree.specs.declared.component.Component.{Component}
-use Rattle.ep_typed.specs.Valid.{IsValid}
 use Rattle.ep_typed.specs.declared.interface.ImportSpec.{ImportSpec}
 use Rattle.ep_typed.specs.declared.tree.TypedStmt.{TypedStmt}
 use Rattle.ep_typed.specs.declared.tree.TypedStmt.TheVariants as stmt
@@ -28,12 +27,6 @@ abbrev pub unit_in : Checked → Option TypedUnit
 unit_in (checked.Heading i) = None
 unit_in (checked.Block u) = Some u
 unit_in (checked.Both i u) = Some u
-
--- it is valid
-abbrev pub HasValidUnit : Checked → Type 0
-HasValidUnit (checked.Heading i) = ⊤
-HasValidUnit (checked.Block u) = IsValid u
-HasValidUnit (checked.Both i u) = IsValid u
 
 -- why a component has none
 abbrev pub IsRefusal : Component → CheckRefusal → Type 0

@@ -2,10 +2,13 @@
 --
 -- Items are taken in the order of the text. A constant definition and a variable declaration are items, on the line of their first token, and a type part is one, on the line of the word `type`. A name means what is declared before its use, or outside of the block: a later declaration of it plays no part (own).
 use Rattle.std.specs.List.{list_any}
-use Rattle.std.specs.Prelude.{ℕ, nat_eq, ◌==◌, ℤ, pos, suc, int_le, Bool, true, false, ◌&&◌, List, [], ◌∷◌, ◌++◌, length, Option, Some, None, if◌then◌else◌}
+use Rattle.std.specs.Prelude.{ℕ, nat_eq, nat_le, ◌==◌, ◌+◌, ℤ, pos, suc, int_le, Bool, true, false, ◌&&◌, ◌||◌, List, [], ◌∷◌, ◌++◌, length, map, Option, Some, None, if◌then◌else◌}
 use Rattle.std.specs.Option.{option_or}
-use Rattle.ep_tree.specs.declared.types.Core.TheOpen.{Core-F, Structure-F}
+use Rattle.std.specs.Str.{bytes_eq}
+use Rattle.ep_tree.specs.declared.types.Core.TheOpen.{Core-F, FieldSection-F, Fields-F, Plain-F, Structure-F, TypeDenoter-F}
 use Rattle.ep_tree.specs.declared.types.Core.{Core, fold-Core}
+use Rattle.ep_tree.specs.declared.types.FieldSection.{FieldSection, fold-FieldSection}
+use Rattle.ep_tree.specs.declared.types.Fields.{Fields, fold-Fields}
 use Rattle.ep_tree.specs.declared.types.Plain.{Plain, fold-Plain, out-Plain}
 use Rattle.ep_tree.specs.declared.types.Structure.{Structure, fold-Structure}
 use Rattle.ep_tree.specs.declared.types.TypeDenoter.{TypeDenoter, out-TypeDenoter}
@@ -15,6 +18,7 @@ use Rattle.ep_tree.specs.declared.declaration.VariableDeclaration.{VariableDecla
 use Rattle.ep_typed.specs.declared.denoter.Bound.TheVariants.{Constant as Fixed}
 use Rattle.ep_typed.specs.declared.denoter.Denoter.{Denoter}
 use Rattle.ep_typed.specs.declared.denoter.Denoter.TheVariants as denoter
+use Rattle.ep_typed.specs.declared.denoter.RecordField.{RecordField, roll-RecordField}
 use Rattle.ep_typed.specs.declared.denoter.RequiredType.{RequiredType}
 use Rattle.ep_typed.specs.declared.denoter.RequiredType.TheVariants as simple
 use Rattle.ep_typed.specs.declared.unit.UnitVariable.{UnitVariable}
@@ -22,8 +26,7 @@ use Rattle.ep_typed.specs.declared.value.Value.{Value}
 use Rattle.ep_typed.specs.declared.value.Value.TheVariants as value
 use Rattle.ep_scope.specs.Kinds.{same_host}
 use Rattle.ep_scope.specs.Required.{look_up}
-use Rattle.ep_scope.specs.Scopes.{Region, in_view, with_inner, with_inner_array, Meant, Declares, Standard, Requires, Nothing, meant, meant_in}
-use Rattle.ep_scope.specs.declared.array.ArrayType.{ArrayType}
+use Rattle.ep_scope.specs.Scopes.{Region, in_view, with_inner, with_inner_structure, Meant, Declares, Standard, Requires, Nothing, meant, meant_in}
 use Rattle.ep_scope.specs.declared.kind.Host.{Host}
 use Rattle.ep_scope.specs.declared.kind.Host.TheVariants as host
 use Rattle.ep_scope.specs.declared.kind.Kind.{Kind}
@@ -33,6 +36,9 @@ use Rattle.ep_scope.specs.declared.parameter.TypeName.{TypeName}
 use Rattle.ep_scope.specs.declared.parameter.TypeName.TheVariants as type_name
 use Rattle.ep_scope.specs.declared.required.Required.TheVariants as required
 use Rattle.ep_scope.specs.declared.rule.TheConstants as rule
+use Rattle.ep_scope.specs.declared.structure.Composition.TheVariants as composition
+use Rattle.ep_scope.specs.declared.structure.FieldType.{FieldType}
+use Rattle.ep_scope.specs.declared.structure.StructuredType.{StructuredType}
 use Rattle.ep_scope.specs.declared.thing.Declaration.{Declaration}
 use Rattle.ep_scope.specs.declared.thing.Declaration.TheVariants as declaration
 use Rattle.ep_scope.specs.declared.thing.Declared.{Declared}
@@ -44,6 +50,7 @@ use Rattle.ep_check_expr.specs.declared.constants.ConstantForm.{ConstantForm}
 use Rattle.ep_check_expr.specs.Names.{undeclared}
 use Rattle.ep_check_unit.specs.Blocks.{Block, own_count}
 use Rattle.ep_check_unit.specs.declared.block.Enclosing.{Enclosing}
+use Rattle.ep_check_unit.specs.declared.types.TheConstants as limit
 
 -- ---- names
 
@@ -107,26 +114,40 @@ with_constant name k v b = with_name name (own_thing b (length b.constants) (dec
 abbrev pub constant_entered : List ℕ → Kind → Value → Block → Judged Block
 constant_entered name k v b = when_accepted (λ _. Accepts (with_constant name k v b)) (unused name b)
 
--- a type that is written: its denoter, which type it is, and its kind, and what has been declared with it
+-- The nodes of a type are its denoters and bounds, with the names in it replaced by what they name (own). They are counted
+-- up to one more than a type may have.
+abbrev pub counted : ℕ → ℕ → ℕ
+counted n m = if nat_le (n + m) limit.TYPE_NODES then n + m else suc limit.TYPE_NODES
+
+-- those of a subrange: itself, its host and its bounds
+abbrev pub subrange_nodes : ℕ
+subrange_nodes = 4
+
+-- a type that is written: its denoter, which type it is, its kind, and how many nodes it has, and what has been declared with it
 pub record Written : Type 0 where
   pub denoter : Denoter
   pub of : TypeName
   pub kind : Kind
+  pub nodes : ℕ
   pub block : Block
+
+-- a type has not too many nodes (own)
+abbrev pub unless_large : Written → Judged Written
+unless_large w = if nat_le w.nodes limit.TYPE_NODES then Accepts w else Breaks (rule.LARGE_TYPE ∷ [])
 
 abbrev pub misnamed : Judged Written
 misnamed = Breaks (rule.OTHER_THING ∷ [])
 
 -- a type by a name of the unit, which is its entry in the list of types
 abbrev pub declared_type : Declared → Declaration → Block → Judged Written
-declared_type d (declaration.«Type» of k) b = Accepts (record { denoter = denoter.Named d.number []; of = of; kind = k; block = b })
+declared_type d (declaration.«Type» of k nodes) b = Accepts (record { denoter = denoter.Named d.number []; of = of; kind = k; nodes = nodes; block = b })
 declared_type d _ b = misnamed
 
 -- a type by a name that means this (ISO 10206, 6.4.1), or else these rules fail
 abbrev pub type_meant : List ℕ → Meant → Block → Judged Written
 type_meant missing (Declares d) b = declared_type d d.what b
 type_meant missing (Standard file) b = misnamed
-type_meant missing (Requires (required.«Type» r)) b = Accepts (record { denoter = denoter.Required r; of = type_name.Required r; kind = kind.Ordinal (required_host r); block = b })
+type_meant missing (Requires (required.«Type» r)) b = Accepts (record { denoter = denoter.Required r; of = type_name.Required r; kind = kind.Ordinal (required_host r); nodes = 1; block = b })
 type_meant missing (Requires _) b = misnamed
 type_meant missing Nothing b = Breaks missing
 
@@ -155,6 +176,7 @@ subrange line h low high b =
       denoter = subrange_denoter h low high;
       of = next_type b;
       kind = kind.Ordinal h;
+      nodes = subrange_nodes;
       block = noted (low.built && high.built) line b;
     }
 
@@ -185,7 +207,7 @@ enumerated h ordinal (name ∷ names) b = when_accepted (enumerated h (suc ordin
 
 -- an enumeration (ISO 10206, 6.4.2.3); no text has one without constants, which would be an empty range
 abbrev pub enumeration_of : Host → List (List ℕ) → Block → Judged Written
-enumeration_of h names b = when_accepted (λ c. Accepts (record { denoter = denoter.Enumeration names; of = next_type b; kind = kind.Ordinal h; block = c })) (enumerated h 0 names b)
+enumeration_of h names b = when_accepted (λ c. Accepts (record { denoter = denoter.Enumeration names; of = next_type b; kind = kind.Ordinal h; nodes = 1; block = c })) (enumerated h 0 names b)
 
 abbrev pub enumeration : List (List ℕ) → Block → Judged Written
 enumeration [] b = Breaks (rule.EMPTY_RANGE ∷ [])
@@ -210,6 +232,7 @@ settled line w =
       denoter = denoter.Named (length w.block.types) [];
       of = w.of;
       kind = w.kind;
+      nodes = w.nodes;
       block = with_type None line w.denoter w.block;
     }
 
@@ -226,29 +249,96 @@ abbrev pub index_host : Kind → Judged Host
 index_host (kind.Ordinal h) = Accepts h
 index_host _ = Breaks (rule.ORDINAL ∷ [])
 
--- an array type more in the innermost scope
-abbrev pub with_array : ArrayType → Block → Block
-with_array a b = record b { scopes = with_inner_array b.scopes a }
+-- a structured type more in the innermost scope
+abbrev pub with_structure : StructuredType → Block → Block
+with_structure s b = record b { scopes = with_inner_structure b.scopes s }
 
 -- the array type of an index type with this host, whose components are so
-abbrev pub array_over : Denoter → Host → Written → Written
-array_over index h of =
+abbrev pub array_over : Denoter → ℕ → Host → Written → Written
+array_over index nodes h of =
     record {
       denoter = denoter.Array index of.denoter;
       of = next_type of.block;
-      kind = kind.Array (length of.block.types);
-      block = with_array (record { number = length of.block.types; index = h; component = of.of; kind = of.kind }) of.block;
+      kind = kind.Structured (length of.block.types);
+      nodes = counted (counted 1 nodes) of.nodes;
+      block = with_structure (record { number = length of.block.types; composition = composition.Array (record { index = h; component = of.of; kind = of.kind }) }) of.block;
     }
 
 -- an array of this index type and these components
 abbrev pub array_written : Part → Part → ℕ → Block → Judged Written
 array_written index of line b =
-    when_accepted (λ i. when_accepted (λ h. when_accepted (λ below. Accepts (array_over i.denoter h below)) (settled_part of line i.block)) (index_host i.kind)) (settled_part index line b)
+    when_accepted (λ i. when_accepted (λ h. when_accepted (λ below. Accepts (array_over i.denoter i.nodes h below)) (settled_part of line i.block)) (index_host i.kind)) (settled_part index line b)
 
 -- An array of several index types is an array of the first one, whose components are an array of the others (ISO 10206, 6.4.3.2).
 abbrev pub array_part : Part → List Part → Part
 array_part of [] = of
 array_part of (i ∷ is) = record { is_name = false; written = array_written i (array_part of is) }
+
+-- a field of a record: its name, the denoter of its type, which type it is, its kind and how many nodes it has
+pub record Field : Type 0 where
+  pub name : List ℕ
+  pub denoter : Denoter
+  pub of : TypeName
+  pub kind : Kind
+  pub nodes : ℕ
+
+-- fields that are written, and what has been declared with them
+pub record Fielded : Type 0 where
+  pub fields : List Field
+  pub block : Block
+
+-- whether a field has the name
+abbrev pub has_field : List Field → List ℕ → Bool
+has_field [] name = false
+has_field (f ∷ fs) name = bytes_eq f.name name || has_field fs name
+
+-- fields more, no two of one name (ISO 10206, 6.2.2.7 and 6.4.3.4)
+abbrev pub fields_named : (List ℕ → Field) → List (List ℕ) → List Field → Judged (List Field)
+fields_named field [] fields = Accepts fields
+fields_named field (name ∷ names) fields = if has_field fields name then Breaks (rule.TWICE ∷ []) else fields_named field names (fields ++ field name ∷ [])
+
+-- a section of fields: their names, and their type
+pub record Section : Type 0 where
+  pub names : List (List ℕ)
+  pub of : Part
+
+abbrev pub field_of : Written → List ℕ → Field
+field_of w name = record { name = name; denoter = w.denoter; of = w.of; kind = w.kind; nodes = w.nodes }
+
+-- a section behind others
+abbrev pub section_written : ℕ → Section → Fielded → Judged Fielded
+section_written line s f = when_accepted (λ w. when_accepted (λ fields. Accepts (record { fields = fields; block = w.block })) (fields_named (field_of w) s.names f.fields)) (settled_part s.of line f.block)
+
+-- sections from left to right
+abbrev pub sections_written : ℕ → List Section → Fielded → Judged Fielded
+sections_written line [] f = Accepts f
+sections_written line (s ∷ ss) f = when_accepted (sections_written line ss) (section_written line s f)
+
+-- a field, as the denoter of a record has it, and as the rules see it
+abbrev pub record_field : Field → RecordField
+record_field f = roll-RecordField (record { name = f.name; denoter = f.denoter })
+
+abbrev pub field_type : Field → FieldType
+field_type f = record { name = f.name; of = f.of; kind = f.kind }
+
+-- the nodes of a record, which has these and those of these fields
+abbrev pub record_nodes : ℕ → List Field → ℕ
+record_nodes nodes [] = nodes
+record_nodes nodes (f ∷ fs) = record_nodes (counted nodes f.nodes) fs
+
+-- the record type with these fields (ISO 10206, 6.4.3.4)
+abbrev pub record_over : Fielded → Written
+record_over f =
+    record {
+      denoter = denoter.Record (map record_field f.fields);
+      of = next_type f.block;
+      kind = kind.Structured (length f.block.types);
+      nodes = record_nodes 1 f.fields;
+      block = with_structure (record { number = length f.block.types; composition = composition.Record (map field_type f.fields) }) f.block;
+    }
+
+abbrev pub record_written : List Section → ℕ → Block → Judged Written
+record_written sections line b = when_accepted (λ f. Accepts (record_over f)) (sections_written line sections (record { fields = []; block = b }))
 
 -- what is not judged
 abbrev pub Passed : Type 0
@@ -258,28 +348,56 @@ Passed = Unit {0}
 abbrev pub structured : Part → Part
 structured p = record { is_name = false; written = p.written }
 
--- a structure, which is an array
-abbrev pub at_structure : Structure-F Part Part Passed Passed Part Passed Passed Passed → Part
+-- what is not built
+abbrev pub unbuilt_part : Part
+unbuilt_part = record { is_name = false; written = λ line b. unbuilt }
+
+-- the fields of a record, whose variants are not built
+abbrev pub fields_over : List Section → Option Passed → Part
+fields_over sections None = record { is_name = false; written = record_written sections }
+fields_over sections (Some variants) = unbuilt_part
+
+abbrev pub at_fields : Fields-F Part Part Section Part Part Part Passed Passed → Part
+at_fields f = fields_over f.sections f.variants
+
+abbrev pub at_field_section : FieldSection-F Part Part Section Part Part Part Passed Passed → Section
+at_field_section s = record { names = s.names; of = s.of }
+
+abbrev pub at_plain : Plain-F Part Part Section Part Part Part Passed Passed → Part
+at_plain p = p.core
+
+abbrev pub at_type_denoter : TypeDenoter-F Part Part Section Part Part Part Passed Passed → Part
+at_type_denoter t = t.plain
+
+-- a structure, which is an array or a record
+abbrev pub at_structure : Structure-F Part Part Section Part Part Part Passed Passed → Part
 at_structure (Structure-F.Array at indexes component) = structured (array_part component indexes)
-at_structure _ = record { is_name = false; written = λ line b. unbuilt }
+at_structure (Structure-F.Record at fields) = structured fields
+at_structure (Structure-F.Set at base) = unbuilt_part
 
 -- a denoter
-abbrev pub at_core : Core-F Part Part Passed Passed Part Passed Passed Passed → Part
+abbrev pub at_core : Core-F Part Part Section Part Part Part Passed Passed → Part
 at_core (Core-F.Named at name tuple) = record { is_name = true; written = λ line b. type_named name.first name.second b }
 at_core (Core-F.Range at low high) = record { is_name = false; written = λ line b. both (range line b) (bound_judged (scopes_of b) low) (bound_judged (scopes_of b) high) }
 at_core (Core-F.Enumeration at names) = record { is_name = false; written = λ line b. enumeration names b }
 at_core (Core-F.Structured at packed structure) = structure
-at_core _ = record { is_name = false; written = λ line b. unbuilt }
+at_core _ = unbuilt_part
 
 abbrev pub core_part : Core → Part
-core_part = fold-Core Part Part Passed Passed Part Passed Passed Passed at_core at_structure (λ s. tt) (λ f. tt) (λ p. p.core) (λ t. tt) (λ v. tt) (λ v. tt)
+core_part = fold-Core Part Part Section Part Part Part Passed Passed at_core at_structure at_field_section at_fields at_plain at_type_denoter (λ v. tt) (λ v. tt)
 
--- that of a structure, and that of a plain denoter
+-- that of a structure, of fields and of a section of them, and that of a plain denoter
 abbrev pub structure_part : Structure → Part
-structure_part = fold-Structure Part Part Passed Passed Part Passed Passed Passed at_core at_structure (λ s. tt) (λ f. tt) (λ p. p.core) (λ t. tt) (λ v. tt) (λ v. tt)
+structure_part = fold-Structure Part Part Section Part Part Part Passed Passed at_core at_structure at_field_section at_fields at_plain at_type_denoter (λ v. tt) (λ v. tt)
+
+abbrev pub fields_part : Fields → Part
+fields_part = fold-Fields Part Part Section Part Part Part Passed Passed at_core at_structure at_field_section at_fields at_plain at_type_denoter (λ v. tt) (λ v. tt)
+
+abbrev pub section_part : FieldSection → Section
+section_part = fold-FieldSection Part Part Section Part Part Part Passed Passed at_core at_structure at_field_section at_fields at_plain at_type_denoter (λ v. tt) (λ v. tt)
 
 abbrev pub plain_part : Plain → Part
-plain_part = fold-Plain Part Part Passed Passed Part Passed Passed Passed at_core at_structure (λ s. tt) (λ f. tt) (λ p. p.core) (λ t. tt) (λ v. tt) (λ v. tt)
+plain_part = fold-Plain Part Part Section Part Part Part Passed Passed at_core at_structure at_field_section at_fields at_plain at_type_denoter (λ v. tt) (λ v. tt)
 
 abbrev pub core_written : ℕ → Core → Block → Judged Written
 core_written line c b = (core_part c).written line b
@@ -301,11 +419,11 @@ constant_definition d b =
 -- the entry of a definition, and then its name
 abbrev pub type_entered : TypeDefinition → Written → Judged Block
 type_entered d w =
-    entered d.name (own_thing w.block (length w.block.types) (declaration.«Type» w.of w.kind)) (with_type (Some d.name) d.line w.denoter w.block)
+    entered d.name (own_thing w.block (length w.block.types) (declaration.«Type» w.of w.kind w.nodes)) (with_type (Some d.name) d.line w.denoter w.block)
 
 -- a definition in a type part on this line
 abbrev pub type_definition : ℕ → TypeDefinition → Block → Judged Block
-type_definition line d b = when_accepted (type_entered d) (type_written line d.of b)
+type_definition line d b = when_accepted (type_entered d) (when_accepted unless_large (type_written line d.of b))
 
 abbrev pub type_definitions : ℕ → List TypeDefinition → Block → Judged Block
 type_definitions line [] b = Accepts b
@@ -361,7 +479,7 @@ abbrev pub variables_declared : VariableDeclaration → Written → Judged Block
 variables_declared d w = when_accepted (λ b. Accepts (declaration_ended b)) (variables_entered d.line w.denoter w.of w.kind d.names w.block)
 
 abbrev pub variable_declaration : VariableDeclaration → Block → Judged Block
-variable_declaration d b = when_accepted (variables_declared d) (settled_type d.line (core_of d.of) b)
+variable_declaration d b = when_accepted (variables_declared d) (when_accepted unless_large (settled_type d.line (core_of d.of) b))
 
 -- ---- parts of a block (ISO 10206, 6.2.1)
 

@@ -3,6 +3,5 @@ pub mod Blocks
 pub mod Checks
 pub mod Declarations
 pub mod Functions
-pub mod Laws
 pub mod Routines
 pub mod Units

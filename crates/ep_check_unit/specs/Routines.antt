@@ -110,9 +110,9 @@ pub record Headed : Type 0 where
   pub result : Option HeadingResult
   pub block : Block
 
--- a value parameter or a result of an array type is not built
+-- a value parameter or a result of a structured type is not built
 abbrev pub is_built_kind : Kind → Bool
-is_built_kind (kind.Array n) = false
+is_built_kind (kind.Structured n) = false
 is_built_kind _ = true
 
 abbrev pub is_built_formal : FormalMode → Kind → Bool
@@ -139,7 +139,7 @@ declared_routine number (declaration.Procedure ps) b = Accepts (record { number 
 declared_routine number (declaration.Function ps of k) b =
     Accepts (record { number = number; parameters = ps; result = Some (record { name = own_name_at (slice_get b.routines number); of = of; kind = k }); block = b })
 declared_routine number (declaration.Constant k v) b = Breaks (rule.TWICE ∷ [])
-declared_routine number (declaration.«Type» of h) b = Breaks (rule.TWICE ∷ [])
+declared_routine number (declaration.«Type» of h nodes) b = Breaks (rule.TWICE ∷ [])
 declared_routine number (declaration.Variable of k) b = Breaks (rule.TWICE ∷ [])
 declared_routine number (declaration.Own of k guarded) b = Breaks (rule.TWICE ∷ [])
 

@@ -1,23 +1,21 @@
 //! The static rules of a whole component.
 
-ghost use Rattle.std.specs.Prelude.{◌≡◌, ◌≤◌, None, true, length, IfOk};
+ghost use Rattle.std.specs.Prelude.{◌≡◌, None, true, IfOk};
 ghost use Rattle.std.specs.List.{list_all};
 ghost use Rattle.std.specs.Result.{IfErr};
 ghost use Rattle.ep_built.specs.Built.{component_unbuilt, is_among, program_parameters, program_unbuilt};
 ghost use Rattle.ep_check_unit.specs.Answers.{AnswersBlock};
 ghost use Rattle.ep_check_unit.specs.Blocks.{block_of};
-ghost use Rattle.ep_check_unit.specs.Checks.{AnswersBuilt, AnswersMissing, HasValidUnit, IsChecked, IsRefusal, IsRefusalOf, unit_in};
-ghost use Rattle.ep_typed.specs.Operations.{maxint};
+ghost use Rattle.ep_check_unit.specs.Checks.{AnswersBuilt, AnswersMissing, IsChecked, IsRefusal, IsRefusalOf, unit_in};
 ghost use Rattle.ep_check_unit.specs.Units.{IsTypedProgram, first_missing, has_name, imports_of, parameters_entered, program_judged, standard_file, standard_import, standard_interface};
 
 use crate::block::{Block, Forward, has_number};
-use crate::laws::laws_of_typed_units;
 use ep_base::{Line, List, Name, NameRefusal, NoMemory};
 use ep_check_expr::Refusal;
 use ep_check_stmt::{CheckRefusal, Outcome, refused_at};
 use ep_scope::{Thing, rule};
 use ep_tree::{Component, Program};
-use ep_typed::{ConstantEntry, ImportSpec, ImportSpecs, Interface, StandardFile, TypedStmts, Unit};
+use ep_typed::{ImportSpec, ImportSpecs, Interface, StandardFile, TypedStmts, Unit};
 use std::alloc::{AllocError, Global};
 
 /// What a component is that breaks no rule.
@@ -64,21 +62,13 @@ pub fn check(
     requires { component_unbuilt component.now ≡ None }
     ensures typed { IfOk result (λ checked. IsChecked component.now checked) }
     ensures refused { IfErr result (λ refusal. IsRefusal component.now refusal) }
-    ensures valid { IfOk result (λ checked. HasValidUnit checked) }
 {
     let Component::Program(program) = component else {
         unreachable!()
     };
     let unit = check_program(alloc, program)?;
-    laws_of_typed_units();
-    few_constants(unit.constants.items());
     Ok(Checked::Block(unit))
 }
-
-/// Does nothing: a list in memory has no more constants than there are integers to number them.
-fn few_constants(constants: &[ConstantEntry])
-    ensures { length constants.now ≤ maxint }
-{}
 
 /// The typed unit of a program.
 fn check_program(alloc: Global, p: &Program) -> Result<Unit, CheckRefusal>

@@ -93,8 +93,8 @@ impl Block {
             (type_definition line definition.now (block_of self.old)) }
     {
         let core = &definition.of.plain.get().core;
-        let written = self.written_type(alloc, line, core)?;
-        let what = Declaration::Type(written.of, written.kind);
+        let written = self.defined_type(alloc, line, core)?;
+        let what = Declaration::Type(written.of, written.kind, written.nodes);
         let number = self.add_type(alloc, Some(&definition.name), definition.line, written)?;
         let thing = self.own_thing(alloc, number, what)?;
         self.enter(alloc, &definition.name, thing)
@@ -129,7 +129,7 @@ impl Block {
             (variable_declaration declaration.now (block_of self.old)) }
     {
         let core = &declaration.of.plain.get().core;
-        let named = self.settled_type(alloc, declaration.line, core)?;
+        let named = self.declared_type(alloc, declaration.line, core)?;
         for name in declaration.names.items() {
             self.declare_variable(alloc, declaration.line, named, name)?;
         }

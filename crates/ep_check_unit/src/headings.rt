@@ -133,12 +133,12 @@ pub(crate) fn start_name(start: &RoutineStart) -> &Name
     }
 }
 
-/// Whether values of a kind are given and left by routines that are built; arrays are not, so far.
+/// Whether values of a kind are given and left by routines that are built; structured ones are not, so far.
 fn is_built_kind(kind: Kind) -> bool
     ensures { result ≡ is_built_kind kind }
 {
     match kind {
-        Kind::Array(_) => false,
+        Kind::Structured(_) => false,
         _ => true,
     }
 }

@@ -1,26 +1,56 @@
 //! Types as an item writes them.
 
-ghost use Rattle.std.specs.Prelude.{◌≡◌, ◌&&◌, ℕ, List, None, IfOk, IsTrue, map};
-ghost use Rattle.ep_built.specs.Built.{core_unbuilt, expression_unbuilt, first_in, plain_unbuilt, structure_unbuilt};
+ghost use Rattle.std.specs.Prelude.{◌≡◌, ◌&&◌, ℕ, List, [], None, IfOk, IsTrue, map};
+ghost use Rattle.ep_built.specs.Built.{core_unbuilt, expression_unbuilt, field_section_unbuilt, fields_unbuilt, first_in, plain_unbuilt, structure_unbuilt};
 ghost use Rattle.ep_scope.specs.Meanings.{meant_by};
 ghost use Rattle.ep_check_expr.specs.Constants.{bound_judged};
-ghost use Rattle.ep_check_expr.specs.Judgements.{Accepts, both};
+ghost use Rattle.ep_check_expr.specs.Judgements.{Accepts, both, when_accepted};
 ghost use Rattle.ep_check_stmt.specs.Answers.{AnswersForm, fails_among};
-ghost use Rattle.ep_check_unit.specs.Answers.{AnswersBlock, arrays_below, index_of, indexes_written, named_in, written_in};
+ghost use Rattle.ep_check_unit.specs.Answers.{AnswersBlock, arrays_below, fields_in, index_of, indexes_written, named_in, written_in};
 ghost use Rattle.ep_check_unit.specs.Declarations as spec;
 ghost use Rattle.ep_check_unit.specs.Blocks.{Block as BlockNow, block_of};
-ghost use Rattle.ep_check_unit.specs.Declarations.{array_over, common_host, core_written, index_host, plain_part, settled, settled_part, settled_type, structure_part, enumerated, enumeration, host_denoter, next_type, number_in, ordered, range, required_host, scopes_of, subrange_denoter, type_denoter, type_meant};
+ghost use Rattle.ep_check_unit.specs.Declarations.{array_over, common_host, core_written, counted, unless_large, index_host, plain_part, settled, settled_part, settled_type, structure_part, fields_part, section_part, sections_written, enumerated, enumeration, host_denoter, next_type, number_in, ordered, range, required_host, scopes_of, subrange_denoter, type_denoter, type_meant};
 
 use crate::block::{Block, number};
+use crate::records::{WrittenFields, add_fields};
 use ep_base::{Boxed, Line, List, Name, Names, NoMemory};
 use ep_check_expr::{ConstantForm, Refusal, bound_value, undeclared};
 use ep_scope::{
-    ArrayType, Declaration, Enumeration, Host, Kind, Meaning, Required, TypeName, meaning_in,
-    meaning_of, rule, same_host,
+    ArrayType, Composition, Declaration, Enumeration, Host, Kind, Meaning, Required,
+    StructuredType, TypeName, meaning_in, meaning_of, rule, same_host,
 };
-use ep_tree::{Core, Expression, Plain, QualifiedName, Structure};
+use ep_tree::{Core, Expression, FieldSection, Fields, Plain, QualifiedName, Structure};
 use ep_typed::{Bound, Denoter, RequiredType, Value};
 use std::alloc::Global;
+
+/// The most nodes that a type may have, with the names in it replaced by what they name.
+pub const TYPE_NODES: u32 = 1_048_576;
+
+/// The nodes of a subrange: itself, its host and its bounds.
+const SUBRANGE_NODES: u32 = 4;
+
+/// Nodes of a type, counted up to one more than a type may have.
+pub(crate) fn counted(nodes: u32, more: u32) -> u32
+    ensures { result ≡ counted nodes more }
+{
+    let sum = nodes as u64 + more as u64;
+    if sum <= TYPE_NODES as u64 {
+        sum as u32
+    } else {
+        TYPE_NODES + 1
+    }
+}
+
+/// A type has not too many nodes.
+fn unless_large(written: Written) -> Result<Written, Refusal>
+    ensures { (b : BlockNow) → AnswersForm (written_in b) result (unless_large (written_in b written)) }
+{
+    if written.nodes <= TYPE_NODES {
+        Ok(written)
+    } else {
+        Err(Refusal::Rule(rule::LARGE_TYPE))
+    }
+}
 
 /// A type by its name.
 #[derive(Clone, Copy, Drop)]
@@ -31,6 +61,8 @@ pub(crate) struct NamedType {
     pub(crate) of: TypeName,
     /// Its kind.
     pub(crate) kind: Kind,
+    /// How many nodes it has.
+    pub(crate) nodes: u32,
 }
 
 /// An index type of an array (ISO 10206, 6.4.3.2).
@@ -40,6 +72,8 @@ pub(crate) struct IndexType {
     pub(crate) name: TypeName,
     /// Its host.
     pub(crate) host: Host,
+    /// How many nodes it has.
+    pub(crate) nodes: u32,
 }
 
 /// A type that is written.
@@ -50,6 +84,8 @@ pub(crate) struct Written {
     pub(crate) of: TypeName,
     /// Its kind.
     pub(crate) kind: Kind,
+    /// How many nodes it has.
+    pub(crate) nodes: u32,
 }
 
 impl Drop for Written {
@@ -58,6 +94,7 @@ impl Drop for Written {
             denoter: _,
             of: _,
             kind: _,
+            nodes: _,
         } = self;
     }
 }
@@ -71,6 +108,7 @@ impl Written {
             denoter,
             of: _,
             kind: _,
+            nodes: _,
         } = self;
         denoter
     }
@@ -116,10 +154,11 @@ fn type_meant(meaning: &Meaning<'_>, missing: u32) -> Result<NamedType, Refusal>
 {
     match meaning {
         Meaning::Declared(declared) => match &declared.what {
-            Declaration::Type(of, kind) => Ok(NamedType {
+            Declaration::Type(of, kind, nodes) => Ok(NamedType {
                 name: TypeName::Entry(declared.number),
                 of: *of,
                 kind: *kind,
+                nodes: *nodes,
             }),
             _ => Err(Refusal::Rule(rule::OTHER_THING)),
         },
@@ -127,6 +166,7 @@ fn type_meant(meaning: &Meaning<'_>, missing: u32) -> Result<NamedType, Refusal>
             name: TypeName::Required(*required),
             of: TypeName::Required(*required),
             kind: Kind::Ordinal(required_host(*required)),
+            nodes: 1,
         }),
         Meaning::Nothing => Err(Refusal::Rule(missing)),
         _ => Err(Refusal::Rule(rule::OTHER_THING)),
@@ -245,8 +285,12 @@ impl Block {
         let of = self.next_type()?;
         self.note(are_built(&least, &greatest), line);
         let denoter = subrange(alloc, host, &least, &greatest)?;
-        let kind = Kind::Ordinal(host);
-        Ok(Written { denoter, of, kind })
+        Ok(Written {
+            denoter,
+            of,
+            kind: Kind::Ordinal(host),
+            nodes: SUBRANGE_NODES,
+        })
     }
 
     /// The constants of an enumeration are entered, in order.
@@ -276,8 +320,12 @@ impl Block {
         let of = self.next_type()?;
         self.enumerate(alloc, host, names)?;
         let denoter = Denoter::Enumeration(copied(alloc, names)?);
-        let kind = Kind::Ordinal(host);
-        Ok(Written { denoter, of, kind })
+        Ok(Written {
+            denoter,
+            of,
+            kind: Kind::Ordinal(host),
+            nodes: 1,
+        })
     }
 
     /// `core` in an item on this line.
@@ -299,6 +347,7 @@ impl Block {
                     denoter: type_denoter(alloc, named.name),
                     of: named.of,
                     kind: named.kind,
+                    nodes: named.nodes,
                 })
             }
             Core::Range(_, low, high) => self.range(alloc, line, low.get(), high.get()),
@@ -323,7 +372,7 @@ impl Block {
         self.written_type(alloc, line, &plain.core)
     }
 
-    /// `struct`, which is an array.
+    /// `struct`, which is an array or a record.
     #[cycle(denoters)]
     fn structure(
         &mut self,
@@ -335,16 +384,50 @@ impl Block {
         ensures { AnswersForm (written_in (block_of self.new)) result
             ((structure_part structure.now).written line (block_of self.old)) }
     {
-        let Structure::Array(_, indexes, component) = structure else {
-            unreachable!()
-        };
-        let made = self.index_types(alloc, line, indexes.items())?;
-        let Some((first, others)) = made.items().split_first() else {
-            return self.written_plain(alloc, line, component.get());
-        };
-        let of = self.settled_plain(alloc, line, component.get())?;
-        let below = self.arrays_below(alloc, line, others, of)?;
-        self.array_over(alloc, *first, below)
+        match structure {
+            Structure::Array(_, indexes, component) => {
+                let made = self.index_types(alloc, line, indexes.items())?;
+                let Some((first, others)) = made.items().split_first() else {
+                    return self.written_plain(alloc, line, component.get());
+                };
+                let of = self.settled_plain(alloc, line, component.get())?;
+                let below = self.arrays_below(alloc, line, others, of)?;
+                self.array_over(alloc, *first, below)
+            }
+            Structure::Record(_, fields) => self.record(alloc, line, fields),
+            Structure::Set(_, _) => unreachable!(),
+        }
+    }
+
+    /// `"record" fields "end"`, without variants.
+    #[cycle(denoters)]
+    fn record(&mut self, alloc: Global, line: Line, fields: &Fields) -> Result<Written, Refusal>
+        requires { fields_unbuilt fields.now ≡ None }
+        ensures { AnswersForm (written_in (block_of self.new)) result
+            ((fields_part fields.now).written line (block_of self.old)) }
+    {
+        let all = self.sections(alloc, line, fields.sections.items())?;
+        self.record_over(alloc, all.items())
+    }
+
+    /// `fsec { ";" fsec }`
+    #[cycle(denoters)]
+    fn sections(
+        &mut self,
+        alloc: Global,
+        line: Line,
+        sections: &[FieldSection],
+    ) -> Result<WrittenFields, Refusal>
+        requires { first_in (map field_section_unbuilt sections.now) ≡ None }
+        ensures { AnswersForm (fields_in (block_of self.new)) result
+            (sections_written line (map section_part sections.now) (fields_in (block_of self.old) [])) }
+    {
+        let mut all = List::new(alloc);
+        for section in sections {
+            let of = self.settled_plain(alloc, line, section.of.plain.get())?;
+            add_fields(alloc, section.names.items(), of, &mut all)?;
+        }
+        Ok(all)
     }
 
     /// The index types of an array, from left to right.
@@ -363,8 +446,11 @@ impl Block {
         for plain in plains {
             let index = self.settled_plain(alloc, line, plain)?;
             let host = index_host(index.kind)?;
-            let name = index.name;
-            all.push(IndexType { name, host })?;
+            all.push(IndexType {
+                name: index.name,
+                host,
+                nodes: index.nodes,
+            })?;
         }
         Ok(all)
     }
@@ -403,6 +489,40 @@ impl Block {
         self.settle(alloc, line, written)
     }
 
+    /// The type of a definition in an item on this line.
+    pub(crate) fn defined_type(
+        &mut self,
+        alloc: Global,
+        line: Line,
+        core: &Core,
+    ) -> Result<Written, Refusal>
+        requires { core_unbuilt core.now ≡ None }
+        ensures { AnswersForm (written_in (block_of self.new)) result
+            (when_accepted unless_large (core_written line core.now (block_of self.old))) }
+    {
+        let written = self.written_type(alloc, line, core)?;
+        unless_large(written)
+    }
+
+    /// The type of the variables of an item on this line, by its name.
+    pub(crate) fn declared_type(
+        &mut self,
+        alloc: Global,
+        line: Line,
+        core: &Core,
+    ) -> Result<NamedType, Refusal>
+        requires { core_unbuilt core.now ≡ None }
+        ensures { AnswersForm (named_in (block_of self.new)) result
+            (when_accepted unless_large (settled_type line core.now (block_of self.old))) }
+    {
+        let named = self.settled_type(alloc, line, core)?;
+        if named.nodes <= TYPE_NODES {
+            Ok(named)
+        } else {
+            Err(Refusal::Rule(rule::LARGE_TYPE))
+        }
+    }
+
     /// A type that has no name gets an entry.
     fn settle(&mut self, alloc: Global, line: Line, written: Written) -> Result<NamedType, Refusal>
         ensures { AnswersForm (named_in (block_of self.new)) result
@@ -410,9 +530,15 @@ impl Block {
     {
         let of = written.of;
         let kind = written.kind;
+        let nodes = written.nodes;
         let number = self.add_type(alloc, None, line, written)?;
         let name = TypeName::Entry(number);
-        Ok(NamedType { name, of, kind })
+        Ok(NamedType {
+            name,
+            of,
+            kind,
+            nodes,
+        })
     }
 
     /// The array type of this index type, whose components are so.
@@ -423,21 +549,25 @@ impl Block {
         below: NamedType,
     ) -> Result<Written, Refusal>
         ensures { AnswersForm (written_in (block_of self.new)) result
-            (Accepts (array_over (type_denoter index.name) index.host (named_in (block_of self.old) below))) }
+            (Accepts (array_over (type_denoter index.name) index.nodes index.host (named_in (block_of self.old) below))) }
     {
         let number = number(self.types.items().len())?;
-        self.scopes.add_array(ArrayType {
-            number,
+        let composition = Composition::Array(ArrayType {
             index: index.host,
             component: below.of,
             kind: below.kind,
+        });
+        self.scopes.add_structure(StructuredType {
+            number,
+            composition,
         })?;
         let of = Boxed::new(alloc, type_denoter(alloc, index.name))?;
         let component = Boxed::new(alloc, type_denoter(alloc, below.name))?;
         Ok(Written {
             denoter: Denoter::Array(of, component),
             of: TypeName::Entry(number),
-            kind: Kind::Array(number),
+            kind: Kind::Structured(number),
+            nodes: counted(counted(1, index.nodes), below.nodes),
         })
     }
 

@@ -11,7 +11,7 @@ use Rattle.ep_scope.specs.Required.{look_up}
 use Rattle.ep_scope.specs.Scopes.{Entries, Region, with_interface, with_constituent, look_up_in}
 use Rattle.ep_scope.specs.declared.entries.EntryRefusal.{EntryRefusal}
 use Rattle.ep_scope.specs.declared.entries.EntryRefusal.TheVariants.{There, NoMemory}
-use Rattle.ep_scope.specs.declared.array.ArrayType.{ArrayType}
+use Rattle.ep_scope.specs.declared.structure.StructuredType.{StructuredType}
 use Rattle.ep_scope.specs.declared.thing.Thing.{Thing}
 
 -- a map finds what the entries have
@@ -69,14 +69,14 @@ module _ (interface name : List ℕ) (thing : Thing) where
       at false is found rest = rw is (ap (λ l. e ∷ l) (rest found))
 
   -- a name is entered among those of an interface that is there
-  pub entered_in : (es : List (Vec ℕ × Entries)) (entries : Entries) (arrays : List ArrayType) (old new : Entries) (result : Result (Unit {0}) EntryRefusal) → lookup is_interface es ≡ Some old → AnswersEntry old name thing result new
-      → AnswersEntryIn (record { entries = entries; qualified = by_bytes es; arrays = arrays }) interface name thing result (record { entries = entries; qualified = by_bytes (set_value is_interface es new); arrays = arrays })
-  entered_in es entries arrays old new (Ok done) found a =
-      (rw (← lookup-by_bytes interface es, found) a.0, rw a.1 (ap (λ q. record { entries = entries; qualified = q; arrays = arrays }) (set_value-constituent es old found)))
-  entered_in es entries arrays old new (Err There) found a =
-      (rw (← lookup-by_bytes interface es, found) a.0, rw a.1 (ap (λ q. record { entries = entries; qualified = by_bytes q; arrays = arrays }) (set_value-same es old found)))
-  entered_in es entries arrays old new (Err NoMemory) found a =
-      (rw (← lookup-by_bytes interface es, found) a.0, rw a.1 (ap (λ q. record { entries = entries; qualified = by_bytes q; arrays = arrays }) (set_value-same es old found)))
+  pub entered_in : (es : List (Vec ℕ × Entries)) (entries : Entries) (structures : List StructuredType) (old new : Entries) (result : Result (Unit {0}) EntryRefusal) → lookup is_interface es ≡ Some old → AnswersEntry old name thing result new
+      → AnswersEntryIn (record { entries = entries; qualified = by_bytes es; structures = structures }) interface name thing result (record { entries = entries; qualified = by_bytes (set_value is_interface es new); structures = structures })
+  entered_in es entries structures old new (Ok done) found a =
+      (rw (← lookup-by_bytes interface es, found) a.0, rw a.1 (ap (λ q. record { entries = entries; qualified = q; structures = structures }) (set_value-constituent es old found)))
+  entered_in es entries structures old new (Err There) found a =
+      (rw (← lookup-by_bytes interface es, found) a.0, rw a.1 (ap (λ q. record { entries = entries; qualified = by_bytes q; structures = structures }) (set_value-same es old found)))
+  entered_in es entries structures old new (Err NoMemory) found a =
+      (rw (← lookup-by_bytes interface es, found) a.0, rw a.1 (ap (λ q. record { entries = entries; qualified = by_bytes q; structures = structures }) (set_value-same es old found)))
 
   -- an interface that is not there goes last
   with_constituent-new : (es : List (List ℕ × Entries)) → look_up es interface ≡ None → with_constituent es interface name thing ≡ es ++ (interface, (name, thing) ∷ []) ∷ []

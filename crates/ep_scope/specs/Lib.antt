@@ -1,4 +1,5 @@
 pub mod Entering
+pub mod Fields
 pub mod Keys
 pub mod Kinds
 pub mod Meanings

@@ -3,8 +3,9 @@ use Rattle.std.specs.Prelude.{ℕ, ◌==◌, List, [], ◌∷◌, ◌++◌, leng
 use Rattle.std.specs.Str.{bytes_eq}
 use Rattle.ep_typed.specs.declared.tree.StandardFile.{StandardFile}
 use Rattle.ep_scope.specs.Required.{look_up, required_of}
-use Rattle.ep_scope.specs.declared.array.ArrayType.{ArrayType}
 use Rattle.ep_scope.specs.declared.required.Required.{Required}
+use Rattle.ep_scope.specs.declared.structure.Composition.{Composition}
+use Rattle.ep_scope.specs.declared.structure.StructuredType.{StructuredType}
 use Rattle.ep_scope.specs.declared.thing.Declared.{Declared}
 use Rattle.ep_scope.specs.declared.thing.Thing.{Thing}
 use Rattle.ep_scope.specs.declared.thing.Thing.TheVariants as thing
@@ -13,38 +14,38 @@ use Rattle.ep_scope.specs.declared.thing.Thing.TheVariants as thing
 abbrev pub Entries : Type 0
 Entries = List (List ℕ × Thing)
 
--- what a scope has under names, what its interfaces have (ISO 10206, 6.2.2 and 6.11.3), and the array types that are
--- written in it
+-- what a scope has under names, what its interfaces have (ISO 10206, 6.2.2 and 6.11.3), and the structured types
+-- that are written in it
 pub record Region : Type 0 where
   pub entries : Entries
   pub qualified : List (List ℕ × Entries)
-  pub arrays : List ArrayType
+  pub structures : List StructuredType
 
 -- no name yet
 abbrev pub empty_region : Region
-empty_region = record { entries = []; qualified = []; arrays = [] }
+empty_region = record { entries = []; qualified = []; structures = [] }
 
 -- one name more
 abbrev pub with_entry : Region → List ℕ → Thing → Region
 with_entry r name thing = record r { entries = r.entries ++ (name, thing) ∷ [] }
 
--- one array type more
-abbrev pub with_array : Region → ArrayType → Region
-with_array r a = record r { arrays = r.arrays ++ a ∷ [] }
+-- one structured type more
+abbrev pub with_structure : Region → StructuredType → Region
+with_structure r s = record r { structures = r.structures ++ s ∷ [] }
 
--- the array type of this number
-abbrev pub array_among : ℕ → List ArrayType → Option ArrayType
-array_among number [] = None
-array_among number (a ∷ more) = if a.number == number then Some a else array_among number more
+-- what the structured type of this number is made of
+abbrev pub structure_among : ℕ → List StructuredType → Option Composition
+structure_among number [] = None
+structure_among number (s ∷ more) = if s.number == number then Some s.composition else structure_among number more
 
-abbrev pub array_or : Option ArrayType → Option ArrayType → Option ArrayType
-array_or None outside = outside
-array_or (Some a) outside = Some a
+abbrev pub structure_or : Option Composition → Option Composition → Option Composition
+structure_or None outside = outside
+structure_or (Some c) outside = Some c
 
 -- in these scopes
-abbrev pub array_in : List Region → ℕ → Option ArrayType
-array_in [] number = None
-array_in (r ∷ rs) number = array_or (array_among number r.arrays) (array_in rs number)
+abbrev pub structure_in : List Region → ℕ → Option Composition
+structure_in [] number = None
+structure_in (r ∷ rs) number = structure_or (structure_among number r.structures) (structure_in rs number)
 
 -- what an interface has under a name
 abbrev pub look_up_if : Option Entries → List ℕ → Option Thing
@@ -118,9 +119,9 @@ in_view r = r.inner ∷ r.outer
 abbrev pub with_inner : Row → List ℕ → Thing → Row
 with_inner r name thing = record r { inner = with_entry r.inner name thing }
 
--- one array type more in it
-abbrev pub with_inner_array : Row → ArrayType → Row
-with_inner_array r a = record r { inner = with_array r.inner a }
+-- one structured type more in it
+abbrev pub with_inner_structure : Row → StructuredType → Row
+with_inner_structure r s = record r { inner = with_structure r.inner s }
 
 -- one scope more, without names
 abbrev pub opened : Row → Row

@@ -30,8 +30,8 @@ pub struct Enumeration {
 pub enum Kind {
     /// An ordinal type with this host.
     Ordinal(Host),
-    /// The array type of this number among the types of the unit (ISO 10206, 6.4.3.2).
-    Array(u32),
+    /// The structured type of this number among the types of the unit, an array or a record (ISO 10206, 6.4.3.1).
+    Structured(u32),
     /// A string type but `char` (ISO 10206, 6.4.3.3).
     Text,
     /// The type of text files (ISO 10206, 6.4.3.6).

@@ -6,7 +6,6 @@
 //! specs/Scopes.antt has these rules, specs/Required.antt the required identifiers. `rule` numbers the static rules.
 #![tactic(auto)]
 
-mod array;
 mod entries;
 mod kind;
 mod meaning;
@@ -15,9 +14,9 @@ mod required;
 pub mod rule;
 mod scope;
 mod scopes;
+mod structure;
 mod thing;
 
-pub use array::{ArrayType, array_of};
 pub use kind::{Enumeration, Host, Kind, same_host};
 pub use meaning::{Meaning, meaning_in, meaning_of};
 pub use parameter::{
@@ -27,4 +26,7 @@ pub use parameter::{
 pub use required::{Function, Procedure, Required, RequiredConstant, required_identifier};
 pub use scope::{Scope, ScopeRefusal};
 pub use scopes::{Scopes, depth_in};
+pub use structure::{
+    ArrayType, Composition, FieldType, FieldTypes, StructuredType, field_number, structure_of,
+};
 pub use thing::{Declaration, Declared, Thing};

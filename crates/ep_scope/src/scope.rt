@@ -3,11 +3,11 @@
 ghost use Rattle.std.specs.Prelude.{◌≡◌, None, OnOk, OnErr};
 ghost use Rattle.std.specs.Option.{option_copied};
 ghost use Rattle.ep_scope.specs.Required.{look_up};
-ghost use Rattle.ep_scope.specs.Scopes.{array_among, empty_region, look_up_in, with_array, with_interface};
+ghost use Rattle.ep_scope.specs.Scopes.{empty_region, look_up_in, structure_among, with_interface, with_structure};
 ghost use Rattle.ep_scope.specs.Entering.{AnswersEntered, AnswersEntryIn, AnswersConstituent};
 
-use crate::array::ArrayType;
 use crate::entries::{Entries, EntryRefusal};
+use crate::structure::{Composition, StructuredType};
 use crate::thing::Thing;
 use ep_base::{Name, NoMemory};
 use indexmap::IndexMap;
@@ -15,12 +15,12 @@ use std::alloc::Global;
 use std::marker::Model;
 
 /// The names of a part of a text, in the order in which they were entered, those that are reached by the name of an
-/// interface, and the array types.
+/// interface, and the structured types.
 pub struct Scope {
     alloc: Global,
     entries: Entries,
     qualified: IndexMap<Vec<u8>, Entries>,
-    arrays: Vec<ArrayType>,
+    structures: Vec<StructuredType>,
 }
 
 impl Model for Scope {
@@ -29,7 +29,7 @@ impl Model for Scope {
 
     ghost Value = { Region };
 
-    ghost view = { λ s. record { entries = s.entries; qualified = by_bytes s.qualified.entries; arrays = s.arrays.items } };
+    ghost view = { λ s. record { entries = s.entries; qualified = by_bytes s.qualified.entries; structures = s.structures.items } };
 }
 
 impl Drop for Scope {
@@ -38,7 +38,7 @@ impl Drop for Scope {
             alloc: _,
             entries: _,
             qualified: _,
-            arrays: _,
+            structures: _,
         } = self;
     }
 }
@@ -75,7 +75,7 @@ impl Scope {
             alloc,
             entries: Entries::new(alloc),
             qualified: IndexMap::new(alloc),
-            arrays: Vec::new(alloc),
+            structures: Vec::new(alloc),
         }
     }
 
@@ -137,21 +137,22 @@ impl Scope {
         Ok(())
     }
 
-    /// Adds an array type.
-    pub fn add_array(&mut self, array: ArrayType) -> Result<(), NoMemory>
-        ensures { OnOk result (self.new ≡ with_array self.old array) }
+    /// Adds a structured type.
+    pub fn add_structure(&mut self, structured: StructuredType) -> Result<(), NoMemory>
+        ensures { OnOk result (self.new ≡ with_structure self.old structured) }
     {
-        self.arrays.push(array)?;
+        self.structures.push(structured)?;
         Ok(())
     }
 
-    /// The array type of this number. `None` comes exactly where the scope does not have it. It takes no memory.
-    pub fn array(&self, number: u32) -> Option<ArrayType>
-        ensures { result ≡ array_among number self.now.arrays }
+    /// What the structured type of this number is made of. `None` comes exactly where the scope does not have it. It takes
+    /// no memory.
+    pub fn structure(&self, number: u32) -> Option<&Composition>
+        ensures { option_copied result ≡ structure_among number self.now.structures }
     {
-        for array in &self.arrays {
-            if array.number == number {
-                return Some(*array);
+        for structured in &self.structures {
+            if structured.number == number {
+                return Some(&structured.composition);
             }
         }
         None

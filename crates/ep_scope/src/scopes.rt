@@ -3,11 +3,11 @@
 ghost use Rattle.std.specs.Prelude.{◌≡◌, [], IfOk, OnOk, OnErr};
 ghost use Rattle.std.specs.Option.{option_copied};
 ghost use Rattle.ep_scope.specs.Required.{look_up};
-ghost use Rattle.ep_scope.specs.Scopes.{closed, depth_in, empty_region, in_view, opened, row_of, with_inner_array};
+ghost use Rattle.ep_scope.specs.Scopes.{closed, depth_in, empty_region, in_view, opened, row_of, with_inner_structure};
 ghost use Rattle.ep_scope.specs.Entering.{AnswersInner};
 
-use crate::array::ArrayType;
 use crate::scope::{Scope, ScopeRefusal};
+use crate::structure::StructuredType;
 use crate::thing::Thing;
 use ep_base::{Name, NoMemory};
 use std::alloc::{AllocError, Global};
@@ -81,12 +81,12 @@ impl Scopes {
         scope.enter(name, thing)
     }
 
-    /// Adds an array type to the innermost scope.
-    pub fn add_array(&mut self, array: ArrayType) -> Result<(), NoMemory>
-        ensures { OnOk result (self.new ≡ with_inner_array self.old array) }
+    /// Adds a structured type to the innermost scope.
+    pub fn add_structure(&mut self, structured: StructuredType) -> Result<(), NoMemory>
+        ensures { OnOk result (self.new ≡ with_inner_structure self.old structured) }
     {
         let scope = &mut self.all[0];
-        scope.add_array(array)
+        scope.add_structure(structured)
     }
 
     /// Opens a scope without names inside of the others.

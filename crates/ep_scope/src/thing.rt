@@ -50,8 +50,8 @@ impl Drop for Declared {
 pub enum Declaration {
     /// A constant (ISO 10206, 6.3.1).
     Constant(Kind, Value),
-    /// A name of this type, and its kind (ISO 10206, 6.4.1).
-    Type(TypeName, Kind),
+    /// A name of this type, its kind, and how many nodes it has (ISO 10206, 6.4.1).
+    Type(TypeName, Kind, u32),
     /// A variable of this type (ISO 10206, 6.5.1).
     Variable(TypeName, Kind),
     /// A variable of a routine, one of its formal parameters, or its result (ISO 10206, 6.5.1, 6.7.2 and 6.7.3).
@@ -66,7 +66,7 @@ impl Drop for Declaration {
     fn drop(self) {
         match self {
             Declaration::Constant(_, _) => {}
-            Declaration::Type(_, _) => {}
+            Declaration::Type(_, _, _) => {}
             Declaration::Variable(_, _) => {}
             Declaration::Own(_, _, _) => {}
             Declaration::Procedure(_) => {}

@@ -4,7 +4,7 @@
 ghost use Rattle.std.specs.Prelude.{◌≡◌, map};
 ghost use Rattle.std.specs.List.{list_all};
 ghost use Rattle.ep_tree.specs.Shapes.{bare};
-ghost use Rattle.ep_built.specs.Built.{built_component, built_program, built_import, built_type_name, built_heading, built_start, built_routine, built_type_definition, built_type_denoter, built_plain, built_formal_type, built_section, built_core, built_structure, selector_form, is_index, is_call, are_one_call, built_target, built_control, built_call_selectors, built_call_of, built_call, built_statement, built_relation, built_adding, built_multiplying, is_character, built_factor, built_access, form_told, selector_belonging, brackets_are_built, is_bare_text};
+ghost use Rattle.ep_built.specs.Built.{built_component, built_program, built_import, built_type_name, built_heading, built_start, built_routine, built_type_definition, built_type_denoter, built_plain, built_formal_type, built_section, built_core, built_structure, variants_are_built, selector_form, is_component, is_call, are_one_call, built_target, built_control, built_call_selectors, built_call_of, built_call, built_statement, built_relation, built_adding, built_multiplying, is_character, built_factor, built_access, form_told, selector_belonging, brackets_are_built, is_bare_text};
 ghost use Rattle.ep_tree.specs.declared.expression.Factor.{out-Factor};
 ghost use Rattle.ep_tree.specs.declared.types.Core.{out-Core};
 ghost use Rattle.ep_tree.specs.declared.types.Plain.{out-Plain};
@@ -19,6 +19,7 @@ use ep_tree::{
     Access, AddingOperator, Component, Core, Expression, Factor, FormalSection, FormalType, Import,
     MultiplyingOperator, Plain, Program, QualifiedName, RelationalOperator, Routine,
     RoutineHeading, RoutineStart, Selector, Statement, Structure, TypeDefinition, TypeDenoter,
+    VariantPart,
 };
 
 /// A component is a program.
@@ -134,53 +135,51 @@ pub(super) fn core_is_built(c: &Core) -> bool
     }
 }
 
-/// A structure is an array.
+/// A structure is an array or a record.
 pub(super) fn structure_is_built(s: &Structure) -> bool
     ensures { result ≡ built_structure (out-Structure s.now) }
 {
-    match s {
-        Structure::Array(_, _, _) => true,
-        _ => false,
-    }
+    matches!(s, Structure::Array(_, _, _) | Structure::Record(_, _))
 }
 
-/// Whether a selector is an index selector.
-fn is_index(s: &Selector) -> bool
-    ensures { result ≡ is_index (selector_form s.now) }
+/// The variants of a record are not built yet.
+pub(super) fn variants_are_built(_variants: &VariantPart) -> bool
+    ensures { result ≡ variants_are_built }
 {
-    match s {
-        Selector::Index(_, _) => true,
-        _ => false,
-    }
+    false
+}
+
+/// Whether a selector is one of components: indexes, or a field.
+fn is_component(s: &Selector) -> bool
+    ensures { result ≡ is_component (selector_form s.now) }
+{
+    matches!(s, Selector::Index(_, _) | Selector::Field(_, _))
 }
 
 /// Whether a selector is a pair of parentheses.
 fn is_call(s: &Selector) -> bool
     ensures { result ≡ is_call (selector_form s.now) }
 {
-    match s {
-        Selector::Arguments(_, _) => true,
-        _ => false,
-    }
+    matches!(s, Selector::Arguments(_, _))
 }
 
-/// Whether selectors are index selectors alone.
-fn are_indexes(selectors: &[Selector]) -> bool
-    ensures { result ≡ list_all is_index (map selector_form selectors.now) }
+/// Whether selectors are indexes and fields alone.
+fn are_components(selectors: &[Selector]) -> bool
+    ensures { result ≡ list_all is_component (map selector_form selectors.now) }
 {
     for s in selectors {
-        if !is_index(s) {
+        if !is_component(s) {
             return false;
         }
     }
     true
 }
 
-/// What is assigned to is a name that is built, alone or with index selectors.
+/// What is assigned to is a name that is built, alone or with indexes and fields.
 fn target_is_built(a: &Access) -> bool
     ensures { result ≡ built_target a.now }
 {
-    are_indexes(a.selectors.items()) && !names::is_later(&a.name)
+    are_components(a.selectors.items()) && !names::is_later(&a.name)
 }
 
 /// The control variable of a `for` with bounds has a name that is built.
@@ -282,12 +281,12 @@ fn are_one_call(selectors: &[Selector]) -> bool
     }
 }
 
-/// An access is a name that is built, called, alone or with index selectors.
+/// An access is a name that is built, called, alone or with indexes and fields.
 #[tactic(auto, using(crate::proofs::Selectors::forms_told))]
 pub(super) fn access_is_built(name: &Name, selectors: &[Selector]) -> bool
     ensures { result ≡ built_access name.now (map form_told (map selector_belonging selectors.now)) }
 {
-    (are_one_call(selectors) || are_indexes(selectors)) && !names::is_later(name)
+    (are_one_call(selectors) || are_components(selectors)) && !names::is_later(name)
 }
 
 /// Of a structured value without the name of its type.

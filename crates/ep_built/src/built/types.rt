@@ -1,13 +1,14 @@
 //! The first node of a type denoter that is not built.
 
 ghost use Rattle.std.specs.Prelude.{◌≡◌, map};
-ghost use Rattle.ep_built.specs.Built.{first_in, type_denoter_unbuilt, plain_unbuilt, core_unbuilt, structure_unbuilt};
+ghost use Rattle.ep_built.specs.Built.{core_unbuilt, field_section_unbuilt, fields_unbuilt, first_in, plain_unbuilt, structure_unbuilt, type_denoter_unbuilt, variant_part_unbuilt};
 
 use crate::built::expressions::expression;
 use crate::built::{at_node, forms};
 use ep_base::Line;
-use ep_tree::{Core, Plain, Structure, TypeDenoter};
+use ep_tree::{Core, FieldSection, Fields, Plain, Structure, TypeDenoter, VariantPart};
 
+#[cycle(lines)]
 pub(super) fn type_denoter(t: &TypeDenoter) -> Option<Line>
     ensures { result ≡ type_denoter_unbuilt t.now }
 {
@@ -67,7 +68,37 @@ fn structure(s: &Structure) -> Option<Line>
             let inner = plains(indexes.items()).or(plain(component.get()));
             at_node(built, *line, inner)
         }
-        Structure::Record(line, _) => at_node(built, *line, None),
+        Structure::Record(line, all) => at_node(built, *line, fields(all)),
         Structure::Set(line, _) => at_node(built, *line, None),
     }
+}
+
+#[cycle(lines)]
+fn fields(f: &Fields) -> Option<Line>
+    ensures { result ≡ fields_unbuilt f.now }
+{
+    let line = sections(f.sections.items());
+    match &f.variants {
+        None => line,
+        Some(variants) => line.or(variant_part(variants.get())),
+    }
+}
+
+#[cycle(lines)]
+fn sections(all: &[FieldSection]) -> Option<Line>
+    ensures { result ≡ first_in (map field_section_unbuilt all.now) }
+{
+    for section in all {
+        let line = type_denoter(&section.of);
+        if line.is_some() {
+            return line;
+        }
+    }
+    None
+}
+
+fn variant_part(v: &VariantPart) -> Option<Line>
+    ensures { result ≡ variant_part_unbuilt v.now }
+{
+    at_node(forms::variants_are_built(v), v.line, None)
 }

@@ -15,7 +15,7 @@ use Rattle.ep_scope.specs.declared.rule.TheConstants as rule
 use Rattle.ep_scope.specs.declared.thing.Declaration.{Declaration}
 use Rattle.ep_scope.specs.declared.thing.Declaration.TheVariants as declaration
 use Rattle.ep_scope.specs.declared.thing.Declared.{Declared}
-use Rattle.ep_check_expr.specs.Agreement.{Agrees, IsDeclaration, IsFormOf, IsStoredIn, arrays_of}
+use Rattle.ep_check_expr.specs.Agreement.{Agrees, IsDeclaration, IsFormOf, IsStoredIn, structures_of}
 use Rattle.ep_check_expr.specs.Arguments.{own_place}
 use Rattle.ep_check_expr.specs.Expressions.{judged}
 use Rattle.ep_check_expr.specs.Hosts.{typed_host}
@@ -29,22 +29,22 @@ use Rattle.ep_check_stmt.proofs.judged.Fits.{Fits, fits_both, fits_then}
 use Rattle.ep_check_stmt.proofs.valid.Passing.{FitsRow, after_fits, item_fits, unthreatening_fits}
 use Rattle.ep_check_stmt.proofs.valid.Sound.{IsSound}
 
-module _ (declared : Declarations) (scopes : List Region) (agrees : Agrees declared scopes) (sound : (e : Expression) → Fits (λ t. IsFormOf declared agrees.0 (arrays_of scopes) t.kind t.form) (judged scopes e)) where
+module _ (declared : Declarations) (scopes : List Region) (agrees : Agrees declared scopes) (sound : (e : Expression) → Fits (λ t. IsFormOf declared agrees.0 (structures_of scopes) t.kind t.form) (judged scopes e)) where
   -- ---- the control variable
 
   -- a variable of an ordinal type is a place
   abbrev IsVariableOf : Kind → Place → Type 0
   IsVariableOf (kind.Ordinal h) place = IsPlace declared (typed_host h) place
-  IsVariableOf (kind.Array n) place = ⊤
+  IsVariableOf (kind.Structured n) place = ⊤
   IsVariableOf kind.Text place = ⊤
   IsVariableOf kind.File place = ⊤
 
   abbrev IsVariable : Named → Type 0
   IsVariable v = IsVariableOf v.kind (tree.entire v.variable)
 
-  stored_fits : (place : Place) (k : Kind) → IsStoredIn declared agrees.0 (arrays_of scopes) place k → IsVariableOf k place
+  stored_fits : (place : Place) (k : Kind) → IsStoredIn declared agrees.0 (structures_of scopes) place k → IsVariableOf k place
   stored_fits place (kind.Ordinal h) x = x.1
-  stored_fits place (kind.Array n) x = tt
+  stored_fits place (kind.Structured n) x = tt
   stored_fits place kind.Text x = tt
   stored_fits place kind.File x = tt
 
@@ -52,15 +52,15 @@ module _ (declared : Declarations) (scopes : List Region) (agrees : Agrees decla
   if_fits true t x = x
   if_fits false t x = tt
 
-  declared_fits : (locals : Locals) (d : Declared) (what : Declaration) → IsDeclaration declared agrees.0 (arrays_of scopes) (depth_in scopes) d what → Fits IsVariable (declared_control locals (depth_in scopes) d what)
+  declared_fits : (locals : Locals) (d : Declared) (what : Declaration) → IsDeclaration declared agrees.0 (structures_of scopes) (depth_in scopes) d what → Fits IsVariable (declared_control locals (depth_in scopes) d what)
   declared_fits locals d (declaration.Variable of k) x = if_fits (declares_variable locals d.unit) (record { variable = tree.OfUnit d.unit d.number; kind = k }) (stored_fits (tree.Variable d.unit d.number) k x.0)
   declared_fits locals d (declaration.Own of k guarded) x = if_fits (declares_own locals (depth_in scopes) d) (record { variable = tree.OfRoutine (depth_in scopes - d.level) d.number; kind = k }) (stored_fits (own_place (depth_in scopes) d) k x.0)
   declared_fits locals d (declaration.Constant k v) x = tt
-  declared_fits locals d (declaration.«Type» of h) x = tt
+  declared_fits locals d (declaration.«Type» of h nodes) x = tt
   declared_fits locals d (declaration.Procedure parameters) x = tt
   declared_fits locals d (declaration.Function parameters of h) x = tt
 
-  named_fits : (locals : Locals) (name : List ℕ) (m : Meant) → IsMeant declared agrees.0 (arrays_of scopes) (depth_in scopes) m → Fits IsVariable (control_named locals (depth_in scopes) name m)
+  named_fits : (locals : Locals) (name : List ℕ) (m : Meant) → IsMeant declared agrees.0 (structures_of scopes) (depth_in scopes) m → Fits IsVariable (control_named locals (depth_in scopes) name m)
   named_fits locals name (Declares d) x = declared_fits locals d d.what x
   named_fits locals name (Standard f) x = tt
   named_fits locals name (Requires r) x = tt
@@ -71,7 +71,7 @@ module _ (declared : Declarations) (scopes : List Region) (agrees : Agrees decla
 
   counted_fits : (v : Entire) (k : Kind) → IsVariableOf k (tree.entire v) → Fits IsCounted (counted_by v k)
   counted_fits v (kind.Ordinal h) x = x
-  counted_fits v (kind.Array n) x = tt
+  counted_fits v (kind.Structured n) x = tt
   counted_fits v kind.Text x = tt
   counted_fits v kind.File x = tt
 
@@ -83,7 +83,7 @@ module _ (declared : Declarations) (scopes : List Region) (agrees : Agrees decla
   control_fits c is name =
       fits_then IsCounted IsCounted (unless_threatened_in c.locals c.routines) (when_accepted (λ v. counted_by v.variable v.kind) (control_named c.locals (depth_in c.scopes) name (meant c.scopes name)))
       (fits_then IsVariable IsCounted (λ v. counted_by v.variable v.kind) (control_named c.locals (depth_in c.scopes) name (meant c.scopes name))
-      (subst (λ s. Fits IsVariable (control_named c.locals (depth_in s) name (meant s name))) (sym is) (named_fits c.locals name (meant scopes name) (meant-declared declared agrees.0 (arrays_of scopes) (depth_in scopes) scopes name agrees.1)))
+      (subst (λ s. Fits IsVariable (control_named c.locals (depth_in s) name (meant s name))) (sym is) (named_fits c.locals name (meant scopes name) (meant-declared declared agrees.0 (structures_of scopes) (depth_in scopes) scopes name agrees.1)))
       (λ v x. counted_fits v.variable v.kind x))
       (λ k x. unless_fits (is_threatened_in c.locals c.routines k.variable) k x)
 
@@ -94,7 +94,7 @@ module _ (declared : Declarations) (scopes : List Region) (agrees : Agrees decla
 
   bound_fits : (h : Host) (e : Expression) → Fits (IfForm (IsBound h)) (when_accepted (bound_judged h) (judged scopes e))
   bound_fits h e =
-      fits_then (λ (t : Typed). IsFormOf declared agrees.0 (arrays_of scopes) t.kind t.form) (IfForm (IsBound h)) (bound_judged h) (judged scopes e) (sound e) (λ t f. given-fits declared agrees.0 (arrays_of scopes) (IsBound h) (λ x. x) h (λ x q. q) t.kind t.form f)
+      fits_then (λ (t : Typed). IsFormOf declared agrees.0 (structures_of scopes) t.kind t.form) (IfForm (IsBound h)) (bound_judged h) (judged scopes e) (sound e) (λ t f. given-fits declared agrees.0 (structures_of scopes) (IsBound h) (λ x. x) h (λ x q. q) t.kind t.form f)
 
   -- a head is valid, where the auxiliary variables are there
   abbrev IsHead : Locals → ForHead → Type 0

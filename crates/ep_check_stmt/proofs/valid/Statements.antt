@@ -26,7 +26,7 @@ use Rattle.ep_typed.specs.declared.operations.Print.{Print}
 use Rattle.ep_typed.specs.declared.tree.StandardFile.{StandardFile}
 use Rattle.ep_typed.specs.declared.tree.StandardFile.TheVariants as file
 use Rattle.ep_scope.specs.Scopes.{Region, Meant, Declares, Standard, Requires, Nothing, depth_in, meant}
-use Rattle.ep_scope.specs.declared.array.ArrayType.{ArrayType}
+use Rattle.ep_scope.specs.declared.structure.StructuredType.{StructuredType}
 use Rattle.ep_scope.specs.declared.kind.Host.{Host}
 use Rattle.ep_scope.specs.declared.kind.Host.TheVariants as host
 use Rattle.ep_scope.specs.declared.kind.Kind.{Kind}
@@ -42,7 +42,7 @@ use Rattle.ep_scope.specs.declared.thing.Declaration.TheVariants as declaration
 use Rattle.ep_scope.specs.declared.thing.Declared.{Declared}
 use Rattle.ep_check_expr.specs.declared.access.Access.{Access}
 use Rattle.ep_check_expr.specs.declared.access.Access.TheVariants as access
-use Rattle.ep_check_expr.specs.Agreement.{Agrees, AreActuals, IsDeclaration, IsFormOf, IsProcedureOf, IsStoredIn, arrays_of}
+use Rattle.ep_check_expr.specs.Agreement.{Agrees, AreActuals, IsDeclaration, IsFormOf, IsProcedureOf, IsStoredIn, structures_of}
 use Rattle.ep_check_expr.specs.Arguments.{Taken, arguments_judged, callee_at, given_to, own_place, place_read, unless_protected}
 use Rattle.ep_check_expr.specs.Expressions.{given, judged, judged_value, name_judged}
 use Rattle.ep_check_expr.specs.Functions.{Given}
@@ -72,12 +72,12 @@ argument_is scopes a = ap (given scopes) (sym (roll-out-Argument a)) ∙ node_is
 
 module _ (declared : Declarations) (expressions : ExpressionsAreSound) (passed : ArgumentsAreSound) (values : ValuesAreSound) (labels : LabelsAreSound) (variables : VariablesAreSound) (scopes : List Region) (agrees : Agrees declared scopes) where
   -- the array types in view
-  abbrev arrays : List ArrayType
-  arrays = arrays_of scopes
+  abbrev structures : List StructuredType
+  structures = structures_of scopes
 
   -- a typed form is valid
   abbrev IsSoundForm : Typed → Type 0
-  IsSoundForm t = IsFormOf declared agrees.0 arrays t.kind t.form
+  IsSoundForm t = IsFormOf declared agrees.0 structures t.kind t.form
 
   expression_fits : (e : Expression) → Fits IsSoundForm (judged scopes e)
   expression_fits e = go (judged scopes e) refl
@@ -95,13 +95,13 @@ module _ (declared : Declarations) (expressions : ExpressionsAreSound) (passed :
 
   -- ---- conditions
 
-  tested_fits : (k : Kind) (form : Option Expr) → IsFormOf declared agrees.0 arrays k form → Fits (IfForm (IsExpr declared (valid.Ordinal typed.Boolean))) (tested k form)
+  tested_fits : (k : Kind) (form : Option Expr) → IsFormOf declared agrees.0 structures k form → Fits (IfForm (IsExpr declared (valid.Ordinal typed.Boolean))) (tested k form)
   tested_fits (kind.Ordinal host.Boolean) None h = tt
   tested_fits (kind.Ordinal host.Boolean) (Some x) h = h.1
   tested_fits (kind.Ordinal host.Integer) form h = tt
   tested_fits (kind.Ordinal host.Char) form h = tt
   tested_fits (kind.Ordinal (host.Enumeration e)) form h = tt
-  tested_fits (kind.Array n) form h = tt
+  tested_fits (kind.Structured n) form h = tt
   tested_fits kind.Text form h = tt
   tested_fits kind.File form h = tt
 
@@ -129,19 +129,19 @@ module _ (declared : Declarations) (expressions : ExpressionsAreSound) (passed :
   -- a variable of an ordinal type has a place, where it is built; to no other one is anything given that is built
   abbrev IsTarget : Kind → Option Place → Type 0
   IsTarget (kind.Ordinal h) place = IfForm (IsPlace declared (typed_host h)) place
-  IsTarget (kind.Array n) place = ⊤
+  IsTarget (kind.Structured n) place = ⊤
   IsTarget kind.Text place = ⊤
   IsTarget kind.File place = ⊤
 
   -- a variable that is declared is such a place
-  variable_fits : (place : Place) (k : Kind) → IsStoredIn declared agrees.0 arrays place k → IsTarget k (Some place)
+  variable_fits : (place : Place) (k : Kind) → IsStoredIn declared agrees.0 structures place k → IsTarget k (Some place)
   variable_fits place (kind.Ordinal h) x = x.1
-  variable_fits place (kind.Array n) x = tt
+  variable_fits place (kind.Structured n) x = tt
   variable_fits place kind.Text x = tt
   variable_fits place kind.File x = tt
 
   -- so is what is read of a variable
-  read_fits : (k : Kind) (form : Option Expr) → IsFormOf declared agrees.0 arrays k form → IsTarget k (place_read form)
+  read_fits : (k : Kind) (form : Option Expr) → IsFormOf declared agrees.0 structures k form → IsTarget k (place_read form)
   read_fits (kind.Ordinal h) None f = tt
   read_fits (kind.Ordinal h) (Some (tree.Read place)) f = subst (λ g. IsPlace declared g place) (same_ordinal (typed_host h) f.1.0 f.1.1) f.1.2
     where
@@ -154,12 +154,12 @@ module _ (declared : Declarations) (expressions : ExpressionsAreSound) (passed :
   read_fits (kind.Ordinal h) (Some (tree.Short operation x y)) f = tt
   read_fits (kind.Ordinal h) (Some (tree.Step down low high x y)) f = tt
   read_fits (kind.Ordinal h) (Some (tree.Function callee given)) f = tt
-  read_fits (kind.Array n) form f = tt
+  read_fits (kind.Structured n) form f = tt
   read_fits kind.Text form f = tt
   read_fits kind.File form f = tt
 
   -- the variable that an access denotes
-  accessed_fits : (a : Access) (k : Kind) (form : Option Expr) → IsFormOf declared agrees.0 arrays k form → Fits (λ t. IsTarget t.kind t.place) (variable_target a form k)
+  accessed_fits : (a : Access) (k : Kind) (form : Option Expr) → IsFormOf declared agrees.0 structures k form → Fits (λ t. IsTarget t.kind t.place) (variable_target a form k)
   accessed_fits (access.Variable of guarded) k form f =
       fits_then Any (λ t. IsTarget t.kind t.place) (λ done. Accepts (record { place = place_read form; kind = k })) (unless_protected guarded) (fits_any (unless_protected guarded)) (λ a i. read_fits k form f)
   accessed_fits access.File k form f = tt
@@ -177,7 +177,7 @@ module _ (declared : Declarations) (expressions : ExpressionsAreSound) (passed :
   -- so is the variable of a result
   result_fits : (k : Kind) (place : Place) → IsResultAt declared k place → IsTarget k (Some place)
   result_fits (kind.Ordinal h) place x = x.1
-  result_fits (kind.Array n) place x = tt
+  result_fits (kind.Structured n) place x = tt
   result_fits kind.Text place x = tt
   result_fits kind.File place x = tt
 
@@ -190,16 +190,16 @@ module _ (declared : Declarations) (expressions : ExpressionsAreSound) (passed :
       go false others = others
 
   module _ (unit : List ℕ) (results : List FunctionResult) (there : ResultsAreThere declared depth results) where
-    declared_fits : (d : Declared) (what : Declaration) → IsDeclaration declared agrees.0 arrays depth d what → Fits (λ t. IsTarget t.kind t.place) (declared_target depth unit results d what)
+    declared_fits : (d : Declared) (what : Declaration) → IsDeclaration declared agrees.0 structures depth d what → Fits (λ t. IsTarget t.kind t.place) (declared_target depth unit results d what)
     declared_fits d (declaration.Variable of k) x = variable_fits (tree.Variable d.unit d.number) k x.0
     declared_fits d (declaration.Own of k guarded) x =
         fits_then Any (λ t. IsTarget t.kind t.place) (λ done. Accepts (record { place = Some (own_place depth d); kind = k })) (unless_protected guarded) (fits_any (unless_protected guarded)) (λ a i. variable_fits (own_place depth d) k x.0)
     declared_fits d (declaration.Constant k v) x = tt
-    declared_fits d (declaration.«Type» of h) x = tt
+    declared_fits d (declaration.«Type» of h nodes) x = tt
     declared_fits d (declaration.Procedure parameters) x = tt
     declared_fits d (declaration.Function parameters of h) x = function_fits unit d results there
 
-    place_fits : (name : List ℕ) (m : Meant) → IsMeant declared agrees.0 arrays depth m → Fits (λ t. IsTarget t.kind t.place) (place_named depth unit results name m)
+    place_fits : (name : List ℕ) (m : Meant) → IsMeant declared agrees.0 structures depth m → Fits (λ t. IsTarget t.kind t.place) (place_named depth unit results name m)
     place_fits name (Declares d) x = declared_fits d d.what x
     place_fits name (Standard f) x = tt
     place_fits name (Requires r) x = tt
@@ -215,7 +215,7 @@ module _ (declared : Declarations) (expressions : ExpressionsAreSound) (passed :
   target_fits : (c : Context) → c.scopes ≡ scopes → Results c → (a : syntax.Access) (selectors : List Selector) → Fits (λ t. IsTarget t.kind t.place) (target_of_selectors c a selectors)
   target_fits c is there a [] =
       let name = (out-Access a).name in
-      subst (λ s. Fits (λ t. IsTarget t.kind t.place) (place_named (depth_in s) c.unit c.results name (meant s name))) (sym is) (place_fits c.unit c.results there name (meant scopes name) (meant-declared declared agrees.0 arrays depth scopes name agrees.1))
+      subst (λ s. Fits (λ t. IsTarget t.kind t.place) (place_named (depth_in s) c.unit c.results name (meant s name))) (sym is) (place_fits c.unit c.results there name (meant scopes name) (meant-declared declared agrees.0 structures depth scopes name agrees.1))
   target_fits c is there a (s ∷ ss) =
       subst (λ r. Fits (λ t. IsTarget t.kind t.place) (when_accepted (λ t. variable_target t.access t.form t.kind) (name_judged r a))) (sym is) (access_fits a)
 
@@ -233,21 +233,21 @@ module _ (declared : Declarations) (expressions : ExpressionsAreSound) (passed :
   same_array true = refl
   same_array false = tt
 
-  to_array : (m : ℕ) (from : Kind) (form : Option Expr) → Fits IsNone (given_to (λ x. x) (kind.Array m) from form)
+  to_array : (m : ℕ) (from : Kind) (form : Option Expr) → Fits IsNone (given_to (λ x. x) (kind.Structured m) from form)
   to_array m (kind.Ordinal g) form = tt
-  to_array m (kind.Array n) form = same_array (m == n)
+  to_array m (kind.Structured n) form = same_array (m == n)
   to_array m kind.Text form = tt
   to_array m kind.File form = tt
 
   to_text : (from : Kind) (form : Option Expr) → Fits IsNone (given_to (λ x. x) kind.Text from form)
   to_text (kind.Ordinal g) form = tt
-  to_text (kind.Array n) form = tt
+  to_text (kind.Structured n) form = tt
   to_text kind.Text form = tt
   to_text kind.File form = tt
 
   to_file_fits : (from : Kind) (form : Option Expr) → Fits IsNone (given_to (λ x. x) kind.File from form)
   to_file_fits (kind.Ordinal g) form = tt
-  to_file_fits (kind.Array n) form = tt
+  to_file_fits (kind.Structured n) form = tt
   to_file_fits kind.Text form = tt
   to_file_fits kind.File form = tt
 
@@ -258,12 +258,12 @@ module _ (declared : Declarations) (expressions : ExpressionsAreSound) (passed :
       nothing None = tt
       nothing (Some p) = tt
 
-  assign_fits : (to from : Kind) (line : ℕ) (place : Option Place) (form : Option Expr) → IsTarget to place → IsFormOf declared agrees.0 arrays from form
+  assign_fits : (to from : Kind) (line : ℕ) (place : Option Place) (form : Option Expr) → IsTarget to place → IsFormOf declared agrees.0 structures from form
       → Fits (IfForm (IsStmt declared)) (when_accepted (λ x. Accepts (map_both (tree.Assign line) place x)) (given_to (λ x. x) to from form))
   assign_fits (kind.Ordinal h) from line place form p f =
       fits_then (IfForm (IsExpr declared (valid.Ordinal (typed_host h)))) (IfForm (IsStmt declared)) (λ x. Accepts (map_both (tree.Assign line) place x)) (given_to (λ x. x) (kind.Ordinal h) from form)
-      (given-fits declared agrees.0 arrays (IsExpr declared (valid.Ordinal (typed_host h))) (λ x. x) h (λ x q. q) from form f) (λ x q. placed_fits h line place x p q)
-  assign_fits (kind.Array m) from line place form p f = unplaced_fits line place (given_to (λ x. x) (kind.Array m) from form) (to_array m from form)
+      (given-fits declared agrees.0 structures (IsExpr declared (valid.Ordinal (typed_host h))) (λ x. x) h (λ x q. q) from form f) (λ x q. placed_fits h line place x p q)
+  assign_fits (kind.Structured m) from line place form p f = unplaced_fits line place (given_to (λ x. x) (kind.Structured m) from form) (to_array m from form)
   assign_fits kind.Text from line place form p f = unplaced_fits line place (given_to (λ x. x) kind.Text from form) (to_text from form)
   assign_fits kind.File from line place form p f = unplaced_fits line place (given_to (λ x. x) kind.File from form) (to_file_fits from form)
 
@@ -278,20 +278,20 @@ module _ (declared : Declarations) (expressions : ExpressionsAreSound) (passed :
   abbrev IsShown : Shown → Type 0
   IsShown s = IfForm (IsExpr declared (printed_kind s.print)) s.form
 
-  ordinal_form : (h : Host) (form : Option Expr) → IsFormOf declared agrees.0 arrays (kind.Ordinal h) form → IfForm (IsExpr declared (valid.Ordinal (typed_host h))) form
+  ordinal_form : (h : Host) (form : Option Expr) → IsFormOf declared agrees.0 structures (kind.Ordinal h) form → IfForm (IsExpr declared (valid.Ordinal (typed_host h))) form
   ordinal_form h None f = tt
   ordinal_form h (Some x) f = f.1
 
-  text_form : (form : Option Expr) → IsFormOf declared agrees.0 arrays kind.Text form → IfForm (IsExpr declared valid.Bytes) form
+  text_form : (form : Option Expr) → IsFormOf declared agrees.0 structures kind.Text form → IfForm (IsExpr declared valid.Bytes) form
   text_form None f = tt
   text_form (Some x) f = f
 
-  shown_by : (k : Kind) (form : Option Expr) (t : Typed) → t.form ≡ form → t.kind ≡ k → IsFormOf declared agrees.0 arrays k form → Fits IsShown (shown t)
+  shown_by : (k : Kind) (form : Option Expr) (t : Typed) → t.form ≡ form → t.kind ≡ k → IsFormOf declared agrees.0 structures k form → Fits IsShown (shown t)
   shown_by (kind.Ordinal host.Integer) form t e g f = rw (e, g) (ordinal_form host.Integer form f)
   shown_by (kind.Ordinal host.Char) form t e g f = rw (e, g) (ordinal_form host.Char form f)
   shown_by (kind.Ordinal host.Boolean) form t e g f = rw (e, g) (ordinal_form host.Boolean form f)
   shown_by (kind.Ordinal (host.Enumeration n)) form t e g f = rw (e, g) tt
-  shown_by (kind.Array n) form t e g f = rw (e, g) tt
+  shown_by (kind.Structured n) form t e g f = rw (e, g) tt
   shown_by kind.Text form t e g f = rw (e, g) (text_form form f)
   shown_by kind.File form t e g f = rw (e, g) tt
 
@@ -300,12 +300,12 @@ module _ (declared : Declarations) (expressions : ExpressionsAreSound) (passed :
   IsWidth None = ⊤
   IsWidth (Some form) = IfForm (IsExpr declared (valid.Ordinal typed.Integer)) form
 
-  measured_fits : (k : Kind) (form : Option Expr) → IsFormOf declared agrees.0 arrays k form → Fits (IfForm (IsExpr declared (valid.Ordinal typed.Integer))) (measured k form)
+  measured_fits : (k : Kind) (form : Option Expr) → IsFormOf declared agrees.0 structures k form → Fits (IfForm (IsExpr declared (valid.Ordinal typed.Integer))) (measured k form)
   measured_fits (kind.Ordinal host.Integer) form f = ordinal_form host.Integer form f
   measured_fits (kind.Ordinal host.Char) form f = tt
   measured_fits (kind.Ordinal host.Boolean) form f = tt
   measured_fits (kind.Ordinal (host.Enumeration n)) form f = tt
-  measured_fits (kind.Array n) form f = tt
+  measured_fits (kind.Structured n) form f = tt
   measured_fits kind.Text form f = tt
   measured_fits kind.File form f = tt
 
@@ -403,11 +403,11 @@ module _ (declared : Declarations) (expressions : ExpressionsAreSound) (passed :
     abbrev IsChosen : List (List Label) → CaseSelector → Type 0
     IsChosen all s = IsSelected declared c.locals labels scopes agrees s.host all s.form
 
-    selecting_fits : (all : List (List Label)) (k : Kind) (form : Option Expr) → IsFormOf declared agrees.0 arrays k form → Fits (IsChosen all) (when_accepted (labelled scopes all) (selecting k form))
+    selecting_fits : (all : List (List Label)) (k : Kind) (form : Option Expr) → IsFormOf declared agrees.0 structures k form → Fits (IsChosen all) (when_accepted (labelled scopes all) (selecting k form))
     selecting_fits all (kind.Ordinal h) form f =
         fits_weaker (λ (s : CaseSelector). (s.host ≡ h) × IsSelected declared c.locals labels scopes agrees h all s.form) (IsChosen all) (labelled scopes all (record { host = h; form = form }))
         (λ s p. subst (λ g. IsSelected declared c.locals labels scopes agrees g all s.form) (sym p.0) p.1) (labelled_fits declared c.locals labels scopes agrees h all form (ordinal_form h form f))
-    selecting_fits all (kind.Array n) form f = tt
+    selecting_fits all (kind.Structured n) form f = tt
     selecting_fits all kind.Text form f = tt
     selecting_fits all kind.File form f = tt
 
@@ -473,15 +473,15 @@ module _ (declared : Declarations) (expressions : ExpressionsAreSound) (passed :
           fits_weaker (λ t. arguments_judged parameters (map (given scopes) arguments) ≡ Accepts t) IsTaken (arguments_judged parameters (map (given scopes) arguments))
           (λ t e. passed scopes parameters arguments t e declared agrees.0 agrees.1 (declared.types d.unit) x.0.formals x.3) (fits_is (arguments_judged parameters (map (given scopes) arguments)))
 
-  declared_call_fits : (c : Context) → c.scopes ≡ scopes → (line : ℕ) (d : Declared) (what : Declaration) (arguments : List Argument) → IsDeclaration declared agrees.0 arrays depth d what → Fits (IfForm (IsStmt declared)) (declared_called c line d what arguments)
+  declared_call_fits : (c : Context) → c.scopes ≡ scopes → (line : ℕ) (d : Declared) (what : Declaration) (arguments : List Argument) → IsDeclaration declared agrees.0 structures depth d what → Fits (IfForm (IsStmt declared)) (declared_called c line d what arguments)
   declared_call_fits c is line d (declaration.Procedure parameters) arguments x = own_fits c is line d parameters arguments x
   declared_call_fits c is line d (declaration.Function parameters of h) arguments x = tt
   declared_call_fits c is line d (declaration.Constant k v) arguments x = tt
-  declared_call_fits c is line d (declaration.«Type» of h) arguments x = tt
+  declared_call_fits c is line d (declaration.«Type» of h nodes) arguments x = tt
   declared_call_fits c is line d (declaration.Variable of k) arguments x = tt
   declared_call_fits c is line d (declaration.Own of k guarded) arguments x = tt
 
-  call_fits : (c : Context) → c.scopes ≡ scopes → (line : ℕ) (name : List ℕ) (m : Meant) (arguments : List Argument) → IsMeant declared agrees.0 arrays depth m → Fits (IfForm (IsStmt declared)) (call_judged c line name m arguments)
+  call_fits : (c : Context) → c.scopes ≡ scopes → (line : ℕ) (name : List ℕ) (m : Meant) (arguments : List Argument) → IsMeant declared agrees.0 structures depth m → Fits (IfForm (IsStmt declared)) (call_judged c line name m arguments)
   call_fits c is line name (Declares d) arguments x = declared_call_fits c is line d d.what arguments x
   call_fits c is line name (Standard f) arguments x = tt
   call_fits c is line name (Requires r) arguments x = required_fits c is line r arguments
@@ -489,7 +489,7 @@ module _ (declared : Declarations) (expressions : ExpressionsAreSound) (passed :
 
   called_fits : (c : Context) → c.scopes ≡ scopes → (line : ℕ) (name : List ℕ) (arguments : Option (List Argument)) → Fits (IfForm (IsStmt declared)) (name_called c line name arguments)
   called_fits c is line name None = tt
-  called_fits c is line name (Some arguments) = call_fits c is line name (meant c.scopes name) arguments (subst (λ s. IsMeant declared agrees.0 arrays depth (meant s name)) (sym is) (meant-declared declared agrees.0 arrays depth scopes name agrees.1))
+  called_fits c is line name (Some arguments) = call_fits c is line name (meant c.scopes name) arguments (subst (λ s. IsMeant declared agrees.0 structures depth (meant s name)) (sym is) (meant-declared declared agrees.0 structures depth scopes name agrees.1))
 
   -- ---- statements
 

@@ -1,4 +1,4 @@
-use Rattle.std.proofs.Common.{◌≡◌, ◌<◌, [], ◌∷◌, ◌∙◌, None, ap, map, length, sym, arith, rules}
+use Rattle.std.proofs.Common.{◌≡◌, ◌+◌, ◌<◌, drop, [], ◌∷◌, ◌⊎◌, inl, inr, ◌∙◌, Some, None, ap, map, length, sym, arith, rules}
 use Rattle.std.proofs.lemmas.List.{length-map}
 use Rattle.ep_tree.specs.declared.expression.Access.{out-Access}
 use Rattle.ep_tree.specs.declared.expression.Simple.{out-Simple}
@@ -9,16 +9,18 @@ use Rattle.ep_check_expr.proofs.Breaking.{part-exit, refused-exit, chained-first
 use Rattle.ep_check_expr.proofs.Calls.{given-exit, one-item, two-items, applied-one, applied-two, applied-fault, applied-number, fault-exit, first-fault, later-fault}
 use Rattle.ep_check_expr.proofs.Folds.{addend_judged-is, multiplier_judged-is, addend_belonging-is, multiplier_belonging-is, simple_judged-is, term_judged-is, simple_unbuilt-is, term_unbuilt-is}
 use Rattle.ep_check_expr.proofs.Rows.{next-built, rest-built, chained-operand, chained-operator, chained-step, operands-built, operator-built, operators-built, at_node-built, at_node-inner, or-first, or-second}
-use Rattle.ep_check_expr.proofs.Selectors.{access-name, index-fails, index-node, index-turned, indexing-fails, next-index, node-lines, rest-indexes, rest-lines, selector-fails, selector-turned}
+use Rattle.ep_check_expr.proofs.Selectors.{FieldNode, IndexNode, access-alone-fails, access-field-fails, component-node, field-acts, field-split, index-acts, index-fails, index-turned, indexing-fails, more-components, more-lines, next-component, node-lines, rest-components, rest-lines, selector-fails, selector-turned}
 use Rattle.ep_check_expr.proofs.expressions.+typed.Goals as goal
+use Rattle.ep_check_expr.proofs.expressions.+typed.Goals.{selected-in-Index+in_ok-variable-in-Index, selected-in-Field+in_ok-variable-in-Field}
 use Rattle.ep_check_expr.specs.Answers.{taken_of, typed_of}
 use Rattle.ep_check_expr.specs.Arguments.{argument_taken}
 use Rattle.ep_check_expr.proofs.Gathering.{argument_fails, gathered, other_number, turned, value_fails}
 use Rattle.ep_check_expr.proofs.Reading.{argument-reads}
 use Rattle.ep_check_expr.proofs.Written.{all_written}
-use Rattle.ep_check_expr.specs.Expressions.{addend_judged, multiplier_judged, given}
+use Rattle.ep_check_expr.specs.Expressions.{addend_judged, multiplier_judged, given, selected, selected_all}
+use Rattle.ep_check_expr.specs.Judgements.{Accepts}
 use Rattle.ep_check_expr.specs.Operators.{added, multiplied}
-use Rattle.ep_check_expr.specs.Qualified.{only_arguments}
+use Rattle.ep_check_expr.specs.Shapes.{field_first, only_arguments}
 
 pub addends-added-requires : goal.addends-added-requires
 addends-added-requires t c = operator-built addend_belonging c.args.all.now c.loop-addend.addend-index c.addend-item.result c.loop-addend-test.true c.addend-item.is _ _ (addend_belonging-is c.addend-item.result) c.loop-addend.invariant.operators
@@ -181,34 +183,72 @@ application-argument-requires-in-len2 t c =
     let all = two-items c.args.arguments.now c.one-item-then-arguments-lt3.result c.two-item.result c.in-len2.len_at_least c.in-len2.len_below c.one-item-then-arguments-lt3.is c.two-item.is in
     (search (rules, the_lemmas), or-first _ _ (rw all at c.requires.built))
 
+pub access-returns-in_err-variable-in-Some-field_first : goal.access-returns-in_err-variable-in-Some-field_first
+access-returns-in_err-variable-in-Some-field_first t c =
+    let none : only_arguments (out-Access c.args.a.now).selectors ≡ None = ap only_arguments (sym c.items.ensures) ∙ sym c.in_default.ensures in
+    let split : field_first (out-Access c.args.a.now).selectors ≡ Some (c.in-Some-field_first.field.now, c.in-Some-field_first.more.now) = ap field_first (sym c.items-2.ensures) ∙ sym c.in-Some-field_first.ensures in
+    refused-exit c.from_residual.result c.in_err-variable-in-Some-field_first.field-0.0 _ _ c.from_residual.ensures.1
+    (λ n h. access-field-fails c.args.a.now c.requires.built none c.args.scopes.now c.in-Some-field_first.field.now c.in-Some-field_first.more.now split n h)
+    c.in_err-variable-in-Some-field_first.ensures
+
+pub access-selected-requires : goal.access-selected-requires
+access-selected-requires t c =
+    let none : only_arguments (out-Access c.args.a.now).selectors ≡ None = ap only_arguments (sym c.items.ensures) ∙ sym c.in_default.ensures in
+    let split : field_first (out-Access c.args.a.now).selectors ≡ Some (c.in-Some-field_first.field.now, c.in-Some-field_first.more.now) = ap field_first (sym c.items-2.ensures) ∙ sym c.in-Some-field_first.ensures in
+    let p = field-split (out-Access c.args.a.now).selectors c.in-Some-field_first.more.now c.in-Some-field_first.field.now split in
+    let whole = p.3 in
+    (search (rules, the_lemmas, whole), (more-components c.args.a.now c.requires.built none c.args.scopes.now c.in-Some-field_first.field.now c.in-Some-field_first.more.now split, more-lines c.args.a.now c.requires.built none c.args.scopes.now c.in-Some-field_first.field.now c.in-Some-field_first.more.now split))
+
 pub access-returns-in_err-variable-in-None : goal.access-returns-in_err-variable-in-None
 access-returns-in_err-variable-in-None t c =
-    let none : only_arguments (out-Access c.args.a.now).selectors ≡ None = ap only_arguments (sym c.items.ensures) ∙ sym c.in-None.ensures in
-    refused-exit c.from_residual.result c.in_err-variable-in-None.field-0.0 _ _ c.from_residual.ensures.1 (λ n h. access-name c.args.a.now c.requires.built c.args.scopes.now n none h) c.in_err-variable-in-None.ensures
+    let none : only_arguments (out-Access c.args.a.now).selectors ≡ None = ap only_arguments (sym c.items.ensures) ∙ sym c.in_default.ensures in
+    let plain : field_first (out-Access c.args.a.now).selectors ≡ None = ap field_first (sym c.items-2.ensures) ∙ sym c.in-None.ensures in
+    refused-exit c.from_residual-in_err-variable-in-None.result c.in_err-variable-in-None.field-0.0 _ _ c.from_residual-in_err-variable-in-None.ensures.1
+    (λ n h. access-alone-fails c.args.a.now c.requires.built none c.args.scopes.now plain n h) c.in_err-variable-in-None.ensures
 
-pub selected-unreachable-requires : goal.selected-unreachable-requires
-selected-unreachable-requires t c =
-    let n = index-node c.selector-item.result (next-index c.args.scopes.now c.args.all.now c.loop-selector.selector-index c.selector-item.result c.loop-selector-test.true c.selector-item.is c.loop-selector.invariant.selectors) in
-    c.in_default.not-Index n.0 n.1 n.2
+pub selected-returns-in_err-variable-in-Index : goal.selected-returns-in_err-variable-in-Index
+selected-returns-in_err-variable-in-Index t c =
+    refused-exit c.from_residual.result c.in_err-variable-in-Index.field-0.0 _ _ c.from_residual.ensures.1
+    (λ n h. rw (← c.loop-selector.invariant.judged) (selector-fails c.args.scopes.now c.args.all.now c.loop-selector.selector-index c.selector-item.result c.loop-selector-test.true c.selector-item.is _ (index-acts c.args.scopes.now c.selector-item.result _ _ c.in-Index.is) n (typed_of c.loop-selector.variable) c.loop-selector.invariant.selectors h))
+    (rw c.items.ensures at c.in_err-variable-in-Index.ensures)
+
+pub selected-returns-in_err-variable-in-Field : goal.selected-returns-in_err-variable-in-Field
+selected-returns-in_err-variable-in-Field t c =
+    refused-exit c.from_residual-in_err-variable-in-Field.result c.in_err-variable-in-Field.field-0.0 _ _ c.from_residual-in_err-variable-in-Field.ensures.1
+    (λ n h. rw (← c.loop-selector.invariant.judged) (selector-fails c.args.scopes.now c.args.all.now c.loop-selector.selector-index c.selector-item.result c.loop-selector-test.true c.selector-item.is _ (field-acts c.args.scopes.now c.selector-item.result _ _ c.in-Field.is) n (typed_of c.loop-selector.variable) c.loop-selector.invariant.selectors h))
+    c.in_err-variable-in-Field.ensures
 
 pub selected-with_indexes-requires : goal.selected-with_indexes-requires
 selected-with_indexes-requires t c =
     (search (rules, the_lemmas), rw c.items.ensures (node-lines c.args.scopes.now c.args.all.now c.loop-selector.selector-index c.selector-item.result c.loop-selector-test.true c.selector-item.is _ _ c.in-Index.is c.loop-selector.invariant.lines))
 
-pub selected-returns-in_err-variable : goal.selected-returns-in_err-variable
-selected-returns-in_err-variable t c =
-    refused-exit c.from_residual.result c.in_err-variable.field-0.0 _ _ c.from_residual.ensures.1
-    (λ n h. rw (← c.loop-selector.invariant.judged) (selector-fails c.args.scopes.now c.args.all.now c.loop-selector.selector-index c.selector-item.result c.loop-selector-test.true c.selector-item.is _ _ c.in-Index.is n (typed_of c.loop-selector.variable) c.loop-selector.invariant.selectors h))
-    (rw c.items.ensures at c.in_err-variable.ensures)
+pub selected-unreachable-requires : goal.selected-unreachable-requires
+selected-unreachable-requires t c =
+    no_other (component-node c.selector-item.result (next-component c.args.scopes.now c.args.all.now c.loop-selector.selector-index c.selector-item.result c.loop-selector-test.true c.selector-item.is c.loop-selector.invariant.selectors))
+  where
+    no_other : IndexNode c.selector-item.result ⊎ FieldNode c.selector-item.result → ⊥
+    no_other (inl i) = c.in_default.not-Index i.0 i.1 i.2
+    no_other (inr f) = c.in_default.not-Field f.0 f.1 f.2
 
 pub selected-loop-selector-preserved : goal.selected-loop-selector-preserved
 selected-loop-selector-preserved t c =
     record {
-      judged = selector-turned c.args.scopes.now c.args.all.now c.loop-selector.selector-index c.selector-item.result c.loop-selector-test.true c.selector-item.is _ _ c.in-Index.is (typed_of c.loop-selector.variable) (typed_of c.in_ok-variable.variable) (rw c.items.ensures at c.in_ok-variable.ensures)
-          ∙ c.loop-selector.invariant.judged;
-      selectors = rest-indexes c.args.scopes.now c.args.all.now c.loop-selector.selector-index c.selector-item.result c.loop-selector-test.true c.selector-item.is c.loop-selector.invariant.selectors;
+      judged = turned ∙ c.loop-selector.invariant.judged;
+      selectors = rest-components c.args.scopes.now c.args.all.now c.loop-selector.selector-index c.selector-item.result c.loop-selector-test.true c.selector-item.is c.loop-selector.invariant.selectors;
       lines = rest-lines c.args.scopes.now c.args.all.now c.loop-selector.selector-index c.selector-item.result c.loop-selector-test.true c.selector-item.is c.loop-selector.invariant.lines;
     }
+  where
+    turned : selected_all c.args.scopes.now (Accepts (typed_of c.match-selector.variable)) (map (selected c.args.scopes.now) (drop (c.loop-selector.selector-index + 1) c.args.all.now))
+        ≡ selected_all c.args.scopes.now (Accepts (typed_of c.loop-selector.variable)) (map (selected c.args.scopes.now) (drop c.loop-selector.selector-index c.args.all.now))
+    turned =
+        elim c.match-selector.branch [
+          | selected-in-Index+in_ok-variable-in-Index w ↦
+              selector-turned c.args.scopes.now c.args.all.now c.loop-selector.selector-index c.selector-item.result c.loop-selector-test.true c.selector-item.is _ (index-acts c.args.scopes.now c.selector-item.result _ _ w.in-Index.is)
+              (typed_of c.loop-selector.variable) (typed_of c.match-selector.variable) (rw (w.variable-is, ← w.items.ensures) w.in_ok-variable-in-Index.ensures)
+          | selected-in-Field+in_ok-variable-in-Field w ↦
+              selector-turned c.args.scopes.now c.args.all.now c.loop-selector.selector-index c.selector-item.result c.loop-selector-test.true c.selector-item.is _ (field-acts c.args.scopes.now c.selector-item.result _ _ w.in-Field.is)
+              (typed_of c.loop-selector.variable) (typed_of c.match-selector.variable) (rw w.variable-is w.in_ok-variable-in-Field.ensures)
+        ]
 
 pub with_indexes-typed_expression-requires : goal.with_indexes-typed_expression-requires
 with_indexes-typed_expression-requires t c =

@@ -1,11 +1,11 @@
 use Rattle.std.proofs.Common.{◌≡◌, true, None, drop, map}
 use Rattle.std.specs.List.{list_all}
-use Rattle.ep_built.specs.Built.{addend_belonging, all_are_built, expression_unbuilt, first_in, form_told, is_index, lines_in, multiplier_belonging, selector_belonging, written_unbuilt}
+use Rattle.ep_built.specs.Built.{addend_belonging, all_are_built, expression_unbuilt, first_in, form_told, is_component, lines_in, multiplier_belonging, selector_belonging, written_unbuilt}
 use Rattle.ep_check_expr.proofs.expressions.+typed.Given as goal
 use Rattle.ep_check_expr.specs.Answers.{taken_of, typed_of}
 use Rattle.ep_check_expr.specs.Arguments.{arguments_judged}
 use Rattle.ep_check_expr.proofs.Gathering.{gathered}
-use Rattle.ep_check_expr.specs.Expressions.{addend_judged, chained, given, indexed_if_all, indexes_of, judged, multiplier_judged, selected}
+use Rattle.ep_check_expr.specs.Expressions.{addend_judged, chained, given, selected_all, judged, multiplier_judged, selected}
 use Rattle.ep_check_expr.specs.Indexing.{indexed_all}
 use Rattle.ep_check_expr.specs.Judgements.{Accepts}
 use Rattle.ep_check_expr.specs.Operators.{added, multiplied}
@@ -36,9 +36,8 @@ invariant-typed_arguments-loop-place l =
 abbrev pub invariant-selected-loop-selector : goal.invariant-selected-loop-selector
 invariant-selected-loop-selector l =
     record {
-      judged : indexed_if_all l.scopes (Accepts (typed_of l.variable)) (indexes_of (map (selected l.scopes) (drop l.selector-index l.all)))
-          ≡ indexed_if_all l.scopes (Accepts (typed_of l.fn.first)) (indexes_of (map (selected l.scopes) l.all));
-      selectors : list_all is_index (map form_told (map selector_belonging (drop l.selector-index l.all))) ≡ true;
+      judged : selected_all l.scopes (Accepts (typed_of l.variable)) (map (selected l.scopes) (drop l.selector-index l.all)) ≡ selected_all l.scopes (Accepts (typed_of l.fn.first)) (map (selected l.scopes) l.all);
+      selectors : list_all is_component (map form_told (map selector_belonging (drop l.selector-index l.all))) ≡ true;
       lines : lines_in (map selector_belonging (drop l.selector-index l.all)) ≡ None;
     }
 

@@ -1,9 +1,11 @@
+use Rattle.std.proofs.Common.{◌∙◌}
 use Rattle.std.proofs.lemmas.Result.{err_from_is_err_and}
-use Rattle.ep_built.specs.Built.{plain_unbuilt}
+use Rattle.ep_built.specs.Built.{field_section_unbuilt, plain_unbuilt}
 use Rattle.ep_check_stmt.proofs.judged.Rounds.{rest_built}
 use Rattle.ep_check_unit.specs.Answers.{named_in, written_in}
 use Rattle.ep_check_unit.specs.Blocks.{block_of}
 use Rattle.ep_check_unit.specs.Declarations.{core_part}
+use Rattle.ep_check_unit.proofs.FieldSections.{names_refused, next_section}
 use Rattle.ep_check_unit.proofs.Indexes.{array_accepted, component_refused, index_refused, next_index, other_settled, unnamed, without_index}
 use Rattle.ep_check_unit.proofs.block.Block.+denoters.Goals as goal
 
@@ -19,26 +21,38 @@ pub settled_type-returns : goal.settled_type-returns
 settled_type-returns t c =
     rw (other_settled (core_part c.args.core.now) c.args.line (block_of c.args.self.now) (written_in (block_of c.written_type.new.self) c.in_ok-written.written) (unnamed c.args.core.now c.in_default.not-Named) c.in_ok-written.ensures) c.settle.ensures
 
-pub structure-returns-in_err-made : goal.structure-returns-in_err-made
-structure-returns-in_err-made t c =
+pub structure-returns-in_err-made-in-Array : goal.structure-returns-in_err-made-in-Array
+structure-returns-in_err-made-in-Array t c =
     let p = err_from_is_err_and c.from_residual.result c.from_residual.ensures.1 in
     rw (p.1, p.2)
-    (index_refused c.args.line c.args.structure.now c.in-Array.field-0 c.in-Array.indexes c.in-Array.component (block_of c.args.self.now) c.in-Array.is c.in_err-made.field-0.0 (rw c.items.ensures at c.in_err-made.ensures))
+    (index_refused c.args.line c.args.structure.now c.in-Array.field-0 c.in-Array.indexes c.in-Array.component (block_of c.args.self.now) c.in-Array.is c.in_err-made-in-Array.field-0.0 (rw c.items.ensures at c.in_err-made-in-Array.ensures))
 
-pub structure-returns-in_default-split_first : goal.structure-returns-in_default-split_first
-structure-returns-in_default-split_first t c =
-    rw (without_index c.args.line c.args.structure.now c.in-Array.field-0 c.in-Array.indexes c.in-Array.component (block_of c.args.self.now) c.in-Array.is c.in_ok-made.made (block_of c.index_types.new.self) (rw c.items.ensures at c.in_ok-made.ensures) (rw c.items-2.ensures at c.in_default-split_first.ensures.cases))
+pub structure-returns-in_default : goal.structure-returns-in_default
+structure-returns-in_default t c =
+    rw (without_index c.args.line c.args.structure.now c.in-Array.field-0 c.in-Array.indexes c.in-Array.component (block_of c.args.self.now) c.in-Array.is c.in_ok-made-in-Array.made (block_of c.index_types.new.self) (rw c.items.ensures at c.in_ok-made-in-Array.ensures) (rw c.items-in-Array.ensures at c.in_default.ensures.cases))
     (rw c.get.ensures at c.written_plain.ensures)
 
-pub structure-returns-in_err-of : goal.structure-returns-in_err-of
-structure-returns-in_err-of t c =
-    let p = err_from_is_err_and c.from_residual-in_err-of.result c.from_residual-in_err-of.ensures.1 in
+pub structure-returns-in_err-of-in-Array : goal.structure-returns-in_err-of-in-Array
+structure-returns-in_err-of-in-Array t c =
+    let p = err_from_is_err_and c.from_residual-in_err-of-in-Array.result c.from_residual-in_err-of-in-Array.ensures.1 in
     rw (p.1, p.2)
-    (component_refused c.args.line c.args.structure.now c.in-Array.field-0 c.in-Array.indexes c.in-Array.component (block_of c.args.self.now) c.in-Array.is c.in_ok-made.made (block_of c.index_types.new.self) (rw c.items.ensures at c.in_ok-made.ensures)
-    c.in-Some.first.now c.in-Some.others.now (rw c.items-2.ensures at c.in-Some.ensures.cases).0 c.in_err-of.field-0.0 (rw c.get-2.ensures at c.in_err-of.ensures))
+    (component_refused c.args.line c.args.structure.now c.in-Array.field-0 c.in-Array.indexes c.in-Array.component (block_of c.args.self.now) c.in-Array.is c.in_ok-made-in-Array.made (block_of c.index_types.new.self) (rw c.items.ensures at c.in_ok-made-in-Array.ensures)
+    c.in-Some.first.now c.in-Some.others.now (rw c.items-in-Array.ensures at c.in-Some.ensures.cases).0 c.in_err-of-in-Array.field-0.0 (rw c.get-in-Array.ensures at c.in_err-of-in-Array.ensures))
 
-pub structure-returns : goal.structure-returns
-structure-returns t c =
-    rw (array_accepted c.args.line c.args.structure.now c.in-Array.field-0 c.in-Array.indexes c.in-Array.component (block_of c.args.self.now) c.in-Array.is c.in_ok-made.made (block_of c.index_types.new.self) (rw c.items.ensures at c.in_ok-made.ensures)
-    c.in-Some.first.now c.in-Some.others.now (rw c.items-2.ensures at c.in-Some.ensures.cases).0 c.in_ok-below.below (named_in (block_of c.settled_plain.new.self) c.in_ok-of.of) (block_of c.arrays_below.new.self) (rw c.get-2.ensures at c.in_ok-of.ensures) c.in_ok-below.ensures)
+pub structure-returns-in_ok-below-in-Array : goal.structure-returns-in_ok-below-in-Array
+structure-returns-in_ok-below-in-Array t c =
+    rw (array_accepted c.args.line c.args.structure.now c.in-Array.field-0 c.in-Array.indexes c.in-Array.component (block_of c.args.self.now) c.in-Array.is c.in_ok-made-in-Array.made (block_of c.index_types.new.self) (rw c.items.ensures at c.in_ok-made-in-Array.ensures)
+    c.in-Some.first.now c.in-Some.others.now (rw c.items-in-Array.ensures at c.in-Some.ensures.cases).0 c.in_ok-below-in-Array.below (named_in (block_of c.settled_plain.new.self) c.in_ok-of-in-Array.of) (block_of c.arrays_below.new.self) (rw c.get-in-Array.ensures at c.in_ok-of-in-Array.ensures) c.in_ok-below-in-Array.ensures)
     c.array_over.ensures
+
+pub sections-returns-in_err-add_fields : goal.sections-returns-in_err-add_fields
+sections-returns-in_err-add_fields t c =
+    let p = err_from_is_err_and c.from_residual-in_err-add_fields.result c.from_residual-in_err-add_fields.ensures.1 in
+    rw (p.1, p.2, ← c.loop-section.invariant.same)
+    (names_refused c.args.line c.args.sections.now c.loop-section.section-index c.section-item.result c.loop-section-test.true c.section-item.is (block_of c.loop-section.self) c.loop-section.all c.in_ok-of.of (block_of c.settled_plain.new.self) (rw c.get.ensures at c.in_ok-of.ensures) c.in_err-add_fields.field-0.0 (rw c.items.ensures at c.in_err-add_fields.ensures))
+
+pub sections-loop-section-preserved : goal.sections-loop-section-preserved
+sections-loop-section-preserved t c = record {
+  built = rest_built field_section_unbuilt c.args.sections.now c.loop-section.section-index c.section-item.result c.loop-section-test.true c.section-item.is c.loop-section.invariant.built;
+  same = next_section c.args.line c.args.sections.now c.loop-section.section-index c.section-item.result c.loop-section-test.true c.section-item.is (block_of c.loop-section.self) c.loop-section.all c.in_ok-of.of (block_of c.settled_plain.new.self) (rw c.get.ensures at c.in_ok-of.ensures) c.add_fields.new.fields (rw c.items.ensures at c.in_ok-add_fields.ensures) ∙ c.loop-section.invariant.same;
+}

@@ -1,8 +1,8 @@
-use Rattle.std.proofs.Common.{◌≡◌, None, map, drop}
-use Rattle.ep_built.specs.Built.{first_in, plain_unbuilt}
-use Rattle.ep_check_unit.specs.Answers.{index_of, indexes_written}
+use Rattle.std.proofs.Common.{◌≡◌, None, [], map, drop}
+use Rattle.ep_built.specs.Built.{field_section_unbuilt, first_in, plain_unbuilt}
+use Rattle.ep_check_unit.specs.Answers.{fields_in, index_of, indexes_written}
 use Rattle.ep_check_unit.specs.Blocks.{block_of}
-use Rattle.ep_check_unit.specs.Declarations.{plain_part}
+use Rattle.ep_check_unit.specs.Declarations.{plain_part, section_part, sections_written}
 use Rattle.ep_check_unit.proofs.Indexes.{behind}
 use Rattle.ep_check_unit.proofs.block.Block.+denoters.Given as goal
 
@@ -10,4 +10,10 @@ abbrev pub invariant-index_types-loop-plain : goal.invariant-index_types-loop-pl
 invariant-index_types-loop-plain l = record {
   built : first_in (map plain_unbuilt (drop l.plain-index l.plains)) ≡ None;
   same : behind (map index_of l.all) (indexes_written l.line (map plain_part (drop l.plain-index l.plains)) (block_of l.self)) ≡ indexes_written l.line (map plain_part l.plains) (block_of l.initial.self);
+}
+
+abbrev pub invariant-sections-loop-section : goal.invariant-sections-loop-section
+invariant-sections-loop-section l = record {
+  built : first_in (map field_section_unbuilt (drop l.section-index l.sections)) ≡ None;
+  same : sections_written l.line (map section_part (drop l.section-index l.sections)) (fields_in (block_of l.self) l.all) ≡ sections_written l.line (map section_part l.sections) (fields_in (block_of l.initial.self) []);
 }

@@ -1,0 +1,83 @@
+-- What the name of a field gives of a valid form is valid.
+use Rattle.std.proofs.Common.{◌≡◌, ℕ, suc, nat_le, List, [], ◌∷◌, slice_get, Option, Some, None, refl, sym, subst}
+use Rattle.std.specs.Prelude.{All}
+use Rattle.ep_typed.specs.Trees.{Place, Expr, Field, Read}
+use Rattle.ep_typed.specs.Valid.{Declarations}
+use Rattle.ep_typed.specs.declared.unit.UnitType.{UnitType}
+use Rattle.ep_scope.specs.Fields.{field_number}
+use Rattle.ep_scope.specs.Scopes.{Region, structure_in}
+use Rattle.ep_scope.specs.declared.kind.Kind.{Kind}
+use Rattle.ep_scope.specs.declared.kind.Kind.TheVariants as kind
+use Rattle.ep_scope.specs.declared.rule.TheConstants as rule
+use Rattle.ep_scope.specs.declared.structure.Composition.{Composition}
+use Rattle.ep_scope.specs.declared.structure.Composition.TheVariants as composition
+use Rattle.ep_scope.specs.declared.structure.FieldType.{FieldType}
+use Rattle.ep_scope.specs.declared.structure.StructuredType.{StructuredType}
+use Rattle.ep_check_expr.specs.Agreement.{HoldsStructure, IsFormOf, IsStructuredAt, TypeValues, structures_of}
+use Rattle.ep_check_expr.specs.FieldDesignators.{designated, designated_by, field_by, field_form, field_if, field_typed, field_within}
+use Rattle.ep_check_expr.specs.Judgements.{Judged, Accepts, Breaks, Typed}
+use Rattle.ep_check_expr.specs.declared.forms.TheConstants as limit
+use Rattle.ep_check_expr.proofs.Components.{IsComponentForm, built-component, unbuilt-component}
+use Rattle.ep_check_expr.proofs.Keeping.{Satisfies, if-satisfies}
+use Rattle.ep_check_expr.proofs.Passing.{IsForm}
+use Rattle.ep_check_expr.proofs.Places.{field-place, made_so, some-field, structure_in-holds}
+
+-- what the name of a field gives: a field of a record type in view
+module _ (Q : Typed → Type 0) (scopes : List Region) where
+  field_if-given : (fs : List FieldType) (number : ℕ) (o : Option FieldType) → slice_get fs number ≡ o → (x : Typed) → ((f : FieldType) → slice_get fs number ≡ Some f → Satisfies Q (field_typed number f x)) → Satisfies Q (field_if number o x)
+  field_if-given fs number None e x c = tt
+  field_if-given fs number (Some f) e x c = c f e
+
+  field_by-given : (fs : List FieldType) (o : Option ℕ) (x : Typed) → ((number : ℕ) (f : FieldType) → slice_get fs number ≡ Some f → Satisfies Q (field_typed number f x)) → Satisfies Q (field_by fs o x)
+  field_by-given fs None x c = tt
+  field_by-given fs (Some number) x c = field_if-given fs number (slice_get fs number) refl x (c number)
+
+  -- of a record, by its number
+  field_within-given : (n : ℕ) (o : Option Composition) → structure_in scopes n ≡ o → (name : List ℕ) (x : Typed)
+      → ((fs : List FieldType) (number : ℕ) (f : FieldType) → structure_in scopes n ≡ Some (composition.Record fs) → slice_get fs number ≡ Some f → Satisfies Q (field_typed number f x)) → Satisfies Q (field_within o name x)
+  field_within-given n None e name x c = tt
+  field_within-given n (Some (composition.Array a)) e name x c = tt
+  field_within-given n (Some (composition.Record fs)) e name x c = field_by-given fs (field_number fs name) x (λ number f there. c fs number f e there)
+
+  pub field-given : (k : Kind) (name : List ℕ) (x : Typed)
+      → ((n : ℕ) (fs : List FieldType) (number : ℕ) (f : FieldType) → k ≡ kind.Structured n → structure_in scopes n ≡ Some (composition.Record fs) → slice_get fs number ≡ Some f → Satisfies Q (field_typed number f x))
+      → Satisfies Q (designated_by scopes k name x)
+  field-given (kind.Ordinal h) name x c = tt
+  field-given (kind.Structured n) name x c = field_within-given n (structure_in scopes n) refl name x (λ fs number f. c n fs number f refl)
+  field-given kind.Text name x c = tt
+  field-given kind.File name x c = tt
+
+-- ---- valid forms
+
+module _ (declared : Declarations) (types : TypeValues) (structures : List StructuredType) where
+  -- what is accepted is valid
+  abbrev Holds : Judged Typed → Type 0
+  Holds = Satisfies (IsForm declared types structures)
+
+  module _ (n : ℕ) (fs : List FieldType) (number : ℕ) (f : FieldType) (there : slice_get fs number ≡ Some f) (in_view : (list : List UnitType) → All (HoldsStructure types list) structures → HoldsStructure types list (made_so n (composition.Record fs))) where
+    -- a field has a valid form, where the record has one
+    abbrev IsFieldForm : Option Expr → Type 0
+    IsFieldForm x = IsComponentForm declared types structures f.of f.kind (field_form x number)
+
+    -- where the record is built
+    read-field : (place : Place) → IsStructuredAt declared types structures n place → IsFieldForm (Some (Read place))
+    read-field place at = built-component declared types structures f.of f.kind (Field place number) (field-place declared types structures n (composition.Record fs) in_view fs refl number f there place at)
+
+    -- either way
+    field-form : (x : Option Expr) → IsFormOf declared types structures (kind.Structured n) x → IsFieldForm x
+    field-form None g = unbuilt-component declared types structures f.of f.kind (some-field declared types structures n (composition.Record fs) in_view fs refl number f there) g.0 g.1
+    field-form (Some x) g = subst (λ y. IsFieldForm (Some y)) (sym g.1) (read-field g.0 g.2)
+
+    -- a field of a valid record is valid
+    field-fits : (x : Typed) → IsFormOf declared types structures (kind.Structured n) x.form → Holds (field_typed number f x)
+    field-fits x g =
+        let c = field-form x.form g in
+        if-satisfies (IsForm declared types structures) (nat_le (suc x.depth) limit.DEPTH) (Accepts _) (Breaks (rule.TOO_DEEP ∷ [])) (λ e. (c.0, c.1 x.access)) tt
+
+module _ (declared : Declarations) (types : TypeValues) (scopes : List Region) where
+  -- what the name of a field gives of a valid form is one
+  pub designated-fits : (name : List ℕ) (x : Typed) → IsForm declared types (structures_of scopes) x → Satisfies (IsForm declared types (structures_of scopes)) (designated scopes name x)
+  designated-fits name x p =
+      field-given (IsForm declared types (structures_of scopes)) scopes x.kind name x
+      (λ n fs number f is e there.
+      field-fits declared types (structures_of scopes) n fs number f there (λ list all. structure_in-holds (HoldsStructure types list) n scopes (composition.Record fs) all e) x (subst (λ k. IsFormOf declared types (structures_of scopes) k x.form) is p.0))

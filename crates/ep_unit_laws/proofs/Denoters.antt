@@ -1,0 +1,39 @@
+-- All denoters: the unit that has a block's lists has those that are written in the block as valid types.
+use Rattle.std.proofs.Common.{◌≡◌, ℕ, ◌≤◌, length}
+use Rattle.ep_tree.specs.declared.types.Core.{Core}
+use Rattle.ep_typed.specs.Operations.{maxint}
+use Rattle.ep_typed.specs.declared.unit.Unit.{Unit as TypedUnit}
+use Rattle.ep_check_expr.specs.Constants.{bound_judged}
+use Rattle.ep_check_expr.specs.Judgements.{Accepts}
+use Rattle.ep_check_expr.specs.Laws.{BoundsAreSound, BoundsAreKnown}
+use Rattle.ep_check_stmt.proofs.judged.Fits.{Fits, fits_both, fits_is}
+use Rattle.ep_check_unit.specs.Blocks.{Block}
+use Rattle.ep_check_unit.specs.Declarations.{core_part, core_written, range, scopes_of, settled_type}
+use Rattle.ep_check_unit.proofs.Denoters.{KeptByDenoters, each_denoter}
+use Rattle.ep_unit_laws.proofs.Types.{Settles, Writes, enumeration-writes, range_writes, type_named-names}
+use Rattle.ep_unit_laws.proofs.Arrays.{array_writes}
+use Rattle.ep_unit_laws.proofs.Records.{record_writes}
+use Rattle.ep_unit_laws.proofs.Structures.{IsKnown, part_settles, part_writes}
+
+module _ (u : TypedUnit) where
+  -- ---- all denoters
+
+  module _ (few : length u.constants ≤ maxint) (sound : BoundsAreSound) (bound_hosts : BoundsAreKnown) where
+    known_kept : KeptByDenoters (IsKnown u)
+    known_kept = record {
+      names = λ name line b. type_named-names u name.first name.second b;
+      ranges = λ low high line b.
+          fits_both (λ x. bound_judged (scopes_of b) low ≡ Accepts x) (λ y. bound_judged (scopes_of b) high ≡ Accepts y) (Writes u b) (range line b) (bound_judged (scopes_of b) low) (bound_judged (scopes_of b) high) (fits_is (bound_judged (scopes_of b) low)) (fits_is (bound_judged (scopes_of b) high))
+          (λ x y e f. range_writes u sound bound_hosts line b low high x y e f);
+      enumerations = λ names line b. enumeration-writes u few names b;
+      others = λ line b. tt;
+      arrays = λ index of i o line b. array_writes u index of i o line b;
+      records = λ sections known line b. record_writes u sections known line b;
+      structures = λ p known line b. part_writes u p known line b;
+    }
+
+    pub core_written-writes : (line : ℕ) (c : Core) (b : Block) → Fits (Writes u b) (core_written line c b)
+    core_written-writes line c b = part_writes u (core_part c) (each_denoter (IsKnown u) known_kept c) line b
+
+    pub settled_type-settles : (line : ℕ) (c : Core) (b : Block) → Fits (Settles u b) (settled_type line c b)
+    settled_type-settles line c b = part_settles u (core_part c) (each_denoter (IsKnown u) known_kept c) line b

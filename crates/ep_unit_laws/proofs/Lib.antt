@@ -1,0 +1,17 @@
+pub mod Denoting
+pub mod Open
+pub mod Holds
+pub mod Agreeing
+pub mod Leading
+pub mod Meant
+pub mod Constants
+pub mod Types
+pub mod Structures
+pub mod Arrays
+pub mod Records
+pub mod Denoters
+pub mod Items
+pub mod Auxiliaries
+pub mod Headings
+pub mod Routines
+pub mod Units
