@@ -437,9 +437,8 @@ Slot:0 Push:1 Index Push:2 Index Push:5 Store Slot:0 Push:0 Index Push:3 Index P
 Slot:0 Push:1 Index Push:2 Index Load Slot:0 Push:0 Index Push:3 Index Load Sub Form Put \
 Return=-2|normal|49\n\
 Push:2 Push:1 Push:3 TOrd Push:0 TArr TArr Make:0 Slot:0 Push:1 Index Push:4 Index=|error 3 at 13|19\n\
-Push:2 Push:1 Push:3 TOrd Push:0 TArr TArr Make:0 Slot:0 Push:1 Index Load=|broken at 11|18\n\
+Push:2 Push:1 Push:3 TOrd Push:0 TArr TArr Make:0 Slot:0 Push:1 Index Load Halt=|halt|22\n\
 Push:2 Push:2 TArr Make:0 Slot:0 Push:1 Index Push:2 Store=|error 2 at 9|11\n\
-Push:2 Push:0 TArr Make:0 Slot:0 Load=|broken at 5|8\n\
 Push:2 Push:0 TArr Make:0 Slot:0 Push:1 Store=|broken at 6|9\n\
 Push:2 Push:0 TArr Make:0 Slot:0 Undefine=|broken at 5|8\n\
 Push:2 Push:0 TArr Make:0 Slot:0 Defined=|broken at 5|8\n\
@@ -455,6 +454,34 @@ Push:2 Push:0 TArr Make:0 Slot:0 Push:1 Index:0:1=|broken at 6|9\n\
 Push:2 Push:0 TArr New Dup Deref Bind:0 Dispose Slot:0 Push:1 Index=|error 11 at 11|13\n\
 Push:2 Push:0 TArr New Dup Deref Bind:0 Dispose Slot:0 Push:5 Index=|error 11 at 11|13\n\
 Push:2 Push:0 TArr New Dup Deref Push:1 Index Bind:0 Dispose Slot:0 Load=|error 11 at 12|14";
+
+/// Values of arrays and records, which have the words of their variables.
+const VALUES: &str = "\
+Unit:-1:1 Push:2 Push:0 TArr Make:0 Slot:0 Push:1 Index Push:9 Store \
+Push:2 Push:0 TArr New Dup Deref Slot:0 Load Store Deref Push:1 Index Load Form Put Return=9|normal|36\n\
+Push:2 Push:0 TArr Make:0 Slot:0 Push:1 Index Push:9 Store \
+Push:2 Push:0 TArr New Dup Deref Slot:0 Load Store Deref Push:0 Index Load=|error 1 at 22|30\n\
+Unit:-1:1 Push:0 Push:2 TRec:2 Make:0 Slot:0 Field:0 Push:5 Store \
+Push:0 Push:2 TRec:2 New Dup Deref Slot:0 Load Store Deref Field:0 Load Form Put Return=5|normal|38\n\
+Unit:-1:1 Push:2 Push:2 Push:0 TArr TArr Make:0 Slot:0 Push:0 Index Push:1 Index Push:6 Store \
+Slot:0 Push:1 Index Slot:0 Push:0 Index Load Store \
+Slot:0 Push:1 Index Push:1 Index Load Form Put Return=6|normal|41\n\
+Push:2 Push:0 TArr Make:0 Slot:0 Load Drop Return=|normal|14\n\
+Push:2 Push:0 TArr Make:0 Slot:0 Load Dup Halt=|halt|18\n\
+Push:2 Push:0 TArr Make:0 Slot:0 Load Halt=|budget|7=9\n\
+Push:2 Push:0 TArr Make:0 Slot:0 Load Halt=|halt|11=11\n\
+Push:2 Push:0 TArr Make:0 Slot:0 Load Like Make:0 Drop Slot:0 Push:0 Index Load=|error 1 at 13|21\n\
+Push:2 Push:0 TArr Make:0 Push:2 Push:2 TArr New Deref Slot:0 Load Store=|error 6 at 12|20\n\
+Push:2 Push:0 TArr Make:0 Push:0 New Deref Slot:0 Load Store=|broken at 9|15\n\
+Push:2 Push:0 TArr Make:0 Push:0 Slot:0 Load Store=|broken at 7|12\n\
+Push:2 Push:0 TArr Make:0 Slot:0 Load Load=|broken at 6|11\n\
+Push:2 Push:0 TArr Make:0 Slot:0 Load Push:1 Add=|broken at 7|12\n\
+Push:2 Push:0 TArr New Dup Deref Bind:0 Dispose Slot:0 Load=|error 11 at 10|12\n\
+Push:2 Push:0 TArr New Deref Dup Load Push:3 Dispose Store=|error 11 at 10|16\n\
+Unit:-1:1 Push:2 Push:0 TArr Make:0 Slot:0 Push:0 Index Push:8 Store Slot:0 Load Call:1 Form Put Return \
+Routine:1:1 Push:2 Push:0 TArr Make:0 Slot:0 Arg:0 Store Slot:0 Push:0 Index Load Return=8|normal|42\n\
+Call:1 Drop Return Routine:0:1 Push:2 Push:0 TArr Make:0 Slot:0 Load Return=|normal|16\n\
+Push:2 Push:0 TArr Make:0 Slot:0 Load Call:1 Return Routine:1 Peek:0=|broken at 8|14";
 
 /// What is printed.
 const PRINTS: &str = "\
@@ -488,6 +515,7 @@ fn each_row_comes_to_what_the_table_of_instructions_says(rt: HostRuntime) -> Res
         TYPES,
         ARRAY_TYPES,
         COMPONENTS,
+        VALUES,
         PRINTS,
     ] {
         let differing = differing(rt.alloc(), table)?;

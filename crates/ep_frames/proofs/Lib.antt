@@ -1,2 +1,3 @@
 mod CallEntry
 mod CallFrames
+mod Words

@@ -23,6 +23,8 @@ pub enum Argument {
     Place(Place),
     /// A text.
     Text(Bytes),
+    /// A value of many words, with the number of its type.
+    Value(u32, Vec<i64>),
 }
 
 impl Argument {
@@ -33,7 +35,19 @@ impl Argument {
     {
         match self {
             Argument::Text(bytes) => bytes.items().len() as u64,
+            Argument::Value(_, words) => words.len() as u64,
             Argument::Word(_) | Argument::Place(_) => 0,
+        }
+    }
+
+    /// The word that it is, where it is one.
+    #[inline(always)]
+    fn word(&self) -> Option<i64>
+        ensures { result ≡ word_of (operand_of self.now) }
+    {
+        match self {
+            Argument::Word(w) => Some(*w),
+            _ => None,
         }
     }
 }
@@ -336,8 +350,8 @@ impl Calls {
             return None;
         };
         match find_argument(call, number, &self.arguments) {
-            Some(Argument::Word(w)) => Some(*w),
-            _ => None,
+            Some(argument) => argument.word(),
+            None => None,
         }
     }
 }

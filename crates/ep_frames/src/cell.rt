@@ -1,12 +1,12 @@
 //! What stands on the operand stack for an operand.
 
 ghost use Rattle.std.specs.Prelude.{◌≡◌, ◌∷◌, []};
-ghost use Rattle.ep_frames.specs.Stacks.{text_bytes};
+ghost use Rattle.ep_frames.specs.Stacks.{cell_weights};
 
 use ep_object::Place;
 
-/// An operand. Of a text only the length stands here, and its bytes stand on a stack of their own, so that every
-/// cell is small and none owns memory.
+/// An operand. Of a text and of a value of many words only the length stands here, and its bytes or words stand on a
+/// stack of their own, so that every cell is small and none owns memory.
 #[derive(Clone, Copy, Drop)]
 pub enum Cell {
     /// A word.
@@ -15,15 +15,18 @@ pub enum Cell {
     Place(Place),
     /// A text of so many bytes.
     Text(usize),
+    /// A value of the type of this number, of so many words.
+    Value(u32, u32),
 }
 
 impl Cell {
-    /// How many bytes its text has.
-    pub fn text_bytes(&self) -> usize
-        ensures { result ≡ text_bytes (self.now ∷ []) }
+    /// How many bytes its text or words its value has.
+    pub fn weight(&self) -> u64
+        ensures { result ≡ cell_weights (self.now ∷ []) }
     {
         match self {
-            Cell::Text(bytes) => *bytes,
+            Cell::Text(bytes) => *bytes as u64,
+            Cell::Value(_, words) => u64::from(*words),
             Cell::Word(_) | Cell::Place(_) => 0,
         }
     }

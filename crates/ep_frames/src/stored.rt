@@ -1,9 +1,10 @@
 //! Segments as the machine stores them.
 
-ghost use Rattle.std.specs.Prelude.{◌≡◌, Option, Some, None, option_map, IfOk};
+ghost use Rattle.std.specs.Prelude.{◌≡◌, ◌≤◌, ◌<◌, ◌+◌, ◌^◌, length, Option, Some, None, option_map, IfOk};
 ghost use Rattle.ep_object.specs.Calls.{words_in};
 ghost use Rattle.ep_object.specs.Places.{fresh_segment};
-ghost use Rattle.ep_frames.specs.Stored.{HasWord, with_word};
+ghost use Rattle.ep_frames.specs.Stored.{HasWord, HasWords, with_word, with_words};
+ghost use Rattle.ep_object.specs.Places.{words_replaced};
 
 use ep_base::List;
 use ep_object::Segment;
@@ -36,6 +37,17 @@ impl Model for Stored {
     ghost Value = { Option Segment };
 
     ghost view = { λ s. segment_in s.form };
+}
+
+/// Words of a list, from an offset on, become others.
+fn put(words: &mut List<i64>, offset: u32, others: &[i64])
+    requires there { offset + length others.now ≤ length words.old }
+    requires small { offset + length others.now < 2 ^ 32 }
+    ensures { words.new ≡ words_replaced words.old offset others.now }
+{
+    for place in 0..others.len() {
+        words.set(offset + place as u32, others[place]);
+    }
 }
 
 impl Stored {
@@ -103,6 +115,23 @@ impl Stored {
             Form::Ended => {}
             Form::Word(_, word) => *word = w,
             Form::Words(segment) => segment.words.set(offset, w),
+        }
+    }
+
+    /// Some of its words, from an offset on, become others.
+    pub fn put(&mut self, offset: u32, words: &[i64])
+        requires there { HasWords self.old offset (length words.now) }
+        requires small { offset + length words.now < 2 ^ 32 }
+        ensures { self.new ≡ with_words self.old offset words.now }
+    {
+        match &mut self.form {
+            Form::Ended => {}
+            Form::Word(_, word) => {
+                if let [w] = words {
+                    *word = *w;
+                }
+            }
+            Form::Words(segment) => put(&mut segment.words, offset, words),
         }
     }
 

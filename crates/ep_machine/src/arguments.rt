@@ -28,6 +28,7 @@ pub fn push(argument: &Argument, stack: &mut Stack) -> Step
         Argument::Word(w) => stack.push_word(*w),
         Argument::Place(place) => stack.push_place(*place),
         Argument::Text(bytes) => stack.push_text(bytes.items()),
+        Argument::Value(type_number, words) => stack.push_value(*type_number, words),
     };
     if done { Step::Next } else { Step::NoMemory }
 }

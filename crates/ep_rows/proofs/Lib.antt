@@ -3,3 +3,4 @@ mod IndexTypes
 mod Indexing
 mod Making
 mod RecordTypes
+mod WordRows

@@ -31,6 +31,9 @@ pub fn top_weight(stack: &Stack) -> u64
     ensures weight { result ≡ weight_on_top stack.now }
     ensures small { result < 2 ^ 63 }
 {
+    if let Some((_, words)) = stack.value_top() {
+        return words.len() as u64;
+    }
     match stack.text_top() {
         Some(text) => text.len() as u64,
         None => 0,

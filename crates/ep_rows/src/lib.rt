@@ -15,6 +15,7 @@ pub mod segments;
 mod step;
 pub mod texts;
 pub mod types;
+pub mod values;
 pub mod words;
 
 pub use step::Step;

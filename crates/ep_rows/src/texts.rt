@@ -7,12 +7,13 @@ ghost use Rattle.ep_object.specs.Control.{dup_row};
 ghost use Rattle.ep_object.specs.Texts.{text_row, chars_row, form_row, form_width_row, formed as formed_of, cut, padded, boolean_text as text_of_boolean};
 ghost use Rattle.ep_object.specs.Operands.{Text, Word};
 ghost use Rattle.ep_decode.specs.Operations.{print_number};
+ghost use Rattle.ep_frames.specs.Stacks.{place_top, value_top, word_top};
 ghost use Rattle.ep_rows.specs.Printing.{printed_top, IsRestored};
 ghost use Rattle.ep_rows.specs.Steps.{IsDone, IsStep};
 
 use crate::control::{spend, top_weight};
 use crate::step::Step;
-use crate::{places, words};
+use crate::{places, values, words};
 use ep_base::{Bytes, List};
 use ep_decode::Print;
 use ep_frames::Stack;
@@ -67,18 +68,15 @@ pub fn chars(limit: u64, ticks: &mut u64, stack: &mut Stack) -> Step
     push_text(stack, &[c as u8])
 }
 
-/// The operand on top stands there twice.
-pub fn dup(alloc: Global, limit: u64, ticks: &mut u64, stack: &mut Stack) -> Step
-    requires { ticks.old < limit }
+/// The text on top stands there twice.
+fn dup_text(alloc: Global, limit: u64, ticks: &mut u64, stack: &mut Stack) -> Step
+    requires room { ticks.old < limit }
+    requires no_value { value_top stack.old ≡ None }
+    requires no_word { word_top stack.old ≡ None }
+    requires no_place { place_top stack.old ≡ None }
     ensures within { ticks.new < limit }
     ensures done { IsDone limit (dup_row stack.old) result ticks.old ticks.new stack.old stack.new }
 {
-    if let Some(w) = stack.word_top() {
-        return words::push_word(stack, w);
-    }
-    if let Some(p) = stack.place_top() {
-        return places::push_place(stack, Some(p));
-    }
     let Some(bytes) = stack.text_top() else {
         return Step::Broken;
     };
@@ -92,6 +90,27 @@ pub fn dup(alloc: Global, limit: u64, ticks: &mut u64, stack: &mut Stack) -> Ste
         return Step::Full;
     }
     push_text(stack, &copy)
+}
+
+/// The operand on top stands there twice.
+pub fn dup(alloc: Global, limit: u64, ticks: &mut u64, stack: &mut Stack) -> Step
+    requires { ticks.old < limit }
+    ensures within { ticks.new < limit }
+    ensures done { IsDone limit (dup_row stack.old) result ticks.old ticks.new stack.old stack.new }
+{
+    if let Some(w) = stack.word_top() {
+        return words::push_word(stack, w);
+    }
+    if let Some(p) = stack.place_top() {
+        return places::push_place(stack, Some(p));
+    }
+    if let Some((type_number, words)) = stack.value_top() {
+        let Ok(copy) = Vec::from_slice(alloc, words) else {
+            return Step::NoMemory;
+        };
+        return values::dup(type_number, &copy, limit, ticks, stack);
+    }
+    dup_text(alloc, limit, ticks, stack)
 }
 
 /// The text of a Boolean.

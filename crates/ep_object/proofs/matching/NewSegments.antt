@@ -1,14 +1,12 @@
 -- The segment of a new variable of a type: how many words it has, and that they hold the undefined value.
-use Rattle.std.proofs.Common.{◌≡◌, ℕ, ℤ, pos, negsuc, zero, suc, ◌+◌, ◌-◌, ◌*◌, ◌<◌, true, IsTrue, cond, leb, length, Some, None, slice_get, refl, ap, ◌∙◌, arith}
-use Rattle.std.specs.Prelude.{int_le, replicate}
-use Rattle.std.proofs.lemmas.Bool.Decides.{nat_tests}
+use Rattle.std.proofs.Common.{◌≡◌, ℕ, zero, suc, ◌<◌, length, Some, slice_get, refl, arith}
+use Rattle.std.specs.Prelude.{replicate}
 use Rattle.std.proofs.lemmas.Option.{slice_get_within}
 use Rattle.ep_object.specs.Matching.{Injection, Describes, HasAt}
 use Rattle.ep_object.specs.State.{TypeTable, undefined}
 use Rattle.ep_object.specs.declared.state.Kind.{Kind}
 use Rattle.ep_object.specs.declared.state.Kind.TheVariants as kind
 use Rattle.ep_object.proofs.matching.Words.{has_undefined}
-use Rattle.ep_typed.specs.Bounds.{one_more, count_of}
 use Rattle.ep_typed.specs.Steps.{Undefined}
 use Rattle.ep_typed.specs.TypeValues.{TypeValue, size_of}
 use Rattle.ep_typed.specs.TypeValues as type

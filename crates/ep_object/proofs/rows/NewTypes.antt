@@ -1,5 +1,5 @@
 -- A type is elaborated: the machine goes on matching, or ends for want of room where it was lost.
-use Rattle.std.proofs.Common.{length-append, append-nil, leb, ltb, ◌≡◌, ℕ, ℤ, pos, zero, suc, ◌+◌, ◌⊎◌, inl, inr, Bool, true, false, IsTrue, List, [], ◌∷◌, ◌++◌, length, map, Option, Some, None, slice_get, refl, sym, ap, subst, ◌∙◌, arith, cond}
+use Rattle.std.proofs.Common.{length-append, append-nil, leb, ltb, ◌≡◌, ℕ, ℤ, pos, suc, ◌+◌, ◌⊎◌, inl, inr, Bool, true, false, IsTrue, List, [], ◌∷◌, ◌++◌, length, map, Option, Some, None, slice_get, refl, sym, ap, subst, ◌∙◌, arith, cond}
 use Rattle.std.specs.Prelude.{int_le, ◌&&◌, ⊤}
 use Rattle.std.proofs.lemmas.Bool.{lt-ltb}
 use Rattle.std.proofs.lemmas.Bool.Decides.{nat_tests}

@@ -1,0 +1,33 @@
+-- What is loaded and stored of variables of many words, and of words alone.
+use Rattle.std.specs.Prelude.{Bool, true, false, ℕ, ℤ, List, ◌∷◌, length, Option, Some, None, Result, Ok, Err}
+use Rattle.std.specs.Borrow.{Bor}
+use Rattle.ep_object.specs.Effects.{Effect, Continues, Fails, Breaks, Work, having, light, provided, weighing}
+use Rattle.ep_object.specs.Operands.{Operand, Value, place}
+use Rattle.ep_object.specs.Places.{is_word_kind, kind_of, store_of, words_stored}
+use Rattle.ep_object.specs.State.{Segments, TypeTable}
+use Rattle.ep_object.specs.declared.state.Kind.{Kind}
+use Rattle.ep_object.specs.declared.state.Kind.TheVariants as kind
+use Rattle.ep_object.specs.declared.state.Place.{Place}
+use Rattle.ep_object.specs.declared.state.Segment.{Segment}
+
+-- a variable whose place is on top takes a word
+abbrev pub word_stored : TypeTable → Segments → ℤ → List Operand → Effect (List Operand × Segments)
+word_stored types segments w st = having (place st) (λ p. having (kind_of types p.0.type_number) (λ kind. provided (is_word_kind kind) (store_of kind segments p.0 w p.1)))
+
+-- what comes of words that are found, or of an error or broken code in their place
+abbrev pub value_loaded : Place → Result (Bor (List ℤ)) (Option ℕ) → List Operand → Work (List Operand)
+value_loaded p (Ok words) st = weighing (length words.now) (Continues (Value p.type_number words.now ∷ st))
+value_loaded p (Err (Some number)) st = light (Fails number)
+value_loaded p (Err None) st = light Breaks
+
+-- whether variables of the kind have any number of words, which are loaded and stored at once
+abbrev pub has_many_words : Kind → Bool
+has_many_words (kind.Ord lo hi) = false
+has_many_words kind.Pointer = false
+has_many_words kind.Text = false
+has_many_words (kind.Array lo hi c) = true
+has_many_words (kind.Record ps) = true
+
+-- a variable in a segment takes the words of a value of this type
+abbrev pub words_stored_in : Segments → Place → ℕ → List ℤ → List Operand → Segment → Effect (List Operand × Segments)
+words_stored_in segments p n ws st s = words_stored segments p n ws s st
