@@ -4,7 +4,6 @@ ghost use Rattle.std.specs.Prelude.{◌≡◌, ◌≢◌, ◌≤◌, List, [], �
 ghost use Rattle.ep_built.specs.Built.{component_unbuilt};
 ghost use Rattle.ep_check_unit.specs.Units.{IsTyped};
 ghost use Rattle.ep_typed.specs.Nodes.{unit_nodes};
-ghost use Rattle.ep_typed.specs.Operations.{maxint};
 ghost use Rattle.ep_typed.specs.Valid.{IsValid};
 ghost use Rattle.ep_typed.specs.declared.unit.Unit.{Unit as TypedUnit};
 ghost use Rattle.ep_drive.specs.ProgramTexts.{HasComponents, IsProgramText, components_unbuilt, node_limit, second_line};
@@ -14,12 +13,12 @@ ghost use Rattle.ep_drive.specs.declared.source.SourceStop.TheVariants.{NoMemory
 use ep_base::{Line, Name};
 use ep_built::unbuilt;
 use ep_check_expr::Broken;
-use ep_check_unit::{CheckRefusal, check};
+use ep_check_unit::CheckRefusal;
 use ep_parse::{ParseRefusal, components};
 use ep_token::{MAX_SOURCE, TokenRefusal, tokens};
 use ep_tree::Component;
-use ep_typed::{ConstantEntry, Unit, unit_nodes};
-use ep_unit_laws::laws_of_typed_units;
+use ep_typed::{Unit, unit_nodes};
+use ep_unit_laws::check;
 use std::alloc::{AllocError, Global};
 
 /// The most typed nodes of a unit.
@@ -150,15 +149,8 @@ fn checked_program(alloc: Global, component: &Component) -> Result<Unit, SourceS
     let Some(unit) = check(alloc, component, &[])?.into_unit() else {
         unreachable!()
     };
-    laws_of_typed_units();
-    few_constants(unit.constants.items());
     Ok(unit)
 }
-
-/// Does nothing: a list in memory has no more constants than there are integers to number them.
-fn few_constants(constants: &[ConstantEntry])
-    ensures { length constants.now ≤ maxint }
-{}
 
 /// How many typed nodes a unit has, where they are more than a unit may have.
 fn excess(unit: &Unit) -> Option<u64>

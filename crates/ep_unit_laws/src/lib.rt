@@ -6,6 +6,9 @@
 
 ghost use Rattle.ep_unit_laws.specs.Laws.{UnitsAreValid};
 
+mod component;
+
+pub use component::check;
 use ep_check_expr::laws_of_expressions;
 use ep_check_stmt::laws_of_statements;
 
