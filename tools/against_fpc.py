@@ -16,8 +16,16 @@ import subprocess
 import sys
 import tempfile
 
-SPELLED = {"number": "integer", "truth": "Boolean", "colour": "colour", "letter": "char", "share": "share"}
-RESULTS = ("number", "truth", "colour", "letter")
+ORDINAL = {"number": "integer", "truth": "Boolean", "colour": "colour", "letter": "char", "share": "share"}
+SPELLED = {**ORDINAL, "row": "row", "pair": "pair", "grid": "grid"}
+RESULTS = ("number", "truth", "colour", "letter", "row", "pair", "grid")
+TYPES = "colour = (red, green, blue); share = 0..99; row = array [1..3] of integer; pair = record n: integer; c: colour; r: row end; grid = array [colour] of pair"
+# what leads from a variable of a structured type to a component, with `#` for an index of a row and `@` for one of a grid
+PATHS = {
+    "row": {"number": ("[#]",)},
+    "pair": {"number": (".n", ".r[#]"), "colour": (".c",), "row": (".r",)},
+    "grid": {"number": ("[@].n", "[@].r[#]"), "colour": ("[@].c",), "row": ("[@].r",), "pair": ("[@]",)},
+}
 FIRST_VALUES = {"truth": "false", "colour": "red", "letter": "'m'"}
 RELATIONS = ("=", "<>", "<", ">", "<=", ">=")
 
@@ -51,6 +59,13 @@ class Scope:
     def of_kind(self, kind, assigned=False):
         return [name for name, its in self.variables if its == kind and not (assigned and name in self.threatened)]
 
+    def leading_to(self, kind, assigned=False, indexed=True):
+        """The variables of the kind, and those with such components, each with what leads there."""
+        found = [(name, "") for name in self.of_kind(kind, assigned)]
+        for name, its in self.variables:
+            found += [(name, path) for path in PATHS.get(its, {}).get(kind, ()) if indexed or not set("#@") & set(path)]
+        return found
+
     def without(self, name, kind=None):
         more = ((name, kind),) if kind else ()
         return dataclasses.replace(self, variables=self.variables + more, threatened=self.threatened | {name})
@@ -68,12 +83,53 @@ class Programs:
     def some(self, *choices):
         return self.random.choice(choices)()
 
+    # ---- variables
+
+    def index(self, scope, kind):
+        """An index, which is a name or a constant alone."""
+        known = scope.of_kind(kind)
+        chosen = self.random.choice(known) if known and self.random.random() < 0.7 else self.constant(kind)
+        return chosen if kind == "colour" else f"({chosen} mod 3 + 1)"
+
+    def variable(self, scope, kind, assigned=False, indexed=True):
+        """A variable of the kind, which may be a component, or nothing where there is none."""
+        known = scope.leading_to(kind, assigned, indexed)
+        if not known:
+            return None
+        name, path = self.random.choice(known)
+        return name + "".join(self.index(scope, "number") if c == "#" else self.index(scope, "colour") if c == "@" else c for c in path)
+
+    def constant(self, kind):
+        return FIRST_VALUES[kind] if kind in FIRST_VALUES else str(self.random.randint(0, 50))
+
+    def begun(self, name, kind):
+        """Assignments that give a variable a value, component by component where it has some."""
+        if kind == "row":
+            return [f"{name}[{i}] := {self.constant('number')}" for i in (1, 2, 3)]
+        if kind == "pair":
+            return [f"{name}.n := {self.constant('number')}", f"{name}.c := {self.constant('colour')}"] + self.begun(name + ".r", "row")
+        if kind == "grid":
+            return self.begun(name + "[red]", "pair") + [f"{name}[{c}] := {name}[red]; {name}[{c}].n := {self.constant('number')}" for c in ("green", "blue")]
+        return [f"{name} := {self.constant(kind)}"]
+
+    def shown(self, name, kind):
+        """Statements that write a variable, component by component."""
+        if kind == "row":
+            return [f"write(' ', {name}[{i}]: 1)" for i in (1, 2, 3)]
+        if kind == "pair":
+            return [f"write(' ', {name}.n: 1, ' ', ord({name}.c): 1)"] + self.shown(name + ".r", "row")
+        if kind == "grid":
+            return [text for c in ("red", "green", "blue") for text in self.shown(f"{name}[{c}]", "pair")]
+        return [f"write(' ', {name if kind in ('number', 'share') else f'ord({name})'}: 1)"]
+
     # ---- expressions
 
     def expression(self, scope, kind, depth=0):
-        known = scope.of_kind(kind)
-        if known and self.random.random() < 0.3 + 0.2 * depth:
-            return self.random.choice(known)
+        """An expression of the kind; of a structured one a variable, or nothing where there is none."""
+        if kind not in ORDINAL:
+            return self.variable(scope, kind)
+        if scope.leading_to(kind) and self.random.random() < 0.3 + 0.2 * depth:
+            return self.variable(scope, kind)
         return getattr(self, kind)(scope, depth + 1)
 
     def number(self, scope, depth):
@@ -140,11 +196,11 @@ class Programs:
 
     def assignment(self, scope, depth):
         kind = self.random.choice(tuple(SPELLED))
-        targets = scope.of_kind(kind, assigned=True)
-        return f"{self.random.choice(targets)} := {self.expression(scope, kind)}" if targets else None
+        target = self.variable(scope, kind, assigned=True)
+        return f"{target} := {self.expression(scope, kind)}" if target else None
 
     def writing(self, scope, depth):
-        kind = self.random.choice(tuple(SPELLED))
+        kind = self.random.choice(tuple(ORDINAL))
         value = self.expression(scope, kind)
         shown = value if kind in ("number", "share") else f"ord({value})"
         return f"{self.random.choice(('write', 'writeln'))}({shown}: {self.random.randint(1, 9)}, ' ')"
@@ -182,14 +238,17 @@ class Programs:
         routine = self.random.choice(scope.routines)
         actuals = ["fuel - 1" if scope.inside else str(self.random.randint(1, 3))]
         for kind, by_reference, _ in routine.formals:
-            choices = scope.of_kind(kind, assigned=True) if by_reference else [self.expression(scope, kind, 1)]
-            if not choices:
+            actual = self.variable(scope, kind, assigned=True) if by_reference else self.expression(scope, kind, 1)
+            if not actual:
                 return None
-            actuals.append(self.random.choice(choices))
-        targets = scope.of_kind(routine.result, assigned=True) if routine.result else ("",)
-        if not targets:
-            return None
-        target = f"{self.random.choice(targets)} := " if routine.result else ""
+            actuals.append(actual)
+        target = ""
+        if routine.result:
+            # without an index, since what is called may change it
+            variable = self.variable(scope, routine.result, assigned=True, indexed=False)
+            if not variable:
+                return None
+            target = f"{variable} := "
         return f"{'if fuel > 0 then ' if scope.inside else ''}{target}{routine.name}({', '.join(actuals)})"
 
     # ---- blocks
@@ -220,20 +279,22 @@ class Programs:
 
     def block(self, scope, level, heading=None):
         own = tuple((self.name("v"), self.random.choice(tuple(SPELLED))) for _ in range(self.random.randint(1, 4)))
+        if heading and heading.result not in (None, *ORDINAL):
+            own += ((self.name("v"), heading.result),)
         controls = ((self.name("i"), "number"), (self.name("i"), "number"), (self.name("e"), "colour"))
         counter = self.name("n")
         scope = dataclasses.replace(scope, variables=scope.variables + own, threatened=frozenset(), controls=controls, counter=counter)
         declared = "".join(f"{name}: {SPELLED[kind]}; " for name, kind in own + controls)
         routines, scope = self.routines(scope, level) if level < 3 else ("", scope)
-        begins = [f"{name} := {FIRST_VALUES.get(kind, self.random.randint(0, 50))}" for name, kind in own]
+        begins = [text for name, kind in own for text in self.begun(name, kind)]
         if heading and heading.result:
             begins.append(f"{heading.name} := {self.expression(scope, heading.result)}")
-        ends = [f"write(' ', {name if kind in ('number', 'share') else f'ord({name})'}: 1)" for name, kind in own]
+        ends = [text for name, kind in own for text in self.shown(name, kind)]
         lines = ";\n".join(begins + [self.statements(scope, 0, 5)] + ends)
         return f"var {declared}{counter}: integer;\n{routines}begin\n{lines}\nend"
 
     def program(self):
-        return f"program p(output);\ntype colour = (red, green, blue); share = 0..99;\n{self.block(Scope(), 0)}.\n"
+        return f"program p(output);\ntype {TYPES};\n{self.block(Scope(), 0)}.\n"
 
 
 def ours(program, folder, text):

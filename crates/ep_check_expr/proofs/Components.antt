@@ -19,7 +19,7 @@ use Rattle.ep_check_expr.proofs.Places.{IsComponent, IsComponentAt, place_at, pl
 module _ (declared : Declarations) (types : TypeValues) (structures : List StructuredType) where
   -- some denoter of a list that holds the structured types is of the kind
   abbrev pub HasComponents : Kind → Type 0
-  HasComponents k = (list : List UnitType) → All (HoldsStructure types list) structures → (d : Denoter) × HasKind list d k
+  HasComponents k = (list : List UnitType) → All (HoldsStructure types list) structures → (d : Denoter) × HasKind types list d k
 
   -- a component that is not built has a valid form
   unbuilt-form : (k : Kind) → HasComponents k → (list : List UnitType) → All (HoldsStructure types list) structures → IsFormOf declared types structures k None
@@ -34,13 +34,10 @@ module _ (declared : Declarations) (types : TypeValues) (structures : List Struc
     built-form (kind.Ordinal h) at =
         let p = place_at declared (IsComponent declared types structures of (kind.Ordinal h)) place at in (
           p.2.0.0.0,
-          (typed_host h, refl, place_wider declared (IsComponent declared types structures of (kind.Ordinal h)) (λ list d. host_of list d ≡ Some (typed_host h)) place (λ list d c. c.0.0.1) at),
+          place_wider declared (IsComponent declared types structures of (kind.Ordinal h)) (λ list d. host_of list d ≡ Some (typed_host h)) place (λ list d c. c.0.0.1) at,
         )
-    built-form (kind.Structured m) at = (
-      place,
-      refl,
-      place_wider declared (IsComponent declared types structures of (kind.Structured m)) (λ list d. HasKind list d (kind.Structured m) × All (HoldsStructure types list) structures) place (λ list d c. (c.0.0, c.1)) at,
-    )
+    built-form (kind.Structured m) at =
+        place_wider declared (IsComponent declared types structures of (kind.Structured m)) (λ list d. HasKind types list d (kind.Structured m) × All (HoldsStructure types list) structures) place (λ list d c. (c.0.0, c.1)) at
     built-form kind.Text at = absurd (place_at declared (IsComponent declared types structures of kind.Text) place at).2.0.0
     built-form kind.File at = absurd (place_at declared (IsComponent declared types structures of kind.File) place at).2.0.0
 

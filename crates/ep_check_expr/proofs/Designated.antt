@@ -1,7 +1,7 @@
 -- What the name of a field gives of a valid form is valid.
-use Rattle.std.proofs.Common.{◌≡◌, ℕ, suc, nat_le, List, [], ◌∷◌, slice_get, Option, Some, None, refl, sym, subst}
+use Rattle.std.proofs.Common.{◌≡◌, ℕ, suc, nat_le, List, [], ◌∷◌, slice_get, Option, Some, None, refl, subst}
 use Rattle.std.specs.Prelude.{All}
-use Rattle.ep_typed.specs.Trees.{Place, Expr, Field, Read}
+use Rattle.ep_typed.specs.Trees.{Place, Expr, Constant, Text, Read, One, Two, Short, Step, Function, Field}
 use Rattle.ep_typed.specs.Valid.{Declarations}
 use Rattle.ep_typed.specs.declared.unit.UnitType.{UnitType}
 use Rattle.ep_scope.specs.Fields.{field_number}
@@ -59,14 +59,25 @@ module _ (declared : Declarations) (types : TypeValues) (structures : List Struc
     abbrev IsFieldForm : Option Expr → Type 0
     IsFieldForm x = IsComponentForm declared types structures f.of f.kind (field_form x number)
 
-    -- where the record is built
+    -- where the record is not built
+    unbuilt-field : (list : List UnitType) → All (HoldsStructure types list) structures → IsFieldForm None
+    unbuilt-field list all = unbuilt-component declared types structures f.of f.kind (some-field declared types structures n (composition.Record fs) in_view fs refl number f there) list all
+
+    -- where it is read of a variable
     read-field : (place : Place) → IsStructuredAt declared types structures n place → IsFieldForm (Some (Read place))
     read-field place at = built-component declared types structures f.of f.kind (Field place number) (field-place declared types structures n (composition.Record fs) in_view fs refl number f there place at)
 
     -- either way
     field-form : (x : Option Expr) → IsFormOf declared types structures (kind.Structured n) x → IsFieldForm x
-    field-form None g = unbuilt-component declared types structures f.of f.kind (some-field declared types structures n (composition.Record fs) in_view fs refl number f there) g.0 g.1
-    field-form (Some x) g = subst (λ y. IsFieldForm (Some y)) (sym g.1) (read-field g.0 g.2)
+    field-form None g = unbuilt-field g.0 g.1
+    field-form (Some (Read place)) g = read-field place g
+    field-form (Some (Function callee given)) g = unbuilt-field g.1.0 g.1.1
+    field-form (Some (Constant z)) g = absurd g
+    field-form (Some (Text bytes)) g = absurd g
+    field-form (Some (One operation x)) g = absurd g
+    field-form (Some (Two operation x y)) g = absurd g
+    field-form (Some (Short operation x y)) g = absurd g
+    field-form (Some (Step down low high x y)) g = absurd g
 
     -- a field of a valid record is valid
     field-fits : (x : Typed) → IsFormOf declared types structures (kind.Structured n) x.form → Holds (field_typed number f x)

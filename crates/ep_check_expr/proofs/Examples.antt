@@ -293,8 +293,9 @@ array_for_integer = simp (expression-judged, simple-judged, term-judged, name-ju
 constant_array : constant_expression scope (bare (name (codes "a"))) ≡ Breaks (rule.CONSTANT ∷ [])
 constant_array = simp (expression-judged, simple-judged, term-judged, name-judged) refl
 
--- r(3), an array, which has no code yet
-array_given : judged scope (bare (call (codes "r") (plain (number 3) ∷ []))) ≡ Accepts (record { form = None; kind = kind.Structured 3; depth = 2; access = access.Value })
+-- r(3), an array
+array_given : judged scope (bare (call (codes "r") (plain (number 3) ∷ [])))
+    ≡ Accepts (record { form = Some (Function (of_program 3) (next_actual (Evaluated (Constant (pos 3))) no_actual)); kind = kind.Structured 3; depth = 2; access = access.Value })
 array_given = simp (expression-judged, simple-judged, term-judged, name-judged, arguments-judged, argument-judged, number-judged) refl
 
 -- r(3), where an integer is assigned to
@@ -318,7 +319,8 @@ no_array_given : judged scope (bare (indexed (codes "h") (bare (number 1) ∷ []
 no_array_given = simp (expression-judged, simple-judged, term-judged, name-judged, indexes-judged, number-judged) refl
 
 -- k(s)
-given_array_for_value : judged scope (bare (call (codes "k") (plain (name (codes "s")) ∷ []))) ≡ Accepts (record { form = None; kind = kind.Ordinal color; depth = 2; access = access.Value })
+given_array_for_value : judged scope (bare (call (codes "k") (plain (name (codes "s")) ∷ [])))
+    ≡ Accepts (record { form = Some (Function (of_program 5) (next_actual (Evaluated (Function (of_program 4) no_actual)) no_actual)); kind = kind.Ordinal color; depth = 2; access = access.Value })
 given_array_for_value = simp (expression-judged, simple-judged, term-judged, name-judged, arguments-judged, argument-judged) refl
 
 -- l(s)

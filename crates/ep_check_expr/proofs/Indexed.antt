@@ -1,7 +1,7 @@
 -- What an index gives of a valid form is valid.
-use Rattle.std.proofs.Common.{◌≡◌, true, ℕ, suc, max, nat_le, List, [], ◌∷◌, Option, Some, None, refl, sym, subst}
+use Rattle.std.proofs.Common.{◌≡◌, true, ℕ, suc, max, nat_le, List, [], ◌∷◌, Option, Some, None, refl, subst}
 use Rattle.std.specs.Prelude.{All}
-use Rattle.ep_typed.specs.Trees.{Place, Expr, Read, Indexed}
+use Rattle.ep_typed.specs.Trees.{Place, Expr, Constant, Text, Read, One, Two, Short, Step, Function, Indexed}
 use Rattle.ep_typed.specs.Valid.{Declarations}
 use Rattle.ep_typed.specs.declared.unit.UnitType.{UnitType}
 use Rattle.ep_scope.specs.Scopes.{Region, structure_in}
@@ -64,7 +64,14 @@ module _ (declared : Declarations) (types : TypeValues) (structures : List Struc
     -- either way
     element-form : (x i : Option Expr) → IsFormOf declared types structures (kind.Structured n) x → IsFormOf declared types structures (kind.Ordinal a.index) i → IsElement x i
     element-form None i f g = unbuilt-element f.0 f.1
-    element-form (Some x) i f g = subst (λ y. IsElement (Some y) i) (sym f.1) (read-element f.0 i f.2 g)
+    element-form (Some (Read place)) i f g = read-element place i f g
+    element-form (Some (Function callee given)) i f g = unbuilt-element f.1.0 f.1.1
+    element-form (Some (Constant z)) i f g = absurd f
+    element-form (Some (Text bytes)) i f g = absurd f
+    element-form (Some (One operation x)) i f g = absurd f
+    element-form (Some (Two operation x y)) i f g = absurd f
+    element-form (Some (Short operation x y)) i f g = absurd f
+    element-form (Some (Step down low high x y)) i f g = absurd f
 
     -- a component of a valid array at a valid index is valid
     component-fits : (x i : Typed) → IsFormOf declared types structures (kind.Structured n) x.form → IsFormOf declared types structures (kind.Ordinal a.index) i.form → Holds (component_typed a x i)

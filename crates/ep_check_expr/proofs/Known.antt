@@ -46,6 +46,7 @@ answered-known (Fault error) z e = cc
 host_in : valid.Kind → Host
 host_in (valid.Ordinal h) = h
 host_in valid.Bytes = host.Integer
+host_in (valid.Structured t) = host.Integer
 
 as_host : (h k : Host) (z : ℤ) → valid.Ordinal h ≡ valid.Ordinal k → IsTrue (is_of_host k z) → IsTrue (is_of_host h z)
 unfolding host_in
@@ -82,6 +83,7 @@ bounded-number h low high w z l g e =
 abbrev pub OfKind : valid.Kind → ℤ → Type 0
 OfKind (valid.Ordinal h) z = IsTrue (is_of_host h z)
 OfKind valid.Bytes z = ⊤
+OfKind (valid.Structured t) z = ⊤
 
 -- an operation of a known number
 one-of_host : (operation : Unary) (k : valid.Kind) (h : Host) (y z : ℤ) → IsUnary operation k (valid.Ordinal h) → OfKind k y → IsAnswer (unary_answer operation y) z → IsTrue (is_of_host h z)
@@ -155,6 +157,7 @@ module _ (declared : Declarations) where
   -- a known number of a valid form is of the form's kind
   pub known-of_kind : (e : Expr) (k : valid.Kind) (z : ℤ) → IsExpr declared k e → folded e ≡ Known z → OfKind k z
   known-of_kind e valid.Bytes z v f = tt
+  known-of_kind e (valid.Structured t) z v f = tt
   known-of_kind (Constant w) (valid.Ordinal h) z v f =
       let is : w ≡ z = cc in
       as_host h v.0 z v.1 (subst (λ x. IsTrue (is_of_host v.0 x)) is v.2)
@@ -227,13 +230,13 @@ module _ (declared : Declarations) (types : TypeValues) (structures : List Struc
   constant-fits (kind.Ordinal h) (Some (Step down low high x y)) s = folded-constant h (Step down low high x y) (folded (Step down low high x y)) refl s.0 s.1
   constant-fits (kind.Ordinal h) (Some (Function callee given)) s = tt
   constant-fits (kind.Structured n) None s = tt
-  constant-fits (kind.Structured n) (Some (Text bytes)) s = let e = s.1 in cc
-  constant-fits (kind.Structured n) (Some (Constant z)) s = let e = s.1 in cc
+  constant-fits (kind.Structured n) (Some (Text bytes)) s = absurd s
+  constant-fits (kind.Structured n) (Some (Constant z)) s = absurd s
   constant-fits (kind.Structured n) (Some (Read place)) s = tt
-  constant-fits (kind.Structured n) (Some (One operation x)) s = let e = s.1 in cc
-  constant-fits (kind.Structured n) (Some (Two operation x y)) s = let e = s.1 in cc
-  constant-fits (kind.Structured n) (Some (Short operation x y)) s = let e = s.1 in cc
-  constant-fits (kind.Structured n) (Some (Step down low high x y)) s = let e = s.1 in cc
+  constant-fits (kind.Structured n) (Some (One operation x)) s = absurd s
+  constant-fits (kind.Structured n) (Some (Two operation x y)) s = absurd s
+  constant-fits (kind.Structured n) (Some (Short operation x y)) s = absurd s
+  constant-fits (kind.Structured n) (Some (Step down low high x y)) s = absurd s
   constant-fits (kind.Structured n) (Some (Function callee given)) s = tt
   constant-fits kind.Text None s = tt
   constant-fits kind.Text (Some (Text bytes)) s = tt

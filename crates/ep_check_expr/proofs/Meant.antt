@@ -104,8 +104,8 @@ module _ (declared : Declarations) (types : TypeValues) (structures : List Struc
 
   -- a variable that is declared is valid as a value
   variable-fits : (place : Place) (k : Kind) → IsStoredIn declared types structures place k → IsFormOf declared types structures k (Some (Read place))
-  variable-fits place (kind.Ordinal h) s = (s.0, (typed_host h, refl, s.1))
-  variable-fits place (kind.Structured n) s = (place, refl, s)
+  variable-fits place (kind.Ordinal h) s = s
+  variable-fits place (kind.Structured n) s = s
   variable-fits place kind.Text s = absurd s
   variable-fits place kind.File s = tt
 

@@ -1,9 +1,11 @@
 -- Arguments that the rules accept are valid for the formal parameters of the routine.
 use Rattle.std.proofs.Common.{◌≡◌, ◌==◌, ℕ, suc, Bool, true, false, nat_le, List, [], ◌∷◌, ◌++◌, Option, Some, None, refl, sym, ◌∙◌, ap, subst}
 use Rattle.std.specs.Prelude.{⊤, if◌then◌else◌}
+use Rattle.std.proofs.lemmas.Option.{same_Some}
 use Rattle.std.specs.Option.{option_map}
 use Rattle.ep_typed.specs.Trees as tree
 use Rattle.ep_typed.specs.Trees.{Actual, Callee, Expr, actuals}
+use Rattle.ep_typed.specs.TypeValues.{TypeValue}
 use Rattle.ep_typed.specs.Valid as valid
 use Rattle.ep_typed.specs.Valid.{Declarations, IsExpr, IsGiven}
 use Rattle.ep_typed.specs.Viewed.{denoter_of}
@@ -21,10 +23,11 @@ use Rattle.ep_scope.specs.declared.kind.Kind.TheVariants as kind
 use Rattle.ep_scope.specs.declared.parameter.FormalParameter.{FormalParameter}
 use Rattle.ep_scope.specs.declared.parameter.Protection.{Protection}
 use Rattle.ep_scope.specs.declared.parameter.TypeName.{TypeName}
+use Rattle.ep_scope.specs.declared.parameter.TypeName.TheVariants as type_name
 use Rattle.ep_scope.specs.declared.rule.TheConstants as rule
 use Rattle.ep_check_expr.specs.declared.access.Access.{Access}
 use Rattle.ep_check_expr.specs.declared.access.Access.TheVariants as access
-use Rattle.ep_check_expr.specs.Agreement.{AreActuals, AreParameters, HasKind, IsAccessOf, IsFormOf, IsFunctionOf, IsParameter, TypeValues}
+use Rattle.ep_check_expr.specs.Agreement.{AreActuals, AreParameters, HasKind, IsAccessOf, IsFormOf, IsFunctionOf, IsParameter, IsStructuredForm, IsValueOf, TypeValues}
 use Rattle.ep_check_expr.specs.Arguments.{Taken, accessed, actual_taken, argument_judged, argument_taken, arguments_judged, call_form, function_called, function_typed, given_to, joined, one_taken, threatened, value_taken, variable_taken}
 use Rattle.ep_check_expr.specs.Functions.{Given, given_faults, unless_faults}
 use Rattle.ep_check_expr.specs.Hosts.{typed_host}
@@ -32,6 +35,7 @@ use Rattle.ep_check_expr.specs.Judgements.{Judged, Accepts, Breaks, Typed}
 use Rattle.ep_check_expr.specs.Operators.{map_both}
 use Rattle.ep_check_expr.specs.declared.forms.TheConstants as limit
 use Rattle.ep_check_expr.proofs.Keeping.{AreGiven, Satisfies, both-satisfies, if-satisfies, then-satisfies, weaker-satisfies}
+use Rattle.ep_check_expr.proofs.Places.{same_number, structured-place}
 use Rattle.ep_check_expr.proofs.SameHost.{host_same}
 use Rattle.ep_check_expr.proofs.SameType.{type_same}
 
@@ -88,6 +92,39 @@ module _ (declared : Declarations) (types : TypeValues) (structures : List Struc
       file_fits host.Boolean value = tt
       file_fits (host.Enumeration e) value = tt
 
+-- a value of a structured type is an expression of its type value
+pub structured-expr : (declared : Declarations) (types : TypeValues) (structures : List StructuredType) (n : ℕ) (x : Expr) → IsStructuredForm declared types structures n x → (t : TypeValue) × IsValueOf types n t × IsExpr declared (valid.Structured t) x
+structured-expr declared types structures n (tree.Read place) f = structured-place declared types structures n place f
+structured-expr declared types structures n (tree.Function callee given) f = f.0
+structured-expr declared types structures n (tree.Constant z) f = absurd f
+structured-expr declared types structures n (tree.Text bytes) f = absurd f
+structured-expr declared types structures n (tree.One operation x) f = absurd f
+structured-expr declared types structures n (tree.Two operation x y) f = absurd f
+structured-expr declared types structures n (tree.Short operation x y) f = absurd f
+structured-expr declared types structures n (tree.Step down low high x y) f = absurd f
+
+-- a structured type has one type value
+pub one-value : (types : TypeValues) (m n : ℕ) (t u : TypeValue) → m ≡ n → IsValueOf types m t → IsValueOf types n u → t ≡ u
+one-value types m n t u same p q = same_Some t u (sym p.0 ∙ (ap (λ k. types (type_name.Entry k)) same ∙ q.0))
+
+module _ (declared : Declarations) (types : TypeValues) (structures : List StructuredType) {A : Type 0} (P : A → Type 0) (form : Expr → A) (m : ℕ) (t : TypeValue) (of : IsValueOf types m t) (fits : (x : Expr) → IsExpr declared (valid.Structured t) x → P (form x)) where
+  structured-form : (n : ℕ) (value : Option Expr) → m ≡ n → IsFormOf declared types structures (kind.Structured n) value → IfForm P (option_map form value)
+  structured-form n None same f = tt
+  structured-form n (Some x) same f =
+      let e = structured-expr declared types structures n x f in
+      fits x (subst (λ u. IsExpr declared (valid.Structured u) x) (sym (one-value types m n t e.0 same of e.1)) e.2)
+
+  structured-if : (same : Bool) (n : ℕ) (value : Option Expr) → (m == n) ≡ same → IsFormOf declared types structures (kind.Structured n) value → Satisfies (IfForm P) (if same then Accepts (option_map form value) else Breaks (rule.ASSIGNMENT ∷ []))
+  structured-if true n value e f = structured-form n value (same_number m n e) f
+  structured-if false n value e f = tt
+
+  -- alike what is made of a value that is given to something of a structured type
+  pub structured-fits : (from : Kind) (value : Option Expr) → IsFormOf declared types structures from value → Satisfies (IfForm P) (given_to form (kind.Structured m) from value)
+  structured-fits (kind.Ordinal h) value f = tt
+  structured-fits (kind.Structured n) value f = structured-if (m == n) n value refl f
+  structured-fits kind.Text value f = tt
+  structured-fits kind.File value f = tt
+
 module _ (declared : Declarations) (types : TypeValues) (structures : List StructuredType) where
   -- a valid form of its kind, read of a variable of its type where it is the bare name of one
   abbrev pub IsForm : Typed → Type 0
@@ -118,20 +155,10 @@ module _ (declared : Declarations) (types : TypeValues) (structures : List Struc
 
       -- ---- arguments
 
-      -- a value for a parameter of an array type is not built
-      array-given : (m : ℕ) (from : Kind) (form : Option Expr) → Satisfies (IfForm (IsGiven declared list mode.Value f)) (given_to tree.Evaluated (kind.Structured m) from form)
-      array-given m (kind.Ordinal h) form = tt
-      array-given m (kind.Structured n) form = nothing-given (m == n)
-        where
-          nothing-given : (same : Bool) → Satisfies (IfForm (IsGiven declared list mode.Value f)) (if same then Accepts None else Breaks (rule.ASSIGNMENT ∷ []))
-          nothing-given true = tt
-          nothing-given false = tt
-      array-given m kind.Text form = tt
-      array-given m kind.File form = tt
-
-      kind-given : (k : Kind) → HasKind list (denoter_of f.denoter) k → (v : Typed) → IsForm v → Satisfies (IfForm (IsGiven declared list mode.Value f)) (value_taken k v)
-      kind-given (kind.Ordinal h) has v x = given-fits declared types structures (IsGiven declared list mode.Value f) tree.Evaluated h (λ e q. (typed_host h, has.1, q)) v.kind v.form x.0
-      kind-given (kind.Structured m) has v x = array-given m v.kind v.form
+      kind-given : (k : Kind) → HasKind types list (denoter_of f.denoter) k → (v : Typed) → IsForm v → Satisfies (IfForm (IsGiven declared list mode.Value f)) (value_taken k v)
+      kind-given (kind.Ordinal h) has v x = given-fits declared types structures (IsGiven declared list mode.Value f) tree.Evaluated h (λ e q. (valid.Ordinal (typed_host h), has.1, q)) v.kind v.form x.0
+      kind-given (kind.Structured m) has v x =
+          structured-fits declared types structures (IsGiven declared list mode.Value f) tree.Evaluated m has.1.0 has.1.1 (λ e q. (valid.Structured has.1.0, (has.1.2, has.1.1.1), q)) v.kind v.form x.0
       kind-given kind.Text has v x = absurd has
       kind-given kind.File has v x = absurd has
 
@@ -190,12 +217,15 @@ module _ (declared : Declarations) (types : TypeValues) (structures : List Struc
 
   -- ---- function designators
 
-  -- what is built of a call is valid; an array is not built
+  -- what is built of a call is valid
   function-form : (callee : Callee) (ps : List FormalParameter) (k : Kind) (s : IsFunctionOf declared types structures callee ps k) (xs : Option (List Actual))
       → AreActuals declared (declared.types callee.unit) s.0.formals xs → IsFormOf declared types structures k (call_form callee k xs)
   function-form callee ps (kind.Ordinal h) s None x = s.2.1
-  function-form callee ps (kind.Ordinal h) s (Some xs) x = (s.2.1, (typed_host h, refl, s.0, s.1, s.2.0, x))
-  function-form callee ps (kind.Structured n) s xs x = (declared.types callee.unit, s.2.3)
+  function-form callee ps (kind.Ordinal h) s (Some xs) x = (s.2.1, (s.0, s.1, s.2.0, x))
+  function-form callee ps (kind.Structured n) s None x = (declared.types callee.unit, s.2.3)
+  function-form callee ps (kind.Structured n) s (Some xs) x =
+      let v = s.2.2.1 in
+      ((v.0, v.1, (s.0, s.1, record { result = s.2.0; has_result = s.2.1; has_kind = (v.2, v.1.1) }, x)), (declared.types callee.unit, s.2.3))
   function-form callee ps kind.Text s xs x = absurd s.2
   function-form callee ps kind.File s xs x = absurd s.2
 

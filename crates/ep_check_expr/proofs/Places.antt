@@ -7,7 +7,8 @@ use Rattle.ep_typed.specs.Denoters.{ArrayParts, array_of, array_within, definiti
 use Rattle.ep_typed.specs.Hosts as hosts
 use Rattle.ep_typed.specs.Trees.{Array, Denoter, Denoters, Enumeration, Expr, Field, Indexed, Named, Own, Place, Record, Required, Standard, Subrange, Variable, next_denoter, no_denoter}
 use Rattle.ep_typed.specs.Valid as valid
-use Rattle.ep_typed.specs.Valid.{Declarations, IsExpr, IsPlaceWhere}
+use Rattle.ep_typed.specs.TypeValues.{TypeValue}
+use Rattle.ep_typed.specs.Valid.{Declarations, IsExpr, IsOfKind, IsPlaceWhere}
 use Rattle.ep_typed.specs.Viewed.{denoter_of}
 use Rattle.ep_typed.specs.declared.unit.UnitType.{UnitType}
 use Rattle.ep_scope.specs.Scopes.{Region, structure_among, structure_in, structure_or}
@@ -19,7 +20,7 @@ use Rattle.ep_scope.specs.declared.structure.Composition.{Composition}
 use Rattle.ep_scope.specs.declared.structure.Composition.TheVariants as composition
 use Rattle.ep_scope.specs.declared.structure.FieldType.{FieldType}
 use Rattle.ep_scope.specs.declared.structure.StructuredType.{StructuredType}
-use Rattle.ep_check_expr.specs.Agreement.{AreFields, Arrays, HasKind, HasStructure, HoldsStructure, IsArrayOf, IsDenoterOf, IsMadeOf, IsStructuredAt, IsStructuredDenoter, Records, Structure, TypeValues, structures_of}
+use Rattle.ep_check_expr.specs.Agreement.{AreFields, Arrays, HasKind, HasStructure, HoldsStructure, IsArrayOf, IsDenoterOf, IsMadeOf, IsStructuredAt, IsStructuredDenoter, IsValueOf, Records, Structure, TypeValues, structures_of}
 use Rattle.ep_check_expr.specs.Hosts.{typed_host}
 
 -- ---- places
@@ -52,7 +53,7 @@ module _ (declared : Declarations) where
 -- ---- structured types in view
 
 -- numbers that the test finds the same are one
-same_number : (m n : ℕ) → (m == n) ≡ true → m ≡ n
+pub same_number : (m n : ℕ) → (m == n) ≡ true → m ≡ n
 same_number m n e = grind (arith, nat_tests)
 
 -- the structured type of a number that is made so
@@ -150,11 +151,18 @@ module _ (declared : Declarations) (types : TypeValues) (structures : List Struc
 
   -- and of the denoter of a structured variable, by its number
   abbrev IsStructured : ℕ → List UnitType → Denoter → Type 0
-  IsStructured n list d = HasKind list d (kind.Structured n) × All (HoldsStructure types list) structures
+  IsStructured n list d = HasKind types list d (kind.Structured n) × All (HoldsStructure types list) structures
 
   -- some list of types holds the structured types
   pub some-list : (n : ℕ) (place : Place) → IsStructuredAt declared types structures n place → (list : List UnitType) × All (HoldsStructure types list) structures
   some-list n place at = let p = place_at declared (IsStructured n) place at in (p.0, p.2.1)
+
+  -- its values are those of that type
+  pub structured-place : (n : ℕ) (place : Place) → IsStructuredAt declared types structures n place → (t : TypeValue) × IsValueOf types n t × IsPlaceWhere declared (IsOfKind (valid.Structured t)) place
+  structured-place n place at =
+      let p = place_at declared (IsStructured n) place at in
+      let v = p.2.0.1 in
+      (v.0, v.1, place_wider declared (IsStructured n) (IsOfKind (valid.Structured v.0)) place (λ list d k. (k.0.1.2 ∙ (sym k.0.1.1.0 ∙ v.1.0), v.1.1)) at)
 
   module _ (n : ℕ) (c : Composition) (in_view : (list : List UnitType) → All (HoldsStructure types list) structures → HoldsStructure types list (made_so n c)) where
     -- a component of an array
@@ -163,7 +171,7 @@ module _ (declared : Declarations) (types : TypeValues) (structures : List Struc
       where
         within : (list : List UnitType) (d : Denoter) → IsStructured n list d → IsComponentWhere declared (IsComponent a.component a.kind) x list d
         within list d k =
-            let p = array_parts list types d n k.0 a (subst (λ z. HoldsStructure types list (made_so n z)) is (in_view list k.1)) in
+            let p = array_parts list types d n k.0.0 a (subst (λ z. HoldsStructure types list (made_so n z)) is (in_view list k.1)) in
             (p.0, p.1, (p.2.2, k.1), (typed_host a.index, p.2.1, index))
 
     -- a field of a record
@@ -172,27 +180,27 @@ module _ (declared : Declarations) (types : TypeValues) (structures : List Struc
       where
         within : (list : List UnitType) (d : Denoter) → IsStructured n list d → IsFieldWhere declared (IsComponent f.of f.kind) number list d
         within list d k =
-            let p = record_parts list types d n k.0 fs (subst (λ z. HoldsStructure types list (made_so n z)) is (in_view list k.1)) in
+            let p = record_parts list types d n k.0.0 fs (subst (λ z. HoldsStructure types list (made_so n z)) is (in_view list k.1)) in
             let q = field_there list types fs p.0 number f p.2 there in
             (p.0, p.1, q.0, q.1, (q.2, k.1))
 
     -- some denoter is that of a component
-    pub some-component : (a : ArrayType) → c ≡ composition.Array a → (list : List UnitType) → All (HoldsStructure types list) structures → (d : Denoter) × HasKind list d a.kind
+    pub some-component : (a : ArrayType) → c ≡ composition.Array a → (list : List UnitType) → All (HoldsStructure types list) structures → (d : Denoter) × HasKind types list d a.kind
     some-component a is list all = within h.0 h.2
       where
         h : HoldsStructure types list (made_so n (composition.Array a))
         h = subst (λ z. HoldsStructure types list (made_so n z)) is (in_view list all)
 
-        within : (m : Structure) → IsMadeOf types list (composition.Array a) m → (d : Denoter) × HasKind list d a.kind
+        within : (m : Structure) → IsMadeOf types list (composition.Array a) m → (d : Denoter) × HasKind types list d a.kind
         within (Arrays p) made = (p.component, made.2.0)
         within (Records ds) made = absurd made
 
-    pub some-field : (fs : List FieldType) → c ≡ composition.Record fs → (number : ℕ) (f : FieldType) → slice_get fs number ≡ Some f → (list : List UnitType) → All (HoldsStructure types list) structures → (d : Denoter) × HasKind list d f.kind
+    pub some-field : (fs : List FieldType) → c ≡ composition.Record fs → (number : ℕ) (f : FieldType) → slice_get fs number ≡ Some f → (list : List UnitType) → All (HoldsStructure types list) structures → (d : Denoter) × HasKind types list d f.kind
     some-field fs is number f there list all = within h.0 h.2
       where
         h : HoldsStructure types list (made_so n (composition.Record fs))
         h = subst (λ z. HoldsStructure types list (made_so n z)) is (in_view list all)
 
-        within : (m : Structure) → IsMadeOf types list (composition.Record fs) m → (d : Denoter) × HasKind list d f.kind
+        within : (m : Structure) → IsMadeOf types list (composition.Record fs) m → (d : Denoter) × HasKind types list d f.kind
         within (Arrays p) made = absurd made
         within (Records ds) made = let q = field_there list types fs ds number f made there in (q.0, q.2.0)

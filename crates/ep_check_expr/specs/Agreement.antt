@@ -4,7 +4,7 @@ use Rattle.ep_typed.specs.Denoters.{ArrayParts, array_of, host_of, record_of, ty
 use Rattle.ep_typed.specs.Hosts.{greatest, is_of_host}
 use Rattle.ep_typed.specs.Operations.{maxint}
 use Rattle.ep_typed.specs.Trees.{Denoter, Denoters, Named, no_denoter, next_denoter, Callee, Place, Variable, Expr, Constant, Text, Read, One, Two, Short, Step, Function, Actual, actuals}
-use Rattle.ep_typed.specs.Valid.{Declarations, AreGiven, IsCallee, IsFunction, IsPlace, IsPlaceWhere, IsExpr, IsProcedure, IsVariableOf}
+use Rattle.ep_typed.specs.Valid.{Declarations, AreGiven, IsCallee, IsFunction, IsPlace, IsPlaceWhere, IsExpr, IsProcedure, IsStructured, IsVariableOf}
 use Rattle.ep_typed.specs.Valid as valid
 use Rattle.ep_typed.specs.Viewed.{denoter_of}
 use Rattle.ep_typed.specs.declared.interface.Formal.{Formal}
@@ -20,6 +20,7 @@ use Rattle.ep_scope.specs.declared.kind.Kind.{Kind}
 use Rattle.ep_scope.specs.declared.kind.Kind.TheVariants as kind
 use Rattle.ep_scope.specs.declared.parameter.FormalParameter.{FormalParameter}
 use Rattle.ep_scope.specs.declared.parameter.TypeName.{TypeName}
+use Rattle.ep_scope.specs.declared.parameter.TypeName.TheVariants as type_name
 use Rattle.ep_scope.specs.declared.structure.ArrayType.{ArrayType}
 use Rattle.ep_scope.specs.declared.structure.Composition.{Composition}
 use Rattle.ep_scope.specs.declared.structure.Composition.TheVariants as composition
@@ -87,17 +88,21 @@ HasStructure list d (Records ds) = record_of list d ≡ Some ds
 abbrev pub IsStructuredDenoter : List UnitType → Denoter → ℕ → Type 0
 IsStructuredDenoter list d n = (s : Structure) × HasStructure list d s × HasStructure list (Named n []) s
 
+-- each type by its number has one type value: that of the structured type of this number
+abbrev pub IsValueOf : TypeValues → ℕ → TypeValue → Type 0
+IsValueOf types n t = (types (type_name.Entry n) ≡ Some t) × IsStructured t
+
 -- the denoter is one of the kind; none is of a string type or of a file type so far
-abbrev pub HasKind : List UnitType → Denoter → Kind → Type 0
-HasKind list d (kind.Ordinal h) = IsHost h × (host_of list d ≡ Some (typed_host h))
-HasKind list d (kind.Structured n) = IsStructuredDenoter list d n
-HasKind list d kind.Text = ⊥
-HasKind list d kind.File = ⊥
+abbrev pub HasKind : TypeValues → List UnitType → Denoter → Kind → Type 0
+HasKind types list d (kind.Ordinal h) = IsHost h × (host_of list d ≡ Some (typed_host h))
+HasKind types list d (kind.Structured n) = IsStructuredDenoter list d n × ((t : TypeValue) × IsValueOf types n t × (type_of list d ≡ Some t))
+HasKind types list d kind.Text = ⊥
+HasKind types list d kind.File = ⊥
 
 module _ (types : TypeValues) (list : List UnitType) where
   -- the denoter is one of this type and kind
   abbrev pub IsDenoterOf : TypeName → Kind → Denoter → Type 0
-  IsDenoterOf of k d = HasKind list d k × ((v : TypeValue) × (types of ≡ Some v) × (type_of list d ≡ Some v))
+  IsDenoterOf of k d = HasKind types list d k × ((v : TypeValue) × (types of ≡ Some v) × (type_of list d ≡ Some v))
 
   -- an array has an index type of its host, and components of their type and kind
   abbrev pub IsArrayOf : ArrayType → ArrayParts → Type 0
@@ -118,6 +123,10 @@ module _ (types : TypeValues) (list : List UnitType) where
   abbrev pub HoldsStructure : StructuredType → Type 0
   HoldsStructure s = (m : Structure) × HasStructure list (Named s.number []) m × IsMadeOf s.composition m
 
+-- some list of types holds these structured types
+abbrev pub AreHeld : TypeValues → List StructuredType → Type 0
+AreHeld types structures = (list : List UnitType) × All (HoldsStructure types list) structures
+
 -- the structured types of the scopes in view
 abbrev pub structures_of : List Region → List StructuredType
 structures_of [] = []
@@ -128,7 +137,7 @@ structures_of (r ∷ rs) = r.structures ++ structures_of rs
 -- a formal parameter of a routine, of a unit with this list of types, as its scope says it
 pub record IsParameter (types : TypeValues) (list : List UnitType) (p : FormalParameter) (f : Formal) : Type 0 where
   pub mode : f.mode ≡ p.mode
-  pub has_kind : HasKind list (denoter_of f.denoter) p.kind
+  pub has_kind : HasKind types list (denoter_of f.denoter) p.kind
   pub has_type : type_of list (denoter_of f.denoter) ≡ types p.of
 
 -- one for each, in order
@@ -147,7 +156,7 @@ module _ (declared : Declarations) where
 module _ (declared : Declarations) (types : TypeValues) (structures : List StructuredType) where
   -- the place is that of a variable of the structured type of this number, under a list of types that holds the structured types
   abbrev pub IsStructuredAt : ℕ → Place → Type 0
-  IsStructuredAt n place = IsPlaceWhere declared (λ list d. HasKind list d (kind.Structured n) × All (HoldsStructure types list) structures) place
+  IsStructuredAt n place = IsPlaceWhere declared (λ list d. HasKind types list d (kind.Structured n) × All (HoldsStructure types list) structures) place
 
   -- the place is that of a variable that is declared, with a type of this kind; there are no variables of string types so far
   abbrev pub IsStoredIn : Place → Kind → Type 0
@@ -156,13 +165,23 @@ module _ (declared : Declarations) (types : TypeValues) (structures : List Struc
   IsStoredIn place kind.Text = ⊥
   IsStoredIn place kind.File = ⊤
 
-  -- The form is a valid expression of the kind. A structured value is read of its place, which is no expression by itself; where its
-  -- form is not built, some list of types holds the structured types.
+  -- The expression has a value of the structured type of this number: it is read of a variable of that type, or a function is called whose result is of that type.
+  abbrev pub IsStructuredForm : ℕ → Expr → Type 0
+  IsStructuredForm n (Constant z) = ⊥
+  IsStructuredForm n (Text bytes) = ⊥
+  IsStructuredForm n (Read place) = IsStructuredAt n place
+  IsStructuredForm n (One operation x) = ⊥
+  IsStructuredForm n (Two operation x y) = ⊥
+  IsStructuredForm n (Short operation x y) = ⊥
+  IsStructuredForm n (Step down low high x y) = ⊥
+  IsStructuredForm n (Function callee given) = ((t : TypeValue) × IsValueOf types n t × IsExpr declared (valid.Structured t) (Function callee given)) × AreHeld types structures
+
+  -- the form is a valid expression of the kind
   abbrev pub IsFormOf : Kind → Option Expr → Type 0
   IsFormOf (kind.Ordinal h) None = IsHost h
   IsFormOf (kind.Ordinal h) (Some x) = IsHost h × IsExpr declared (valid.Ordinal (typed_host h)) x
-  IsFormOf (kind.Structured n) None = (list : List UnitType) × All (HoldsStructure types list) structures
-  IsFormOf (kind.Structured n) (Some x) = (place : Place) × (x ≡ Read place) × IsStructuredAt n place
+  IsFormOf (kind.Structured n) None = AreHeld types structures
+  IsFormOf (kind.Structured n) (Some x) = IsStructuredForm n x
   IsFormOf kind.Text None = ⊤
   IsFormOf kind.Text (Some x) = IsExpr declared valid.Bytes x
   IsFormOf kind.File None = ⊥
@@ -188,8 +207,8 @@ module _ (declared : Declarations) (types : TypeValues) where
 module _ (declared : Declarations) (types : TypeValues) (structures : List StructuredType) where
   -- The heading of a function whose result is of this kind, in a unit with this list of types, which holds the structured types where it is structured. None is of a string type or of a file type so far.
   abbrev pub IsFunctionWith : List UnitType → Kind → RoutineEntry → Type 0
-  IsFunctionWith list (kind.Ordinal h) r = IsFunction list (typed_host h) r × IsHost h
-  IsFunctionWith list (kind.Structured n) r = (result : RoutineResult) × (r.result ≡ Some result) × HasKind list (denoter_of result.denoter) (kind.Structured n) × All (HoldsStructure types list) structures
+  IsFunctionWith list (kind.Ordinal h) r = IsFunction list (valid.Ordinal (typed_host h)) r × IsHost h
+  IsFunctionWith list (kind.Structured n) r = (result : RoutineResult) × (r.result ≡ Some result) × HasKind types list (denoter_of result.denoter) (kind.Structured n) × All (HoldsStructure types list) structures
   IsFunctionWith list kind.Text r = ⊥
   IsFunctionWith list kind.File r = ⊥
 

@@ -42,7 +42,9 @@ pub fn given_value(to: Kind, value: Typed) -> Result<Option<Boxed<TypedExpr>>, R
             Ok(value.into_form())
         }
         (Kind::Ordinal(Host::Char), Kind::Text) => Ok(None),
-        (Kind::Structured(left), Kind::Structured(right)) if left == right => Ok(None),
+        (Kind::Structured(left), Kind::Structured(right)) if left == right => {
+            Ok(value.into_form())
+        }
         _ => Err(Refusal::Rule(rule::ASSIGNMENT)),
     }
 }

@@ -277,7 +277,7 @@ impl Typed {
         })
     }
 
-    /// A call of a function, whose result is of this kind, in code of a depth. It is built where that is ordinal.
+    /// A call of a function, whose result is of this kind, in code of a depth. It is built where that is ordinal or structured.
     pub(crate) fn function(
         alloc: Global,
         depth: u32,
@@ -289,7 +289,7 @@ impl Typed {
     {
         let nesting = above(given.depth)?;
         let form = match (kind, given.into_actuals()) {
-            (Kind::Ordinal(_), Some(actuals)) => {
+            (Kind::Ordinal(_) | Kind::Structured(_), Some(actuals)) => {
                 let callee = callee_at(alloc, depth, d)?;
                 Some(Boxed::new(alloc, TypedExpr::Function(callee, actuals))?)
             }

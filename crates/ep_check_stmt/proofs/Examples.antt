@@ -232,8 +232,8 @@ no_array = simp (access-judged, indexes-judged, expression-judged, simple-judged
 protected_component : assigns (indexed (codes "g") (name_alone (codes "red"))) (number_alone 1) ≡ Breaks (rule.PROTECTED ∷ [])
 protected_component = simp (access-judged, indexes-judged, expression-judged, simple-judged, term-judged, name-judged, number-judged) refl
 
--- a := a, which has no code yet
-whole_array : assigns (access_node 1 (codes "a") []) (name_alone (codes "a")) ≡ Accepts None
+-- a := a
+whole_array : assigns (access_node 1 (codes "a") []) (name_alone (codes "a")) ≡ Accepts (Some (Assign 1 (Variable (codes "u") 2) (Read (Variable (codes "u") 2))))
 whole_array = simp (expression-judged, simple-judged, term-judged, name-judged) refl
 
 -- a := b

@@ -1,5 +1,5 @@
 -- Lists of routines that change, by the forms of the routines.
-use Rattle.std.proofs.Common.{◌≡◌, ℕ, zero, suc, ◌<◌, Bool, true, false, List, [], ◌∷◌, ◌++◌, map, length, Option, Some, None, slice_get, get_or, refl, sym, ap, ◌∙◌, subst, arith}
+use Rattle.std.proofs.Common.{◌≡◌, ℕ, zero, suc, ◌<◌, List, [], ◌∷◌, ◌++◌, map, length, Option, Some, None, slice_get, get_or, refl, sym, ap, ◌∙◌, subst, arith}
 use Rattle.std.specs.Prelude.{slice_set}
 use Rattle.ep_typed.specs.declared.unit.UnitRoutine.{UnitRoutine}
 use Rattle.ep_scope.specs.declared.parameter.FormalParameter.{FormalParameter}
@@ -7,9 +7,9 @@ use Rattle.ep_scope.specs.declared.thing.Declaration.{Declaration}
 use Rattle.ep_scope.specs.declared.thing.Thing.{Thing}
 use Rattle.ep_check_expr.specs.Judgements.{Accepts, when_accepted}
 use Rattle.ep_check_unit.specs.Blocks.{Block, RoutineForm, routine_form}
-use Rattle.ep_check_unit.specs.Declarations.{entered, noted, own_thing}
+use Rattle.ep_check_unit.specs.Declarations.{entered, own_thing}
 use Rattle.ep_check_unit.specs.Functions.{routine_declaration}
-use Rattle.ep_check_unit.specs.Routines.{headed_first, headed_form, is_built_heading, set_to, with_routine}
+use Rattle.ep_check_unit.specs.Routines.{headed_first, headed_form, set_to, with_routine}
 use Rattle.ep_check_unit.specs.declared.functions.HeadingResult.{HeadingResult}
 
 -- something holds of each item by its place
@@ -56,20 +56,15 @@ module _ (f : RoutineForm → RoutineForm) where
       at None e = ap (λ xs. routine_form x ∷ xs) e
       at (Some y) e = ap (λ xs. routine_form x ∷ xs) e
 
--- whether an item is built is nothing to the names of the block
-noted_thing : (built : Bool) (line : ℕ) (b : Block) (n : ℕ) (d : Declaration) → own_thing (noted built line b) n d ≡ own_thing b n d
-noted_thing true line b n d = refl
-noted_thing false line b n d = refl
-
 -- the first declaration of a routine, by the steps of its function
-pub first_headed : (name : List ℕ) (line : ℕ) (ps : List FormalParameter) (r : Option HeadingResult) (b added middle : Block) (form : RoutineForm) (number : ℕ) (t : Thing) (new : Block)
-    → added ≡ record b { routines = b.routines ++ form ∷ [] } → middle ≡ noted (is_built_heading ps r) line added → form ≡ headed_form name line ps r b.own.enclosing → number ≡ length b.routines → t ≡ own_thing middle number (routine_declaration ps r) → entered name t middle ≡ Accepts new
+pub first_headed : (name : List ℕ) (line : ℕ) (ps : List FormalParameter) (r : Option HeadingResult) (b added : Block) (form : RoutineForm) (number : ℕ) (t : Thing) (new : Block)
+    → added ≡ record b { routines = b.routines ++ form ∷ [] } → form ≡ headed_form name line ps r b.own.enclosing → number ≡ length b.routines → t ≡ own_thing added number (routine_declaration ps r) → entered name t added ≡ Accepts new
     → headed_first name line ps r b ≡ Accepts (record { number = number; parameters = ps; result = r; block = new })
-first_headed name line ps r b added middle form number t new is note formed count thing h =
+first_headed name line ps r b added form number t new is formed count thing h =
     let d : Declaration = routine_declaration ps r in
-    let first : Block = noted (is_built_heading ps r) line (with_routine name line ps r b) in
-    let same : middle ≡ first = note ∙ ap (noted (is_built_heading ps r) line) (is ∙ ap (λ f. record b { routines = b.routines ++ f ∷ [] }) formed) in
-    let named : t ≡ own_thing b (length b.routines) d = thing ∙ (ap (λ k. own_thing k number d) same ∙ (noted_thing (is_built_heading ps r) line (with_routine name line ps r b) number d ∙ ap (λ n. own_thing b n d) count)) in
+    let first : Block = with_routine name line ps r b in
+    let same : added ≡ first = is ∙ ap (λ f. record b { routines = b.routines ++ f ∷ [] }) formed in
+    let named : t ≡ own_thing b (length b.routines) d = thing ∙ (ap (λ k. own_thing k number d) same ∙ ap (λ n. own_thing b n d) count) in
     let there : entered name (own_thing b (length b.routines) d) first ≡ Accepts new = subst (λ x. entered name x first ≡ Accepts new) named (subst (λ k. entered name t k ≡ Accepts new) same h) in
     ap (when_accepted (λ c. Accepts (record { number = length b.routines; parameters = ps; result = r; block = c }))) there
     ∙ ap (λ n. Accepts (record { number = n; parameters = ps; result = r; block = new })) (sym count)

@@ -43,7 +43,7 @@ use Rattle.ep_check_stmt.proofs.judged.Fits.{Any, Fits, fits_then, fits_both, fi
 use Rattle.ep_check_stmt.specs.Statements.{Judgement, Passes, Waits, Fails, compound_judged}
 use Rattle.ep_check_unit.specs.Declarations.{unless_large, Fielded, Part as DenoterPart, Section, field_of, fields_named, record_over, section_written, sections_written, all_variables_declared, and_then, array_over, at_line, common_host, constant_definition, constant_entered, constants_declared, core_of, core_part, core_written, declaration_ended, declared_type, entered, enumerated, enumeration, index_host, next_enumeration, noted, ordered, range, scopes_of, settled, settled_part, settled_type, Standing, Stands, Falls, subrange, type_definition, type_definitions, type_entered, type_meant, type_named, type_written, unused, variable_declaration, variable_entered, variables_declared, variables_entered, with_constant, with_name, with_type, is_outermost, with_own_variable, with_unit_variable, with_variable, own_thing, Written}
 use Rattle.ep_check_unit.specs.Functions.{if_given, in_block, is_assigned, is_in_view, own_name_entered, result_entered, routine_declaration, row_gives, same_result}
-use Rattle.ep_check_unit.specs.Routines.{BodyJudged, Headed, PartJudged, all_declared, assigns_among, block_declared, body_closed, body_declared, body_ended, context_of, declared_routine, formals_entered, forwarded, has_body, heading_entered, inside_declared, is_repeated, headed_again, headed_first, headed_over, headed_then, identified_again, identified_over, is_built_heading, of_body, of_part, of_routine, part_judged, parts_declared, result_headed, result_judged, routine_body_judged, routine_judged, routine_there, sections_judged, scope_opened, start_headed, start_name, with_routine}
+use Rattle.ep_check_unit.specs.Routines.{BodyJudged, Headed, PartJudged, all_declared, assigns_among, block_declared, body_closed, body_declared, body_ended, context_of, declared_routine, formals_entered, forwarded, has_body, heading_entered, inside_declared, is_repeated, headed_again, headed_first, headed_over, headed_then, identified_again, identified_over, of_body, of_part, of_routine, part_judged, parts_declared, result_headed, result_judged, routine_body_judged, routine_judged, routine_there, sections_judged, scope_opened, start_headed, start_name, with_routine}
 use Rattle.ep_check_unit.specs.declared.functions.HeadingResult.{HeadingResult}
 use Rattle.ep_check_unit.specs.Units.{parameter_entered, parameters_entered, standard_file}
 use Rattle.ep_check_unit.specs.Blocks.{Block}
@@ -237,8 +237,8 @@ module _ (n : List ℕ) where
   headed_first-kept : (name : List ℕ) (line : ℕ) (ps : List FormalParameter) (r : Option HeadingResult) (b : Block) → IsOf b → Fits IsHeaded (headed_first name line ps r b)
   headed_first-kept name line ps r b i =
       let t = own_thing b (length b.routines) (routine_declaration ps r) in
-      fits_then IsOf IsHeaded (λ c. Accepts (record { number = length b.routines; parameters = ps; result = r; block = c })) (entered name t (noted (is_built_heading ps r) line (with_routine name line ps r b)))
-      (entered-kept name t (noted (is_built_heading ps r) line (with_routine name line ps r b)) (noted-kept (is_built_heading ps r) line (with_routine name line ps r b) i)) (λ c k. k)
+      fits_then IsOf IsHeaded (λ c. Accepts (record { number = length b.routines; parameters = ps; result = r; block = c })) (entered name t (with_routine name line ps r b))
+      (entered-kept name t (with_routine name line ps r b) i) (λ c k. k)
 
   declared_routine-kept : (number : ℕ) (d : Declaration) (b : Block) → IsOf b → Fits IsHeaded (declared_routine number d b)
   declared_routine-kept number (declaration.Procedure ps) b i = i

@@ -1,6 +1,6 @@
 -- What the static rules say of routines, and of all parts of a block (ISO 10206, 6.2.1 and 6.7). The declaration of a routine without its block is an item, on the line of the word `procedure` or `function`.
-use Rattle.std.specs.List.{list_all, list_any}
-use Rattle.std.specs.Prelude.{ℕ, suc, Bool, true, false, not, ◌&&◌, ◌||◌, List, [], ◌∷◌, ◌++◌, map, length, slice_get, slice_set, Option, Some, None, is_none, if◌then◌else◌}
+use Rattle.std.specs.List.{list_any}
+use Rattle.std.specs.Prelude.{ℕ, suc, Bool, true, false, not, ◌||◌, List, [], ◌∷◌, ◌++◌, map, length, slice_get, slice_set, Option, Some, None, is_none, if◌then◌else◌}
 use Rattle.std.specs.Str.{bytes_eq}
 use Rattle.ep_tree.specs.declared.declaration.FormalSection.{FormalSection}
 use Rattle.ep_tree.specs.declared.declaration.FormalType.{FormalType}
@@ -24,7 +24,6 @@ use Rattle.ep_scope.specs.Parameters.{protection_of, same_parameters}
 use Rattle.ep_scope.specs.Required.{look_up}
 use Rattle.ep_scope.specs.Scopes.{opened, closed}
 use Rattle.ep_scope.specs.declared.kind.Kind.{Kind}
-use Rattle.ep_scope.specs.declared.kind.Kind.TheVariants as kind
 use Rattle.ep_scope.specs.declared.parameter.FormalParameter.{FormalParameter}
 use Rattle.ep_scope.specs.declared.parameter.TypeName.{TypeName}
 use Rattle.ep_scope.specs.declared.rule.TheConstants as rule
@@ -110,28 +109,11 @@ pub record Headed : Type 0 where
   pub result : Option HeadingResult
   pub block : Block
 
--- a value parameter or a result of a structured type is not built
-abbrev pub is_built_kind : Kind → Bool
-is_built_kind (kind.Structured n) = false
-is_built_kind _ = true
-
-abbrev pub is_built_formal : FormalMode → Kind → Bool
-is_built_formal mode.Value k = is_built_kind k
-is_built_formal mode.ProtectedValue k = is_built_kind k
-is_built_formal _ k = true
-
-abbrev pub is_built_result : Option HeadingResult → Bool
-is_built_result None = true
-is_built_result (Some r) = is_built_kind r.kind
-
-abbrev pub is_built_heading : List FormalParameter → Option HeadingResult → Bool
-is_built_heading ps r = list_all (λ p. is_built_formal p.mode p.kind) ps && is_built_result r
-
 -- Its first declaration. The name is there before the block of the routine is, so the routine may call itself.
 abbrev pub headed_first : List ℕ → ℕ → List FormalParameter → Option HeadingResult → Block → Judged Headed
 headed_first name line ps r b =
     when_accepted (λ c. Accepts (record { number = length b.routines; parameters = ps; result = r; block = c }))
-    (entered name (own_thing b (length b.routines) (routine_declaration ps r)) (noted (is_built_heading ps r) line (with_routine name line ps r b)))
+    (entered name (own_thing b (length b.routines) (routine_declaration ps r)) (with_routine name line ps r b))
 
 -- The routine that is declared under a name already; a name that stands for something else is declared twice. Only its first heading says which name of its own the result of a function has.
 abbrev pub declared_routine : ℕ → Declaration → Block → Judged Headed

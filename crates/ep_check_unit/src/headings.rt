@@ -1,13 +1,12 @@
 //! Headings of procedures and functions.
 
-ghost use Rattle.std.specs.List.{list_all};
 ghost use Rattle.std.specs.Prelude.{◌≡◌, ◌∷◌, ◌++◌, [], None, IfOk, OnOk, map, slice_get};
 ghost use Rattle.ep_built.specs.Built.{first_in, section_unbuilt, start_unbuilt};
 ghost use Rattle.ep_check_stmt.specs.Answers.{AnswersForm};
 ghost use Rattle.ep_check_unit.specs.Answers.{AnswersBlock, headed_in};
 ghost use Rattle.ep_check_unit.specs.Blocks.{around_of, block_of, routine_form};
 ghost use Rattle.ep_check_unit.specs.Functions.{own_name_at};
-ghost use Rattle.ep_check_unit.specs.Routines.{function_headed, function_identified, has_body, headed_first, headed_form, headed_over, heading_entered, is_built_formal, is_built_heading, is_built_kind, is_built_result, own_variables, procedure_headed, routine_there, start_headed, start_name};
+ghost use Rattle.ep_check_unit.specs.Routines.{function_headed, function_identified, has_body, headed_first, headed_form, headed_over, heading_entered, own_variables, procedure_headed, routine_there, start_headed, start_name};
 ghost use Rattle.ep_scope.specs.Required.{look_up};
 ghost use Rattle.ep_check_expr.specs.Judgements.{Accepts};
 
@@ -19,11 +18,9 @@ use crate::functions::{
 };
 use ep_base::{Line, List, Name, NoMemory};
 use ep_check_expr::Refusal;
-use ep_scope::{
-    Declaration, FormalParameter, FormalParameters, Kind, Thing, copied_parameters, rule,
-};
+use ep_scope::{Declaration, FormalParameter, FormalParameters, Thing, copied_parameters, rule};
 use ep_tree::{FormalSection, QualifiedName, RoutineHeading, RoutineStart};
-use ep_typed::{FormalMode, RoutineNumbers, TypedStmt, UnitRoutine};
+use ep_typed::{RoutineNumbers, TypedStmt, UnitRoutine};
 use std::alloc::{AllocError, Global};
 
 /// A routine that is declared.
@@ -133,55 +130,6 @@ pub(crate) fn start_name(start: &RoutineStart) -> &Name
     }
 }
 
-/// Whether values of a kind are given and left by routines that are built; structured ones are not, so far.
-fn is_built_kind(kind: Kind) -> bool
-    ensures { result ≡ is_built_kind kind }
-{
-    match kind {
-        Kind::Structured(_) => false,
-        _ => true,
-    }
-}
-
-/// Whether a formal parameter is built.
-fn is_built_formal(mode: FormalMode, kind: Kind) -> bool
-    ensures { result ≡ is_built_formal mode kind }
-{
-    match mode {
-        FormalMode::Value | FormalMode::ProtectedValue => is_built_kind(kind),
-        FormalMode::Variable | FormalMode::ProtectedVariable => true,
-    }
-}
-
-/// Whether all formal parameters of a heading are built.
-fn are_built(parameters: &[FormalParameter]) -> bool
-    ensures { result ≡ list_all (λ p. is_built_formal p.mode p.kind) parameters.now }
-{
-    for parameter in parameters {
-        if !is_built_formal(parameter.mode, parameter.kind) {
-            return false;
-        }
-    }
-    true
-}
-
-/// Whether the result of a heading is built, where it has one.
-fn is_built_result(given: &Option<HeadingResult>) -> bool
-    ensures { result ≡ is_built_result given.now }
-{
-    match given {
-        None => true,
-        Some(given) => is_built_kind(given.kind),
-    }
-}
-
-/// Whether the formal parameters and the result of a heading are built.
-fn is_built_heading(parameters: &[FormalParameter], given: &Option<HeadingResult>) -> bool
-    ensures { result ≡ is_built_heading parameters.now given.now }
-{
-    are_built(parameters) && is_built_result(given)
-}
-
 impl Block {
     /// One routine more.
     fn add_routine(&mut self, routine: UnitRoutine) -> Result<(), NoMemory>
@@ -210,7 +158,6 @@ impl Block {
         let around = self.own.enclosing.items();
         let routine = routine(alloc, name, line, parameters.items(), &given, around)?;
         self.add_routine(routine)?;
-        self.note(is_built_heading(parameters.items(), &given), line);
         let copy = copied_parameters(alloc, parameters.items())?;
         let thing = self.own_thing(alloc, number, routine_declaration(copy, &given))?;
         self.enter(alloc, name, thing)?;

@@ -11,7 +11,7 @@ use Rattle.ep_typed.specs.Calls.{Argument, Handler, in_call}
 use Rattle.ep_typed.specs.Trees.{Callee}
 use Rattle.ep_typed.specs.Events.{Trace, Does}
 use Rattle.ep_typed.specs.Laws.{IsLonger}
-use Rattle.ep_typed.specs.Meaning.{activation, takes_all, make_all_own, results_given, found_among, routine_does, routine_of, meaning, make_all, exec}
+use Rattle.ep_typed.specs.Meaning.{activation, takes_all, make_all_own, results_given, found_among, routine_does, routine_of, meaning, make_all, exec, weights_of}
 use Rattle.ep_typed.specs.Printing.{Result}
 use Rattle.ep_typed.specs.Routines.{result_variable}
 use Rattle.ep_typed.specs.Viewed.{stmt_of}
@@ -161,7 +161,7 @@ abbrev form_does : Handler → ℕ → List ℕ → ℕ → Callee → List Unit
 form_does call g from line callee types None xs = cut
 form_does call g from line callee types (Some f) xs =
     in_call callee.levels (activation f.name from line)
-    (spend 1 (bind (takes_all call g callee.unit types f.line 0 f.formals xs)
+    (spend (suc (weights_of xs)) (bind (takes_all call g callee.unit types f.line 0 f.formals xs)
     (λ _. bind (make_all_own call g callee.unit types (length f.formals) (result_variable f.name f.line f.result ++ (f.variables ++ auxiliary_variables (first_for f.block))))
     (λ _. bind (exec call g callee.unit f.block) (λ _. results_given callee.unit f.line (length f.formals) f.result)))))
 

@@ -13,7 +13,8 @@ use Rattle.ep_object.proofs.matching.Growing.{inside_here}
 use Rattle.ep_object.proofs.rows.Rows.{RowAnswers, RowPushes}
 use Rattle.ep_typed.specs.Calls.{Handler}
 use Rattle.ep_gen_expr.specs.Following.{least_credit}
-use Rattle.ep_typed.specs.Meaning.{answered, eval, place, weight_of}
+use Rattle.ep_typed.specs.Meaning.{answered, eval, place}
+use Rattle.ep_typed.specs.Results.{weight_of}
 use Rattle.ep_typed.specs.Trees.{Place, Expr}
 use Rattle.ep_typed.specs.Operations.{Answer, Number}
 use Rattle.ep_typed.specs.Printing.{Result}

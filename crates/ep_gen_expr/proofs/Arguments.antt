@@ -3,11 +3,14 @@ use Rattle.std.proofs.Common.{◌≡◌, ℕ, ◌+◌, ◌≤◌, List, [], ◌�
 use Rattle.std.proofs.lemmas.Option.{same_Some}
 use Rattle.ep_gen_expr.specs.Following.{least_credit}
 use Rattle.ep_gen_expr.proofs.Answering.{IsFollowed, IsPlaceFollowed}
-use Rattle.ep_object.proofs.following.Fragments.{fragment_to, fragment_give, inside_bind, fragment_bind_number, fragment_bind_place}
+use Rattle.ep_object.proofs.following.Fragments.{fragment_to, fragment_give, inside_bind, fragment_bind_place}
 use Rattle.ep_object.proofs.matching.Growing.{unit_in-same, is_spot-grown, describes-grown, inside_here}
-use Rattle.ep_object.specs.Follows.{Facts, Fragment, Inside, Operands, point}
+use Rattle.ep_object.specs.Follows.{Facts, Fragment, Inside, OnTop, Operands, point}
+use Rattle.ep_object.proofs.matching.Awaiting.{value-grown, value_on_top}
+use Rattle.ep_typed.proofs.ValueKinds.{kinds_are_one}
+use Rattle.ep_typed.specs.Viewed.{denoter_of}
 use Rattle.ep_object.specs.Matching.{Memory, Injection, Slots, Grown}
-use Rattle.ep_object.specs.Operands.{Operand, Word}
+use Rattle.ep_object.specs.Operands.{Operand}
 use Rattle.ep_object.specs.Operands as operand
 use Rattle.ep_object.specs.Placing.{Placement}
 use Rattle.ep_object.specs.Promises.{Passing, ByValue, ByReference, IsPassed, IsArgument, AreArguments}
@@ -17,11 +20,10 @@ use Rattle.ep_object.specs.declared.code.Instr.{Instr}
 use Rattle.ep_typed.proofs.Steady.{steady_bind, steady_give, steady_arguments}
 use Rattle.ep_typed.specs.Steady.{IsSteadyHandler}
 use Rattle.ep_typed.specs.Calls.{Argument, Value, Variable, Handler}
-use Rattle.ep_typed.specs.Hosts.{Host}
-use Rattle.ep_typed.specs.Meaning.{argument, arguments, weight_of}
+use Rattle.ep_typed.specs.Meaning.{argument, arguments}
+use Rattle.ep_typed.specs.Results.{weight_of}
 use Rattle.ep_typed.specs.Steps.{give, bind}
 use Rattle.ep_typed.specs.Trees.{Place, Expr, Actual, Evaluated, Accessed, Actuals, no_actual, next_actual}
-use Rattle.ep_typed.specs.Valid as kind
 use Rattle.ep_typed.specs.Valid.{Declarations, Kind, IsExpr, IsVariableOf, IsGiven}
 use Rattle.ep_typed.specs.declared.interface.Formal.{Formal}
 use Rattle.ep_typed.specs.declared.interface.FormalMode.{FormalMode}
@@ -32,7 +34,7 @@ use Rattle.ep_typed.specs.TypeValues.{TypeValue}
 -- an argument that lies on the operands goes on being one while memory grows
 argument_later : {untouched : Slots} {injection longer : Injection} {memory after : Memory} (k : Passing) (x : Argument) (o : Operand)
     → Grown untouched injection memory longer after → IsArgument injection memory k x o → IsArgument longer after k x o
-argument_later (ByValue k) (Value r) o g h = h
+argument_later (ByValue k) (Value r) o g h = value-grown k r o g h
 argument_later (ByValue k) (Variable m) o g h = absurd h
 argument_later (ByReference t) (Value r) o g h = absurd h
 argument_later (ByReference t) (Variable m) o g h = (h.0, h.1, is_spot-grown g h.2, describes-grown (h.0).type_number t g h.3)
@@ -43,7 +45,7 @@ ArgumentOnTop k below x injection memory operands = (o : Operand) × IsArgument 
 
 -- an actual parameter gives what is passed so
 abbrev pub Fits : Declarations → Passing → Actual → Type 0
-Fits declared (ByValue k) (Evaluated x) = (h : Host) × (k ≡ kind.Ordinal h) × IsExpr declared (kind.Ordinal h) x
+Fits declared (ByValue k) (Evaluated x) = IsExpr declared k x
 Fits declared (ByReference t) (Accessed q) = IsVariableOf declared t q
 Fits declared k a = ⊥
 
@@ -51,10 +53,10 @@ Fits declared k a = ⊥
 pub fits : (declared : Declarations) (types : List UnitType) (m : FormalMode) (f : Formal) (k : Passing) (a : Actual) → IsPassed types m f k → IsGiven declared types m f a → Fits declared k a
 fits declared types mode.Value f (ByReference t) a p g = absurd p
 fits declared types mode.Value f (ByValue k) (Accessed q) p g = absurd g
-fits declared types mode.Value f (ByValue k) (Evaluated x) p g = (g.0, p.2 ∙ ap (λ h. kind.Ordinal h) (same_Some p.0 g.0 (sym p.1 ∙ g.1)), g.2)
+fits declared types mode.Value f (ByValue k) (Evaluated x) p g = subst (λ l. IsExpr declared l x) (kinds_are_one types (denoter_of f.denoter) g.0 k g.1 p) g.2
 fits declared types mode.ProtectedValue f (ByReference t) a p g = absurd p
 fits declared types mode.ProtectedValue f (ByValue k) (Accessed q) p g = absurd g
-fits declared types mode.ProtectedValue f (ByValue k) (Evaluated x) p g = (g.0, p.2 ∙ ap (λ h. kind.Ordinal h) (same_Some p.0 g.0 (sym p.1 ∙ g.1)), g.2)
+fits declared types mode.ProtectedValue f (ByValue k) (Evaluated x) p g = subst (λ l. IsExpr declared l x) (kinds_are_one types (denoter_of f.denoter) g.0 k g.1 p) g.2
 fits declared types mode.Variable f (ByValue k) a p g = absurd p
 fits declared types mode.Variable f (ByReference t) (Evaluated x) p g = absurd g
 fits declared types mode.Variable f (ByReference t) (Accessed q) p g = subst (λ u. IsVariableOf declared u q) (same_Some g.0 t (sym g.1 ∙ p)) g.2
@@ -78,11 +80,12 @@ module _ (declared : Declarations) (G : Image) (untouched : Slots) (Here : Facts
 
 module _ {declared : Declarations} {G : Image} {untouched : Slots} {Here : Facts} (p : Placement) (call : Handler) (steady_call : IsSteadyHandler call) (g : ℕ) (unit : List ℕ) (n : ℕ) where
   -- a value
-  pub value_follows : (k : Kind) (h : Host) (x : Expr) (line at : ℕ) (is : List Instr) → k ≡ kind.Ordinal h → IsFollowed declared G untouched Here p call g unit n (kind.Ordinal h) x line at is
+  pub value_follows : (k : Kind) (x : Expr) (line at : ℕ) (is : List Instr) → IsFollowed declared G untouched Here p call g unit n k x line at is
       → IsArgumentFollowed declared G untouched Here p call g unit n (ByValue k) (Evaluated x) line at is
-  value_follows k h x line at is is_kind follows injection memory below d enough home =
-      fragment_bind_number {host = h} {e = λ r. d + 8 + weight_of r} (λ r. steady_give (Value r)) (follows injection memory below d enough home) (λ z longer after of_host grown routine.
-      fragment_give (omega arith) (inside_here (Word z, (rw is_kind (z, refl, of_host), refl), refl)))
+  value_follows k x line at is follows injection memory below d enough home =
+      inside_bind {First = OnTop k below} {e = λ r. d + 8 + weight_of r} (λ r. steady_give (Value r)) (follows injection memory below d enough home) (λ r longer after pushed grown routine top.
+      let value = value_on_top k below r longer after pushed top in
+      fragment_give (omega arith) (inside_here (value.0, value.1, value.2)))
 
   -- a variable
   pub accessed_follows : (t : TypeValue) (q : Place) (line at : ℕ) (is : List Instr)

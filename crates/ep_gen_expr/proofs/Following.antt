@@ -8,7 +8,7 @@ use Rattle.ep_object.specs.Matching.{at as standing}
 use Rattle.ep_object.specs.Operands.{Operand}
 use Rattle.ep_object.specs.Operands as operand
 use Rattle.ep_object.specs.Placing.{Placement, CodeStands}
-use Rattle.ep_object.specs.Promises.{Passing, ByValue, ByReference, ArePassed, CallsAreKept, ResultsOnTop, RoutineKeeps}
+use Rattle.ep_object.specs.Promises.{Passing, ByValue, ByReference, ArePassed, CallsAreKept, ResultsOnTop, RoutineKeeps, credit_of}
 use Rattle.ep_object.specs.Scene.{Scene, TextStands, VariableStands}
 use Rattle.ep_object.specs.Runs.{unit_in}
 use Rattle.ep_object.specs.declared.code.Image.{Image}
@@ -16,7 +16,7 @@ use Rattle.ep_object.specs.declared.code.Instr.{Instr}
 use Rattle.ep_object.specs.declared.code.Reference.{Reference}
 use Rattle.ep_object.specs.declared.state.Place.{Place as PlaceOf}
 use Rattle.ep_object.proofs.following.Bind.{follows_paid, follows_give}
-use Rattle.ep_object.proofs.following.Choices.{Reads, fragment_fetch, follows_fetch, fragment_using}
+use Rattle.ep_object.proofs.following.Choices.{Reads, ReadsResult, fragment_fetch, follows_fetch, follows_read, fragment_using}
 use Rattle.ep_object.proofs.following.Fragments.{Does, FailsWith, landed, fragment_less, fragment_to, fragment_one, fragment_paid, fragment_give, fragment_credit, fragment_bind_place, fragment_bind_number}
 use Rattle.ep_object.proofs.matching.Growing.{not_left-here, unit_in-same, inside_here, is_spot-grown, describes-grown}
 use Rattle.ep_object.proofs.rows.FieldRow.{IsAmong, among_there, field_does, field_fails}
@@ -28,15 +28,16 @@ use Rattle.ep_object.proofs.rows.TextRows.{text_pushes}
 use Rattle.ep_typed.specs.Steady.{Steady, IsSteadyHandler}
 use Rattle.ep_typed.specs.Calls.{Handler}
 use Rattle.ep_typed.proofs.Steady.{steady_bind, steady_if, steady_spend, steady_give, steady_answered, steady_eval, steady_read, steady_indexed, steady_selected}
-use Rattle.ep_typed.specs.Meaning.{eval, arguments, place, weight_of}
+use Rattle.ep_typed.specs.Meaning.{eval, arguments, place}
+use Rattle.ep_typed.specs.Results.{result_of, weight_of}
 use Rattle.ep_typed.specs.Operations.{decides}
 use Rattle.ep_typed.specs.Printing.{Result, number_of}
 use Rattle.ep_typed.specs.Printing as result
 use Rattle.ep_typed.specs.Denoters.{type_of}
-use Rattle.ep_typed.specs.Steps.{Component, Computation, bind, give, spend, component, component_number, type_at, word_at, own_variable, has_ended}
+use Rattle.ep_typed.specs.Steps.{Component, Computation, bind, give, spend, component, component_number, type_at, own_variable, has_ended}
 use Rattle.ep_typed.specs.Steps as meaning
 use Rattle.ep_typed.specs.Trees.{Callee, Place, Variable, Own, Standard, Indexed, Field, Expr, Constant, Text, Read, One, Two, Short, Step, Function, Actual, Evaluated, Accessed, Actuals, no_actual, next_actual}
-use Rattle.ep_typed.specs.Valid.{Declarations, Kind, Ordinal, Bytes, IsUnary, IsBinary, IsTypeOf, IsExpr, AreGiven, IsDeclaredUp, Level, variables_at, variables_up}
+use Rattle.ep_typed.specs.Valid.{Declarations, Kind, Ordinal, Bytes, IsUnary, IsBinary, IsTypeOfKind, IsExpr, AreGiven, IsDeclaredUp, Level, variables_at, variables_up}
 use Rattle.ep_typed.specs.declared.interface.Formal.{Formal}
 use Rattle.ep_typed.specs.declared.interface.RoutineEntry.{RoutineEntry}
 use Rattle.ep_typed.specs.declared.unit.UnitType.{UnitType}
@@ -56,25 +57,22 @@ use Rattle.ep_gen_expr.proofs.Calls.{passed_then, function_follows}
 use Rattle.ep_gen_expr.proofs.ShortCircuit.{kept_follows}
 use Rattle.ep_gen_expr.proofs.OneOperand.{UnaryFollows, unary_follows}
 use Rattle.ep_gen_expr.proofs.Placed.{code_front, code_back, text_at, variable_at}
-use Rattle.ep_gen_expr.proofs.PlaceTypes.{IsArrayWhere, IsRecordWhere, valid_place, typed_place, ordinal_place, variable_type}
+use Rattle.ep_gen_expr.proofs.PlaceTypes.{IsArrayWhere, IsRecordWhere, valid_place, typed_place, kind_place, variable_type}
 use Rattle.ep_gen_expr.proofs.Stepping.{step_follows}
 use Rattle.ep_gen_expr.proofs.TwoOperands.{BinaryFollows, binary_follows}
 use Rattle.ep_object.specs.declared.op.TheConstants as op
 use Rattle.ep_typed.specs.declared.run_error.TheConstants as run_error
 
 -- `Load` of a variable that has ended, where the routine is one of the unit
-load_ends : (declared : Declarations) (G : Image) (unit : List ℕ) (at_place line : ℕ) (h : Host) (t : TypeValue) → IsTypeOf h t
+load_ends : (declared : Declarations) (G : Image) (unit : List ℕ) (at_place line : ℕ) (kind : Kind) (t : TypeValue) → IsTypeOfKind kind t
     → slice_get G.instructions at_place ≡ Some (instr op.LOAD (pos 0) 0 line)
     → (injection : Injection) (memory : Memory) (below : List Operand) (a : Component) (q : PlaceOf)
     → IsSpot injection memory.types a q → Describes memory.types q.type_number t
     → unit_in G memory.frames ≡ unit → (s : meaning.State) → Matches declared G injection s memory
     → has_ended a.allocation s ≡ true
     → FailsWith G (at at_place (operand.Place q ∷ below) memory s.trace) 0 11 unit line s
-load_ends declared G unit at_place line h (type.Ordinal low high) of_host has injection memory below a q spot described unit_is s matches ended =
-    subst (λ u. FailsWith G (at at_place (operand.Place q ∷ below) memory s.trace) 0 11 u line s) unit_is (load_fails declared G at_place line below low high a q has injection memory spot described s matches ended)
-load_ends declared G unit at_place line h type.Text of_host has injection memory below a q spot described unit_is s matches ended = absurd of_host
-load_ends declared G unit at_place line h (type.Array low high of) of_host has injection memory below a q spot described unit_is s matches ended = absurd of_host
-load_ends declared G unit at_place line h (type.Record ts) of_host has injection memory below a q spot described unit_is s matches ended = absurd of_host
+load_ends declared G unit at_place line kind t of_kind has injection memory below a q spot described unit_is s matches ended =
+    subst (λ u. FailsWith G (at at_place (operand.Place q ∷ below) memory s.trace) 0 11 u line s) unit_is (load_fails declared G at_place line below kind t a q of_kind has injection memory spot described s matches ended)
 
 -- `Field` of one
 field_ends : (declared : Declarations) (G : Image) (unit : List ℕ) (at_place line : ℕ) (ts : ComponentTypes) (k : ℕ) (of : TypeValue) → IsAmong 0 ts k of
@@ -198,28 +196,25 @@ module _ {declared : Declarations} {G : Image} {untouched : Slots} {Here : Facts
       (λ s matches ended. field_ends declared G unit middle line ts k t among has.0 longer after below a b spot described home s matches ended) (omega arith)
       (λ s matches here living. field_paid n d s longer after (component a k) (field_does declared G middle line below ts k t a b has.0 longer after spot described among s matches here living)))))
 
-  -- what `Load` finds of a variable of a type of the host
-  load_finds : (place line : ℕ) (h : Host) (t : TypeValue) → IsTypeOf h t
+  -- what `Load` finds of a variable of a type whose values are of the kind
+  load_finds : (place line : ℕ) (kind : Kind) (t : TypeValue) → IsTypeOfKind kind t
       → slice_get G.instructions place ≡ Some (instr op.LOAD (pos 0) 0 line)
       → (injection : Injection) (memory : Memory) (below : List Operand) (a : Component) (q : PlaceOf)
       → IsSpot injection memory.types a q → Describes memory.types q.type_number t
       → unit_in G memory.frames ≡ unit → (s : meaning.State) → Matches declared G injection s memory
       → Here injection s memory → has_ended a.allocation s ≡ false
-      → Reads declared G Here (at place (operand.Place q ∷ below) memory s.trace) 1 unit line (place + 1) (λ w. Inside untouched injection memory (OnTop (Ordinal h) below (result.Number w))) s (word_at a s)
-  load_finds place line h (type.Ordinal low high) of_host has injection memory below a q spot described unit_is s matches here living =
-      subst (λ u. Reads declared G Here (at place (operand.Place q ∷ below) memory s.trace) 1 u line (place + 1) (λ w. Inside untouched injection memory (OnTop (Ordinal h) below (result.Number w))) s (word_at a s)) unit_is (load_reads declared G place line below h low high a q of_host has injection memory spot described s matches here living)
-  load_finds place line h type.Text of_host has injection memory below a q spot described unit_is s matches here living = absurd of_host
-  load_finds place line h (type.Array low high of) of_host has injection memory below a q spot described unit_is s matches here living = absurd of_host
-  load_finds place line h (type.Record ts) of_host has injection memory below a q spot described unit_is s matches here living = absurd of_host
+      → ReadsResult declared G Here (at place (operand.Place q ∷ below) memory s.trace) 1 unit line (place + 1) (λ r. Inside untouched injection memory (OnTop kind below r)) s (result_of a s)
+  load_finds place line kind t of_kind has injection memory below a q spot described unit_is s matches here living =
+      subst (λ u. ReadsResult declared G Here (at place (operand.Place q ∷ below) memory s.trace) 1 u line (place + 1) (λ r. Inside untouched injection memory (OnTop kind below r)) s (result_of a s)) unit_is (load_reads declared G place line below kind t a q of_kind has injection memory spot described s matches here living)
 
   -- the value of a variable, by its place and `Load`
-  read_follows : (n : ℕ) (h : Host) (t : TypeValue) → IsTypeOf h t → (q : Place) (line at : ℕ) (xs : List Instr) → IsPlaceFollowed declared G untouched Here p call g unit n t q line at xs → CodeStands G ps p references (at + length xs) (bare line op.LOAD ∷ []) → IsFollowed declared G untouched Here p call g unit n (Ordinal h) (Read q) line at (xs ++ bare line op.LOAD ∷ [])
-  read_follows n h t of_host q line at xs follows has injection memory below d le unit_is =
+  read_follows : (n : ℕ) (kind : Kind) (t : TypeValue) → IsTypeOfKind kind t → (q : Place) (line at : ℕ) (xs : List Instr) → IsPlaceFollowed declared G untouched Here p call g unit n t q line at xs → CodeStands G ps p references (at + length xs) (bare line op.LOAD ∷ []) → IsFollowed declared G untouched Here p call g unit n kind (Read q) line at (xs ++ bare line op.LOAD ∷ [])
+  read_follows n kind t of_kind q line at xs follows has injection memory below d le unit_is =
       let middle : ℕ = p.instructions.before + (at + length xs) in
       fragment_bind_place (steady_read call steady_call g unit line) (follows injection memory below d le unit_is) (λ a q longer after grown routine spot described.
       fragment_less {n = suc n} (omega arith) (fragment_to (omega (arith, length-append xs (bare line op.LOAD ∷ []))) (fragment_using {n = suc n} {e = λ r. d + 8 + weight_of r} a.allocation
-      (λ s matches ended. load_ends declared G unit middle line h t of_host has.0 longer after below a q spot described (unit_in-same G routine ∙ unit_is) s matches ended) (omega arith)
-      (λ s matches here living. follows_fetch {e = λ r. d + 8 + weight_of r} (point longer after middle (operand.Place q ∷ below)) (word_at a) (λ w. result.Number w) s (load_finds middle line h t of_host has.0 longer after below a q spot described (unit_in-same G routine ∙ unit_is) s matches here living) (omega arith) (λ w. omega arith)))))
+      (λ s matches ended. load_ends declared G unit middle line kind t of_kind has.0 longer after below a q spot described (unit_in-same G routine ∙ unit_is) s matches ended) (omega arith)
+      (λ s matches here living. follows_read {e = λ r. d + 8 + weight_of r} (point longer after middle (operand.Place q ∷ below)) (result_of a) s (load_finds middle line kind t of_kind has.0 longer after below a q spot described (unit_in-same G routine ∙ unit_is) s matches here living) (omega arith) (λ r. omega arith)))))
 
   -- an operation with one operand
   one_follows : (n : ℕ) (operation : Unary) (x : Expr) (k kind : Kind) → IsUnary operation k kind → (line at : ℕ) (xs : List Instr) → IsFollowed declared G untouched Here p call g unit n k x line at xs → CodeStands G ps p references at (xs ++ one_code line operation) → IsFollowed declared G untouched Here p call g unit n kind (One operation x) line at (xs ++ one_code line operation)
@@ -308,12 +303,12 @@ module _ {declared : Declarations} {G : Image} {untouched : Slots} {Here : Facts
             followed_as n kind (Ordinal h) (Constant z) line at code (push line z ∷ []) is_kind is (λ injection memory below d le unit_is. constant_follows n h z of_host line at (subst (λ c. CodeStands G ps p references at c) is stands) injection memory below d)
         expression_follows kind (Text bytes) is_kind line at code (k, there, is) stands inside =
             followed_as n kind Bytes (Text bytes) line at code (instr op.TEXT (pos k) 0 line ∷ []) is_kind is (λ injection memory below d le unit_is. text_follows n k bytes there line at (subst (λ c. CodeStands G ps p references at c) is stands) injection memory below d)
-        expression_follows kind (Read q) (h, is_kind, is_place) line at code (xs, q_code, is) stands inside =
+        expression_follows kind (Read q) is_place line at code (xs, q_code, is) stands inside =
             let all : CodeStands G ps p references at (xs ++ bare line op.LOAD ∷ []) = subst (λ c. CodeStands G ps p references at c) is stands in
             let ends : length code ≡ length xs + 1 = omega (arith, ap length is, length-append xs (bare line op.LOAD ∷ [])) in
-            let v = ordinal_place declared scene.types_valid scene.own_types_valid h q is_place in
-            followed_as n kind (Ordinal h) (Read q) line at code (xs ++ bare line op.LOAD ∷ []) is_kind is
-            (read_follows n h v.type_value v.of_host q line at xs
+            let v = kind_place declared scene.types_valid scene.own_types_valid kind q is_place in
+            followed_as n kind kind (Read q) line at code (xs ++ bare line op.LOAD ∷ []) refl is
+            (read_follows n kind v.type_value v.of_kind q line at xs
             (place_follows q v.valid v.type_value v.has_type line at xs q_code (code_front G ps p references at xs (bare line op.LOAD ∷ []) all) (omega (arith, ends, inside)))
             (code_back G ps p references at xs (bare line op.LOAD ∷ []) all))
         expression_follows kind (One operation x) (k, kinds, is_x) line at code (xs, x_code, is) stands inside =
@@ -354,12 +349,12 @@ module _ {declared : Declarations} {G : Image} {untouched : Slots} {Here : Facts
             (expression_follows (Ordinal h) x is_x line at xs x_code (code_front G ps p references at xs (ys ++ step_code line down low high) all) (omega (arith, ends, inside)))
             (expression_follows (Ordinal host.Integer) y is_y line (at + length xs) ys y_code (code_front G ps p references (at + length xs) ys (step_code line down low high) rest) (omega (arith, ends, inside)))
             (code_back G ps p references (at + length xs) ys (step_code line down low high) rest))
-        expression_follows kind (Function callee given) (h, is_kind, r, is_callee, is_function, are_given) line at code (xs, k, given_code, named, is) stands inside =
+        expression_follows kind (Function callee given) (r, is_callee, is_function, are_given) line at code (xs, k, given_code, named, is) stands inside =
             let all : CodeStands G ps p references at (xs ++ instr op.CALL (pos k) callee.levels line ∷ instr op.JUMP (pos (at + length xs + 2)) 0 line ∷ []) = subst (λ c. CodeStands G ps p references at c) is stands in
             let ends : length code ≡ length xs + 2 = omega (arith, ap length is, length-append xs (instr op.CALL (pos k) callee.levels line ∷ instr op.JUMP (pos (at + length xs + 2)) 0 line ∷ [])) in
             let keeps : RoutineKeeps declared G ps call n callee.unit callee.number r = kept callee.unit callee.number r is_callee.there in
-            followed_as n kind (Ordinal h) (Function callee given) line at code (xs ++ instr op.CALL (pos k) callee.levels line ∷ instr op.JUMP (pos (at + length xs + 2)) 0 line ∷ []) is_kind is
-            (function_follows ps p references room knows scene.own_types_are lasts among call steady_call g unit n h line at callee k given xs r keeps is_function
+            followed_as n kind kind (Function callee given) line at code (xs ++ instr op.CALL (pos k) callee.levels line ∷ instr op.JUMP (pos (at + length xs + 2)) 0 line ∷ []) refl is
+            (function_follows ps p references room knows scene.own_types_are lasts among call steady_call g unit n kind line at callee k given xs r keeps is_function
             (arguments_follow (declared.types callee.unit) r.formals keeps.formals given keeps.passed are_given line at xs given_code (code_front G ps p references at xs (instr op.CALL (pos k) callee.levels line ∷ instr op.JUMP (pos (at + length xs + 2)) 0 line ∷ []) all) (omega (arith, ends, inside)))
             is_callee.declared_up named all (omega (arith, ends, inside)))
 
@@ -368,7 +363,7 @@ module _ {declared : Declarations} {G : Image} {untouched : Slots} {Here : Facts
         argument_follows (ByValue k) (Accessed q) fit line at is h stands inside = absurd fit
         argument_follows (ByReference t) (Evaluated x) fit line at is h stands inside = absurd fit
         argument_follows (ByValue k) (Evaluated x) fit line at is h stands inside =
-            value_follows p call steady_call g unit n k fit.0 x line at is fit.1 (expression_follows (Ordinal fit.0) x fit.2 line at is h stands inside)
+            value_follows p call steady_call g unit n k x line at is (expression_follows k x fit line at is h stands inside)
         argument_follows (ByReference t) (Accessed q) fit line at is h stands inside =
             accessed_follows p call steady_call g unit n t q line at is (place_follows q (valid_place declared (λ types d. type_of types d ≡ Some t) q fit) t (variable_type declared scene.types_valid scene.own_types_valid t q fit) line at is h stands inside)
 
@@ -393,7 +388,7 @@ module _ {declared : Declarations} {G : Image} {untouched : Slots} {Here : Facts
           → CodeStands G ps p references at (xs ++ instr op.CALL (pos k) callee.levels line ∷ instr op.JUMP (pos (at + length xs + 2)) 0 line ∷ []) → at + length xs + 2 < p.instructions.own
           → (injection : Injection) (memory : Memory) (below : List Operand) (d : ℕ) → least_credit ≤ d → unit_in G memory.frames ≡ unit
           → (rest : List Result → Computation B) → ((rs : List Result) → Steady (rest rs))
-          → ((rs : List Result) (longer : Injection) (after : Memory) (pushed : List Operand) → Grown untouched injection memory longer after → SameRoutine untouched memory.frames after.frames → ResultsOnTop keeps.results below rs longer after pushed → Fragment declared G Here n (point longer after (p.instructions.before + (at + length xs + 1)) pushed) (rest rs) to (λ b. Inside untouched longer after (Then b)) d e)
+          → ((rs : List Result) (longer : Injection) (after : Memory) (pushed : List Operand) → Grown untouched injection memory longer after → SameRoutine untouched memory.frames after.frames → ResultsOnTop keeps.results below rs longer after pushed → Fragment declared G Here n (point longer after (p.instructions.before + (at + length xs + 1)) pushed) (rest rs) to (λ b. Inside untouched longer after (Then b)) (d + credit_of rs) e)
           → Fragment declared G Here n (point injection memory (p.instructions.before + at) below) (bind (arguments call g unit line given) (λ vs. bind (call unit line callee vs) rest)) to (λ b. Inside untouched injection memory (Then b)) d e
       call_then line at callee k given xs r keeps valid is_code is_declared named stands inside injection memory below d enough home rest steady behind =
           passed_then ps p references room knows scene.own_types_are lasts among call steady_call g unit n line at callee k given xs r keeps

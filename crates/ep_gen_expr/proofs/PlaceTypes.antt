@@ -4,12 +4,13 @@ use Rattle.std.specs.Bool.{⊤}
 use Rattle.ep_gen_expr.specs.Following.{HasPlaceType, IsValidPlace}
 use Rattle.ep_object.specs.Scene.{HaveValidTypes, HaveValidOwnTypes}
 use Rattle.ep_typed.proofs.Denoters.{types_are_instances, instances_are_one}
-use Rattle.ep_typed.proofs.Typed.{HasComponents, HasParts, typed_among, typed_components, typed_instance, typed_of_host, typed_parts}
+use Rattle.ep_typed.proofs.Typed.{HasComponents, HasParts, typed_among, typed_components, typed_instance, typed_parts}
+use Rattle.ep_typed.proofs.ValueKinds.{typed_of_kind}
 use Rattle.ep_typed.specs.Denoters.{ArrayParts, array_of, denoter_at, host_of, record_of, type_of}
 use Rattle.ep_typed.specs.Hosts.{Host}
 use Rattle.ep_typed.specs.Trees.{Denoter, Denoters, Place, Variable, Own, Standard, Indexed, Field, Expr}
 use Rattle.ep_typed.specs.TypeValues.{TypeValue, type_among}
-use Rattle.ep_typed.specs.Valid.{Declarations, Ordinal, IsTyped, IsTypeOf, IsExpr, IsPlace, IsPlaceWhere, IsVariableOf}
+use Rattle.ep_typed.specs.Valid.{Declarations, IsOfKind, Kind, Ordinal, IsTyped, IsTypeOfKind, IsExpr, IsPlaceWhere, IsVariableOf}
 use Rattle.ep_typed.specs.Viewed.{denoter_of}
 use Rattle.ep_typed.specs.declared.unit.UnitType.{UnitType}
 
@@ -46,12 +47,12 @@ pub record IsTypedPlace (declared : Declarations) (Holds : List UnitType → Den
   pub holds : Holds types denoter
   pub typed : IsTyped types denoter type_value
 
--- the type value of a place, which is of the host
-pub record IsOrdinalPlace (declared : Declarations) (q : Place) (h : Host) : Type 0 where
+-- the type value of a place, whose values are of the kind
+pub record IsKindPlace (declared : Declarations) (q : Place) (k : Kind) : Type 0 where
   pub valid : IsValidPlace declared q
   pub type_value : TypeValue
   pub has_type : HasPlaceType declared q type_value
-  pub of_host : IsTypeOf h type_value
+  pub of_kind : IsTypeOfKind k type_value
 
 module _ (declared : Declarations) (types_valid : HaveValidTypes declared) (own_valid : HaveValidOwnTypes declared) where
   -- a valid place has a type value
@@ -107,11 +108,11 @@ module _ (declared : Declarations) (types_valid : HaveValidTypes declared) (own_
         typed = one.2;
       }
 
-  -- a place of a host has a type value of the host
-  pub ordinal_place : (h : Host) (q : Place) → IsPlace declared h q → IsOrdinalPlace declared q h
-  ordinal_place h q is =
-      let v = typed_place (λ types d. host_of types d ≡ Some h) q is in
-      record { valid = v.valid; type_value = v.type_value; has_type = v.has_type; of_host = typed_of_host v.types v.denoter v.type_value h v.typed v.holds }
+  -- a place whose values are of a kind has a type value of the kind
+  pub kind_place : (k : Kind) (q : Place) → IsPlaceWhere declared (IsOfKind k) q → IsKindPlace declared q k
+  kind_place k q is =
+      let v = typed_place (IsOfKind k) q is in
+      record { valid = v.valid; type_value = v.type_value; has_type = v.has_type; of_kind = typed_of_kind v.types v.denoter v.type_value k v.typed v.holds }
 
   -- a variable of a type value has that
   pub variable_type : (t : TypeValue) (q : Place) → IsVariableOf declared t q → HasPlaceType declared q t

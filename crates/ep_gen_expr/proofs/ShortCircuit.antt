@@ -16,7 +16,8 @@ use Rattle.ep_object.proofs.matching.Growing.{inside_here}
 use Rattle.ep_object.proofs.rows.Rows.{jump_false_jumps, not_answers}
 use Rattle.ep_object.proofs.rows.TextRows.{drop_drops, dup_pushes}
 use Rattle.ep_typed.specs.Calls.{Handler}
-use Rattle.ep_typed.specs.Meaning.{eval, weight_of}
+use Rattle.ep_typed.specs.Meaning.{eval}
+use Rattle.ep_typed.specs.Results.{weight_of}
 use Rattle.ep_typed.specs.Operations.{decides, is_true}
 use Rattle.ep_typed.specs.Printing.{Result}
 use Rattle.ep_typed.specs.Printing as result

@@ -14,7 +14,8 @@ use Rattle.ep_object.specs.declared.code.Instr.{Instr}
 use Rattle.ep_object.specs.declared.code.Reference.{Reference}
 use Rattle.ep_typed.specs.Steady.{IsSteadyHandler}
 use Rattle.ep_typed.specs.Calls.{Handler}
-use Rattle.ep_typed.specs.Meaning.{eval, place, weight_of}
+use Rattle.ep_typed.specs.Meaning.{eval, place}
+use Rattle.ep_typed.specs.Results.{weight_of}
 use Rattle.ep_typed.specs.Steps.{State, Computation}
 use Rattle.ep_typed.specs.Trees.{Place, Variable, Own, Standard, Indexed, Field, Expr}
 use Rattle.ep_typed.specs.Valid.{Declarations, Kind, IsExpr, IsPlaceWhere, variables_up}

@@ -16,7 +16,8 @@ use Rattle.ep_object.proofs.rows.Rows.{jump_jumps, jump_false_jumps}
 use Rattle.ep_typed.specs.Steady.{IsSteadyHandler}
 use Rattle.ep_typed.specs.Calls.{Handler}
 use Rattle.ep_typed.proofs.Steady.{steady_bind, steady_spend, steady_give, steady_if, steady_eval, steady_exec, steady_exec_all}
-use Rattle.ep_typed.specs.Meaning.{exec, exec_all, weight_of}
+use Rattle.ep_typed.specs.Meaning.{exec, exec_all}
+use Rattle.ep_typed.specs.Results.{weight_of}
 use Rattle.ep_typed.specs.Operations.{is_true}
 use Rattle.ep_typed.specs.Printing.{number_of}
 use Rattle.ep_typed.specs.Trees.{Expr, Stmt, Stmts, If, While, Repeat}

@@ -17,7 +17,8 @@ use Rattle.ep_object.proofs.rows.Rows.{push_pushes, between_pushes, jump_jumps, 
 use Rattle.ep_object.proofs.rows.TextRows.{drop_drops, dup_pushes}
 use Rattle.ep_typed.specs.Calls.{Handler}
 use Rattle.ep_typed.specs.Hosts.{Host}
-use Rattle.ep_typed.specs.Meaning.{exec, exec_all, exec_arms, exec_other, tried, weight_of}
+use Rattle.ep_typed.specs.Meaning.{exec, exec_all, exec_arms, exec_other, tried}
+use Rattle.ep_typed.specs.Results.{weight_of}
 use Rattle.ep_typed.specs.Operations.{is_in, is_true, ordinal_of}
 use Rattle.ep_typed.specs.Printing.{number_of}
 use Rattle.ep_typed.specs.Steady.{IsSteadyHandler}

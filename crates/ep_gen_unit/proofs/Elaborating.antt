@@ -49,7 +49,7 @@ module _ (declared : Declarations) (G : Image) (untouched : Slots) (Here : Facts
   IsElaborated at code t c =
       CodeStands G ps p references at code
       → (injection : Injection) (memory : Memory) (below : List Operand) (d : ℕ) → least_credit ≤ d
-      → Fragment declared G Here n (point injection memory (p.instructions.before + at) below) c (p.instructions.before + (at + length code)) (λ a. Inside untouched injection memory (TypeOnTop t below a)) d (λ a. d + 3)
+      → Fragment declared G Here n (point injection memory (p.instructions.before + at) below) c (p.instructions.before + (at + length code)) (λ a. Inside untouched injection memory (TypeOnTop t below a)) d (λ a. d + 4)
 
   -- the bounds of an ordinal type, and `TOrd` over them
   ordinal_elaborates : (at : ℕ) (low high : ℤ) → IsTrue (int_le low high) → IsElaborated at (ordinal_code line low high) (type.Ordinal low high) (elaborated call g unit (type.Ordinal low high))
@@ -77,12 +77,12 @@ module _ (declared : Declarations) (G : Image) (untouched : Slots) (Here : Facts
   -- `TRec`, over the types of the components
   record_elaborates : (at count : ℕ) (ts given : ComponentTypes) (injection : Injection) (memory : Memory) (below pushed : List Operand) (d : ℕ) → least_credit ≤ d
       → TypesOnTop count ts below given injection memory pushed → CodeStands G ps p references at (instr op.T_REC (pos count) 0 line ∷ [])
-      → Fragment declared G Here n (point injection memory (p.instructions.before + at) pushed) (elaborated call g unit (type.Record given)) (p.instructions.before + at + 1) (λ a. Inside untouched injection memory (TypeOnTop (type.Record ts) below a)) (d + 3 * count) (λ a. d + 3)
+      → Fragment declared G Here n (point injection memory (p.instructions.before + at) pushed) (elaborated call g unit (type.Record given)) (p.instructions.before + at + 1) (λ a. Inside untouched injection memory (TypeOnTop (type.Record ts) below a)) (d + 4 * count) (λ a. d + 4)
   record_elaborates at count ts given injection memory below pushed d enough top stands =
       let numbers : List ℕ = top.numbers in
       let has : slice_get G.instructions (p.instructions.before + at) ≡ Some (instr op.T_REC (pos (length numbers)) 0 line) = stands.0 ∙ ap (λ m. Some (instr op.T_REC (pos m) 0 line)) (sym top.many) in
-      subst (λ o. Fragment declared G Here n (point injection memory (p.instructions.before + at) o) (elaborated call g unit (type.Record given)) (p.instructions.before + at + 1) (λ a. Inside untouched injection memory (TypeOnTop (type.Record ts) below a)) (d + 3 * count) (λ a. d + 3)) (sym top.is)
-      (subst (λ us. Fragment declared G Here n (point injection memory (p.instructions.before + at) (stacked numbers below)) (elaborated call g unit (type.Record us)) (p.instructions.before + at + 1) (λ a. Inside untouched injection memory (TypeOnTop (type.Record ts) below a)) (d + 3 * count) (λ a. d + 3)) (sym top.types_are)
+      subst (λ o. Fragment declared G Here n (point injection memory (p.instructions.before + at) o) (elaborated call g unit (type.Record given)) (p.instructions.before + at + 1) (λ a. Inside untouched injection memory (TypeOnTop (type.Record ts) below a)) (d + 4 * count) (λ a. d + 4)) (sym top.is)
+      (subst (λ us. Fragment declared G Here n (point injection memory (p.instructions.before + at) (stacked numbers below)) (elaborated call g unit (type.Record us)) (p.instructions.before + at + 1) (λ a. Inside untouched injection memory (TypeOnTop (type.Record ts) below a)) (d + 4 * count) (λ a. d + 4)) (sym top.types_are)
       (fragment_less {n = suc n} (omega arith) (fragment_counted {weight = length numbers} 0 (with_type (type.Record ts)) (λ s. s) (type.Record ts) (λ s. refl) grows_refl (λ s matches here. rec_does declared G (p.instructions.before + at) line below numbers ts has lasts injection memory s top.described matches here) (omega (arith, enough, top.many)) (omega arith) (omega (arith, enough, top.many)) (omega (arith, enough, top.many)))))
 
   module _ (types : List UnitType) where
@@ -99,28 +99,28 @@ module _ (declared : Declarations) (G : Image) (untouched : Slots) (Here : Facts
       -- the components behind the index type, and `TArr`
       then_component : (at : ℕ) (index component : Denoter) (below : List Operand) (d : ℕ) → least_credit ≤ d → (a : TypeValue) (longer : Injection) (after : Memory) (pushed : List Operand) (low high : ℤ) (of : TypeValue)
           → (top : TypeOnTop (type.Ordinal low high) below a longer after pushed)
-          → Fragment declared G Here n (point longer after (p.instructions.before + (at + length (step_code types line code index))) (Word (pos top.number) ∷ below)) (elaborate_step call g unit types does component) (p.instructions.before + (at + length (step_code types line code index) + length (step_code types line code component))) (λ u. Inside untouched longer after (TypeOnTop of (Word (pos top.number) ∷ below) u)) (d + 3) (λ u. d + 3 + 3)
+          → Fragment declared G Here n (point longer after (p.instructions.before + (at + length (step_code types line code index))) (Word (pos top.number) ∷ below)) (elaborate_step call g unit types does component) (p.instructions.before + (at + length (step_code types line code index) + length (step_code types line code component))) (λ u. Inside untouched longer after (TypeOnTop of (Word (pos top.number) ∷ below) u)) (d + 4) (λ u. d + 4 + 4)
           → CodeStands G ps p references (at + length (step_code types line code index) + length (step_code types line code component)) (bare line op.T_ARR ∷ [])
           → at + length (step_code types line code index) + length (step_code types line code component) + 1 ≡ at + length (step_code types line code (Array index component))
-          → Fragment declared G Here n (point longer after (p.instructions.before + (at + length (step_code types line code index))) pushed) (bind (elaborate_step call g unit types does component) (λ u. elaborated_where call g unit (array_type (Some a) (Some u)))) (p.instructions.before + (at + length (step_code types line code (Array index component)))) (λ b. Inside untouched longer after (TypeOnTop (type.Array low high of) below b)) (d + 3) (λ b. d + 3)
+          → Fragment declared G Here n (point longer after (p.instructions.before + (at + length (step_code types line code index))) pushed) (bind (elaborate_step call g unit types does component) (λ u. elaborated_where call g unit (array_type (Some a) (Some u)))) (p.instructions.before + (at + length (step_code types line code (Array index component)))) (λ b. Inside untouched longer after (TypeOnTop (type.Array low high of) below b)) (d + 4) (λ b. d + 4)
       then_component at index component below d enough a longer after pushed low high of top follows stands ends =
-          subst (λ o. Fragment declared G Here n (point longer after (p.instructions.before + (at + length (step_code types line code index))) o) (bind (elaborate_step call g unit types does component) (λ u. elaborated_where call g unit (array_type (Some a) (Some u)))) (p.instructions.before + (at + length (step_code types line code (Array index component)))) (λ b. Inside untouched longer after (TypeOnTop (type.Array low high of) below b)) (d + 3) (λ b. d + 3)) (sym top.is)
-          (subst (λ t. Fragment declared G Here n (point longer after (p.instructions.before + (at + length (step_code types line code index))) (Word (pos top.number) ∷ below)) (bind (elaborate_step call g unit types does component) (λ u. elaborated_where call g unit (array_type (Some t) (Some u)))) (p.instructions.before + (at + length (step_code types line code (Array index component)))) (λ b. Inside untouched longer after (TypeOnTop (type.Array low high of) below b)) (d + 3) (λ b. d + 3)) (sym top.type_is)
-          (inside_bind {e = λ u. d + 3 + 3} (λ u. steady_elaborated_where call steady_call g unit (array_type (Some (type.Ordinal low high)) (Some u))) follows
+          subst (λ o. Fragment declared G Here n (point longer after (p.instructions.before + (at + length (step_code types line code index))) o) (bind (elaborate_step call g unit types does component) (λ u. elaborated_where call g unit (array_type (Some a) (Some u)))) (p.instructions.before + (at + length (step_code types line code (Array index component)))) (λ b. Inside untouched longer after (TypeOnTop (type.Array low high of) below b)) (d + 4) (λ b. d + 4)) (sym top.is)
+          (subst (λ t. Fragment declared G Here n (point longer after (p.instructions.before + (at + length (step_code types line code index))) (Word (pos top.number) ∷ below)) (bind (elaborate_step call g unit types does component) (λ u. elaborated_where call g unit (array_type (Some t) (Some u)))) (p.instructions.before + (at + length (step_code types line code (Array index component)))) (λ b. Inside untouched longer after (TypeOnTop (type.Array low high of) below b)) (d + 4) (λ b. d + 4)) (sym top.type_is)
+          (inside_bind {e = λ u. d + 4 + 4} (λ u. steady_elaborated_where call steady_call g unit (array_type (Some (type.Ordinal low high)) (Some u))) follows
           (λ u last final above grown routine second.
-          subst (λ o. Fragment declared G Here n (point last final (p.instructions.before + (at + length (step_code types line code index) + length (step_code types line code component))) o) (elaborated call g unit (type.Array low high u)) (p.instructions.before + (at + length (step_code types line code (Array index component)))) (λ b. Inside untouched last final (TypeOnTop (type.Array low high of) below b)) (d + 3 + 3) (λ b. d + 3)) (sym second.is)
-          (subst (λ t. Fragment declared G Here n (point last final (p.instructions.before + (at + length (step_code types line code index) + length (step_code types line code component))) (Word (pos second.number) ∷ Word (pos top.number) ∷ below)) (elaborated call g unit (type.Array low high t)) (p.instructions.before + (at + length (step_code types line code (Array index component)))) (λ b. Inside untouched last final (TypeOnTop (type.Array low high of) below b)) (d + 3 + 3) (λ b. d + 3)) (sym second.type_is)
-          (fragment_to (ap (λ k. p.instructions.before + k) ends) (fragment_to (omega arith) (fragment_credit {d = d + 3 + 3} {e = λ b. d + 3 + 3} (omega arith) (λ b. omega arith)
-          (array_elaborates (at + length (step_code types line code index) + length (step_code types line code component)) low high of top.number second.number last final below (d + 3 + 3) (omega (arith, enough)) (describes-grown top.number (type.Ordinal low high) grown top.described) second.described stands))))))))
+          subst (λ o. Fragment declared G Here n (point last final (p.instructions.before + (at + length (step_code types line code index) + length (step_code types line code component))) o) (elaborated call g unit (type.Array low high u)) (p.instructions.before + (at + length (step_code types line code (Array index component)))) (λ b. Inside untouched last final (TypeOnTop (type.Array low high of) below b)) (d + 4 + 4) (λ b. d + 4)) (sym second.is)
+          (subst (λ t. Fragment declared G Here n (point last final (p.instructions.before + (at + length (step_code types line code index) + length (step_code types line code component))) (Word (pos second.number) ∷ Word (pos top.number) ∷ below)) (elaborated call g unit (type.Array low high t)) (p.instructions.before + (at + length (step_code types line code (Array index component)))) (λ b. Inside untouched last final (TypeOnTop (type.Array low high of) below b)) (d + 4 + 4) (λ b. d + 4)) (sym second.type_is)
+          (fragment_to (ap (λ k. p.instructions.before + k) ends) (fragment_to (omega arith) (fragment_credit {d = d + 4 + 4} {e = λ b. d + 4 + 4} (omega arith) (λ b. omega arith)
+          (array_elaborates (at + length (step_code types line code index) + length (step_code types line code component)) low high of top.number second.number last final below (d + 4 + 4) (omega (arith, enough)) (describes-grown top.number (type.Ordinal low high) grown top.described) second.described stands))))))))
 
       -- the rest behind the first one of them
       then_rest : (at to : ℕ) (ds : Denoters) (below : List Operand) (d : ℕ) (a : TypeValue) (longer : Injection) (after : Memory) (pushed : List Operand) (t : TypeValue) (ts : ComponentTypes)
           → (top : TypeOnTop t below a longer after pushed)
-          → Fragment declared G Here n (point longer after at (Word (pos top.number) ∷ below)) (elaborate_each call g unit types does ds) to (λ us. Inside untouched longer after (TypesOnTop (how_many ds) ts (Word (pos top.number) ∷ below) us)) (d + 3) (λ us. d + 3 + 3 * how_many ds)
-          → Fragment declared G Here n (point longer after at pushed) (bind (elaborate_each call g unit types does ds) (λ us. give (type.next_component a us))) to (λ b. Inside untouched longer after (TypesOnTop (suc (how_many ds)) (type.next_component t ts) below b)) (d + 3) (λ b. d + 3 * suc (how_many ds))
+          → Fragment declared G Here n (point longer after at (Word (pos top.number) ∷ below)) (elaborate_each call g unit types does ds) to (λ us. Inside untouched longer after (TypesOnTop (how_many ds) ts (Word (pos top.number) ∷ below) us)) (d + 4) (λ us. d + 4 + 4 * how_many ds)
+          → Fragment declared G Here n (point longer after at pushed) (bind (elaborate_each call g unit types does ds) (λ us. give (type.next_component a us))) to (λ b. Inside untouched longer after (TypesOnTop (suc (how_many ds)) (type.next_component t ts) below b)) (d + 4) (λ b. d + 4 * suc (how_many ds))
       then_rest at to ds below d a longer after pushed t ts top follows =
-          subst (λ o. Fragment declared G Here n (point longer after at o) (bind (elaborate_each call g unit types does ds) (λ us. give (type.next_component a us))) to (λ b. Inside untouched longer after (TypesOnTop (suc (how_many ds)) (type.next_component t ts) below b)) (d + 3) (λ b. d + 3 * suc (how_many ds))) (sym top.is)
-          (inside_bind {e = λ us. d + 3 + 3 * how_many ds} (λ us. steady_give (type.next_component a us)) follows
+          subst (λ o. Fragment declared G Here n (point longer after at o) (bind (elaborate_each call g unit types does ds) (λ us. give (type.next_component a us))) to (λ b. Inside untouched longer after (TypesOnTop (suc (how_many ds)) (type.next_component t ts) below b)) (d + 4) (λ b. d + 4 * suc (how_many ds))) (sym top.is)
+          (inside_bind {e = λ us. d + 4 + 4 * how_many ds} (λ us. steady_give (type.next_component a us)) follows
           (λ us last final above grown routine rest.
           fragment_give (omega arith) (inside_here (record {
             types_are = λ k. type.next_component (top.type_is k) (rest.types_are k);
@@ -135,7 +135,7 @@ module _ (declared : Declarations) (G : Image) (untouched : Slots) (Here : Facts
       IsElaboratedEach at ds ts =
           CodeStands G ps p references at (each_code types line code ds)
           → (injection : Injection) (memory : Memory) (below : List Operand) (d : ℕ) → least_credit ≤ d
-          → Fragment declared G Here n (point injection memory (p.instructions.before + at) below) (elaborate_each call g unit types does ds) (p.instructions.before + (at + length (each_code types line code ds))) (λ a. Inside untouched injection memory (TypesOnTop (how_many ds) ts below a)) d (λ a. d + 3 * how_many ds)
+          → Fragment declared G Here n (point injection memory (p.instructions.before + at) below) (elaborate_each call g unit types does ds) (p.instructions.before + (at + length (each_code types line code ds))) (λ a. Inside untouched injection memory (TypesOnTop (how_many ds) ts below a)) d (λ a. d + 4 * how_many ds)
 
       none_elaborate : (at : ℕ) (ts : ComponentTypes) → types_step types find no_denoter ≡ Some ts → IsElaboratedEach at no_denoter ts
       none_elaborate at ts is stands injection memory below d enough =
@@ -187,12 +187,12 @@ module _ (declared : Declarations) (G : Image) (untouched : Slots) (Here : Facts
             let ys : List Instr = step_code types line code component in
             let rest : CodeStands G ps p references (at + length xs) (ys ++ bare line op.T_ARR ∷ []) = code_back G ps p references at xs (ys ++ bare line op.T_ARR ∷ []) stands in
             let ends : at + length xs + length ys + 1 ≡ at + length (xs ++ (ys ++ bare line op.T_ARR ∷ [])) = omega (arith, length-append xs (ys ++ bare line op.T_ARR ∷ []), length-append ys (bare line op.T_ARR ∷ [])) in
-            subst (λ u. Fragment declared G Here n (point injection memory (p.instructions.before + at) below) (elaborate_step call g unit types does (Array index component)) (p.instructions.before + (at + length (xs ++ (ys ++ bare line op.T_ARR ∷ [])))) (λ a. Inside untouched injection memory (TypeOnTop u below a)) d (λ a. d + 3)) (sym array_is)
-            (inside_bind {e = λ a. d + 3} (λ a. steady_bind (steady_elaborate_step call steady_call g unit types does steady_does component) (λ u. steady_elaborated_where call steady_call g unit (array_type (Some a) (Some u))))
+            subst (λ u. Fragment declared G Here n (point injection memory (p.instructions.before + at) below) (elaborate_step call g unit types does (Array index component)) (p.instructions.before + (at + length (xs ++ (ys ++ bare line op.T_ARR ∷ [])))) (λ a. Inside untouched injection memory (TypeOnTop u below a)) d (λ a. d + 4)) (sym array_is)
+            (inside_bind {e = λ a. d + 4} (λ a. steady_bind (steady_elaborate_step call steady_call g unit types does steady_does component) (λ u. steady_elaborated_where call steady_call g unit (array_type (Some a) (Some u))))
             (step_elaborates at index (type.Ordinal parts.0 parts.1) parts.3 v.0 (code_front G ps p references at xs (ys ++ bare line op.T_ARR ∷ []) stands) injection memory below d enough)
             (λ a longer after pushed grown routine top.
             then_component at index component below d enough a longer after pushed parts.0 parts.1 parts.2 top
-            (step_elaborates (at + length xs) component parts.2 parts.4 v.1 (code_front G ps p references (at + length xs) ys (bare line op.T_ARR ∷ []) rest) longer after (Word (pos top.number) ∷ below) (d + 3) (omega (arith, enough)))
+            (step_elaborates (at + length xs) component parts.2 parts.4 v.1 (code_front G ps p references (at + length xs) ys (bare line op.T_ARR ∷ []) rest) longer after (Word (pos top.number) ∷ below) (d + 4) (omega (arith, enough)))
             (code_back G ps p references (at + length xs) ys (bare line op.T_ARR ∷ []) rest) ends))
         step_elaborates at (Record ds) t is valid = λ stands injection memory below d enough.
             let fields = of_record (types_step types find ds) t is in
@@ -201,8 +201,8 @@ module _ (declared : Declarations) (G : Image) (untouched : Slots) (Here : Facts
             let xs : List Instr = each_code types line code ds in
             let last : Instr = instr op.T_REC (pos (how_many ds)) 0 line in
             let ends : p.instructions.before + (at + length xs) + 1 ≡ p.instructions.before + (at + length (xs ++ last ∷ [])) = omega (arith, length-append xs (last ∷ [])) in
-            subst (λ u. Fragment declared G Here n (point injection memory (p.instructions.before + at) below) (elaborate_step call g unit types does (Record ds)) (p.instructions.before + (at + length (xs ++ last ∷ []))) (λ a. Inside untouched injection memory (TypeOnTop u below a)) d (λ a. d + 3)) (sym record_is)
-            (inside_bind {e = λ us. d + 3 * how_many ds} (λ us. steady_elaborated call steady_call g unit (type.Record us))
+            subst (λ u. Fragment declared G Here n (point injection memory (p.instructions.before + at) below) (elaborate_step call g unit types does (Record ds)) (p.instructions.before + (at + length (xs ++ last ∷ []))) (λ a. Inside untouched injection memory (TypeOnTop u below a)) d (λ a. d + 4)) (sym record_is)
+            (inside_bind {e = λ us. d + 4 * how_many ds} (λ us. steady_elaborated call steady_call g unit (type.Record us))
             (each_elaborates at ds fields.0 fields.1 v (code_front G ps p references at xs (last ∷ []) stands) injection memory below d enough)
             (λ us longer after pushed grown routine top.
             fragment_to ends (record_elaborates (at + length xs) (how_many ds) fields.0 us longer after below pushed d enough top (code_back G ps p references at xs (last ∷ []) stands))))
@@ -216,12 +216,12 @@ module _ (declared : Declarations) (G : Image) (untouched : Slots) (Here : Facts
             let xs : List Instr = step_code types line code e in
             let ys : List Instr = each_code types line code es in
             let ends : p.instructions.before + (at + length xs + length ys) ≡ p.instructions.before + (at + length (xs ++ ys)) = omega (arith, length-append xs ys) in
-            subst (λ us. Fragment declared G Here n (point injection memory (p.instructions.before + at) below) (elaborate_each call g unit types does (next_denoter e es)) (p.instructions.before + (at + length (xs ++ ys))) (λ a. Inside untouched injection memory (TypesOnTop (suc (how_many es)) us below a)) d (λ a. d + 3 * suc (how_many es))) (sym more_is)
-            (inside_bind {e = λ a. d + 3} (λ a. steady_bind (steady_elaborate_each call steady_call g unit types does steady_does es) (λ us. steady_give (type.next_component a us)))
+            subst (λ us. Fragment declared G Here n (point injection memory (p.instructions.before + at) below) (elaborate_each call g unit types does (next_denoter e es)) (p.instructions.before + (at + length (xs ++ ys))) (λ a. Inside untouched injection memory (TypesOnTop (suc (how_many es)) us below a)) d (λ a. d + 4 * suc (how_many es))) (sym more_is)
+            (inside_bind {e = λ a. d + 4} (λ a. steady_bind (steady_elaborate_each call steady_call g unit types does steady_does es) (λ us. steady_give (type.next_component a us)))
             (step_elaborates at e both.0 both.2 v.0 (code_front G ps p references at xs ys stands) injection memory below d enough)
             (λ a longer after pushed grown routine top.
             fragment_to ends (then_rest (p.instructions.before + (at + length xs)) (p.instructions.before + (at + length xs + length ys)) es below d a longer after pushed both.0 both.1 top
-            (each_elaborates (at + length xs) es both.1 both.3 v.1 (code_back G ps p references at xs ys stands) longer after (Word (pos top.number) ∷ below) (d + 3) (omega (arith, enough))))))
+            (each_elaborates (at + length xs) es both.1 both.3 v.1 (code_back G ps p references at xs ys stands) longer after (Word (pos top.number) ∷ below) (d + 4) (omega (arith, enough))))))
 
     -- so are all denoters, however many names are followed
     pub within_elaborates : (k : ℕ) → AreElaborated (type_within types k) (code_within types line k) (elaborate_within call g unit types k)

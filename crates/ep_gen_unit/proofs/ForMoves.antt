@@ -2,7 +2,7 @@
 use Rattle.std.proofs.Common.{◌≡◌, ℕ, ℤ, pos, zero, suc, ◌+◌, ◌-◌, ◌≤◌, ◌<◌, Bool, true, false, not, List, [], ◌∷◌, ◌++◌, length, length-append, refl, sym, ap, ◌∙◌, subst, arith}
 use Rattle.std.specs.Prelude.{if◌then◌else◌}
 use Rattle.ep_gen_expr.specs.ExprCode.{instr, bare, two_code, IsExprCode}
-use Rattle.ep_gen_expr.proofs.PlaceTypes.{ordinal_place}
+use Rattle.ep_gen_expr.proofs.PlaceTypes.{kind_place}
 use Rattle.ep_gen_expr.proofs.Placed.{jump_has, jump_false_has}
 use Rattle.ep_gen_unit.proofs.Parts.{code_stands-parts, Moves, ExpressionsFollow, PlacesFollow, statement_credit, ordinal_of_host}
 use Rattle.ep_object.specs.Follows.{point, Facts, Lasts, Fragment, Follows, Lands, Inside, Bare, IsNotLeft}
@@ -19,6 +19,7 @@ use Rattle.ep_object.specs.declared.code.Reference.{Reference}
 use Rattle.ep_object.specs.declared.state.Place.{Place as PlaceOf}
 use Rattle.ep_gen_unit.specs.StmtCode.{IsAssignCode, AreBoundsCode, IsFirstCode, IsTestCode, IsUndefineCode, for_code}
 use Rattle.ep_gen_unit.proofs.Simple.{assigned_moves}
+use Rattle.ep_object.proofs.rows.ChangeRows.{ordinal_takes}
 use Rattle.ep_gen_unit.proofs.StmtStays.{for_length}
 use Rattle.ep_typed.specs.declared.run_error.TheConstants as run_error
 use Rattle.ep_typed.specs.Events.{Trace}
@@ -33,7 +34,8 @@ use Rattle.ep_typed.specs.Controls.{in_order, next_value}
 use Rattle.ep_typed.specs.Steady.{Steady, IsSteadyHandler}
 use Rattle.ep_typed.specs.Calls.{Handler}
 use Rattle.ep_typed.proofs.Steady.{steady_bind, steady_spend, steady_give, steady_if, steady_using, steady_eval, steady_exec, steady_assigns, steady_undefined, steady_undefines, steady_turns_to, steady_counts}
-use Rattle.ep_typed.specs.Meaning.{eval, exec, assigns, undefines, turns_to, counts, weight_of}
+use Rattle.ep_typed.specs.Meaning.{eval, exec, assigns, undefines, turns_to, counts}
+use Rattle.ep_typed.specs.Results.{weight_of}
 use Rattle.ep_typed.specs.Operations.{is_same, is_true, ordinal_of}
 use Rattle.ep_typed.specs.Printing.{number_of}
 use Rattle.ep_typed.specs.Steps.{Component, Computation, Undefined, assigned, bind, change, give, spend, using, has_ended}
@@ -53,11 +55,11 @@ pub in_order_valid : (declared : Declarations) (h : Host) (c : Control) → IsCo
 in_order_valid declared h c control = go c.falls
   where
     go : (b : Bool) → IsExpr declared (kind.Ordinal host.Boolean) (Two (if b then binary.AtLeast else binary.AtMost) (Read (entire c.initial)) (Read (entire c.last)))
-    go true = (kind.Ordinal host.Integer, kind.Ordinal host.Integer, ((host.Integer, refl, refl), refl), (host.Integer, refl, control.initial), (host.Integer, refl, control.last))
-    go false = (kind.Ordinal host.Integer, kind.Ordinal host.Integer, ((host.Integer, refl, refl), refl), (host.Integer, refl, control.initial), (host.Integer, refl, control.last))
+    go true = (kind.Ordinal host.Integer, kind.Ordinal host.Integer, ((host.Integer, refl, refl), refl), control.initial, control.last)
+    go false = (kind.Ordinal host.Integer, kind.Ordinal host.Integer, ((host.Integer, refl, refl), refl), control.initial, control.last)
 
 pub next_value_valid : (declared : Declarations) (h : Host) (c : Control) → IsControl declared h c → IsExpr declared (kind.Ordinal h) (next_value c)
-next_value_valid declared h c control = (h, refl, control.low, control.high, (h, refl, control.variable), (host.Integer, refl, refl))
+next_value_valid declared h c control = (h, refl, control.low, control.high, control.variable, (host.Integer, refl, refl))
 
 -- ---- where the parts stand
 
@@ -155,8 +157,8 @@ module _ {declared : Declarations} {G : Image} {untouched : Slots} {Here : Facts
   pub end_moves : (line at : ℕ) (q : Entire) (h : Host) (is : List Instr) → IsPlace declared h (entire q) → IsUndefineCode texts references line at q is → CodeStands G ps p references at is → at + length is < p.instructions.own
       → Moves declared G untouched Here ps p texts references call n unit at (at + length is) (bind (undefines call n unit line (entire q)) (λ b. spend 1 (give tt)))
   end_moves line at q h is is_place code stands inside injection memory below d enough home =
-      let v = ordinal_place declared scene.types_valid scene.own_types_valid h (entire q) is_place in
-      let t = ordinal_of_host h v.type_value v.of_host in
+      let v = kind_place declared scene.types_valid scene.own_types_valid (kind.Ordinal h) (entire q) is_place in
+      let t = ordinal_of_host h v.type_value v.of_kind in
       let parts = code_stands-parts G ps p references at code.0 (bare line op.UNDEFINE ∷ []) (subst (λ w. CodeStands G ps p references at w) code.2 stands) in
       let ends : p.instructions.before + (at + length code.0) + 1 ≡ p.instructions.before + (at + length is) = omega (arith, ap length code.2, length-append code.0 (bare line op.UNDEFINE ∷ [])) in
       fragment_bind_bare {e = λ b. d + 8} (λ b. steady_spend 1 (steady_give tt))
@@ -198,7 +200,7 @@ module _ {declared : Declarations} {G : Image} {untouched : Slots} {Here : Facts
         fragment_waits {d1 = d - 1} (λ s1 matches. dup_pushes G (p.instructions.before + test_at) line below z x.dup.0 m1 s1.trace) (omega (arith, enough))
         (fragment_from {place = p.instructions.before + (test_at + 1)} (omega arith)
         (fragment_bind_number {host = h} {e = λ r. d - 1 + 8 + weight_of r} (λ r. steady_tested k z (number_of r))
-        (fragment_less le (expressions (kind.Ordinal h) (Read (entire c.variable)) (h, refl, control.variable) line (test_at + 1) x.read x.is_read x.reads (omega (arith, x.order, x.inside)) v1 m1 (Word z ∷ Word z ∷ below) (d - 1) (omega (arith, enough)) (unit_in-same G routine1 ∙ home))) (λ w v2 m2 of_host grown2 routine2.
+        (fragment_less le (expressions (kind.Ordinal h) (Read (entire c.variable)) control.variable line (test_at + 1) x.read x.is_read x.reads (omega (arith, x.order, x.inside)) v1 m1 (Word z ∷ Word z ∷ below) (d - 1) (omega (arith, enough)) (unit_in-same G routine1 ∙ home))) (λ w v2 m2 of_host grown2 routine2.
         fragment_waits {d1 = d + 6} (λ s1 matches. unequal_answers G (p.instructions.before + (test_at + 1 + length x.read)) line (Word z ∷ below) z w x.compares.0 m2 s1.trace) (omega (arith, enough))
         (fragment_from {place = p.instructions.before + (test_at + 1 + length x.read + 1)} (omega arith)
         (fragment_branch_one {then_place = p.instructions.before + (back_at + 1)} {else_place = p.instructions.before + (test_at + 1 + length x.read + 2)} {d1 = d + 8} (is_same z w)
@@ -270,7 +272,7 @@ module _ {declared : Declarations} {G : Image} {untouched : Slots} {Here : Facts
         let code = parts.is_test in
         let long : n_at ≡ t_at + 1 + length code.0 + 2 = omega (arith, ap length code.2, length-append code.0 (two_code line binary.Unequal ∷ [])) in
         subst (λ w. Moves declared G untouched Here ps p texts references call n unit w k_at (assigns call n unit line (entire c.variable) (next_value c))) long
-        (assigned_moves lasts ps p texts references call steady_call n unit scene expressions places line n_at (entire c.variable) h h (next_value c) next control.variable (next_value_valid declared h c control) parts.is_next (omega (arith, parts.room)) parts.next_stands)
+        (assigned_moves lasts ps p texts references call steady_call n unit scene expressions places line n_at (entire c.variable) (kind.Ordinal h) (kind.Ordinal h) (ordinal_takes h h) (next_value c) next control.variable (next_value_valid declared h c control) parts.is_next (omega (arith, parts.room)) parts.next_stands)
 
     steady_turns : (w : ℤ) → Steady (turns_to call n unit n line c w (exec call n unit s))
     steady_turns w = steady_turns_to call steady_call n unit n line c w steady_body
@@ -284,10 +286,10 @@ module _ {declared : Declarations} {G : Image} {untouched : Slots} {Here : Facts
         let one = code_stands-parts G ps p references f_at code.0 (code.1 ++ code.2) all in
         let two = code_stands-parts G ps p references (f_at + length code.0) code.1 code.2 one.1 in
         let long : length first ≡ length code.0 + length code.1 + length code.2 = omega (arith, ap length code.6, length-append code.0 (code.1 ++ code.2), length-append code.1 code.2) in
-        let tries = assigned_moves lasts ps p texts references call steady_call n unit scene expressions places line (f_at + length code.0) (entire c.variable) h host.Integer (Read (entire c.last)) code.1 control.variable (host.Integer, refl, control.last) code.4 (omega (arith, long, parts.room)) two.0 in
-        let starts = assigned_moves lasts ps p texts references call steady_call n unit scene expressions places line (f_at + length code.0 + length code.1) (entire c.variable) h host.Integer (Read (entire c.initial)) code.2 control.variable (host.Integer, refl, control.initial) code.5 (omega (arith, long, parts.room)) two.1 in
+        let tries = assigned_moves lasts ps p texts references call steady_call n unit scene expressions places line (f_at + length code.0) (entire c.variable) (kind.Ordinal h) (kind.Ordinal host.Integer) (ordinal_takes h host.Integer) (Read (entire c.last)) code.1 control.variable control.last code.4 (omega (arith, long, parts.room)) two.0 in
+        let starts = assigned_moves lasts ps p texts references call steady_call n unit scene expressions places line (f_at + length code.0 + length code.1) (entire c.variable) (kind.Ordinal h) (kind.Ordinal host.Integer) (ordinal_takes h host.Integer) (Read (entire c.initial)) code.2 control.variable control.initial code.5 (omega (arith, long, parts.room)) two.1 in
         fragment_bind_number {host = host.Integer} {e = λ r. d + 7 + 8 + weight_of r} (λ r. steady_bind (steady_assigns call steady_call n unit line (entire c.variable) (Read (entire c.last))) (λ b. steady_bind (steady_assigns call steady_call n unit line (entire c.variable) (Read (entire c.initial))) (λ b. steady_turns (number_of r))))
-        (expressions (kind.Ordinal host.Integer) (Read (entire c.last)) (host.Integer, refl, control.last) line f_at code.0 code.3 one.0 (omega (arith, long, parts.room)) injection memory below (d + 7) (omega (arith, enough)) home) (λ w v1 m1 of_host grown1 routine1.
+        (expressions (kind.Ordinal host.Integer) (Read (entire c.last)) control.last line f_at code.0 code.3 one.0 (omega (arith, long, parts.room)) injection memory below (d + 7) (omega (arith, enough)) home) (λ w v1 m1 of_host grown1 routine1.
         fragment_bind_bare {e = λ b. d + 7 + 8 + 0} (λ b. steady_bind (steady_assigns call steady_call n unit line (entire c.variable) (Read (entire c.initial))) (λ b. steady_turns w))
         (tries v1 m1 (Word w ∷ below) (d + 7 + 8 + 0) (omega (arith, enough)) (unit_in-same G routine1 ∙ home)) (λ b v2 m2 grown2 routine2.
         fragment_bind_bare {e = λ b. d + 7 + 8 + 0} (λ b. steady_turns w)
@@ -325,8 +327,8 @@ module _ {declared : Declarations} {G : Image} {untouched : Slots} {Here : Facts
         let one = code_stands-parts G ps p references at code.0 (code.1 ++ code.2) all in
         let two = code_stands-parts G ps p references (at + length code.0) code.1 code.2 one.1 in
         let long : length bounds ≡ length code.0 + length code.1 + length code.2 = omega (arith, ap length code.6, length-append code.0 (code.1 ++ code.2), length-append code.1 code.2) in
-        let initials = assigned_moves lasts ps p texts references call steady_call n unit scene expressions places line at (entire c.initial) host.Integer h x code.0 control.initial valid_initial code.3 (omega (arith, long, parts.room)) one.0 in
-        let finals = assigned_moves lasts ps p texts references call steady_call n unit scene expressions places line (at + length code.0) (entire c.last) host.Integer h y code.1 control.last valid_last code.4 (omega (arith, long, parts.room)) two.0 in
+        let initials = assigned_moves lasts ps p texts references call steady_call n unit scene expressions places line at (entire c.initial) (kind.Ordinal host.Integer) (kind.Ordinal h) (ordinal_takes host.Integer h) x code.0 control.initial valid_initial code.3 (omega (arith, long, parts.room)) one.0 in
+        let finals = assigned_moves lasts ps p texts references call steady_call n unit scene expressions places line (at + length code.0) (entire c.last) (kind.Ordinal host.Integer) (kind.Ordinal h) (ordinal_takes host.Integer h) y code.1 control.last valid_last code.4 (omega (arith, long, parts.room)) two.0 in
         fragment_to (ap (λ w. p.instructions.before + w) (sym parts.total))
         (fragment_bind_bare {e = λ b. d} (λ b. steady_bind (steady_assigns call steady_call n unit line (entire c.last) y) (λ b. steady_bind steady_choice (λ b. steady_end))) (initials injection memory below d enough home) (λ b v1 m1 grown1 routine1.
         fragment_bind_bare {e = λ b. d} (λ b. steady_bind steady_choice (λ b. steady_end)) (finals v1 m1 below d enough (unit_in-same G routine1 ∙ home)) (λ b v2 m2 grown2 routine2.

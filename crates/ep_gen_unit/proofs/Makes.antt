@@ -7,7 +7,7 @@ use Rattle.ep_gen_unit.specs.StmtCode.{make_code, make_all_code}
 use Rattle.ep_gen_unit.specs.TypeCode.{type_code}
 use Rattle.ep_gen_unit.proofs.Elaborating.{elaborates}
 use Rattle.ep_gen_unit.specs.UnitLaws.{AreDeclared}
-use Rattle.ep_gen_unit.proofs.Sized.{fragment_sized}
+use Rattle.ep_gen_unit.proofs.Sized.{fragment_sized, sized_gains}
 use Rattle.ep_gen_unit.proofs.Parts.{code_stands-parts}
 use Rattle.ep_object.specs.Follows.{point, Facts, Lasts, Fragment, Inside, Bare, SameRoutine}
 use Rattle.ep_object.specs.Matching.{Slots, Memory, Injection, Describes, HasType}
@@ -66,7 +66,7 @@ module _ (declared : Declarations) (G : Image) (untouched : Slots) (Here : Facts
         → RunsInUnit G memory.frames x → Describes memory.types type_number t
         → Fragment declared G Here n (point injection memory place (Word (pos type_number) ∷ below)) (allocate x.name number t) (place + 1) (λ a. Inside untouched injection memory (Bare below a)) d (λ a. left)
     make_row_moves t type_number valid declared_so place has injection memory below d left enough less empty home described =
-        fragment_sized (counted t) (made x.name number t) (λ s. refl) (grows_made x.name number t) enough less (size_of t) empty (λ s matches here. make_does declared G place line below t type_number number x has distinct valid declared_so injection memory s home within (free memory.frames.unit home.unit number v is_declared) described lasts matches here)
+        fragment_sized (counted t) (made x.name number t) (λ s. refl) (grows_made x.name number t) enough (size_of t) (sized_gains d left (size_of t) less empty) (λ s matches here. make_does declared G place line below t type_number number x has distinct valid declared_so injection memory s home within (free memory.frames.unit home.unit number v is_declared) described lasts matches here)
 
   -- a variable is made in its slot
   one_moves : (g number at : ℕ) (v : UnitVariable) → declared.variables x.name number ≡ Some v
@@ -81,13 +81,13 @@ module _ (declared : Declarations) (G : Image) (untouched : Slots) (Here : Facts
       let parts = code_stands-parts G ps p references at code (instr op.MAKE (pos number) 0 v.line ∷ []) stands in
       let ends : p.instructions.before + (at + length code) + 1 ≡ p.instructions.before + (at + length (code ++ instr op.MAKE (pos number) 0 v.line ∷ [])) = omega (arith, length-append code (instr op.MAKE (pos number) 0 v.line ∷ [])) in
       let has_type : ((w : UnitVariable) → declared.variables x.name number ≡ Some w → HasType declared x.name w t) = λ w e. subst (λ (u : UnitVariable). HasType declared x.name u t) (same_Some v w (sym is_declared ∙ e)) (types_are_instances types (denoter_of v.denoter) t valid.has_type) in
-      inside_bind {First = TypeOnTop t below} {e = λ a. d + 3} (λ a. steady_allocate x.name number a)
+      inside_bind {First = TypeOnTop t below} {e = λ a. d + 4} (λ a. steady_allocate x.name number a)
       (elaborates declared G untouched Here lasts ps p references call steady_call n g x.name v.line types at (denoter_of v.denoter) t valid.has_type is_type parts.0 injection memory below d enough)
       (λ a longer after pushed grown routine top.
-      subst (λ u. Fragment declared G Here n (point longer after (p.instructions.before + (at + length code)) pushed) (allocate x.name number u) (p.instructions.before + (at + length (code ++ instr op.MAKE (pos number) 0 v.line ∷ []))) (λ b. Inside untouched longer after (Bare below b)) (d + 3) (λ b. d)) (sym top.type_is)
-      (subst (λ o. Fragment declared G Here n (point longer after (p.instructions.before + (at + length code)) o) (allocate x.name number t) (p.instructions.before + (at + length (code ++ instr op.MAKE (pos number) 0 v.line ∷ []))) (λ b. Inside untouched longer after (Bare below b)) (d + 3) (λ b. d)) (sym top.is)
-      (fragment_to ends (fragment_credit {d = d + 3} {e = λ b. d} (omega arith) (λ b. omega arith)
-      (make_row_moves number v.line at v is_declared within t top.number is_type has_type (p.instructions.before + (at + length code)) parts.1.0 longer after below (d + 3) d (omega (arith, enough)) (omega arith) (λ e. omega arith) (same_frame G x memory.frames after.frames routine home) top.described)))))
+      subst (λ u. Fragment declared G Here n (point longer after (p.instructions.before + (at + length code)) pushed) (allocate x.name number u) (p.instructions.before + (at + length (code ++ instr op.MAKE (pos number) 0 v.line ∷ []))) (λ b. Inside untouched longer after (Bare below b)) (d + 4) (λ b. d)) (sym top.type_is)
+      (subst (λ o. Fragment declared G Here n (point longer after (p.instructions.before + (at + length code)) o) (allocate x.name number t) (p.instructions.before + (at + length (code ++ instr op.MAKE (pos number) 0 v.line ∷ []))) (λ b. Inside untouched longer after (Bare below b)) (d + 4) (λ b. d)) (sym top.is)
+      (fragment_to ends (fragment_credit {d = d + 4} {e = λ b. d} (omega arith) (λ b. omega arith)
+      (make_row_moves number v.line at v is_declared within t top.number is_type has_type (p.instructions.before + (at + length code)) parts.1.0 longer after below (d + 4) d (omega (arith, enough)) (omega arith) (λ e. omega arith) (same_frame G x memory.frames after.frames routine home) top.described)))))
 
   -- and so are the variables from this number on
   all_moves : (g number at : ℕ) (vs : List UnitVariable) → AreDeclared declared x.name number vs

@@ -1,5 +1,5 @@
 -- The machine follows how a routine takes its arguments and makes its variables, in its activation.
-use Rattle.std.proofs.Common.{◌≡◌, ℕ, ℤ, pos, suc, ◌+◌, ◌-◌, ◌≤◌, List, [], ◌∷◌, ◌++◌, length, length-append, Option, Some, slice_get, refl, sym, ap, ◌∙◌, subst, arith}
+use Rattle.std.proofs.Common.{◌≡◌, ℕ, pos, suc, ◌+◌, ◌-◌, ◌*◌, ◌≤◌, List, [], ◌∷◌, ◌++◌, length, length-append, Option, Some, slice_get, refl, sym, ap, ◌∙◌, subst, arith}
 use Rattle.std.proofs.lemmas.Option.{same_Some}
 use Rattle.ep_gen_expr.specs.Following.{least_credit}
 use Rattle.ep_gen_expr.specs.ExprCode.{instr, bare}
@@ -8,14 +8,14 @@ use Rattle.ep_gen_unit.specs.StmtCode.{make_code, make_all_code, value_code, pla
 use Rattle.ep_gen_unit.specs.TypeCode.{type_code}
 use Rattle.ep_gen_unit.proofs.Elaborating.{elaborates}
 use Rattle.ep_gen_unit.proofs.Sized.{fragment_sized}
-use Rattle.ep_gen_unit.proofs.Parts.{code_stands-parts, ordinal_of_host}
+use Rattle.ep_gen_unit.proofs.Parts.{code_stands-parts}
 use Rattle.ep_object.specs.Activations.{InActivation}
-use Rattle.ep_object.specs.Follows.{point, operand_of, Fragment, Lasts, StillRuns, Inside}
+use Rattle.ep_object.specs.Follows.{point, Fragment, Lasts, StillRuns, Inside}
 use Rattle.ep_object.specs.Matching.{Slots, Memory, Injection, IsSpot, Describes, HasOwnType}
 use Rattle.ep_object.specs.Calls.{argument_at}
 use Rattle.ep_object.specs.Operands.{Operand, Word}
 use Rattle.ep_object.specs.Operands as operand
-use Rattle.ep_object.specs.Promises.{Passing, ByValue, ByReference, IsPassed, ArePassed, IsOfKind, IsArgument}
+use Rattle.ep_object.specs.Promises.{Passing, ByValue, ByReference, IsPassed, ArePassed, IsArgument, IsValueOf}
 use Rattle.ep_object.specs.Runs.{unit_in}
 use Rattle.ep_object.specs.State.{Frame}
 use Rattle.ep_object.specs.declared.code.Instr.{Instr}
@@ -26,29 +26,29 @@ use Rattle.ep_object.specs.declared.code.Image.{Image}
 use Rattle.ep_object.specs.declared.code.Reference.{Reference}
 use Rattle.ep_object.proofs.following.Fragments.{fragment_bind, fragment_credit, fragment_weaken, fragment_post, fragment_give, fragment_from, fragment_to, fragment_less}
 use Rattle.ep_object.proofs.matching.Growing.{same_routine-refl, still_routine, still_runs-trans, unit_in-still}
-use Rattle.ep_object.proofs.matching.Awaiting.{arguments_in, AreAwaited, awaited-grown, awaited-taken, without_argument}
+use Rattle.ep_object.proofs.matching.Awaiting.{arguments_in, AreAwaited, awaited-grown, awaited-taken, value-grown, without_argument}
 use Rattle.ep_object.proofs.rows.NewTypes.{TypeOnTop}
 use Rattle.ep_object.proofs.rows.ArgumentRows.{Taken, taken-later, same_arguments, value_taken, variable_taken}
 use Rattle.ep_object.proofs.rows.OwnRows.{StillBare, MadeOwn, in_frame, make_own_does}
 use Rattle.ep_typed.specs.Steady.{IsSteadyHandler}
 use Rattle.ep_typed.specs.Calls.{Argument, Value, Handler}
 use Rattle.ep_typed.specs.Calls as argument_is
-use Rattle.ep_typed.specs.Denoters.{type_of, host_of}
-use Rattle.ep_typed.specs.Printing.{Result, number_of}
+use Rattle.ep_typed.specs.Denoters.{type_of}
+use Rattle.ep_typed.specs.Printing.{Result}
+use Rattle.ep_typed.specs.Results.{weight_of}
+use Rattle.ep_typed.proofs.ValueKinds.{typed_of_kind}
 use Rattle.ep_typed.specs.declared.interface.Formal.{Formal}
 use Rattle.ep_typed.specs.declared.interface.FormalMode.{FormalMode}
 use Rattle.ep_typed.specs.declared.interface.FormalMode.TheVariants as mode
 use Rattle.ep_typed.proofs.Denoters.{types_are_instances}
-use Rattle.ep_typed.proofs.Typed.{typed_of_host, typed_value}
+use Rattle.ep_typed.proofs.Typed.{typed_value}
 use Rattle.ep_typed.proofs.Steady.{grows_made_own, steady_bind, steady_allocate_own, steady_make_all_own, steady_initialized, steady_takes_all}
 use Rattle.ep_typed.specs.Meaning.{elaborate, make_own, make_all_own, initialized, takes_by, takes_all}
 use Rattle.ep_typed.specs.Steps.{Component, Computation, bind, spend, change, with_own_bound, counted, made_own, allocate_own, size_of}
-use Rattle.ep_typed.specs.Valid.{variables_up, Declarations, Kind, IsTypeOf, IsTypeValue, IsDenoter, formal_variable}
+use Rattle.ep_typed.specs.Valid.{variables_up, Declarations, IsOfKind, IsTypeOfKind, Kind, IsTypeValue, IsDenoter, formal_variable}
 use Rattle.ep_typed.specs.Valid as kind
 use Rattle.ep_typed.specs.Viewed.{denoter_of}
-use Rattle.ep_typed.specs.Hosts.{Host}
 use Rattle.ep_typed.specs.TypeValues.{TypeValue}
-use Rattle.ep_typed.specs.TypeValues as type
 use Rattle.ep_typed.specs.declared.unit.UnitVariable.{UnitVariable}
 use Rattle.ep_object.specs.declared.op.TheConstants as op
 
@@ -58,6 +58,18 @@ abbrev pub MovesOwn : Declarations → Image → Slots → Injection → Memory 
 MovesOwn declared G untouched first start p n at to c =
     (injection : Injection) (memory : Memory) (below : List Operand) (d : ℕ) → least_credit ≤ d
     → Fragment declared G (InActivation declared untouched first start) n (point injection memory (p.instructions.before + at) below) c (p.instructions.before + to) (λ a. StillBare memory below) d (λ a. d)
+
+-- a value has at most as much weight as a variable of its type has words
+value_fits : (injection : Injection) (memory : Memory) (k : Kind) (t : TypeValue) (r : Result) (o : Operand) → IsTypeOfKind k t → IsValueOf injection memory k r o → weight_of r ≤ size_of t
+value_fits injection memory (kind.Ordinal h) t r o of_kind (z, r_is, of_host, o_is) = let none : weight_of r ≡ 0 = ap weight_of r_is in omega (arith, none)
+value_fits injection memory kind.Bytes t r o of_kind v = absurd of_kind
+value_fits injection memory (kind.Structured u) t r o of_kind v = let same : weight_of r ≡ size_of t = ap weight_of v.is_structure ∙ ap size_of of_kind.0 in omega (arith, same)
+
+credit_fits : (t : TypeValue) (w d : ℕ) → w ≤ size_of t → d + 3 + 2 * w ≤ d + 3 + 3 * size_of t
+credit_fits t w d le = omega (arith, le)
+
+credit_left : (t : TypeValue) (w d : ℕ) → w ≤ size_of t → d + 3 + 2 * w + d ≤ d + 3 + 3 * size_of t + (d + 3 + 2 * w - (3 + 2 * w))
+credit_left t w d le = omega (arith, le)
 
 -- what is so after a later memory is so after an earlier one
 still_later : {before memory : Memory} {below : List Operand} → StillRuns before.frames memory.frames → (longer : Injection) (after : Memory) (operands : List Operand)
@@ -70,17 +82,18 @@ module _ (declared : Declarations) (G : Image) (untouched : Slots) (first : Inje
     make_row_moves : (t : TypeValue) (type_number : ℕ) → IsTypeValue t
         → ((w : UnitVariable) → slice_get (variables_up declared 0) number ≡ Some w → HasOwnType declared w t)
         → (place : ℕ) → slice_get G.instructions place ≡ Some (instr op.MAKE (pos number) 0 line)
-        → (injection : Injection) (memory : Memory) (below : List Operand) (d left : ℕ) → 1 ≤ d → left ≤ d → (size_of t ≡ 0 → suc left ≤ d)
+        → (injection : Injection) (memory : Memory) (below : List Operand) (d left : ℕ) → 1 ≤ d → suc left ≤ d + 63 * size_of t
         → Describes memory.types type_number t
         → Fragment declared G (InActivation declared untouched first start) n (point injection memory place (Word (pos type_number) ∷ below)) (allocate_own number t) (place + 1) (λ a. MadeOwn untouched number t injection memory below) d (λ a. left)
-    make_row_moves t type_number valid declared_so place has injection memory below d left enough less empty described =
-        fragment_sized (counted t) (made_own number t) (λ s. refl) (grows_made_own number t) enough less (size_of t) empty (λ s matches here. make_own_does declared G place line below t type_number number v has valid is_declared declared_so injection memory s described matches here)
+    make_row_moves t type_number valid declared_so place has injection memory below d left enough gains described =
+        fragment_sized (counted t) (made_own number t) (λ s. refl) (grows_made_own number t) enough (size_of t) gains (λ s matches here. make_own_does declared G place line below t type_number number v has valid is_declared declared_so injection memory s described matches here)
 
-  -- a variable is made in its slot
-  one_moves : (g number at : ℕ) (v : UnitVariable) → slice_get (variables_up declared 0) number ≡ Some v
+  -- A variable is made in its slot. Each of its words leaves a credit.
+  pub sized_moves : (g number at : ℕ) (v : UnitVariable) (is_declared : slice_get (variables_up declared 0) number ≡ Some v)
       → CodeStands G ps p references at (make_code declared.routine_types number v)
-      → MovesOwn declared G untouched first start p n at (at + length (make_code declared.routine_types number v)) (make_own call g unit declared.routine_types number v)
-  one_moves g number at v is_declared stands injection memory below d enough =
+      → (injection : Injection) (memory : Memory) (below : List Operand) (d : ℕ) → least_credit ≤ d
+      → Fragment declared G (InActivation declared untouched first start) n (point injection memory (p.instructions.before + at) below) (make_own call g unit declared.routine_types number v) (p.instructions.before + (at + length (make_code declared.routine_types number v))) (λ a. StillBare memory below) d (λ a. d + 3 * size_of (own_valid 0 number v is_declared).type_value)
+  sized_moves g number at v is_declared stands injection memory below d enough =
       let types = declared.routine_types in
       let valid : IsDenoter types (denoter_of v.denoter) = own_valid 0 number v is_declared in
       let t : TypeValue = valid.type_value in
@@ -89,17 +102,23 @@ module _ (declared : Declarations) (G : Image) (untouched : Slots) (first : Inje
       let parts = code_stands-parts G ps p references at code (instr op.MAKE (pos number) 0 v.line ∷ []) stands in
       let ends : p.instructions.before + (at + length code) + 1 ≡ p.instructions.before + (at + length (code ++ instr op.MAKE (pos number) 0 v.line ∷ [])) = omega (arith, length-append code (instr op.MAKE (pos number) 0 v.line ∷ [])) in
       let has_type : ((w : UnitVariable) → slice_get (variables_up declared 0) number ≡ Some w → HasOwnType declared w t) = λ w e. subst (λ (u : UnitVariable). HasOwnType declared u t) (same_Some v w (sym is_declared ∙ e)) (types_are_instances types (denoter_of v.denoter) t valid.has_type) in
-      fragment_bind {P = λ a. Inside untouched injection memory (TypeOnTop t below a)} {e = λ a. d + 3} (λ a. steady_allocate_own number a)
+      fragment_bind {P = λ a. Inside untouched injection memory (TypeOnTop t below a)} {e = λ a. d + 4} (λ a. steady_allocate_own number a)
       (elaborates declared G untouched (InActivation declared untouched first start) lasts ps p references call steady_call n g unit v.line types at (denoter_of v.denoter) t valid.has_type is_type parts.0 injection memory below d enough)
       (λ a longer after pushed inside.
       let top = inside.operands_are in
       let runs : StillRuns memory.frames after.frames = still_routine inside.routine in (
         runs,
-        subst (λ u. Fragment declared G (InActivation declared untouched first start) n (point longer after (p.instructions.before + (at + length code)) pushed) (allocate_own number u) (p.instructions.before + (at + length (code ++ instr op.MAKE (pos number) 0 v.line ∷ []))) (λ b. StillBare memory below) (d + 3) (λ b. d)) (sym top.type_is)
-            (subst (λ o. Fragment declared G (InActivation declared untouched first start) n (point longer after (p.instructions.before + (at + length code)) o) (allocate_own number t) (p.instructions.before + (at + length (code ++ instr op.MAKE (pos number) 0 v.line ∷ []))) (λ b. StillBare memory below) (d + 3) (λ b. d)) (sym top.is)
-            (fragment_to ends (fragment_weaken {d = d + 3} {e = λ b. d} (omega arith) (λ b. omega arith) (λ b last final operands made. record { runs = still_runs-trans runs made.runs; operands_are = made.operands_are })
-            (make_row_moves number v.line at v is_declared t top.number is_type has_type (p.instructions.before + (at + length code)) parts.1.0 longer after below (d + 3) d (omega arith) (omega arith) (λ e. omega arith) top.described)))),
+        subst (λ u. Fragment declared G (InActivation declared untouched first start) n (point longer after (p.instructions.before + (at + length code)) pushed) (allocate_own number u) (p.instructions.before + (at + length (code ++ instr op.MAKE (pos number) 0 v.line ∷ []))) (λ b. StillBare memory below) (d + 4) (λ b. d + 3 * size_of t)) (sym top.type_is)
+            (subst (λ o. Fragment declared G (InActivation declared untouched first start) n (point longer after (p.instructions.before + (at + length code)) o) (allocate_own number t) (p.instructions.before + (at + length (code ++ instr op.MAKE (pos number) 0 v.line ∷ []))) (λ b. StillBare memory below) (d + 4) (λ b. d + 3 * size_of t)) (sym top.is)
+            (fragment_to ends (fragment_weaken {d = d + 4} {e = λ b. d + 3 * size_of t} (omega arith) (λ b. omega arith) (λ b last final operands made. record { runs = still_runs-trans runs made.runs; operands_are = made.operands_are })
+            (make_row_moves number v.line at v is_declared t top.number is_type has_type (p.instructions.before + (at + length code)) parts.1.0 longer after below (d + 4) (d + 3 * size_of t) (omega arith) (omega arith) top.described)))),
       ))
+
+  one_moves : (g number at : ℕ) (v : UnitVariable) → slice_get (variables_up declared 0) number ≡ Some v
+      → CodeStands G ps p references at (make_code declared.routine_types number v)
+      → MovesOwn declared G untouched first start p n at (at + length (make_code declared.routine_types number v)) (make_own call g unit declared.routine_types number v)
+  one_moves g number at v is_declared stands injection memory below d enough =
+      fragment_credit {d = d} {e = λ a. d + 3 * size_of (own_valid 0 number v is_declared).type_value} (omega arith) (λ a. omega arith) (sized_moves g number at v is_declared stands injection memory below d enough)
 
   -- and so are the variables from this number on
   pub make_all_own_moves : (g number at : ℕ) (vs : List UnitVariable) → ((i : ℕ) (v : UnitVariable) → slice_get vs i ≡ Some v → slice_get (variables_up declared 0) (number + i) ≡ Some v)
@@ -119,6 +138,27 @@ module _ (declared : Declarations) (G : Image) (untouched : Slots) (first : Inje
             (fragment_post (λ b. still_later still.runs) (make_all_own_moves g (suc number) (at + length (make_code types number v)) vs (λ i w e. subst (λ k. slice_get (variables_up declared 0) k ≡ Some w) (omega arith) (are_declared (suc i) w e)) parts.1 longer after below d enough)),
       )))
 
+  -- The same, where the first one is of a type whose words leave a credit.
+  pub make_sized_moves : (g number at : ℕ) (v : UnitVariable) (vs : List UnitVariable) (t : TypeValue) → type_of declared.routine_types (denoter_of v.denoter) ≡ Some t
+      → ((i : ℕ) (w : UnitVariable) → slice_get (v ∷ vs) i ≡ Some w → slice_get (variables_up declared 0) (number + i) ≡ Some w)
+      → CodeStands G ps p references at (make_all_code declared.routine_types number (v ∷ vs))
+      → (injection : Injection) (memory : Memory) (below : List Operand) (d : ℕ) → least_credit ≤ d
+      → Fragment declared G (InActivation declared untouched first start) n (point injection memory (p.instructions.before + at) below) (make_all_own call g unit declared.routine_types number (v ∷ vs)) (p.instructions.before + (at + length (make_all_code declared.routine_types number (v ∷ vs)))) (λ a. StillBare memory below) d (λ a. d + 3 * size_of t)
+  make_sized_moves g number at v vs t has_type are_declared stands injection memory below d enough =
+      let types = declared.routine_types in
+      let parts = code_stands-parts G ps p references at (make_code types number v) (make_all_code types (suc number) vs) stands in
+      let ends : at + length (make_code types number v) + length (make_all_code types (suc number) vs) ≡ at + length (make_code types number v ++ make_all_code types (suc number) vs) = omega (arith, length-append (make_code types number v) (make_all_code types (suc number) vs)) in
+      let this : slice_get (variables_up declared 0) number ≡ Some v = subst (λ k. slice_get (variables_up declared 0) k ≡ Some v) (omega arith) (are_declared 0 v refl) in
+      let valid : IsDenoter types (denoter_of v.denoter) = own_valid 0 number v this in
+      let same : size_of valid.type_value ≡ size_of t = ap size_of (same_Some valid.type_value t (sym valid.has_type ∙ has_type)) in
+      fragment_to (ap (λ k. p.instructions.before + k) ends)
+      (fragment_bind {e = λ a. d + 3 * size_of t} (λ a. steady_make_all_own call steady_call g unit types (suc number) vs)
+      (fragment_credit {d = d} {e = λ a. d + 3 * size_of valid.type_value} (omega arith) (λ a. omega (arith, same)) (sized_moves g number at v this parts.0 injection memory below d enough)) (λ a longer after pushed still. (
+        still.runs,
+        subst (λ o. Fragment declared G (InActivation declared untouched first start) n (point longer after (p.instructions.before + (at + length (make_code types number v))) o) (make_all_own call g unit types (suc number) vs) (p.instructions.before + (at + length (make_code types number v) + length (make_all_code types (suc number) vs))) (λ b. StillBare memory below) (d + 3 * size_of t) (λ b. d + 3 * size_of t)) (sym still.operands_are)
+            (fragment_post (λ b. still_later still.runs) (make_all_own_moves g (suc number) (at + length (make_code types number v)) vs (λ i w e. subst (λ k. slice_get (variables_up declared 0) k ≡ Some w) (omega arith) (are_declared (suc i) w e)) parts.1 longer after below (d + 3 * size_of t) (omega (arith, enough)))),
+      )))
+
   -- ---- formal parameters
 
   module _ (g line number at : ℕ) (f : Formal) (is_declared : slice_get (variables_up declared 0) number ≡ Some (formal_variable line f)) where
@@ -128,21 +168,18 @@ module _ (declared : Declarations) (G : Image) (untouched : Slots) (first : Inje
     has_its_type : (w : UnitVariable) → slice_get (variables_up declared 0) number ≡ Some w → HasOwnType declared w its.type_value
     has_its_type w e = subst (λ (u : UnitVariable). HasOwnType declared u its.type_value) (same_Some (formal_variable line f) w (sym is_declared ∙ e)) (types_are_instances declared.routine_types (denoter_of f.denoter) its.type_value its.has_type)
 
-    -- a value formal of an ordinal type takes a number
-    value_moves : (h : Host) → host_of declared.routine_types (denoter_of f.denoter) ≡ Some h
+    -- a value formal takes a value of its kind
+    value_moves : (kind : Kind) (r : Result) (o : Operand) → IsOfKind kind declared.routine_types (denoter_of f.denoter)
         → CodeStands G ps p references at (value_code declared.routine_types line number f)
-        → (z : ℤ) (injection : Injection) (memory : Memory) (below : List Operand) (d : ℕ) → least_credit ≤ d → unit_in G memory.frames ≡ unit
-        → argument_at (arguments_in memory.frames.calls) number ≡ Some (Word z) → suc number ≤ length (arguments_in memory.frames.calls)
-        → Fragment declared G (InActivation declared untouched first start) n (point injection memory (p.instructions.before + at) below) (bind (elaborate call g unit declared.routine_types (denoter_of f.denoter)) (λ a. bind (allocate_own number a) (λ _. initialized unit line a z))) (p.instructions.before + (at + length (value_code declared.routine_types line number f))) (λ a. Taken untouched injection memory (without_argument number (arguments_in memory.frames.calls)) below) d (λ a. d)
-    value_moves h is_host stands z injection memory below d enough home there within =
+        → (injection : Injection) (memory : Memory) (below : List Operand) (d : ℕ) → least_credit ≤ d → unit_in G memory.frames ≡ unit
+        → argument_at (arguments_in memory.frames.calls) number ≡ Some o → suc number ≤ length (arguments_in memory.frames.calls) → IsValueOf injection memory kind r o
+        → Fragment declared G (InActivation declared untouched first start) n (point injection memory (p.instructions.before + at) below) (bind (elaborate call g unit declared.routine_types (denoter_of f.denoter)) (λ a. bind (allocate_own number a) (λ _. initialized unit line a r))) (p.instructions.before + (at + length (value_code declared.routine_types line number f))) (λ a. Taken untouched injection memory (without_argument number (arguments_in memory.frames.calls)) below) d (λ a. d)
+    value_moves kind r o is_kind stands injection memory below d enough home there within value =
         let types = declared.routine_types in
-        let of_host : IsTypeOf h its.type_value = typed_of_host types (denoter_of f.denoter) its.type_value h its.typed is_host in
-        let ordinal = ordinal_of_host h its.type_value of_host in
-        let low : ℤ = ordinal.0 in
-        let high : ℤ = ordinal.1 in
-        let t : TypeValue = type.Ordinal low high in
-        let valid : IsTypeValue t = subst IsTypeValue ordinal.2 (typed_value types (denoter_of f.denoter) its.type_value its.typed) in
-        let declared_so : ((w : UnitVariable) → slice_get (variables_up declared 0) number ≡ Some w → HasOwnType declared w t) = λ w e. subst (λ u. HasOwnType declared w u) ordinal.2 (has_its_type w e) in
+        let t : TypeValue = its.type_value in
+        let of_kind : IsTypeOfKind kind t = typed_of_kind types (denoter_of f.denoter) t kind its.typed is_kind in
+        let valid : IsTypeValue t = typed_value types (denoter_of f.denoter) t its.typed in
+        let weighs : weight_of r ≤ size_of t = value_fits injection memory kind t r o of_kind value in
         let code : List Instr = type_code types line (denoter_of f.denoter) in
         let k : ℕ = at + length code in
         let rest : List Instr = instr op.MAKE (pos number) 0 line ∷ instr op.SLOT (pos number) 0 line ∷ instr op.ARG (pos number) 0 line ∷ bare line op.STORE ∷ [] in
@@ -150,28 +187,28 @@ module _ (declared : Declarations) (G : Image) (untouched : Slots) (first : Inje
         let inside_args : List (Option Operand) = arguments_in memory.frames.calls in
         let parts = code_stands-parts G ps p references at code rest stands in
         fragment_to ends
-        (fragment_bind {middle = p.instructions.before + k} {P = λ a. Inside untouched injection memory (TypeOnTop t below a)} {e = λ a. d + 3} (λ a. steady_bind (steady_allocate_own number a) (λ u. steady_initialized unit line a z))
-        (elaborates declared G untouched (InActivation declared untouched first start) lasts ps p references call steady_call n g unit line types at (denoter_of f.denoter) t (its.has_type ∙ ap Some ordinal.2) valid parts.0 injection memory below d enough)
+        (fragment_bind {middle = p.instructions.before + k} {P = λ a. Inside untouched injection memory (TypeOnTop t below a)} {e = λ a. d + 4} (λ a. steady_bind (steady_allocate_own number a) (λ u. steady_initialized unit line a r))
+        (elaborates declared G untouched (InActivation declared untouched first start) lasts ps p references call steady_call n g unit line types at (denoter_of f.denoter) t its.has_type valid parts.0 injection memory below d enough)
         (λ a longer after pushed inside.
         let top = inside.operands_are in
         let runs : StillRuns memory.frames after.frames = still_routine inside.routine in
         let routine = inside.routine in
         let same : arguments_in after.frames.calls ≡ inside_args = same_arguments memory.frames.calls after.frames.calls routine.calls in (
           runs,
-          subst (λ t. Fragment declared G (InActivation declared untouched first start) n (point longer after (p.instructions.before + k) pushed) (bind (allocate_own number t) (λ _. initialized unit line t z)) (p.instructions.before + (k + 4)) (λ b. Taken untouched injection memory (without_argument number inside_args) below) (d + 3) (λ b. d)) (sym top.type_is)
-              (subst (λ o. Fragment declared G (InActivation declared untouched first start) n (point longer after (p.instructions.before + k) o) (bind (allocate_own number t) (λ _. initialized unit line t z)) (p.instructions.before + (k + 4)) (λ b. Taken untouched injection memory (without_argument number inside_args) below) (d + 3) (λ b. d)) (sym top.is)
-              (fragment_post (λ b. taken-later inside.grown runs) (fragment_bind {P = λ u. MadeOwn untouched number t longer after below} {e = λ u. d + 3} (λ u. steady_initialized unit line t z)
-              (make_row_moves number line at (formal_variable line f) is_declared t top.number valid declared_so (p.instructions.before + k) parts.1.0 longer after below (d + 3) (d + 3) (omega arith) (omega arith) (λ (e : 1 ≡ 0). omega (arith, e)) top.described)
+          subst (λ t. Fragment declared G (InActivation declared untouched first start) n (point longer after (p.instructions.before + k) pushed) (bind (allocate_own number t) (λ _. initialized unit line t r)) (p.instructions.before + (k + 4)) (λ b. Taken untouched injection memory (without_argument number inside_args) below) (d + 4) (λ b. d)) (sym top.type_is)
+              (subst (λ o. Fragment declared G (InActivation declared untouched first start) n (point longer after (p.instructions.before + k) o) (bind (allocate_own number t) (λ _. initialized unit line t r)) (p.instructions.before + (k + 4)) (λ b. Taken untouched injection memory (without_argument number inside_args) below) (d + 4) (λ b. d)) (sym top.is)
+              (fragment_post (λ b. taken-later inside.grown runs) (fragment_bind {P = λ u. MadeOwn untouched number t longer after below} {e = λ u. d + 3 + 3 * size_of t} (λ u. steady_initialized unit line t r)
+              (make_row_moves number line at (formal_variable line f) is_declared t top.number valid has_its_type (p.instructions.before + k) parts.1.0 longer after below (d + 4) (d + 3 + 3 * size_of t) (omega arith) (omega arith) top.described)
               (λ u last final above made.
               let x = in_frame final number (Some made.place) made.slot in
               let args : (x.frame).arguments ≡ inside_args = sym (ap arguments_in x.frames) ∙ (made.left_are ∙ same) in (
                 made.runs,
-                subst (λ o. Fragment declared G (InActivation declared untouched first start) n (point last final (p.instructions.before + k + 1) o) (initialized unit line t z) (p.instructions.before + (k + 4)) (λ b. Taken untouched longer after (without_argument number inside_args) below) (d + 3) (λ b. d)) (sym made.operands_are)
-                    (fragment_post (λ b. taken-later made.grown made.runs) (subst (λ l. Fragment declared G (InActivation declared untouched first start) n (point last final (p.instructions.before + k + 1) below) (initialized unit line t z) (p.instructions.before + (k + 4)) (λ b. Taken untouched last final (without_argument number l) below) (d + 3) (λ b. d)) args
-                    (fragment_credit {d = d + 3} {e = λ b. d + 3 - 3} (omega arith) (λ b. omega arith) (fragment_from {place = p.instructions.before + (k + 1) + 1 - 1} (omega arith) (fragment_to {to = p.instructions.before + (k + 1) + 1 + 1 + 1} (omega arith)
-                    (value_taken declared G untouched first start lasts (p.instructions.before + (k + 1) + 1) line number unit below last final x.frame x.below x.frames (unit_in-still G made.runs ∙ (unit_in-still G runs ∙ home)) (omega (arith, within, ap length args)) n (d + 3) low high z made.number made.place
+                subst (λ o. Fragment declared G (InActivation declared untouched first start) n (point last final (p.instructions.before + k + 1) o) (initialized unit line t r) (p.instructions.before + (k + 4)) (λ b. Taken untouched longer after (without_argument number inside_args) below) (d + 3 + 3 * size_of t) (λ b. d)) (sym made.operands_are)
+                    (fragment_post (λ b. taken-later made.grown made.runs) (subst (λ l. Fragment declared G (InActivation declared untouched first start) n (point last final (p.instructions.before + k + 1) below) (initialized unit line t r) (p.instructions.before + (k + 4)) (λ b. Taken untouched last final (without_argument number l) below) (d + 3 + 3 * size_of t) (λ b. d)) args
+                    (fragment_credit {d = d + 3 + 2 * weight_of r} {e = λ b. d + 3 + 2 * weight_of r - (3 + 2 * weight_of r)} (credit_fits t (weight_of r) d weighs) (λ b. credit_left t (weight_of r) d weighs) (fragment_from {place = p.instructions.before + (k + 1) + 1 - 1} (omega arith) (fragment_to {to = p.instructions.before + (k + 1) + 1 + 1 + 1} (omega arith)
+                    (value_taken declared G untouched first start lasts (p.instructions.before + (k + 1) + 1) line number unit below last final x.frame x.below x.frames (unit_in-still G made.runs ∙ (unit_in-still G runs ∙ home)) (omega (arith, within, ap length args)) n (d + 3 + 2 * weight_of r) kind t r o made.number made.place of_kind
                     (instr_at G {other = p.instructions.before + (k + 1)} (omega arith) parts.1.1.0) (omega arith) (instr_at G {other = p.instructions.before + (k + 1 + 1)} (omega arith) parts.1.1.1.0) (instr_at G {other = p.instructions.before + (k + 1 + 1 + 1)} (omega arith) parts.1.1.1.1.0)
-                    (ap (λ l. argument_at l number) args ∙ there) made.slot made.spot made.stands made.described (omega arith))))))),
+                    (ap (λ l. argument_at l number) args ∙ there) (value-grown kind r o made.grown (value-grown kind r o inside.grown value)) made.slot made.spot made.stands made.described (omega arith))))))),
               ))))),
         )))
 
@@ -196,28 +233,18 @@ module _ (declared : Declarations) (G : Image) (untouched : Slots) (first : Inje
             (fragment_less {n = suc n} (omega arith) (fragment_to {to = p.instructions.before + at + 1 + 1} (omega arith)
             (variable_taken declared G untouched first start lasts (p.instructions.before + at) line number unit below injection memory c calls e home within n m d q t (formal_variable line f) stands.0 (instr_at G {other = p.instructions.before + (at + 1)} (omega arith) stands.1.0) there spot described is_declared typed (omega (arith, enough)))))
 
-    -- a value formal takes a result that is a number
-    number_moves : (k : Kind) (h : Host) (r : Result) → k ≡ kind.Ordinal h → host_of declared.routine_types (denoter_of f.denoter) ≡ Some h → CodeStands G ps p references at (value_code declared.routine_types line number f)
-        → (o : Operand) (injection : Injection) (memory : Memory) (below : List Operand) (d : ℕ) → least_credit ≤ d → unit_in G memory.frames ≡ unit
-        → argument_at (arguments_in memory.frames.calls) number ≡ Some o → suc number ≤ length (arguments_in memory.frames.calls) → IsOfKind k r × (o ≡ operand_of r)
-        → Fragment declared G (InActivation declared untouched first start) n (point injection memory (p.instructions.before + at) below) (bind (elaborate call g unit declared.routine_types (denoter_of f.denoter)) (λ a. bind (allocate_own number a) (λ _. initialized unit line a (number_of r)))) (p.instructions.before + (at + length (value_code declared.routine_types line number f))) (λ a. Taken untouched injection memory (without_argument number (arguments_in memory.frames.calls)) below) d (λ a. d)
-    number_moves k h r is_kind is_host stands o injection memory below d enough home there within (of_kind, o_is) =
-        let z = subst (λ k. IsOfKind k r) is_kind of_kind in
-        subst (λ y. Fragment declared G (InActivation declared untouched first start) n (point injection memory (p.instructions.before + at) below) (bind (elaborate call g unit declared.routine_types (denoter_of f.denoter)) (λ a. bind (allocate_own number a) (λ _. initialized unit line a (number_of y)))) (p.instructions.before + (at + length (value_code declared.routine_types line number f))) (λ a. Taken untouched injection memory (without_argument number (arguments_in memory.frames.calls)) below) d (λ a. d)) (sym z.1)
-        (value_moves h is_host stands z.0 injection memory below d enough home (there ∙ ap Some (o_is ∙ ap operand_of z.1)) within)
-
     -- a formal parameter takes its argument
     take_moves : (w : FormalMode) (q : Passing) (x : Argument) → IsPassed declared.routine_types w f q
         → CodeStands G ps p references at (take_code declared.routine_types line number w f)
         → (o : Operand) (injection : Injection) (memory : Memory) (below : List Operand) (d : ℕ) → least_credit ≤ d → unit_in G memory.frames ≡ unit
         → argument_at (arguments_in memory.frames.calls) number ≡ Some o → suc number ≤ length (arguments_in memory.frames.calls) → IsArgument injection memory q x o
         → Fragment declared G (InActivation declared untouched first start) n (point injection memory (p.instructions.before + at) below) (takes_by call g unit declared.routine_types w line number f x) (p.instructions.before + (at + length (take_code declared.routine_types line number w f))) (λ a. Taken untouched injection memory (without_argument number (arguments_in memory.frames.calls)) below) d (λ a. d)
-    take_moves mode.Value (ByValue k) (Value r) (h, is_host, is_kind) stands o injection memory below d enough home there within is =
-        number_moves k h r is_kind is_host stands o injection memory below d enough home there within is
+    take_moves mode.Value (ByValue k) (Value r) is_kind stands o injection memory below d enough home there within is =
+        value_moves k r o is_kind stands injection memory below d enough home there within is
     take_moves mode.Value (ByValue k) (argument_is.Variable m) passed stands o injection memory below d enough home there within is = absurd is
     take_moves mode.Value (ByReference t) x passed stands o injection memory below d enough home there within is = absurd passed
-    take_moves mode.ProtectedValue (ByValue k) (Value r) (h, is_host, is_kind) stands o injection memory below d enough home there within is =
-        number_moves k h r is_kind is_host stands o injection memory below d enough home there within is
+    take_moves mode.ProtectedValue (ByValue k) (Value r) is_kind stands o injection memory below d enough home there within is =
+        value_moves k r o is_kind stands injection memory below d enough home there within is
     take_moves mode.ProtectedValue (ByValue k) (argument_is.Variable m) passed stands o injection memory below d enough home there within is = absurd is
     take_moves mode.ProtectedValue (ByReference t) x passed stands o injection memory below d enough home there within is = absurd passed
     take_moves mode.Variable (ByValue k) x passed stands o injection memory below d enough home there within is = absurd passed

@@ -16,7 +16,8 @@ use Rattle.ep_object.specs.declared.op.TheConstants as op
 use Rattle.ep_typed.specs.Steady.{Steady}
 use Rattle.ep_typed.specs.Printing.{Result}
 use Rattle.ep_typed.specs.Calls.{Handler}
-use Rattle.ep_typed.specs.Meaning.{place, eval, arguments, weight_of}
+use Rattle.ep_typed.specs.Meaning.{place, eval, arguments}
+use Rattle.ep_typed.specs.Results.{weight_of}
 use Rattle.ep_typed.specs.Steps.{Computation, bind}
 use Rattle.ep_typed.specs.Trees.{Callee, Place, Expr, Actuals}
 use Rattle.ep_typed.specs.Valid.{IsDeclaredUp, Declarations, Kind, IsExpr, IsTypeOf, AreGiven}

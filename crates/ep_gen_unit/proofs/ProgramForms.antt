@@ -23,7 +23,10 @@ use Rattle.ep_gen_expr.specs.declared.code.Code.{Code}
 use Rattle.ep_gen_expr.specs.declared.code.TheConstants as code
 use Rattle.ep_gen_expr.proofs.Forms.{grows_at}
 use Rattle.ep_gen_unit.specs.TypeCode.{ordinal_code, type_code}
-use Rattle.ep_gen_unit.specs.StmtCode.{IsStmtCode, make_code, make_all_code, value_code, place_taken, take_code, take_all_code, return_code, result_code, end_code}
+use Rattle.ep_gen_unit.specs.StmtCode.{IsStmtCode, make_code, make_all_code, value_code, place_taken, take_code, take_all_code, return_code, result_code, function_end, end_code}
+use Rattle.std.specs.Prelude.{is_some, true, false}
+use Rattle.ep_typed.specs.Denoters.{host_of}
+use Rattle.ep_typed.specs.Hosts.{Host}
 use Rattle.ep_gen_expr.specs.Jumps.{IsNextPlace}
 use Rattle.ep_gen_unit.specs.StmtGrowth.{Follows, AppendsStmt, AppendsStart, AppendsRoutine, AppendsRoutines, IsCompact, MakesBlock, MakesOwn, MakesResult, assembled}
 use Rattle.ep_gen_unit.specs.UnitCode.{IsProgramCode, IsRoutineCode, AreRoutinesCode, StandsIn, own_code, its_end, entry_of, plain_at, routine_at}
@@ -186,28 +189,38 @@ grows_result {a = a} {d = d} {h = h} number n slot dup defined next jump load re
     subst (λ k. Grows a h (instr op.SLOT (pos number) 0 a.line ∷ bare a.line op.DUP ∷ bare a.line op.DEFINED ∷ instr op.JUMP_FALSE (pos k) 0 a.line ∷ bare a.line op.LOAD ∷ bare a.line op.RETURN ∷ instr op.FAIL (pos run_error.RESULT_UNDEFINED) 0 a.line ∷ [])) target all
 
 -- a procedure ends with a `Return`
-pub ends_procedure : {e : Code} (d : Code) (line number : ℕ) (o result : Option RoutineResult) → o ≡ result → o ≡ None → Grows (record d { line = code.NO_LINE }) e (return_code ∷ [])
-    → Follows d e (end_code line number (length d.instructions) result)
-ends_procedure {e = e} d line number o result is none last =
-    subst (λ r. Follows d e (end_code line number (length d.instructions) r)) (sym none ∙ is) (follows_line d code.NO_LINE (follows_grows last))
+pub ends_procedure : {e : Code} (d : Code) (types : List UnitType) (line number : ℕ) (o result : Option RoutineResult) → o ≡ result → o ≡ None → Grows (record d { line = code.NO_LINE }) e (return_code ∷ [])
+    → Follows d e (end_code types line number (length d.instructions) result)
+ends_procedure {e = e} d types line number o result is none last =
+    subst (λ r. Follows d e (end_code types line number (length d.instructions) r)) (sym none ∙ is) (follows_line d code.NO_LINE (follows_grows last))
 
 -- a function with its result
-pub ends_function : {e : Code} (d : Code) (line number : ℕ) (o result : Option RoutineResult) (x : RoutineResult) → o ≡ result → o ≡ Some x → Grows (record d { line = line }) e (result_code line number (length d.instructions))
-    → Follows d e (end_code line number (length d.instructions) result)
-ends_function {e = e} d line number o result x is some last =
-    subst (λ r. Follows d e (end_code line number (length d.instructions) r)) (sym some ∙ is) (follows_line d line (follows_grows last))
+pub ends_function : {e : Code} (d : Code) (types : List UnitType) (line number : ℕ) (o result : Option RoutineResult) (x : RoutineResult) → o ≡ result → o ≡ Some x → Grows (record d { line = line }) e (function_end (host_of types (denoter_of x.denoter)) line number (length d.instructions))
+    → Follows d e (end_code types line number (length d.instructions) result)
+ends_function {e = e} d types line number o result x is some last =
+    subst (λ r. Follows d e (end_code types line number (length d.instructions) r)) (sym some ∙ is) (follows_line d line (follows_grows last))
+
+-- its result is a word, or all of an array or a record
+pub grows_end : {a b : Code} (o : Option Host) (number : ℕ) → is_some o ≡ true → Grows a b (result_code a.line number (length a.instructions)) → Grows a b (function_end o a.line number (length a.instructions))
+grows_end None number is h = cc
+grows_end (Some x) number is h = h
+
+pub grows_whole : {a b c d : Code} (o : Option Host) (number : ℕ) → is_some o ≡ false → Grows a b (instr op.SLOT (pos number) 0 a.line ∷ []) → Grows b c (bare b.line op.LOAD ∷ []) → Grows c d (bare c.line op.RETURN ∷ [])
+    → Grows a d (function_end o a.line number (length a.instructions))
+grows_whole None number is slot load return = grows_at (λ l. bare l op.RETURN ∷ []) (grows_at (λ l. bare l op.LOAD ∷ []) slot load) return
+grows_whole (Some x) number is slot load return = cc
 
 -- the code of a routine, from that of its formal parameters, its variables, its block and its end
 pub appends_routine : {b c d e : Code} (a : Code) (types : List UnitType) (r : UnitRoutine) (fs : List Formal) (entry arguments slots : ℕ) (x : CodeRoutine) → fs ≡ r.formals → arguments ≡ length fs
     → IsNextPlace a entry → Follows a b (take_all_code types r.line 0 fs) → MakesOwn b c types r slots → AppendsStmt c d (stmt_of r.block)
-    → Follows d e (end_code r.line arguments (length d.instructions) r.result) → x ≡ routine_at entry arguments slots → AppendsRoutine a e types r x
+    → Follows d e (end_code types r.line arguments (length d.instructions) r.result) → x ≡ routine_at entry arguments slots → AppendsRoutine a e types r x
 appends_routine {b = b} {c = c} {d = d} {e = e} a types r fs entry arguments slots x formals_are many next takes makes s last is =
     let made = makes.follows in
     let m : Follows a c (own_code types r) = follows_then (subst (λ l. Follows a b (take_all_code types r.line 0 l)) formals_are takes) made in
     let place : length d.instructions ≡ length a.instructions + length (own_code types r) + length s.code = omega (arith, grown_length m, grown_length s.follows) in
     let number : arguments ≡ length r.formals = many ∙ ap length formals_are in
-    let ends : Follows d e (its_end (length a.instructions + length (own_code types r) + length s.code) r) =
-    subst (λ k. Follows d e (end_code r.line k (length a.instructions + length (own_code types r) + length s.code) r.result)) number (subst (λ k. Follows d e (end_code r.line arguments k r.result)) place last) in
+    let ends : Follows d e (its_end types (length a.instructions + length (own_code types r) + length s.code) r) =
+    subst (λ k. Follows d e (end_code types r.line k (length a.instructions + length (own_code types r) + length s.code) r.result)) number (subst (λ k. Follows d e (end_code types r.line arguments k r.result)) place last) in
     record {
       plain = is ∙ (ap (λ k. routine_at k arguments slots) next.is_length ∙ (ap (λ k. routine_at (length a.instructions) k slots) number ∙ ap (λ k. routine_at (length a.instructions) (length r.formals) k) makes.count));
       code = s.code;
@@ -246,7 +259,7 @@ routines_then : {a b c : Code} (types : List UnitType) (rs : List UnitRoutine) (
 routines_then {b = b} {c = c} types rs entries r x p q =
     let blocks = p.blocks in
     record {
-      code = p.code ++ (own_code types r ++ (q.code ++ its_end (length b.instructions + length (own_code types r) + length q.code) r));
+      code = p.code ++ (own_code types r ++ (q.code ++ its_end types (length b.instructions + length (own_code types r) + length q.code) r));
       follows = follows_then p.follows q.follows;
       blocks = record {
         count = omega (arith, blocks.count, length-append entries (x ∷ []), length-append rs (r ∷ []));
@@ -261,10 +274,10 @@ routines_then {b = b} {c = c} types rs entries r x p q =
           plain = q.plain ∙ ap (λ k. entry_of k r) (sym entry);
           code = q.code;
           is_code = subst (λ k. IsStmtCode c.texts c.references (k + length (own_code types r)) (stmt_of r.block) q.code) (sym entry) q.is_code;
-          stands = subst (λ k. StandsIn c.instructions k (own_code types r ++ (q.code ++ its_end (k + length (own_code types r) + length q.code) r))) (sym entry) (record {
+          stands = subst (λ k. StandsIn c.instructions k (own_code types r ++ (q.code ++ its_end types (k + length (own_code types r) + length q.code) r))) (sym entry) (record {
             before = b.instructions;
             after = [];
-            is = let f = q.follows in f.instructions ∙ ap (λ l. b.instructions ++ l) (sym (append-nil (own_code types r ++ (q.code ++ its_end (length b.instructions + length (own_code types r) + length q.code) r))));
+            is = let f = q.follows in f.instructions ∙ ap (λ l. b.instructions ++ l) (sym (append-nil (own_code types r ++ (q.code ++ its_end types (length b.instructions + length (own_code types r) + length q.code) r))));
             from = refl;
           });
         }

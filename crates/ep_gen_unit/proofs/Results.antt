@@ -1,15 +1,16 @@
 -- The machine follows the end of a function: it leaves the value of the variable that has the result.
-use Rattle.std.proofs.Common.{◌≡◌, ℕ, ℤ, pos, ◌+◌, ◌-◌, ◌≤◌, ◌<◌, List, [], ◌∷◌, length, Option, Some, None, slice_get, false, refl, sym, ap, ◌∙◌, subst, arith}
+use Rattle.std.proofs.Common.{◌≡◌, ℕ, ℤ, pos, suc, ◌+◌, ◌*◌, ◌-◌, ◌≤◌, ◌<◌, List, [], ◌∷◌, length, Option, Some, None, slice_get, false, refl, sym, ap, ◌∙◌, subst, arith}
 use Rattle.std.specs.Prelude.{if◌then◌else◌, is_some}
 use Rattle.ep_gen_expr.specs.ExprCode.{instr, bare}
 use Rattle.ep_gen_expr.proofs.Placed.{instr_at, jump_false_has}
-use Rattle.ep_gen_unit.specs.StmtCode.{result_code}
+use Rattle.ep_gen_unit.specs.StmtCode.{result_code, structure_code}
 use Rattle.ep_object.proofs.following.Bind.{Met, follows_credit, follows_give, follows_stop, follows_waits}
-use Rattle.ep_object.proofs.following.Choices.{Reads, Misses, Finds, fragment_fetched, fragment_using}
+use Rattle.ep_object.proofs.following.Choices.{Reads, ReadsResult, Nothing, Result_of, fragment_fetched, fragment_using}
 use Rattle.ep_object.proofs.following.Fragments.{FailsWith, fragment_bind, fragment_from, fragment_waits}
+use Rattle.ep_object.proofs.matching.Awaiting.{value_on_top}
 use Rattle.ep_object.proofs.matching.Growing.{not_left-here, still_routine, unit_in-same}
 use Rattle.ep_object.proofs.rows.OwnRows.{own_reads}
-use Rattle.ep_object.proofs.rows.PlaceRows.{defined_fails, defined_tells, load_reads}
+use Rattle.ep_object.proofs.rows.PlaceRows.{defined_fails, defined_tells, load_fails, load_reads, structure_found}
 use Rattle.ep_object.proofs.rows.Rows.{RowPushes, outcome_at, fail_fails, jump_false_jumps}
 use Rattle.ep_object.specs.Activations.{KnowsNames}
 use Rattle.ep_object.specs.Follows.{Facts, Follows, Fragment, Lands, Inside, OnTop, PlaceOnTop, IsNotLeft, point}
@@ -17,7 +18,7 @@ use Rattle.ep_object.specs.Matching.{Memory, Injection, Matches, Slots, HasOwnTy
 use Rattle.ep_object.specs.Operands.{Operand, Word}
 use Rattle.ep_object.specs.Operands as operand
 use Rattle.ep_object.specs.Placing.{Placement, CodeStands}
-use Rattle.ep_object.specs.Promises.{ResultsOnTop}
+use Rattle.ep_object.specs.Promises.{ResultsOnTop, credit_of}
 use Rattle.ep_object.specs.Runs.{outcome, unit_in}
 use Rattle.ep_object.specs.State.{State, Running, Stopped, Error}
 use Rattle.ep_object.specs.WordRows.{bit}
@@ -30,14 +31,15 @@ use Rattle.ep_typed.specs.Hosts.{Host}
 use Rattle.ep_typed.specs.Meaning.{result_at}
 use Rattle.ep_typed.specs.Operations.{is_true}
 use Rattle.ep_typed.specs.Printing.{Result}
+use Rattle.ep_typed.specs.Results.{result_of, weight_of}
 use Rattle.ep_typed.specs.Printing as result
-use Rattle.ep_typed.specs.Steps.{Component, Computation, bind, fetch, found, give, using, word_at, own_variable, has_ended}
+use Rattle.ep_typed.specs.Steps.{Component, Computation, bind, fetch, found, give, using, own_variable, has_ended}
 use Rattle.ep_typed.specs.Steps as meaning
 use Rattle.ep_typed.specs.Valid as kind
-use Rattle.ep_typed.specs.Valid.{variables_up, Declarations, IsTypeOf}
+use Rattle.ep_typed.specs.Valid.{variables_up, Declarations, IsStructured, IsTypeOf}
 use Rattle.ep_typed.specs.declared.run_error.TheConstants as run_error
 use Rattle.ep_typed.specs.declared.unit.UnitVariable.{UnitVariable}
-use Rattle.ep_typed.specs.TypeValues.{TypeValue}
+use Rattle.ep_typed.specs.TypeValues.{TypeValue, size_of}
 use Rattle.ep_typed.specs.TypeValues as type
 
 -- what is read of a state, by what it is there
@@ -51,64 +53,61 @@ dup_place : (G : Image) (place line : ℕ) (below : List Operand) (q : PlaceOf) 
     → RowPushes G place (operand.Place q ∷ below) 0 (operand.Place q ∷ operand.Place q ∷ below)
 dup_place G place line below q has memory trace = outcome_at G (instr op.DUP (pos 0) 0 line) place (operand.Place q ∷ below) memory trace has
 
-same_number : (w z : ℤ) → result.Number w ≡ result.Number z → w ≡ z
-same_number w z e = cc
-
 module _ {declared : Declarations} {G : Image} {Here : Facts} (untouched : Slots) (knows : KnowsNames declared Here) (ps : List Placement) (p : Placement) (references : List Reference) (n : ℕ) (unit : List ℕ) (room : p.instructions.before + p.instructions.own ≤ length G.instructions)
     (number line at : ℕ) (h : Host) (low high : ℤ) (of_host : IsTypeOf h (type.Ordinal low high)) (stands : CodeStands G ps p references at (result_code line number at)) (inside : at + 6 < p.instructions.own) where
   -- from the instruction that tells whether the variable has a value, where it lives
   given_follows : (injection : Injection) (memory : Memory) (below : List Operand) (a : Component) (q : PlaceOf) → IsSpot injection memory.types a q → Describes memory.types q.type_number (type.Ordinal low high) → (d : ℕ) → 8 ≤ d → unit_in G memory.frames ≡ unit
       → (s : meaning.State) → Matches declared G injection s memory → Here injection s memory → has_ended a.allocation s ≡ false
-      → Follows (λ k. IsNotLeft memory.frames k.frames) G n (standing ((p.instructions.before + at) + 2) (operand.Place q ∷ operand.Place q ∷ below) memory s.trace) s (bind (fetch (meaning.Error run_error.RESULT_UNDEFINED unit line) (word_at a)) (λ w. give (result.Number w ∷ []))) (λ rs. Lands declared G Here ((p.instructions.before + at) + 5) (ResultsOnTop (kind.Ordinal h ∷ []) below rs)) d (λ rs. 1)
+      → Follows (λ k. IsNotLeft memory.frames k.frames) G n (standing ((p.instructions.before + at) + 2) (operand.Place q ∷ operand.Place q ∷ below) memory s.trace) s (bind (fetch (meaning.Error run_error.RESULT_UNDEFINED unit line) (result_of a)) (λ r. give (r ∷ []))) (λ rs. Lands declared G Here ((p.instructions.before + at) + 5) (ResultsOnTop (kind.Ordinal h ∷ []) below rs)) d (λ rs. 1 + credit_of rs)
   given_follows injection memory below a q spot described d enough home s matches here living =
-      by_value (load_reads declared G ((p.instructions.before + at) + 4) line below {untouched = untouched} h low high a q of_host (instr_at G (omega arith) stands.1.1.1.1.0) injection memory spot described s matches here living)
+      by_value (load_reads declared G ((p.instructions.before + at) + 4) line below {untouched = untouched} (kind.Ordinal h) (type.Ordinal low high) a q of_host (instr_at G (omega arith) stands.1.1.1.1.0) injection memory spot described s matches here living)
     where
       In : State → Type 0
       In k = IsNotLeft memory.frames k.frames
 
       -- whether it has a value, and on to what that is for
-      asked : outcome G (standing ((p.instructions.before + at) + 2) (operand.Place q ∷ operand.Place q ∷ below) memory s.trace) ≡ record { weight = 0; to = Running 0 (standing ((p.instructions.before + at) + 2 + 1) (Word (bit (is_some (word_at a s))) ∷ operand.Place q ∷ below) memory s.trace) }
+      asked : outcome G (standing ((p.instructions.before + at) + 2) (operand.Place q ∷ operand.Place q ∷ below) memory s.trace) ≡ record { weight = 0; to = Running 0 (standing ((p.instructions.before + at) + 2 + 1) (Word (bit (is_some (result_of a s))) ∷ operand.Place q ∷ below) memory s.trace) }
       asked = defined_tells declared G ((p.instructions.before + at) + 2) line (operand.Place q ∷ below) low high a q (instr_at G (omega arith) stands.1.1.0) injection memory spot described s matches living
 
       jumped : (z : ℤ) → outcome G (standing ((p.instructions.before + at) + 2 + 1) (Word z ∷ operand.Place q ∷ below) memory s.trace) ≡ record { weight = 0; to = Running 0 (standing (if is_true z then (p.instructions.before + at) + 2 + 1 + 1 else p.instructions.before + (at + 6)) (operand.Place q ∷ below) memory s.trace) }
       jumped z = jump_false_jumps G ((p.instructions.before + at) + 2 + 1) line (operand.Place q ∷ below) z (p.instructions.before + (at + 6)) (omega (arith, room, inside)) (instr_at G (omega arith) (jump_false_has G ps p references line (at + 1 + 1 + 1) (at + 6) (bare line op.LOAD ∷ bare line op.RETURN ∷ instr op.FAIL (pos run_error.RESULT_UNDEFINED) 0 line ∷ []) inside stands.1.1.1)) memory s.trace
 
-      by_value : Reads declared G Here (standing ((p.instructions.before + at) + 4) (operand.Place q ∷ below) memory s.trace) 1 (unit_in G memory.frames) line ((p.instructions.before + at) + 4 + 1) (λ w. Inside untouched injection memory (OnTop (kind.Ordinal h) below (result.Number w))) s (word_at a s)
-          → Follows In G n (standing ((p.instructions.before + at) + 2) (operand.Place q ∷ operand.Place q ∷ below) memory s.trace) s (bind (fetch (meaning.Error run_error.RESULT_UNDEFINED unit line) (word_at a)) (λ w. give (result.Number w ∷ []))) (λ rs. Lands declared G Here ((p.instructions.before + at) + 5) (ResultsOnTop (kind.Ordinal h ∷ []) below rs)) d (λ rs. 1)
-      by_value (Misses none fails) =
-          follows_found (meaning.Error run_error.RESULT_UNDEFINED unit line) (word_at a) (λ w. give (result.Number w ∷ [])) None none
-          (follows_credit {d = 1 + (1 + (d - 2))} {e = λ rs. 1} (omega (arith, enough)) (λ rs. omega (arith, enough))
+      by_value : ReadsResult declared G Here (standing ((p.instructions.before + at) + 4) (operand.Place q ∷ below) memory s.trace) 1 (unit_in G memory.frames) line ((p.instructions.before + at) + 4 + 1) (λ r. Inside untouched injection memory (OnTop (kind.Ordinal h) below r)) s (result_of a s)
+          → Follows In G n (standing ((p.instructions.before + at) + 2) (operand.Place q ∷ operand.Place q ∷ below) memory s.trace) s (bind (fetch (meaning.Error run_error.RESULT_UNDEFINED unit line) (result_of a)) (λ r. give (r ∷ []))) (λ rs. Lands declared G Here ((p.instructions.before + at) + 5) (ResultsOnTop (kind.Ordinal h ∷ []) below rs)) d (λ rs. 1 + credit_of rs)
+      by_value (Nothing none fails) =
+          follows_found (meaning.Error run_error.RESULT_UNDEFINED unit line) (result_of a) (λ r. give (r ∷ [])) None none
+          (follows_credit {d = 1 + (1 + (d - 2))} {e = λ rs. 1 + credit_of rs} (omega (arith, enough)) (λ rs. omega (arith, enough))
           (follows_waits (not_left-here memory.frames) (asked ∙ ap (λ o. record { weight = 0; to = Running 0 (standing ((p.instructions.before + at) + 2 + 1) (Word (bit (is_some o)) ∷ operand.Place q ∷ below) memory s.trace) }) none)
           (follows_waits (not_left-here memory.frames) (jumped (pos 0))
           (follows_stop (not_left-here memory.frames)
           (fail_fails G (p.instructions.before + (at + 6)) line (operand.Place q ∷ below) run_error.RESULT_UNDEFINED refl (instr_at G (omega arith) stands.1.1.1.1.1.1.0) memory s.trace ∙ ap (λ u. record { weight = 0; to = Stopped (Error run_error.RESULT_UNDEFINED u line) s.trace }) home)
           (omega (arith, enough))))))
-      by_value (Finds w some does) =
-          follows_found (meaning.Error run_error.RESULT_UNDEFINED unit line) (word_at a) (λ w. give (result.Number w ∷ [])) (Some w) some
-          (follows_credit {d = 1 + (1 + (1 + (d - 3)))} {e = λ rs. 1} (omega (arith, enough)) (λ rs. omega (arith, enough))
+      by_value (Result_of r some does) =
+          let reached = does.post in
+          let top = reached.operands_are in
+          let light : weight_of r ≡ 0 = ap weight_of top.is_number in
+          follows_found (meaning.Error run_error.RESULT_UNDEFINED unit line) (result_of a) (λ r. give (r ∷ [])) (Some r) some
+          (follows_credit {d = 1 + (1 + (suc (weight_of r) + (d - 3)))} {e = λ rs. 1 + credit_of rs} (omega (arith, enough, light)) (λ rs. omega (arith, enough, light))
           (follows_waits (not_left-here memory.frames) (asked ∙ ap (λ o. record { weight = 0; to = Running 0 (standing ((p.instructions.before + at) + 2 + 1) (Word (bit (is_some o)) ∷ operand.Place q ∷ below) memory s.trace) }) some)
           (follows_waits (not_left-here memory.frames) (jumped (pos 1) ∙ ap (λ k. record { weight = 0; to = Running 0 (standing k (operand.Place q ∷ below) memory s.trace) }) {x = (p.instructions.before + at) + 2 + 1 + 1} {y = (p.instructions.before + at) + 4} (omega arith))
           (follows_waits (not_left-here memory.frames) does.does
-          (follows_give (result.Number w ∷ []) (omega (arith, enough)) (
-          let reached = does.post in
-          let top = reached.operands_are in
-          record {
+          (follows_give (r ∷ []) (omega (arith, enough, light)) (record {
             injection = does.injection;
             memory = does.memory;
             operands = does.operands;
             is = ap (λ k. standing k does.operands does.memory s.trace) {x = (p.instructions.before + at) + 4 + 1} {y = (p.instructions.before + at) + 5} (omega arith);
             matches = does.matches;
             here = does.here;
-            post = ((top.number, top.is_number, top.of_host), top.is ∙ ap (λ z. Word z ∷ below) (sym (same_number w top.number top.is_number)));
+            post = value_on_top (kind.Ordinal h) below r does.injection does.memory does.operands top;
           }))))))
 
   -- the end of a function: the place of the variable, whether that has a value, and the value
   ordinal_moves : (v : UnitVariable) → slice_get (variables_up declared 0) number ≡ Some v → HasOwnType declared v (type.Ordinal low high)
       → (injection : Injection) (memory : Memory) (below : List Operand) (d : ℕ) → 16 ≤ d → unit_in G memory.frames ≡ unit
-      → Fragment declared G Here n (point injection memory (p.instructions.before + at) below) (result_at unit line number) ((p.instructions.before + at) + 5) (λ rs. ResultsOnTop (kind.Ordinal h ∷ []) below rs) d (λ rs. 1)
+      → Fragment declared G Here n (point injection memory (p.instructions.before + at) below) (result_at unit line number) ((p.instructions.before + at) + 5) (λ rs. ResultsOnTop (kind.Ordinal h ∷ []) below rs) d (λ rs. 1 + credit_of rs)
   ordinal_moves v is_declared has_type injection memory below d enough home =
       fragment_bind {middle = (p.instructions.before + at) + 1} {P = λ a. Inside untouched injection memory (PlaceOnTop (type.Ordinal low high) below a)} {e = λ a. d - 1}
-      (λ a. steady_using (meaning.Error run_error.DISPOSED unit line) a.allocation (steady_bind (steady_fetch (meaning.Error run_error.RESULT_UNDEFINED unit line) (word_at a)) (λ w. steady_give (result.Number w ∷ []))))
+      (λ a. steady_using (meaning.Error run_error.DISPOSED unit line) a.allocation (steady_bind (steady_fetch (meaning.Error run_error.RESULT_UNDEFINED unit line) (result_of a)) (λ r. steady_give (r ∷ []))))
       (fragment_fetched (own_variable 0 number) (λ s matches here.
       subst (λ u. Reads declared G Here (standing (p.instructions.before + at) below memory s.trace) 1 u line ((p.instructions.before + at) + 1) (λ a. Inside untouched injection memory (PlaceOnTop (type.Ordinal low high) below a)) s (own_variable 0 number s)) home
       (own_reads declared G (p.instructions.before + at) line below number v (type.Ordinal low high) stands.0 has_type injection memory s matches ((knows injection s memory here).own number v is_declared) here)) (omega (arith, enough)))
@@ -116,7 +115,7 @@ module _ {declared : Declarations} {G : Image} {Here : Facts} (untouched : Slots
       let top = i.operands_are in
       let at_home : unit_in G after.frames ≡ unit = unit_in-same G i.routine ∙ home in (
         still_routine i.routine,
-        subst (λ st. Fragment declared G Here n (point longer after ((p.instructions.before + at) + 1) st) (using (meaning.Error run_error.DISPOSED unit line) a.allocation (bind (fetch (meaning.Error run_error.RESULT_UNDEFINED unit line) (word_at a)) (λ w. give (result.Number w ∷ [])))) ((p.instructions.before + at) + 5) (λ rs. ResultsOnTop (kind.Ordinal h ∷ []) below rs) (d - 1) (λ rs. 1)) (sym top.is)
+        subst (λ st. Fragment declared G Here n (point longer after ((p.instructions.before + at) + 1) st) (using (meaning.Error run_error.DISPOSED unit line) a.allocation (bind (fetch (meaning.Error run_error.RESULT_UNDEFINED unit line) (result_of a)) (λ r. give (r ∷ [])))) ((p.instructions.before + at) + 5) (λ rs. ResultsOnTop (kind.Ordinal h ∷ []) below rs) (d - 1) (λ rs. 1 + credit_of rs)) (sym top.is)
             (fragment_waits {d1 = d - 2} (λ s matches. dup_place G ((p.instructions.before + at) + 1) line below top.place (instr_at G (omega arith) stands.1.0) after s.trace) (omega (arith, enough))
             (fragment_from {place = (p.instructions.before + at) + 2} (omega arith)
             (fragment_using {n = n} a.allocation
@@ -130,9 +129,54 @@ pub result_moves : {declared : Declarations} {G : Image} {Here : Facts} (untouch
     (number line at : ℕ) (h : Host) (t : TypeValue) → IsTypeOf h t → CodeStands G ps p references at (result_code line number at) → at + 6 < p.instructions.own
     → (v : UnitVariable) → slice_get (variables_up declared 0) number ≡ Some v → HasOwnType declared v t
     → (injection : Injection) (memory : Memory) (below : List Operand) (d : ℕ) → 16 ≤ d → unit_in G memory.frames ≡ unit
-    → Fragment declared G Here n (point injection memory (p.instructions.before + at) below) (result_at unit line number) (p.instructions.before + at + 5) (λ rs. ResultsOnTop (kind.Ordinal h ∷ []) below rs) d (λ rs. 1)
+    → Fragment declared G Here n (point injection memory (p.instructions.before + at) below) (result_at unit line number) (p.instructions.before + at + 5) (λ rs. ResultsOnTop (kind.Ordinal h ∷ []) below rs) d (λ rs. 1 + credit_of rs)
 result_moves untouched knows ps p references n unit room number line at h type.Text of_host stands inside v is_declared has_type injection memory below d enough home = absurd of_host
 result_moves untouched knows ps p references n unit room number line at h (type.Array low high of) of_host stands inside v is_declared has_type injection memory below d enough home = absurd of_host
 result_moves untouched knows ps p references n unit room number line at h (type.Record ts) of_host stands inside v is_declared has_type injection memory below d enough home = absurd of_host
 result_moves untouched knows ps p references n unit room number line at h (type.Ordinal low high) of_host stands inside v is_declared has_type injection memory below d enough home =
     ordinal_moves untouched knows ps p references n unit room number line at h low high of_host stands inside v is_declared has_type injection memory below d enough home
+
+-- The end of a function, whose result is in a variable of an array or record type. The credit for what is left is there, which the
+-- making of the variable gave.
+pub structure_moves : {declared : Declarations} {G : Image} {Here : Facts} (untouched : Slots) (knows : KnowsNames declared Here) (ps : List Placement) (p : Placement) (references : List Reference) (n : ℕ) (unit : List ℕ)
+    (number line at : ℕ) (t : TypeValue) → IsStructured t → CodeStands G ps p references at (structure_code line number)
+    → (v : UnitVariable) → slice_get (variables_up declared 0) number ≡ Some v → HasOwnType declared v t
+    → (injection : Injection) (memory : Memory) (below : List Operand) (d : ℕ) → 16 ≤ d → unit_in G memory.frames ≡ unit
+    → Fragment declared G Here n (point injection memory (p.instructions.before + at) below) (result_at unit line number) (p.instructions.before + at + 2) (λ rs. ResultsOnTop (kind.Structured t ∷ []) below rs) (d + 3 * size_of t) (λ rs. 1 + credit_of rs)
+structure_moves {declared = declared} {G = G} {Here = Here} untouched knows ps p references n unit number line at t structured stands v is_declared has_type injection memory below d enough home =
+    fragment_bind {middle = (p.instructions.before + at) + 1} {P = λ a. Inside untouched injection memory (PlaceOnTop t below a)} {e = λ a. d - 1 + 3 * size_of t}
+    (λ a. steady_using (meaning.Error run_error.DISPOSED unit line) a.allocation (steady_bind (steady_fetch (meaning.Error run_error.RESULT_UNDEFINED unit line) (result_of a)) (λ r. steady_give (r ∷ []))))
+    (fragment_fetched (own_variable 0 number) (λ s matches here.
+    subst (λ u. Reads declared G Here (standing (p.instructions.before + at) below memory s.trace) 1 u line ((p.instructions.before + at) + 1) (λ a. Inside untouched injection memory (PlaceOnTop t below a)) s (own_variable 0 number s)) home
+    (own_reads declared G (p.instructions.before + at) line below number v t stands.0 has_type injection memory s matches ((knows injection s memory here).own number v is_declared) here)) (omega (arith, enough)))
+    (λ a longer after pushed i.
+    let top = i.operands_are in
+    let at_home : unit_in G after.frames ≡ unit = unit_in-same G i.routine ∙ home in (
+      still_routine i.routine,
+      subst (λ st. Fragment declared G Here n (point longer after ((p.instructions.before + at) + 1) st) (using (meaning.Error run_error.DISPOSED unit line) a.allocation (bind (fetch (meaning.Error run_error.RESULT_UNDEFINED unit line) (result_of a)) (λ r. give (r ∷ [])))) (p.instructions.before + at + 2) (λ rs. ResultsOnTop (kind.Structured t ∷ []) below rs) (d - 1 + 3 * size_of t) (λ rs. 1 + credit_of rs)) (sym top.is)
+          (fragment_using {n = n} a.allocation
+          (λ s matches ended. subst (λ u. FailsWith G (standing ((p.instructions.before + at) + 1) (operand.Place top.place ∷ below) after s.trace) 0 11 u line s) at_home (load_fails declared G ((p.instructions.before + at) + 1) line below (kind.Structured t) t a top.place (refl, structured) (instr_at G (omega arith) stands.1.0) longer after top.spot top.described s matches ended))
+          (omega (arith, enough))
+          (λ s matches here living. gives longer after a top.place top.spot top.described s matches here living)),
+    ))
+  where
+    gives : (longer : Injection) (after : Memory) (a : Component) (q : PlaceOf) → IsSpot longer after.types a q → Describes after.types q.type_number t
+        → (s : meaning.State) → Matches declared G longer s after → Here longer s after → has_ended a.allocation s ≡ false
+        → Follows (λ k. IsNotLeft after.frames k.frames) G n (standing ((p.instructions.before + at) + 1) (operand.Place q ∷ below) after s.trace) s (bind (fetch (meaning.Error run_error.RESULT_UNDEFINED unit line) (result_of a)) (λ r. give (r ∷ []))) (λ rs. Lands declared G Here (p.instructions.before + at + 2) (ResultsOnTop (kind.Structured t ∷ []) below rs)) (d - 1 + 3 * size_of t) (λ rs. 1 + credit_of rs)
+    gives longer after a q spot described s matches here living =
+        let x = structure_found declared G ((p.instructions.before + at) + 1) line below {untouched = untouched} {Here = Here} t a q structured (instr_at G (omega arith) stands.1.0) longer after spot described s matches here living in
+        let does = x.2 in
+        let reached = does.post in
+        let top = reached.operands_are in
+        follows_found (meaning.Error run_error.RESULT_UNDEFINED unit line) (result_of a) (λ r. give (r ∷ [])) (Some (result.Structure t x.0)) x.1
+        (follows_credit {d = suc (size_of t) + (d - 2 + 2 * size_of t)} {e = λ rs. 1 + credit_of rs} (omega (arith, enough)) (λ rs. omega (arith, enough))
+        (follows_waits (not_left-here after.frames) does.does
+        (follows_give (result.Structure t x.0 ∷ []) (omega (arith, enough)) (record {
+          injection = does.injection;
+          memory = does.memory;
+          operands = does.operands;
+          is = ap (λ k. standing k does.operands does.memory s.trace) {x = (p.instructions.before + at) + 1 + 1} {y = p.instructions.before + at + 2} (omega arith);
+          matches = does.matches;
+          here = does.here;
+          post = value_on_top (kind.Structured t) below (result.Structure t x.0) does.injection does.memory does.operands top;
+        }))))

@@ -1,5 +1,5 @@
 -- The routines of a unit keep their promises, by induction on the steps: a call spends one.
-use Rattle.std.proofs.Common.{◌⊎◌, inl, inr, append-nil, ◌≡◌, ℕ, zero, suc, pos, ◌+◌, ◌≤◌, ◌<◌, Bool, true, false, if◌then◌else◌, List, [], ◌∷◌, ◌++◌, map, option_map, length, length-append, Option, Some, None, slice_get, bytes_eq, refl, sym, ap, ◌∙◌, subst, arith}
+use Rattle.std.proofs.Common.{◌⊎◌, inl, inr, append-nil, ◌≡◌, ℕ, zero, suc, pos, ◌+◌, ◌≤◌, ◌<◌, Bool, true, false, if◌then◌else◌, List, [], ◌∷◌, ◌++◌, map, option_map, length, length-append, Option, Some, None, slice_get, bytes_eq, refl, sym, ap, ◌∙◌, subst, arith, ◌*◌}
 use Rattle.std.proofs.lemmas.Option.{same_Some, slice_get_within, slice_get-map, get_or_from_slice_get}
 use Rattle.std.proofs.lemmas.List.{length-map}
 use Rattle.ep_gen_expr.specs.ExprCode.{bare}
@@ -7,18 +7,18 @@ use Rattle.ep_gen_expr.proofs.Following.{place_follows, expression_follows, call
 use Rattle.ep_gen_expr.proofs.Placed.{instr_at}
 use Rattle.ep_typed.proofs.Denoters.{types_are_instances}
 use Rattle.ep_typed.proofs.Typed.{typed_of_host}
-use Rattle.ep_gen_unit.specs.StmtCode.{IsStmtCode, make_all_code, take_all_code, return_code, end_code}
+use Rattle.ep_gen_unit.specs.StmtCode.{IsStmtCode, make_all_code, take_all_code, return_code, result_code, structure_code, function_end, end_code}
 use Rattle.ep_gen_unit.specs.UnitCode.{IsProgramCode, own_code, its_end, entry_of, plain_at}
 use Rattle.ep_gen_unit.proofs.Declared.{name_same, same_name, own_types, slice_get-either, variables_valid}
-use Rattle.ep_gen_unit.proofs.OwnMakes.{make_all_own_moves, takes_all_moves}
+use Rattle.ep_gen_unit.proofs.OwnMakes.{make_all_own_moves, make_sized_moves, takes_all_moves}
 use Rattle.ep_gen_unit.proofs.Parts.{code_stands-parts}
-use Rattle.ep_gen_unit.proofs.Results.{result_moves}
+use Rattle.ep_gen_unit.proofs.Results.{result_moves, structure_moves}
 use Rattle.ep_gen_unit.proofs.StmtMoves.{statement_moves}
 use Rattle.ep_gen_unit.proofs.Units.{of_object, room, routine_there, scene_of, moved_own}
 use Rattle.ep_object.proofs.following.Declaring.{fragment_outside, calls_kept-inside}
-use Rattle.ep_object.proofs.following.Fragments.{fragment_bind, fragment_cut, fragment_from, fragment_give, fragment_to}
+use Rattle.ep_object.proofs.following.Fragments.{fragment_bind, fragment_credit, fragment_cut, fragment_from, fragment_give, fragment_to}
 use Rattle.ep_object.proofs.following.Routines.{begun_memory, grown_begun, parent_of_call, routine_keeps}
-use Rattle.ep_object.proofs.matching.Awaiting.{AreAwaited, AreLight, IsLight, Handed, arguments_in, awaited-grown, handed}
+use Rattle.ep_object.proofs.matching.Awaiting.{AreAwaited, Handed, arguments_in, awaited-grown, handed}
 use Rattle.ep_object.proofs.matching.Growing.{among_same, slice_get-prefix, still_routine, unit_in-same, unit_in-still}
 use Rattle.ep_object.proofs.matching.Names.{activation_knows}
 use Rattle.ep_object.proofs.matching.OwnVariables.{in_activation-lasts}
@@ -27,7 +27,7 @@ use Rattle.ep_object.specs.Follows.{Facts, Lasts, Since, Fragment, Inside, Bare,
 use Rattle.ep_object.specs.Matching.{Memory, Injection, Slots, kept_slots}
 use Rattle.ep_object.specs.Operands.{Operand}
 use Rattle.ep_object.specs.Placing.{Placement, CodeStands, Stands, HasDistinctNames, moved, placement_of, placed_call, placed_routine}
-use Rattle.ep_object.specs.Promises.{Passing, ByValue, ByReference, IsPassed, ArePassed, CallsAt, AreArguments, AreResults, ResultsOnTop, RoutineKeeps, CallsAreKept}
+use Rattle.ep_object.specs.Promises.{Passing, ByValue, ByReference, IsPassed, ArePassed, CallsAt, AreArguments, AreResults, ResultsOnTop, RoutineKeeps, CallsAreKept, credit_of}
 use Rattle.ep_object.specs.Routines.{routine_of as routine_there_in}
 use Rattle.ep_object.specs.Runs.{unit_in}
 use Rattle.ep_object.specs.Scene.{Scene, HaveValidOwnTypes}
@@ -44,14 +44,19 @@ use Rattle.ep_object.specs.declared.op.TheConstants as op
 use Rattle.ep_typed.proofs.Steady.{steady_bind, steady_routine_of, steady_runs_routine, steady_results_given, steady_make_all_own, steady_exec}
 use Rattle.ep_typed.specs.Auxiliaries.{auxiliary_variables, first_for}
 use Rattle.ep_typed.specs.Calls.{Argument, Handler}
-use Rattle.ep_typed.specs.Meaning.{exec, make_all_own, results_given, Found, found_among, routine_in, runs_routine, routine_does, routine_of}
+use Rattle.ep_typed.specs.Meaning.{weights_of, exec, make_all_own, results_given, Found, found_among, routine_in, runs_routine, routine_does, routine_of}
 use Rattle.ep_typed.specs.Printing.{Result}
 use Rattle.ep_typed.specs.Routines.{made_variables, result_name, result_variable}
 use Rattle.ep_typed.specs.Steps.{Computation, bind}
+use Rattle.ep_typed.specs.Denoters.{host_of, type_of}
+use Rattle.ep_typed.specs.Hosts.{Host}
+use Rattle.ep_typed.specs.TypeValues.{TypeValue, size_of}
+use Rattle.ep_typed.proofs.ValueKinds.{kinds_are_one}
+use Rattle.ep_object.proofs.rows.OwnRows.{StillBare}
 use Rattle.ep_typed.specs.Steps as meaning
 use Rattle.ep_typed.specs.Trees.{Callee, Denoter}
 use Rattle.ep_typed.specs.Valid as kind
-use Rattle.ep_typed.specs.Valid.{Declarations, Kind, in_block, levels_of, around_in, variables_in, variables_at, variables_up, IsResult, IsDenoter, IsFormal, IsFormalBy, IsValid, IsRoutine, IsVariable, formal_variable, variables_of, heading_of, own}
+use Rattle.ep_typed.specs.Valid.{Declarations, IsOfKind, IsStructured, Kind, in_block, levels_of, around_in, variables_in, variables_at, variables_up, IsResult, IsDenoter, IsFormal, IsFormalBy, IsValid, IsRoutine, IsVariable, formal_variable, variables_of, heading_of, own}
 use Rattle.ep_typed.specs.Steady.{Steady, IsSteadyHandler}
 use Rattle.ep_typed.specs.Viewed.{denoter_of, stmt_of}
 use Rattle.ep_typed.specs.declared.interface.Formal.{Formal}
@@ -89,9 +94,13 @@ at_place (x ∷ xs) zero less = (x, refl)
 at_place (x ∷ xs) (suc k) less = at_place xs k (omega (arith, less))
 
 -- a routine ends with an instruction at least
-end_length : (line number at : ℕ) (y : Option RoutineResult) → 1 ≤ length (end_code line number at y)
-end_length line number at None = omega arith
-end_length line number at (Some y) = omega arith
+function_length : (o : Option Host) (line number at : ℕ) → 1 ≤ length (function_end o line number at)
+function_length None line number at = omega arith
+function_length (Some h) line number at = omega arith
+
+end_length : (types : List UnitType) (line number at : ℕ) (y : Option RoutineResult) → 1 ≤ length (end_code types line number at y)
+end_length types line number at None = omega arith
+end_length types line number at (Some y) = function_length (host_of types (denoter_of y.denoter)) line number at
 
 -- what stands behind a list
 slice_get-behind : {A : Type 0} (xs ys : List A) (k : ℕ) → slice_get (xs ++ ys) (length xs + k) ≡ slice_get ys k
@@ -115,8 +124,8 @@ module _ (u : TypedUnit) (o : Object) (is : IsProgramCode u o) (valid : IsValid 
     is_code : IsStmtCode o.texts o.references (entry.entry + length (own_code u.types r)) (stmt_of r.block) code
     makes_stand : CodeStands G ps p o.references entry.entry (own_code u.types r)
     code_stands : CodeStands G ps p o.references (entry.entry + length (own_code u.types r)) code
-    end_stands : CodeStands G ps p o.references (entry.entry + length (own_code u.types r) + length code) (its_end (entry.entry + length (own_code u.types r) + length code) r)
-    room_for : entry.entry + length (own_code u.types r) + length code + length (its_end (entry.entry + length (own_code u.types r) + length code) r) ≤ p.instructions.own
+    end_stands : CodeStands G ps p o.references (entry.entry + length (own_code u.types r) + length code) (its_end u.types (entry.entry + length (own_code u.types r) + length code) r)
+    room_for : entry.entry + length (own_code u.types r) + length code + length (its_end u.types (entry.entry + length (own_code u.types r) + length code) r) ≤ p.instructions.own
 
   placed_at : (number : ℕ) (r : UnitRoutine) → slice_get u.routines number ≡ Some r → Placed number r
   placed_at number r there =
@@ -126,7 +135,7 @@ module _ (u : TypedUnit) (o : Object) (is : IsProgramCode u o) (valid : IsValid 
       let h = blocks.each number r x.0 there x.1 in
       let s = h.stands in
       let makes : List Instr = own_code u.types r in
-      let ends : List Instr = its_end (x.0.entry + length makes + length h.code) r in
+      let ends : List Instr = its_end u.types (x.0.entry + length makes + length h.code) r in
       let whole : CodeStands G ps p o.references 0 (s.before ++ ((makes ++ (h.code ++ ends)) ++ s.after)) = subst (λ k. CodeStands G ps p o.references 0 k) s.is stands.code in
       let first = code_stands-parts G ps p o.references 0 s.before ((makes ++ (h.code ++ ends)) ++ s.after) whole in
       let second = code_stands-parts G ps p o.references (0 + length s.before) (makes ++ (h.code ++ ends)) s.after first.1 in
@@ -152,27 +161,27 @@ module _ (u : TypedUnit) (o : Object) (is : IsProgramCode u o) (valid : IsValid 
       rw listed refl
 
   -- how a formal parameter of a valid denoter takes its argument
-  passing_of : (f : Formal) → IsFormal u.types f → (q : Passing) × IsPassed u.types f.mode f q × IsLight q
+  passing_of : (f : Formal) → IsFormal u.types f → (q : Passing) × IsPassed u.types f.mode f q
   passing_of f valid = by_mode f.mode valid.denoter
     where
-      by_mode : (w : FormalMode) → IsFormalBy w u.types (denoter_of f.denoter) → (q : Passing) × IsPassed u.types w f q × IsLight q
-      by_mode mode.Value d = (ByValue (kind.Ordinal d.host), (d.host, d.has_host, refl), tt)
-      by_mode mode.ProtectedValue d = (ByValue (kind.Ordinal d.host), (d.host, d.has_host, refl), tt)
-      by_mode mode.Variable d = (ByReference d.type_value, d.has_type, tt)
-      by_mode mode.ProtectedVariable d = (ByReference d.type_value, d.has_type, tt)
+      by_mode : (w : FormalMode) → IsFormalBy w u.types (denoter_of f.denoter) → (q : Passing) × IsPassed u.types w f q
+      by_mode mode.Value d = (ByValue d.kind, d.of_kind)
+      by_mode mode.ProtectedValue d = (ByValue d.kind, d.of_kind)
+      by_mode mode.Variable d = (ByReference d.type_value, d.has_type)
+      by_mode mode.ProtectedVariable d = (ByReference d.type_value, d.has_type)
 
   -- and how all of them do
-  passings_of : (fs : List Formal) → ((k : ℕ) (f : Formal) → slice_get fs k ≡ Some f → IsFormal u.types f) → (qs : List Passing) × ArePassed u.types fs qs × AreLight qs × (length qs ≡ length fs)
-  passings_of [] valid = ([], tt, tt, refl)
+  passings_of : (fs : List Formal) → ((k : ℕ) (f : Formal) → slice_get fs k ≡ Some f → IsFormal u.types f) → (qs : List Passing) × ArePassed u.types fs qs × (length qs ≡ length fs)
+  passings_of [] valid = ([], tt, refl)
   passings_of (f ∷ fs) valid =
       let first = passing_of f (valid 0 f refl) in
       let rest = passings_of fs (λ k w e. valid (suc k) w e) in
-      (first.0 ∷ rest.0, (first.1, rest.1), (first.2, rest.2), ap suc rest.3)
+      (first.0 ∷ rest.0, (first.1, rest.1), ap suc rest.2)
 
   -- the kinds of what a routine gives
   abbrev kinds_of : (y : Option RoutineResult) → IsResult u.types y → (ks : List Kind) × AreResults u.types y ks
   kinds_of None valid = ([], tt)
-  kinds_of (Some y) valid = (kind.Ordinal valid.host ∷ [], (valid.host, valid.has_host, refl))
+  kinds_of (Some y) valid = (valid.kind ∷ [], valid.of_kind)
 
   -- the variables that a routine makes have valid denoters
   made_valid : (name : List ℕ) (line : ℕ) (y : Option RoutineResult) → IsResult u.types y → (vs : List UnitVariable) → ((k : ℕ) (v : UnitVariable) → slice_get vs k ≡ Some v → IsDenoter u.types (denoter_of v.denoter))
@@ -222,7 +231,7 @@ module _ (u : TypedUnit) (o : Object) (is : IsProgramCode u o) (valid : IsValid 
     its : IsRoutine u number r
     its = valid.routines number r there
 
-    passings : (qs : List Passing) × ArePassed u.types formals qs × AreLight qs × (length qs ≡ length formals)
+    passings : (qs : List Passing) × ArePassed u.types formals qs × (length qs ≡ length formals)
     passings = passings_of formals (λ k f e. subst (λ w. IsFormal u.types w) (get_or_from_slice_get formals k f f e) (its.formals k f (slice_get_within formals k f e)))
 
     abbrev us : List TypedUnit
@@ -252,7 +261,7 @@ module _ (u : TypedUnit) (o : Object) (is : IsProgramCode u o) (valid : IsValid 
     takes = ap (λ (c : CodeRoutine). c.arguments) x.plain
 
     entry : image_routine.entry ≡ p.instructions.before + x.entry.entry
-    entry = moved_own p.instructions x.entry.entry (omega (arith, x.room_for, end_length r.line (length formals) (x.entry.entry + length (own_code u.types r) + length x.code) r.result))
+    entry = moved_own p.instructions x.entry.entry (omega (arith, x.room_for, end_length u.types r.line (length formals) (x.entry.entry + length (own_code u.types r) + length x.code) r.result))
 
     abbrev variables : List UnitVariable
     variables = variables_of r
@@ -319,8 +328,13 @@ module _ (u : TypedUnit) (o : Object) (is : IsProgramCode u o) (valid : IsValid 
     abbrev results : List Kind
     results = (kinds_of r.result its.result).0
 
+    -- the credit that the making of the result leaves for giving it
+    abbrev spare : (y : Option RoutineResult) → IsResult u.types y → ℕ
+    spare None valid_result = 0
+    spare (Some y) valid_result = 3 * size_of (valid_result.denoter).type_value
+
     -- where a routine with this result leaves its call, from where its block ends
-    record Ends (y : Option RoutineResult) (ks : List Kind) : Type 1 where
+    record Ends (y : Option RoutineResult) (ks : List Kind) (more : ℕ) : Type 1 where
       place : ℕ
       instruction : Instr
       stands_there : slice_get G.instructions place ≡ Some instruction
@@ -328,10 +342,63 @@ module _ (u : TypedUnit) (o : Object) (is : IsProgramCode u o) (valid : IsValid 
       first_field : instruction.a ≡ pos 0
       second_field : instruction.b ≡ 0
       moves : {Here : Facts} → KnowsNames within Here → (longer : Injection) (after : Memory) (below : List Operand) → unit_in G after.frames ≡ u.name
-          → Fragment within G Here m (point longer after (p.instructions.before + end) below) (results_given u.name line_of (length formals) y) place (λ rs. ResultsOnTop ks below rs) 63 (λ rs. 1)
+          → Fragment within G Here m (point longer after (p.instructions.before + end) below) (results_given u.name line_of (length formals) y) place (λ rs. ResultsOnTop ks below rs) (63 + more) (λ rs. 1 + credit_of rs)
 
-    ends_of : (y : Option RoutineResult) (valid_result : IsResult u.types y) → r.result ≡ y → CodeStands G ps p o.references end (end_code line_of (length formals) end y)
-        → end + length (end_code line_of (length formals) end y) ≤ p.instructions.own → Ends y (kinds_of y valid_result).0
+    abbrev result_of_name : RoutineResult → UnitVariable
+    result_of_name y = record { name = result_name r.name y.name; line = line_of; declaration = 0; denoter = y.denoter; tuple = []; parameter = false }
+
+    -- the variable of the result is the first one that the routine makes
+    result_is : (y : RoutineResult) → r.result ≡ Some y → slice_get variables (length formals) ≡ Some (result_of_name y)
+    result_is y is_some =
+        let first : slice_get (made_variables r) 0 ≡ Some (result_of_name y) = ap (λ z. slice_get (result_variable r.name line_of z ++ (r.variables ++ auxiliary_variables (first_for (stmt_of r.block)))) 0) is_some in
+        ap (slice_get variables) {x = length formals} {y = length formals + 0} (omega arith) ∙ variable_is 0 (result_of_name y) first
+
+    -- the end of a function whose result is of an ordinal type
+    ordinal_ends : (y : RoutineResult) (h : Host) → host_of u.types (denoter_of y.denoter) ≡ Some h → (d : IsDenoter u.types (denoter_of y.denoter)) → r.result ≡ Some y
+        → CodeStands G ps p o.references end (result_code line_of (length formals) end) → end + 7 ≤ p.instructions.own → Ends (Some y) (kind.Ordinal h ∷ []) (3 * size_of d.type_value)
+    ordinal_ends y h has_host d is_some end_stands room_for =
+        record {
+          place = p.instructions.before + end + 5;
+          instruction = bare line_of op.RETURN;
+          stands_there = instr_at G (omega arith) end_stands.1.1.1.1.1.0;
+          returns = refl;
+          first_field = refl;
+          second_field = refl;
+          moves = λ knows longer after below home.
+              fragment_credit {d = 63} {e = λ rs. 1 + credit_of rs} (omega arith) (λ rs. omega arith)
+              (result_moves untouched knows ps p o.references m u.name in_code (length formals) line_of end h d.type_value (typed_of_host u.types (denoter_of y.denoter) d.type_value h d.typed has_host) end_stands (omega (arith, room_for))
+              (result_of_name y) (result_is y is_some) (types_are_instances u.types (denoter_of y.denoter) d.type_value d.has_type) longer after below 63 (omega arith) home);
+        }
+
+    -- of one whose result is an array or a record
+    structure_ends : (y : RoutineResult) (t : TypeValue) → type_of u.types (denoter_of y.denoter) ≡ Some t → IsStructured t → (d : IsDenoter u.types (denoter_of y.denoter)) → r.result ≡ Some y
+        → CodeStands G ps p o.references end (structure_code line_of (length formals)) → Ends (Some y) (kind.Structured t ∷ []) (3 * size_of d.type_value)
+    structure_ends y t has_type structured d is_some end_stands =
+        let same : size_of t ≡ size_of d.type_value = ap size_of (same_Some t d.type_value (sym has_type ∙ d.has_type)) in
+        record {
+          place = p.instructions.before + end + 2;
+          instruction = bare line_of op.RETURN;
+          stands_there = instr_at G (omega arith) end_stands.1.1.0;
+          returns = refl;
+          first_field = refl;
+          second_field = refl;
+          moves = λ knows longer after below home.
+              fragment_credit {d = 63 + 3 * size_of t} {e = λ rs. 1 + credit_of rs} (omega (arith, same)) (λ rs. omega (arith, same))
+              (structure_moves untouched knows ps p o.references m u.name (length formals) line_of end t structured end_stands
+              (result_of_name y) (result_is y is_some) (types_are_instances u.types (denoter_of y.denoter) t has_type) longer after below 63 (omega arith) home);
+        }
+
+    function_ends : (y : RoutineResult) (k : Kind) → IsOfKind k u.types (denoter_of y.denoter) → (d : IsDenoter u.types (denoter_of y.denoter)) → r.result ≡ Some y → (w : Option Host) → host_of u.types (denoter_of y.denoter) ≡ w
+        → CodeStands G ps p o.references end (function_end w line_of (length formals) end) → end + length (function_end w line_of (length formals) end) ≤ p.instructions.own → Ends (Some y) (k ∷ []) (3 * size_of d.type_value)
+    function_ends y (kind.Ordinal h) of_kind d is_some None has end_stands room_for = absurd (let e : ◌≡◌ {A = Option Host} None (Some h) = sym has ∙ of_kind in cc)
+    function_ends y (kind.Ordinal h) of_kind d is_some (Some i) has end_stands room_for = ordinal_ends y h of_kind d is_some end_stands (omega (arith, room_for))
+    function_ends y kind.Bytes of_kind d is_some w has end_stands room_for = absurd of_kind
+    function_ends y (kind.Structured t) of_kind d is_some None has end_stands room_for = structure_ends y t of_kind.0 of_kind.1 d is_some end_stands
+    function_ends y (kind.Structured t) of_kind d is_some (Some i) has end_stands room_for =
+        absurd (let e : kind.Ordinal i ≡ kind.Structured t = kinds_are_one u.types (denoter_of y.denoter) (kind.Ordinal i) (kind.Structured t) has of_kind in cc)
+
+    ends_of : (y : Option RoutineResult) (valid_result : IsResult u.types y) → r.result ≡ y → CodeStands G ps p o.references end (end_code u.types line_of (length formals) end y)
+        → end + length (end_code u.types line_of (length formals) end y) ≤ p.instructions.own → Ends y (kinds_of y valid_result).0 (spare y valid_result)
     ends_of None valid_result is_none end_stands room_for =
         record {
           place = p.instructions.before + end;
@@ -343,32 +410,21 @@ module _ (u : TypedUnit) (o : Object) (is : IsProgramCode u o) (valid : IsValid 
           moves = λ knows longer after below home. fragment_give (omega arith) refl;
         }
     ends_of (Some y) valid_result is_some end_stands room_for =
-        let its = valid_result.denoter in
-        let result : UnitVariable = record { name = result_name r.name y.name; line = line_of; declaration = 0; denoter = y.denoter; tuple = []; parameter = false } in
-        let first : slice_get (made_variables r) 0 ≡ Some result = ap (λ z. slice_get (result_variable r.name line_of z ++ (r.variables ++ auxiliary_variables (first_for (stmt_of r.block)))) 0) is_some in
-        let numbered_so : slice_get variables (length formals) ≡ Some result = ap (slice_get variables) {x = length formals} {y = length formals + 0} (omega arith) ∙ variable_is 0 result first in
-        record {
-          place = p.instructions.before + end + 5;
-          instruction = bare line_of op.RETURN;
-          stands_there = instr_at G (omega arith) end_stands.1.1.1.1.1.0;
-          returns = refl;
-          first_field = refl;
-          second_field = refl;
-          moves = λ knows longer after below home.
-              result_moves untouched knows ps p o.references m u.name in_code (length formals) line_of end valid_result.host its.type_value (typed_of_host u.types (denoter_of y.denoter) its.type_value valid_result.host its.typed valid_result.has_host) end_stands (omega (arith, room_for))
-              result numbered_so (types_are_instances u.types (denoter_of y.denoter) its.type_value its.has_type) longer after below 63 (omega arith) home;
-        }
+        function_ends y valid_result.kind valid_result.of_kind valid_result.denoter is_some (host_of u.types (denoter_of y.denoter)) refl end_stands room_for
 
-    ends : Ends r.result results
+    abbrev more : ℕ
+    more = spare r.result its.result
+
+    ends : Ends r.result results more
     ends = ends_of r.result its.result refl x.end_stands x.room_for
 
     -- a call that hands over such operands
     module _ (place : ℕ) (parent : FrameNumber) (injection : Injection) (memory : Memory) (below operands : List Operand) (xs : List Argument) (hands : Handed injection memory passings.0 xs below operands) where
       counted : length hands.top ≡ image_routine.arguments
-      counted = hands.many ∙ (passings.3 ∙ sym takes)
+      counted = hands.many ∙ (passings.2 ∙ sym takes)
 
       abbrev begun : Memory
-      begun = begun_memory (own u) G (moved p.routines number) image_routine exists numbered hands.top counted hands.light parent place memory
+      begun = begun_memory (own u) G (moved p.routines number) image_routine exists numbered hands.top counted (weights_of xs) hands.weigh parent place memory
 
       home : unit_in G begun.frames ≡ u.name
       home = rw (among, stands.routines number x.entry x.in_object, stands.unit) is.name
@@ -386,18 +442,18 @@ module _ (u : TypedUnit) (o : Object) (is : IsProgramCode u o) (valid : IsValid 
       awaited : AreAwaited injection begun passings.0 xs 0 (arguments_in begun.frames.calls)
       awaited =
           let none : hands.top ++ [] ≡ hands.top = append-nil hands.top in
-          awaited-grown (grown_begun (own u) G (moved p.routines number) image_routine exists numbered hands.top counted hands.light {untouched = untouched} parent place injection memory) passings.0 xs 0 (map Some hands.top) (subst (λ l. AreAwaited injection memory passings.0 xs 0 (map Some l)) none (hands.awaited 0 [] refl))
+          awaited-grown (grown_begun (own u) G (moved p.routines number) image_routine exists numbered hands.top counted (weights_of xs) hands.weigh {untouched = untouched} parent place injection memory) passings.0 xs 0 (map Some hands.top) (subst (λ l. AreAwaited injection memory passings.0 xs 0 (map Some l)) none (hands.awaited 0 [] refl))
 
       -- the block, once the arguments are taken and the variables are made
       runs_block : (longer : Injection) (after : Memory) (pushed : List Operand) → unit_in G after.frames ≡ u.name → pushed ≡ below
-          → Fragment within G Here m (point longer after (p.instructions.before + (x.entry.entry + length (own_code u.types r))) pushed) (exec call m u.name (stmt_of r.block)) (p.instructions.before + end) (λ b. Inside untouched longer after (Bare below b)) 63 (λ b. 63)
+          → Fragment within G Here m (point longer after (p.instructions.before + (x.entry.entry + length (own_code u.types r))) pushed) (exec call m u.name (stmt_of r.block)) (p.instructions.before + end) (λ b. Inside untouched longer after (Bare below b)) (63 + more) (λ b. 63 + more)
       runs_block longer after pushed at_home is_below =
-          subst (λ o. Fragment within G Here m (point longer after (p.instructions.before + (x.entry.entry + length (own_code u.types r))) o) (exec call m u.name (stmt_of r.block)) (p.instructions.before + end) (λ b. Inside untouched longer after (Bare below b)) 63 (λ b. 63)) (sym is_below)
+          subst (λ o. Fragment within G Here m (point longer after (p.instructions.before + (x.entry.entry + length (own_code u.types r))) o) (exec call m u.name (stmt_of r.block)) (p.instructions.before + end) (λ b. Inside untouched longer after (Bare below b)) (63 + more) (λ b. 63 + more)) (sym is_below)
           (statement_moves lasts ps p o.texts o.references call steady_call m u.name in_code scene
           (λ x_kind e is_x line at code is_code x_stands inside v1 m1 operands d enough x_home. expression_follows {untouched = untouched} ps p o.texts o.references scene knows call steady_call m u.name in_code lasts among_same m kept_inside x_kind e is_x line at code is_code x_stands inside v1 m1 operands d (omega arith) x_home)
           (λ q q_valid t has_type line at code is_code x_stands inside v1 m1 operands d enough x_home. place_follows {untouched = untouched} ps p o.texts o.references scene knows call steady_call m u.name in_code lasts among_same m kept_inside q q_valid t has_type line at code is_code x_stands inside v1 m1 operands d (omega arith) x_home)
-          (λ line at to callee k given xs r keeps given_valid is_code is_declared named xs_stands xs_inside v1 m1 operands d enough x_home rest steady behind. call_then {untouched = untouched} ps p o.texts o.references scene knows call steady_call m u.name in_code lasts among_same m kept_inside {to = to} line at callee k given xs r keeps given_valid is_code is_declared named xs_stands xs_inside v1 m1 operands d enough x_home rest steady behind)
-          kept_inside (stmt_of r.block) (x.entry.entry + length (own_code u.types r)) x.code its.block x.is_code x.code_stands (omega (arith, x.room_for, end_length line_of (length formals) end r.result)) longer after below 63 (omega arith) at_home)
+          (λ line at to callee k given xs r keeps given_valid is_code is_declared named xs_stands xs_inside v1 m1 operands d enough x_home rest steady behind. call_then {untouched = untouched} ps p o.texts o.references scene knows call steady_call m u.name in_code lasts among_same m kept_inside {to = to} line at callee k given xs r keeps given_valid is_code is_declared named xs_stands xs_inside v1 m1 operands d enough x_home rest steady (λ rs longer after pushed grown routine top. fragment_credit {d = d} {e = λ b. d} (omega arith) (λ b. omega arith) (behind rs longer after pushed grown routine top)))
+          kept_inside (stmt_of r.block) (x.entry.entry + length (own_code u.types r)) x.code its.block x.is_code x.code_stands (omega (arith, x.room_for, end_length u.types line_of (length formals) end r.result)) longer after below (63 + more) (omega arith) at_home)
 
       abbrev gives : Computation (List Result)
       gives = results_given u.name line_of (length formals) r.result
@@ -407,25 +463,36 @@ module _ (u : TypedUnit) (o : Object) (is : IsProgramCode u o) (valid : IsValid 
 
       -- and then what it gives
       blocks : (longer : Injection) (after : Memory) (pushed : List Operand) → unit_in G after.frames ≡ u.name → pushed ≡ below
-          → Fragment within G Here m (point longer after (p.instructions.before + (x.entry.entry + length (own_code u.types r))) pushed) (bind (exec call m u.name (stmt_of r.block)) (λ b. gives)) ends.place (λ rs. ResultsOnTop results below rs) 63 (λ rs. 1)
+          → Fragment within G Here m (point longer after (p.instructions.before + (x.entry.entry + length (own_code u.types r))) pushed) (bind (exec call m u.name (stmt_of r.block)) (λ b. gives)) ends.place (λ rs. ResultsOnTop results below rs) (63 + more) (λ rs. 1 + credit_of rs)
       blocks longer after pushed at_home is_below =
-          fragment_bind {middle = p.instructions.before + end} {P = λ b. Inside untouched longer after (Bare below b)} {e = λ b. 63} (λ b. steady_gives)
+          fragment_bind {middle = p.instructions.before + end} {P = λ b. Inside untouched longer after (Bare below b)} {e = λ b. 63 + more} (λ b. steady_gives)
           (runs_block longer after pushed at_home is_below)
-          (λ b last final above i. (still_routine i.routine, subst (λ st. Fragment within G Here m (point last final (p.instructions.before + end) st) gives ends.place (λ rs. ResultsOnTop results below rs) 63 (λ rs. 1)) (sym i.operands_are) (ends.moves knows last final below (unit_in-same G i.routine ∙ at_home))))
+          (λ b last final above i. (still_routine i.routine, subst (λ st. Fragment within G Here m (point last final (p.instructions.before + end) st) gives ends.place (λ rs. ResultsOnTop results below rs) (63 + more) (λ rs. 1 + credit_of rs)) (sym i.operands_are) (ends.moves knows last final below (unit_in-same G i.routine ∙ at_home))))
+
+      -- the making of the variables, of which that of the result leaves a credit
+      makes_all : (y : Option RoutineResult) (valid_result : IsResult u.types y) (at : ℕ) → ((i : ℕ) (v : UnitVariable) → slice_get (result_variable r.name line_of y ++ (r.variables ++ auxiliary_variables (first_for (stmt_of r.block)))) i ≡ Some v → slice_get (variables_up within 0) (length formals + i) ≡ Some v)
+          → CodeStands G ps p o.references at (make_all_code u.types (length formals) (result_variable r.name line_of y ++ (r.variables ++ auxiliary_variables (first_for (stmt_of r.block)))))
+          → (longer : Injection) (after : Memory) (below : List Operand)
+          → Fragment within G Here m (point longer after (p.instructions.before + at) below) (make_all_own call m u.name u.types (length formals) (result_variable r.name line_of y ++ (r.variables ++ auxiliary_variables (first_for (stmt_of r.block))))) (p.instructions.before + (at + length (make_all_code u.types (length formals) (result_variable r.name line_of y ++ (r.variables ++ auxiliary_variables (first_for (stmt_of r.block))))))) (λ a. StillBare after below) 63 (λ a. 63 + spare y valid_result)
+      makes_all None valid_result at are_declared at_stands longer after below =
+          fragment_credit {d = 63} {e = λ a. 63} (omega arith) (λ a. omega arith)
+          (make_all_own_moves within G untouched injection begun lasts ps p o.references call steady_call m u.name scene.own_types_valid m (length formals) at (r.variables ++ auxiliary_variables (first_for (stmt_of r.block))) are_declared at_stands longer after below 63 (omega arith))
+      makes_all (Some y) valid_result at are_declared at_stands longer after below =
+          make_sized_moves within G untouched injection begun lasts ps p o.references call steady_call m u.name scene.own_types_valid m (length formals) at (result_of_name y) (r.variables ++ auxiliary_variables (first_for (stmt_of r.block))) (valid_result.denoter).type_value (valid_result.denoter).has_type are_declared at_stands longer after below 63 (omega arith)
 
       -- the making of the variables, and then the block
       makes : (longer : Injection) (after : Memory) (pushed : List Operand) → unit_in G after.frames ≡ u.name → pushed ≡ below
-          → Fragment within G Here m (point longer after (p.instructions.before + (x.entry.entry + length takes_code)) pushed) (bind (make_all_own call m u.name u.types (length formals) (made_variables r)) (λ a. bind (exec call m u.name (stmt_of r.block)) (λ b. gives))) ends.place (λ rs. ResultsOnTop results below rs) 63 (λ rs. 1)
+          → Fragment within G Here m (point longer after (p.instructions.before + (x.entry.entry + length takes_code)) pushed) (bind (make_all_own call m u.name u.types (length formals) (made_variables r)) (λ a. bind (exec call m u.name (stmt_of r.block)) (λ b. gives))) ends.place (λ rs. ResultsOnTop results below rs) 63 (λ rs. 1 + credit_of rs)
       makes longer after pushed at_home is_below =
           let parts = code_stands-parts G ps p o.references x.entry.entry takes_code makes_code x.makes_stand in
           let size : x.entry.entry + length takes_code + length makes_code ≡ x.entry.entry + length (own_code u.types r) = omega (arith, length-append takes_code makes_code) in
-          subst (λ st. Fragment within G Here m (point longer after (p.instructions.before + (x.entry.entry + length takes_code)) st) (bind (make_all_own call m u.name u.types (length formals) (made_variables r)) (λ a. bind (exec call m u.name (stmt_of r.block)) (λ b. gives))) ends.place (λ rs. ResultsOnTop results below rs) 63 (λ rs. 1)) (sym is_below)
-          (fragment_bind {middle = p.instructions.before + (x.entry.entry + length (own_code u.types r))} {e = λ a. 63} (λ a. steady_bind (steady_exec call steady_call m u.name (stmt_of r.block)) (λ b. steady_gives))
-          (fragment_to (ap (λ k. p.instructions.before + k) size) (make_all_own_moves within G untouched injection begun lasts ps p o.references call steady_call m u.name scene.own_types_valid m (length formals) (x.entry.entry + length takes_code) (made_variables r) variable_is parts.1 longer after below 63 (omega arith)))
+          subst (λ st. Fragment within G Here m (point longer after (p.instructions.before + (x.entry.entry + length takes_code)) st) (bind (make_all_own call m u.name u.types (length formals) (made_variables r)) (λ a. bind (exec call m u.name (stmt_of r.block)) (λ b. gives))) ends.place (λ rs. ResultsOnTop results below rs) 63 (λ rs. 1 + credit_of rs)) (sym is_below)
+          (fragment_bind {middle = p.instructions.before + (x.entry.entry + length (own_code u.types r))} {e = λ a. 63 + more} (λ a. steady_bind (steady_exec call steady_call m u.name (stmt_of r.block)) (λ b. steady_gives))
+          (fragment_to (ap (λ k. p.instructions.before + k) size) (makes_all r.result its.result (x.entry.entry + length takes_code) variable_is parts.1 longer after below))
           (λ a last final above still. (still.runs, blocks last final above (unit_in-still G still.runs ∙ at_home) still.operands_are)))
 
       -- the machine follows the routine, in any activation of it
-      follows : Fragment (own u) G Here m (point injection begun image_routine.entry below) (body xs) ends.place (λ rs. ResultsOnTop results below rs) 63 (λ rs. 1)
+      follows : Fragment (own u) G Here m (point injection begun image_routine.entry below) (body xs) ends.place (λ rs. ResultsOnTop results below rs) 63 (λ rs. 1 + credit_of rs)
       follows =
           let parts = code_stands-parts G ps p o.references x.entry.entry takes_code makes_code x.makes_stand in
           fragment_outside within.levels (own u) (fragment_from entry
@@ -450,18 +517,18 @@ module _ (u : TypedUnit) (o : Object) (is : IsProgramCode u o) (valid : IsValid 
         → IsCallable ((own u).types u.name) levels ((own u).around u.name number) injection began.calls memory
         → (below operands : List Operand) (arguments : List Argument)
         → AreArguments injection memory passings.0 arguments below operands
-        → Fragment (own u) G (Since (kept_slots (own u) G) injection began memory) (suc m) (point injection memory place operands) (routine_of us (suc m) (unit_in G memory.frames) line (callee levels) arguments) (place + 1) (λ rs. Inside (kept_slots (own u) G) injection memory (ResultsOnTop results below rs)) 0 (λ rs. 0)
+        → Fragment (own u) G (Since (kept_slots (own u) G) injection began memory) (suc m) (point injection memory place operands) (routine_of us (suc m) (unit_in G memory.frames) line (callee levels) arguments) (place + 1) (λ rs. Inside (kept_slots (own u) G) injection memory (ResultsOnTop results below rs)) 0 credit_of
     go place levels line calls injection began memory callable below operands xs are =
-        let hands : Handed injection memory passings.0 xs below operands = handed injection memory passings.0 passings.2 xs below operands are in
-        let does : Option Found → Type 0 = λ y. Fragment (own u) G (Since (kept_slots (own u) G) injection began memory) (suc m) (point injection memory place (hands.top ++ below)) (routine_does call m (unit_in G memory.frames) line (callee levels) y xs) (place + 1) (λ rs. Inside (kept_slots (own u) G) injection memory (ResultsOnTop results below rs)) 0 (λ rs. 0) in
+        let hands : Handed injection memory passings.0 xs below operands = handed injection memory passings.0 xs below operands are in
+        let does : Option Found → Type 0 = λ y. Fragment (own u) G (Since (kept_slots (own u) G) injection began memory) (suc m) (point injection memory place (hands.top ++ below)) (routine_does call m (unit_in G memory.frames) line (callee levels) y xs) (place + 1) (λ rs. Inside (kept_slots (own u) G) injection memory (ResultsOnTop results below rs)) 0 credit_of in
         let counts = counted place (frame.Unit 0) injection memory below operands xs hands in
         let here : IsCallable u.types levels ((own u).around u.name number) injection began.calls memory = subst (λ ts. IsCallable ts levels ((own u).around u.name number) injection began.calls memory) (own_types u) callable in
-        let parent = parent_of_call (own u) G (moved p.routines number) image_routine exists numbered hands.top counts hands.light u.types levels ((own u).around u.name number) injection began.calls memory here in
+        let parent = parent_of_call (own u) G (moved p.routines number) image_routine exists numbered hands.top counts (weights_of xs) hands.weigh u.types levels ((own u).around u.name number) injection began.calls memory here in
         let keeps : does (Some found_routine) =
-        routine_keeps (own u) G (moved p.routines number) image_routine exists numbered hands.top counts hands.light ends.place ends.instruction ends.stands_there ends.returns ends.first_field ends.second_field within enough_slots ((own u).around u.name number) (λ k. ap (λ ls. slice_get ls k) (sym around_is)) m place levels line calls parent.0 injection began memory below parent.1 here r.name (unit_in G memory.frames) results (body xs) (steady_runs_routine call steady_call m u.name found_routine xs) (kept_slots (own u) G)
+        routine_keeps (own u) G (moved p.routines number) image_routine exists numbered hands.top counts (weights_of xs) hands.weigh ends.place ends.instruction ends.stands_there ends.returns ends.first_field ends.second_field within enough_slots ((own u).around u.name number) (λ k. ap (λ ls. slice_get ls k) (sym around_is)) m place levels line calls parent.0 injection began memory below parent.1 here r.name (unit_in G memory.frames) results (body xs) (steady_runs_routine call steady_call m u.name found_routine xs) (kept_slots (own u) G)
         (follows place parent.0 injection memory below operands xs hands) in
         let meant : does (routine_in us u.name number) = subst does (sym found) keeps in
-        subst (λ st. Fragment (own u) G (Since (kept_slots (own u) G) injection began memory) (suc m) (point injection memory place st) (routine_of us (suc m) (unit_in G memory.frames) line (callee levels) xs) (place + 1) (λ rs. Inside (kept_slots (own u) G) injection memory (ResultsOnTop results below rs)) 0 (λ rs. 0)) (sym hands.is) meant
+        subst (λ st. Fragment (own u) G (Since (kept_slots (own u) G) injection began memory) (suc m) (point injection memory place st) (routine_of us (suc m) (unit_in G memory.frames) line (callee levels) xs) (place + 1) (λ rs. Inside (kept_slots (own u) G) injection memory (ResultsOnTop results below rs)) 0 credit_of) (sym hands.is) meant
 
     -- with one step more than the routines keep theirs
     keeps_own : RoutineKeeps (own u) G ps (routine_of (u ∷ []) (suc m)) (suc m) u.name number (heading_of r)

@@ -5,6 +5,7 @@ use Rattle.ep_object.specs.Matching.{Slots}
 use Rattle.ep_gen_expr.specs.ExprCode.{instr, bare}
 use Rattle.ep_gen_unit.specs.StmtCode.{IsStmtCode, AreStmtsCode, AreArmsCode, IsOtherCode, tests_code}
 use Rattle.ep_gen_unit.proofs.Parts.{Moves, ExpressionsFollow, PlacesFollow, CallsFollow, code_stands-parts}
+use Rattle.ep_object.proofs.rows.ChangeRows.{may_take}
 use Rattle.ep_gen_unit.proofs.Simple.{empty_moves, halt_moves, assigned_moves}
 use Rattle.ep_gen_unit.proofs.Branching.{if_parts, repeat_parts, while_parts}
 use Rattle.ep_gen_unit.proofs.ForMoves.{for_stands, for_parts}
@@ -39,7 +40,7 @@ module _ {declared : Declarations} {G : Image} {untouched : Slots} {Here : Facts
     statement_moves Empty at is valid h stands inside = λ injection memory below d enough home. fragment_to {to = p.instructions.before + (at + 0)} (omega (arith, ap length h)) (empty_moves lasts ps p texts references call steady_call n unit at injection memory below d enough home)
     statement_moves (Compound ss) at is valid h stands inside = statements_move ss at is valid h stands inside
     statement_moves (Assign line q x) at is valid h stands inside =
-        assigned_moves lasts ps p texts references call steady_call n unit scene expressions places line at q valid.0 valid.0 x is valid.1 valid.2 h inside stands
+        assigned_moves lasts ps p texts references call steady_call n unit scene expressions places line at q valid.0 valid.0 (may_take valid.0) x is valid.1 valid.2 h inside stands
     statement_moves (If line x a b) at is valid h stands inside =
         let test_end : ℕ = at + length h.0 in
         let then_end : ℕ = at + length h.0 + 1 + length h.1 in

@@ -10,6 +10,8 @@ use Rattle.ep_gen_expr.specs.declared.code.Code.{Code}
 use Rattle.std.proofs.lemmas.List.{map_more}
 use Rattle.ep_gen_expr.proofs.Forms.{grows_at, grows_none}
 use Rattle.ep_gen_unit.specs.TypeCode.{code_within, each_code, found_code, how_many, step_code}
+use Rattle.std.specs.Prelude.{Bool, is_some}
+use Rattle.ep_typed.specs.Denoters.{found_of, host_within}
 use Rattle.ep_typed.specs.Trees as tree
 use Rattle.ep_typed.specs.Viewed.{bound_of, denoter_of}
 use Rattle.ep_typed.specs.declared.denoter.Bound.{Bound}
@@ -78,3 +80,22 @@ module _ (types : List UnitType) (a : Code) where
 pub how_many-of : {X : Type 0} (view : X → tree.Denoter) (xs : List X) → how_many (tree.denoters (map view xs)) ≡ length xs
 how_many-of view [] = refl
 how_many-of view (x ∷ xs) = ap suc (how_many-of view xs)
+
+-- ---- the host of a name
+
+-- no definition has it
+pub no_host : (types : List UnitType) (left k : ℕ) (tuple : List Bound) → true ≡ (length tuple == 0) → false ≡ ltb k (length types) → false ≡ is_some (host_within types (suc left) (tree.Named k (map bound_of tuple)))
+no_host types left k tuple none past =
+    subst (λ bs. false ≡ is_some (host_within types (suc left) (tree.Named k (map bound_of bs)))) (sym (empty tuple none))
+    (subst (λ o. false ≡ is_some (found_of (host_within types left) o)) (sym (missing types k past)) refl)
+
+-- it is that of the definition
+pub by_host : (types : List UnitType) (left k : ℕ) (tuple : List Bound) (t : UnitType) (b : Bool) → 1 ≤ left → true ≡ (length tuple == 0) → slice_get types k ≡ Some t → b ≡ is_some (host_within types (suc (left - 1)) (denoter_of t.entry.denoter))
+    → b ≡ is_some (host_within types (suc left) (tree.Named k (map bound_of tuple)))
+by_host types zero k tuple t b le none is h = absurd (omega (arith, le))
+by_host types (suc left) k tuple t b le none is h =
+    subst (λ bs. b ≡ is_some (host_within types (suc (suc left)) (tree.Named k (map bound_of bs)))) (sym (empty tuple none))
+    (subst (λ o. b ≡ is_some (found_of (host_within types (suc left)) o)) (sym is) (subst (λ n. b ≡ is_some (host_within types (suc n) (denoter_of t.entry.denoter))) one_less h))
+  where
+    one_less : suc left - 1 ≡ left
+    one_less = omega arith

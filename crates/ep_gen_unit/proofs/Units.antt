@@ -12,7 +12,7 @@ use Rattle.ep_gen_unit.proofs.Makes.{VariablesAreFree, make_all_moves}
 use Rattle.ep_gen_unit.proofs.Parts.{code_stands-parts}
 use Rattle.ep_gen_unit.proofs.Starts.{MakesFollow, body_follows}
 use Rattle.ep_object.proofs.following.Bind.{follows_less, follows_post, follows_from, follows_give}
-use Rattle.ep_object.proofs.following.Fragments.{fragment_to}
+use Rattle.ep_object.proofs.following.Fragments.{fragment_to, fragment_credit}
 use Rattle.ep_object.proofs.rows.MakeRow.{RunsInUnit}
 use Rattle.ep_object.proofs.matching.Names.{none_named}
 use Rattle.ep_object.proofs.matching.Growing.{among_same, inside_here, no_calls, since_here, since_lasts}
@@ -199,7 +199,7 @@ module _ (u : TypedUnit) (o : Object) (is : IsProgramCode u o) (G : Image) (ps :
               let body = body_follows {Here = Since (kept_slots declared G) injection s memory} since_lasts ps p call steady_call n u o is stands.code room whole.instructions scene
               (λ x_kind x is_x line at code is_code x_stands inside v1 m1 operands d enough x_home. expression_follows ps p o.texts o.references scene knows call steady_call n u.name room since_lasts among_same n kept x_kind x is_x line at code is_code x_stands inside v1 m1 operands d (omega arith) x_home)
               (λ q q_valid t has_type line at code is_code x_stands inside v1 m1 operands d enough x_home. place_follows ps p o.texts o.references scene knows call steady_call n u.name room since_lasts among_same n kept q q_valid t has_type line at code is_code x_stands inside v1 m1 operands d (omega arith) x_home)
-              (λ line at to callee k given xs r keeps given_valid is_code is_declared named xs_stands xs_inside v1 m1 operands d enough x_home rest steady behind. call_then ps p o.texts o.references scene knows call steady_call n u.name room since_lasts among_same n kept {to = to} line at callee k given xs r keeps given_valid is_code is_declared named xs_stands xs_inside v1 m1 operands d enough x_home rest steady behind)
+              (λ line at to callee k given xs r keeps given_valid is_code is_declared named xs_stands xs_inside v1 m1 operands d enough x_home rest steady behind. call_then ps p o.texts o.references scene knows call steady_call n u.name room since_lasts among_same n kept {to = to} line at callee k given xs r keeps given_valid is_code is_declared named xs_stands xs_inside v1 m1 operands d enough x_home rest steady (λ rs longer after pushed grown routine top. fragment_credit {d = d} {e = λ b. d} (omega arith) (λ b. omega arith) (behind rs longer after pushed grown routine top)))
               kept valid (makes since_lasts) injection memory below routine_credit (omega arith) (home o.start (plain_at 0) start_is memory.frames enters.without_calls enters.runs) (record { calls = enters.without_calls; unit = enters.in_unit }) in
               follows_from (at_entry o.start (plain_at 0) start_is (omega (arith, instructions_own)) enters)
               (follows_less {n = n} (omega arith) (follows_post (λ a t l lands. record { place = p.instructions.before + ends_block; instruction = return_code; stands = returns_stand.0; returns = (let routine = lands.post.routine in subst (λ (x : State). obey G return_code x ≡ light Returns) (sym lands.is) (returns_from (p.instructions.before + ends_block) lands.operands lands.memory t.trace (no_calls memory.frames.calls lands.memory.frames.calls routine.calls enters.without_calls))); lands = lands }) (body.by s enters.matches (since_here injection s memory))));

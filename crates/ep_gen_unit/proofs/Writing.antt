@@ -25,7 +25,8 @@ use Rattle.ep_object.proofs.rows.TextRows.{RowFails, chars_pushes, form_integer,
 use Rattle.ep_typed.specs.Steady.{IsSteadyHandler}
 use Rattle.ep_typed.specs.Calls.{Handler}
 use Rattle.ep_typed.proofs.Steady.{steady_give, steady_spend, steady_write_items, steady_bind, steady_eval, steady_write_piece, steady_write_wide}
-use Rattle.ep_typed.specs.Meaning.{eval, weight_of, write_piece, write_wide, write_item, write_items, exec}
+use Rattle.ep_typed.specs.Meaning.{eval, write_piece, write_wide, write_item, write_items, exec}
+use Rattle.ep_typed.specs.Results.{weight_of}
 use Rattle.ep_typed.specs.Printing.{Result, Number, Bytes, number_of, line_end, plain_text, wide_text, piece_events}
 use Rattle.ep_typed.specs.Steps.{Computation, bind}
 use Rattle.ep_typed.specs.Steps as meaning

@@ -9,6 +9,8 @@ use Rattle.ep_gen_unit.specs.TypeCode.{type_code}
 use Rattle.ep_object.specs.declared.code.Instr.{Instr}
 use Rattle.ep_object.specs.declared.code.Reference.{Reference}
 use Rattle.ep_typed.specs.Trees.{Place, Expr, Read, Function, Item, Plain, Wide, Stmt, Stmts, Empty, Compound, Assign, If, While, Repeat, Control, For, Procedure, Halt, Write, none, next, Case, Arms, no_arm, next_arm, Other, no_other, otherwise_do, Entire, entire}
+use Rattle.ep_typed.specs.Denoters.{host_of}
+use Rattle.ep_typed.specs.Hosts.{Host}
 use Rattle.ep_typed.specs.Viewed.{denoter_of}
 use Rattle.ep_typed.specs.declared.operations.Print.{Print}
 use Rattle.ep_typed.specs.declared.operations.Print.TheVariants as print
@@ -190,7 +192,16 @@ result_code line number at =
     instr op.SLOT (pos number) 0 line ∷ bare line op.DUP ∷ bare line op.DEFINED ∷ instr op.JUMP_FALSE (pos (at + 6)) 0 line ∷ bare line op.LOAD ∷ bare line op.RETURN
     ∷ instr op.FAIL (pos run_error.RESULT_UNDEFINED) 0 line ∷ []
 
--- the end of a routine, where a function has its result in the variable of this number
-abbrev pub end_code : ℕ → ℕ → ℕ → Option RoutineResult → List Instr
-end_code line number at None = return_code ∷ []
-end_code line number at (Some r) = result_code line number at
+-- the same of a function whose result is an array or a record, which it leaves with its components as they are
+abbrev pub structure_code : ℕ → ℕ → List Instr
+structure_code line number = instr op.SLOT (pos number) 0 line ∷ bare line op.LOAD ∷ bare line op.RETURN ∷ []
+
+-- the end of a function, by the host of its result, which an array or a record has not
+abbrev pub function_end : Option Host → ℕ → ℕ → ℕ → List Instr
+function_end None line number at = structure_code line number
+function_end (Some h) line number at = result_code line number at
+
+-- the end of a routine of a unit with these types, where a function has its result in the variable of this number
+abbrev pub end_code : List UnitType → ℕ → ℕ → ℕ → Option RoutineResult → List Instr
+end_code types line number at None = return_code ∷ []
+end_code types line number at (Some r) = function_end (host_of types (denoter_of r.denoter)) line number at

@@ -121,7 +121,7 @@ pub record AppendsRoutine (old new : Code) (types : List UnitType) (r : UnitRout
   pub plain : x ≡ entry_of (length old.instructions) r
   pub code : List Instr
   pub is_code : IsStmtCode new.texts new.references (length old.instructions + length (own_code types r)) (stmt_of r.block) code
-  pub follows : Follows old new (own_code types r ++ (code ++ its_end (length old.instructions + length (own_code types r) + length code) r))
+  pub follows : Follows old new (own_code types r ++ (code ++ its_end types (length old.instructions + length (own_code types r) + length code) r))
 
 -- the code of routines is appended, and these are their entries
 pub record AppendsRoutines (old new : Code) (types : List UnitType) (rs : List UnitRoutine) (entries : List CodeRoutine) : Type 0 where
@@ -173,6 +173,6 @@ pub record MakesResult (old new : Code) (types : List UnitType) (r : UnitRoutine
   pub follows : Follows old new (make_all_code types (length r.formals) (result_variable r.name r.line r.result))
   pub count : first ≡ (length r.formals + length (result_variable r.name r.line r.result))
 
--- the code with which a routine ends is appended, where a function has its result in the variable of this number
-abbrev pub AppendsEnd : Code → Code → UnitRoutine → ℕ → Type 0
-AppendsEnd old new r number = Follows old new (end_code r.line number (length old.instructions) r.result)
+-- the code with which a routine of a unit with these types ends is appended, where a function has its result in the variable of this number
+abbrev pub AppendsEnd : Code → Code → List UnitType → UnitRoutine → ℕ → Type 0
+AppendsEnd old new types r number = Follows old new (end_code types r.line number (length old.instructions) r.result)

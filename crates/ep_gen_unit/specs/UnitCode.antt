@@ -37,9 +37,9 @@ own_code types r =
 abbrev pub entry_of : ℕ → UnitRoutine → CodeRoutine
 entry_of entry r = routine_at entry (length r.formals) (length r.formals + length (made_variables r))
 
--- the code with which a routine ends, at this place
-abbrev pub its_end : ℕ → UnitRoutine → List Instr
-its_end at r = end_code r.line (length r.formals) at r.result
+-- the code with which a routine of a unit with these types ends, at this place
+abbrev pub its_end : List UnitType → ℕ → UnitRoutine → List Instr
+its_end types at r = end_code types r.line (length r.formals) at r.result
 
 -- At the entry of a routine of a unit with these types stands the code with which it begins, and behind that the one of its
 -- block, and that with which it ends.
@@ -48,7 +48,7 @@ pub record IsRoutineCode (texts : List (List ℕ)) (references : List Reference)
   pub plain : x ≡ entry_of x.entry r
   pub code : List Instr
   pub is_code : IsStmtCode texts references (x.entry + length (own_code types r)) (stmt_of r.block) code
-  pub stands : StandsIn instructions x.entry (own_code types r ++ (code ++ its_end (x.entry + length (own_code types r) + length code) r))
+  pub stands : StandsIn instructions x.entry (own_code types r ++ (code ++ its_end types (x.entry + length (own_code types r) + length code) r))
 
 -- the routines of a unit have these entries, one for each and in order
 pub record AreRoutinesCode (texts : List (List ℕ)) (references : List Reference) (instructions : List Instr)

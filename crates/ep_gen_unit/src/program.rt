@@ -2,20 +2,21 @@
 
 ghost use Rattle.std.specs.Prelude.{◌≡◌, ◌+◌, ◌<◌, ◌^◌, OnOk, IfOk, length};
 ghost use Rattle.ep_gen_expr.specs.Growth.{Grows};
-ghost use Rattle.ep_gen_unit.specs.StmtCode.{result_code, make_code, make_all_code, value_code, place_taken, take_code, take_all_code};
+ghost use Rattle.ep_gen_unit.specs.StmtCode.{function_end, result_code, make_code, make_all_code, value_code, place_taken, take_code, take_all_code};
 ghost use Rattle.ep_gen_unit.specs.StmtGrowth.{AppendsEnd, AppendsStart, AppendsRoutine, AppendsRoutines, Follows, IsCompact, MakesBlock, MakesOwn, MakesResult, assembled};
 ghost use Rattle.ep_typed.specs.Auxiliaries.{auxiliary_variables, first_for};
-ghost use Rattle.ep_typed.specs.Viewed.{stmt_of};
+ghost use Rattle.ep_typed.specs.Denoters.{host_of};
+ghost use Rattle.ep_typed.specs.Viewed.{denoter_of, stmt_of};
 ghost use Rattle.ep_gen_unit.specs.UnitCode.{IsProgramCode, routine_at};
 
 use crate::statements::statement_code;
-use crate::types::elaborate;
+use crate::types::{elaborate, is_ordinal};
 use ep_base::{Line, List, Name, NoMemory};
 use ep_gen_expr::{Code, NO_LINE, emit, field_number, next_place};
 use ep_object::{CodeRoutine, CodeRoutines, Object, op};
 use ep_typed::{
-    Formal, FormalMode, TypedStmt, Unit, UnitRoutine, UnitType, UnitVariable, auxiliary_variables,
-    first_for, run_error,
+    Denoter, Formal, FormalMode, TypedStmt, Unit, UnitRoutine, UnitType, UnitVariable,
+    auxiliary_variables, first_for, run_error,
 };
 use std::alloc::{AllocError, Global};
 
@@ -101,7 +102,7 @@ fn routine_code(
     take_all(types, routine.line, formals, code)?;
     let slots = make_own(alloc, types, routine, code)?;
     statement_code(alloc, &routine.block, code)?;
-    end_routine(routine, arguments, code)?;
+    end_routine(types, routine, arguments, code)?;
     Ok(routine_at(entry, arguments, slots))
 }
 
@@ -175,19 +176,42 @@ fn make_result(types: &[UnitType], routine: &UnitRoutine, code: &mut Code) -> Re
 }
 
 /// Appends the code with which a routine ends. A function has its result in the variable of this number.
-fn end_routine(routine: &UnitRoutine, number: u32, code: &mut Code) -> Result<(), NoMemory>
-    ensures { OnOk result (AppendsEnd code.old code.new routine.now number) }
+fn end_routine(
+    types: &[UnitType],
+    routine: &UnitRoutine,
+    number: u32,
+    code: &mut Code,
+) -> Result<(), NoMemory>
+    ensures { OnOk result (AppendsEnd code.old code.new types.now routine.now number) }
 {
     match &routine.result {
         None => {
             code.line = NO_LINE;
             emit(code, op::RETURN, 0, 0)
         }
-        Some(_) => {
+        Some(result) => {
             code.line = routine.line;
-            give_result(number, code)
+            end_function(types, &result.denoter, number, code)
         }
     }
+}
+
+/// Appends the code with which a function with a result of this denoter ends.
+fn end_function(
+    types: &[UnitType],
+    denoter: &Denoter,
+    number: u32,
+    code: &mut Code,
+) -> Result<(), NoMemory>
+    ensures { OnOk result (Grows code.old code.new (function_end
+        (host_of types.now (denoter_of denoter.now)) code.old.line number (length code.old.instructions))) }
+{
+    if is_ordinal(types, denoter) {
+        return give_result(number, code);
+    }
+    emit(code, op::SLOT, number as i64, 0)?;
+    emit(code, op::LOAD, 0, 0)?;
+    emit(code, op::RETURN, 0, 0)
 }
 
 /// Appends the code with which a function ends: it leaves the value of the variable of this number, or ends with an error

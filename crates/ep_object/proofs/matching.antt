@@ -14,4 +14,5 @@ pub mod NewVariables
 pub mod OwnVariables
 pub mod Standing
 pub mod TypeTables
+pub mod Values
 pub mod Words

@@ -1,16 +1,17 @@
 -- The machine follows a computation: with costs both ways, in runs that are cut, and for want of room.
-use Rattle.std.specs.Prelude.{◌≡◌, ℕ, ℤ, suc, ◌+◌, ◌*◌, ◌≤◌, ◌<◌, ◌⊎◌, IsTrue, List, [], ◌∷◌, ◌++◌, ⊤}
+use Rattle.std.specs.Prelude.{◌≡◌, ℕ, ℤ, suc, ◌+◌, ◌*◌, ◌≤◌, ◌<◌, ◌⊎◌, IsTrue, List, [], ◌∷◌, ◌++◌, length, slice_get, ⊤}
 use Rattle.ep_outside.specs.Known.{IsPrefix}
 use Rattle.ep_typed.specs.Events.{Trace}
-use Rattle.ep_typed.specs.Printing.{Result, Number, Bytes}
+use Rattle.ep_typed.specs.Printing.{Result, Number, Bytes, Structure}
 use Rattle.ep_typed.specs.Steps.{Component, Outcome, Gives, Ends, Cut, Computation, state_of}
+use Rattle.ep_typed.specs.Steps.{Value as ValueOf}
 use Rattle.ep_typed.specs.Steps as meaning
 use Rattle.ep_typed.specs.Valid as kind
 use Rattle.ep_typed.specs.Valid.{Declarations, Kind}
 use Rattle.ep_typed.specs.Hosts.{Host, is_of_host}
-use Rattle.ep_typed.specs.TypeValues.{TypeValue}
-use Rattle.ep_object.specs.Matching.{Memory, at, Injection, Matches, Slots, own_slot, Grown, IsSpot, Describes}
-use Rattle.ep_object.specs.Operands.{Operand, Word, Place, Text}
+use Rattle.ep_typed.specs.TypeValues.{TypeValue, size_of}
+use Rattle.ep_object.specs.Matching.{Memory, at, Injection, Matches, Slots, own_slot, Grown, IsSpot, Describes, HasAt}
+use Rattle.ep_object.specs.Operands.{Operand, Word, Place, Text, Value}
 use Rattle.ep_object.specs.Runs.{run, tick}
 use Rattle.ep_object.specs.State.{State, Frame, Frames, End, Running, Stopped, Normal, Halt, Error}
 use Rattle.ep_object.specs.declared.code.Image.{Image}
@@ -197,11 +198,6 @@ pub record Fragment {A : Type 0} (declared : Declarations) (G : Image) (Here : F
 
 -- ---- what holds after the code of a form
 
--- the operand of a result
-abbrev pub operand_of : Result → Operand
-operand_of (Number z) = Word z
-operand_of (Bytes bytes) = Text bytes
-
 -- what the operands are
 abbrev pub Operands : Type 1
 Operands = Injection → Memory → List Operand → Type 0
@@ -225,10 +221,29 @@ pub record TextOnTop (below : List Operand) (r : Result) (injection : Injection)
   pub is_text : r ≡ Bytes bytes
   pub is : operands ≡ Text bytes ∷ below
 
+-- An operand is the value of a result of an array or record type: its type describes that one, and its words hold the value.
+pub record IsStructure (type : TypeValue) (r : Result) (injection : Injection) (memory : Memory) (operand : Operand) : Type 0 where
+  pub value : ValueOf
+  pub is_structure : r ≡ Structure type value
+  pub type_number : ℕ
+  pub words : List ℤ
+  pub is : operand ≡ Value type_number words
+  pub described : Describes memory.types type_number type
+  pub sized : length words ≡ size_of type
+  pub holds : HasAt injection type value (slice_get words) 0
+
+-- such an operand on top
+pub record StructureOnTop (type : TypeValue) (below : List Operand) (r : Result) (injection : Injection)
+    (memory : Memory) (operands : List Operand) : Type 0 where
+  pub operand : Operand
+  pub holds : IsStructure type r injection memory operand
+  pub is : operands ≡ operand ∷ below
+
 -- a result of the kind on top
 abbrev pub OnTop : Kind → List Operand → Result → Operands
 OnTop (kind.Ordinal host) below r = NumberOnTop host below r
 OnTop kind.Bytes below r = TextOnTop below r
+OnTop (kind.Structured type) below r = StructureOnTop type below r
 
 -- a place of the variable on top, whose type describes the type value
 pub record PlaceOnTop (type : TypeValue) (below : List Operand) (variable : Component) (injection : Injection)

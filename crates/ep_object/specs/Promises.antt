@@ -1,18 +1,17 @@
 -- What a routine promises to the code that calls it, whoever made either. It is said over the `Call` instruction, from
 -- before it to after the instruction that leaves the routine, whose tick may have an effect as any other.
-use Rattle.std.specs.Prelude.{◌≡◌, ℕ, ℤ, pos, ◌+◌, ◌≤◌, ◌⊎◌, IsTrue, List, [], ◌∷◌, Option, Some, None, slice_get, ⊤}
-use Rattle.ep_typed.specs.Denoters.{type_of, host_of}
-use Rattle.ep_typed.specs.Hosts.{Host}
+use Rattle.std.specs.Prelude.{◌≡◌, ℕ, ℤ, pos, ◌+◌, ◌*◌, ◌≤◌, ◌⊎◌, IsTrue, List, [], ◌∷◌, Option, Some, None, slice_get, ⊤}
+use Rattle.ep_typed.specs.Denoters.{type_of}
 use Rattle.ep_typed.specs.Viewed.{denoter_of}
 use Rattle.ep_typed.specs.declared.interface.Formal.{Formal}
 use Rattle.ep_typed.specs.declared.interface.FormalMode.{FormalMode}
 use Rattle.ep_typed.specs.declared.interface.FormalMode.TheVariants as mode
 use Rattle.ep_typed.specs.declared.unit.UnitType.{UnitType}
 use Rattle.ep_typed.specs.TypeValues.{TypeValue}
-use Rattle.ep_object.specs.Follows.{end_of, Operands, point, state_at, operand_of, Fragment, Since, Lands, Inside, GivesUp}
+use Rattle.ep_object.specs.Follows.{end_of, IsStructure, Operands, point, state_at, Fragment, Since, Lands, Inside, GivesUp}
 use Rattle.ep_object.specs.Activations.{IsCallable}
 use Rattle.ep_object.specs.Matching.{Memory, Injection, Matches, IsSpot, Describes, kept_slots}
-use Rattle.ep_object.specs.Operands.{Operand, Place}
+use Rattle.ep_object.specs.Operands.{Operand, Place, Text, Word}
 use Rattle.ep_object.specs.Runs.{run, unit_in}
 use Rattle.ep_object.specs.Simulates.{KeepPace, StaysIn, EndsAfter, StaysAfter}
 use Rattle.ep_object.specs.State.{State, Running}
@@ -25,10 +24,11 @@ use Rattle.ep_object.specs.Placing.{Placement, placed_call}
 use Rattle.ep_typed.specs.Calls.{Argument, Value, Variable, Handler}
 use Rattle.ep_typed.specs.Hosts.{is_of_host}
 use Rattle.ep_typed.specs.Printing.{Result, Number, Bytes}
+use Rattle.ep_typed.specs.Results.{weight_of}
 use Rattle.ep_typed.specs.Steps.{Outcome, Gives, Ends, Cut, Computation, state_of}
 use Rattle.ep_typed.specs.Steps as meaning
 use Rattle.ep_typed.specs.Valid as kind
-use Rattle.ep_typed.specs.Valid.{Declarations, Kind, Level}
+use Rattle.ep_typed.specs.Valid.{Declarations, IsOfKind, Kind, Level}
 use Rattle.ep_typed.specs.declared.interface.RoutineEntry.{RoutineEntry}
 use Rattle.ep_typed.specs.declared.interface.RoutineResult.{RoutineResult}
 
@@ -39,8 +39,8 @@ pub data Passing : Type 0 where
 
 -- this formal parameter of a unit with these types does so
 abbrev pub IsPassed : List UnitType → FormalMode → Formal → Passing → Type 0
-IsPassed types mode.Value f (ByValue k) = (h : Host) × (host_of types (denoter_of f.denoter) ≡ Some h) × (k ≡ kind.Ordinal h)
-IsPassed types mode.ProtectedValue f (ByValue k) = (h : Host) × (host_of types (denoter_of f.denoter) ≡ Some h) × (k ≡ kind.Ordinal h)
+IsPassed types mode.Value f (ByValue k) = IsOfKind k types (denoter_of f.denoter)
+IsPassed types mode.ProtectedValue f (ByValue k) = IsOfKind k types (denoter_of f.denoter)
 IsPassed types mode.Variable f (ByReference t) = type_of types (denoter_of f.denoter) ≡ Some t
 IsPassed types mode.ProtectedVariable f (ByReference t) = type_of types (denoter_of f.denoter) ≡ Some t
 IsPassed types mode f p = ⊥
@@ -52,14 +52,15 @@ ArePassed types [] (p ∷ ps) = ⊥
 ArePassed types (f ∷ fs) [] = ⊥
 ArePassed types (f ∷ fs) (p ∷ ps) = IsPassed types f.mode f p × ArePassed types fs ps
 
--- a result is one of the kind
-abbrev pub IsOfKind : Kind → Result → Type 0
-IsOfKind (kind.Ordinal host) r = (z : ℤ) × (r ≡ Number z) × IsTrue (is_of_host host z)
-IsOfKind kind.Bytes r = (bytes : List ℕ) × (r ≡ Bytes bytes)
+-- an operand is the value of a result of the kind
+abbrev pub IsValueOf : Injection → Memory → Kind → Result → Operand → Type 0
+IsValueOf injection memory (kind.Ordinal host) r o = (z : ℤ) × (r ≡ Number z) × IsTrue (is_of_host host z) × (o ≡ Word z)
+IsValueOf injection memory kind.Bytes r o = (bytes : List ℕ) × (r ≡ Bytes bytes) × (o ≡ Text bytes)
+IsValueOf injection memory (kind.Structured t) r o = IsStructure t r injection memory o
 
 -- an operand is that of an argument: the value, or a place of the variable
 abbrev pub IsArgument : Injection → Memory → Passing → Argument → Operand → Type 0
-IsArgument injection memory (ByValue k) (Value r) o = IsOfKind k r × (o ≡ operand_of r)
+IsArgument injection memory (ByValue k) (Value r) o = IsValueOf injection memory k r o
 IsArgument injection memory (ByValue k) (Variable n) o = ⊥
 IsArgument injection memory (ByReference t) (Value r) o = ⊥
 IsArgument injection memory (ByReference t) (Variable n) o =
@@ -80,7 +81,13 @@ ResultsOnTop [] below [] injection memory operands = operands ≡ below
 ResultsOnTop [] below (r ∷ rs) injection memory operands = ⊥
 ResultsOnTop (k ∷ ks) below [] injection memory operands = ⊥
 ResultsOnTop (k ∷ ks) below (r ∷ rs) injection memory operands =
-    IsOfKind k r × ResultsOnTop ks (operand_of r ∷ below) rs injection memory operands
+    (o : Operand) × IsValueOf injection memory k r o × ResultsOnTop ks (o ∷ below) rs injection memory operands
+
+-- The credit behind a call: twice what its results weigh, since the form of the call spends their weight and they are
+-- put somewhere.
+abbrev pub credit_of : List Result → ℕ
+credit_of [] = 0
+credit_of (r ∷ rs) = 2 * weight_of r + credit_of rs
 
 -- what a call of one routine does, by the unit and the line of what makes the call, by how many levels up it is declared,
 -- and by the arguments
@@ -101,7 +108,7 @@ pub record CallsAt (G : Image) (place routine levels line : ℕ) : Type 0 where
 -- of it do, with up to n steps. Wherever the machine matches and stands at a `Call` of it with such arguments on the
 -- operands below, in an activation around which those are as the call says, it follows the call to the next instruction,
 -- where the results are on the operands below. The allocations that the routine made have ended then on both sides, if
--- they do at all, and what the caller knows of its own activation holds as before. No credit is there before or after.
+-- they do at all, and what the caller knows of its own activation holds as before. No credit is there before.
 pub record Promises (declared : Declarations) (G : Image) (routine n : ℕ) (types : List UnitType) (around : List Level)
     (formals : List Passing) (results : List Kind) (called : Called) : Type 0 where
   pub by : (place levels line : ℕ) → CallsAt G place routine levels line
@@ -111,15 +118,15 @@ pub record Promises (declared : Declarations) (G : Image) (routine n : ℕ) (typ
       → AreArguments injection memory formals arguments below operands
       → Fragment declared G (Since (kept_slots declared G) injection begun memory) n
       (point injection memory place operands) (called (unit_in G memory.frames) line levels arguments) (place + 1)
-      (λ rs. Inside (kept_slots declared G) injection memory (ResultsOnTop results below rs)) 0 (λ rs. 0)
+      (λ rs. Inside (kept_slots declared G) injection memory (ResultsOnTop results below rs)) 0 credit_of
 
 -- The kinds of what a routine of a unit with these types gives: a procedure gives nothing, and a function one value of
--- the host of its result (ISO 10206, 6.7.2).
+-- the kind of its result (ISO 10206, 6.7.2).
 abbrev pub AreResults : List UnitType → Option RoutineResult → List Kind → Type 0
 AreResults types None [] = ⊤
 AreResults types None (k ∷ ks) = ⊥
 AreResults types (Some r) [] = ⊥
-AreResults types (Some r) (k ∷ []) = (h : Host) × (host_of types (denoter_of r.denoter) ≡ Some h) × (k ≡ kind.Ordinal h)
+AreResults types (Some r) (k ∷ []) = IsOfKind k types (denoter_of r.denoter)
 AreResults types (Some r) (k ∷ l ∷ ks) = ⊥
 
 -- A routine of a unit has a number in the image, by which a call that names it is placed, and keeps its promise for what

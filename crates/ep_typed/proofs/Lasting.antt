@@ -3,14 +3,16 @@ use Rattle.std.proofs.Common.{slice_get, ◌≡◌, ℕ, ℤ, pos, negsuc, zero,
 use Rattle.std.specs.Prelude.{if◌then◌else◌}
 use Rattle.ep_typed.specs.Controls.{in_order, next_value}
 use Rattle.ep_typed.specs.Denoters.{definition_of, required_type, subrange_type, enumeration_type, array_type}
-use Rattle.ep_typed.specs.Meaning.{argument, arguments, one_result, weight_of, results_given, initialized, takes_by, takes_all, elaborate, elaborate_each, answered, indexed, selected, place, eval, write_piece, write_wide, write_item, write_items, assign, turns, turns_until, assigns, undefines, turns_to, counts, exec, exec_all, elaborated, elaborated_where, elaborated_found, elaborate_step, elaborate_within, make, make_all, make_own, make_all_own, start_of, starts_of, Found, routine_in, activation, runs_routine, routine_does, routine_of, read, assign_living, tried, exec_arms, exec_other}
+use Rattle.ep_typed.specs.Meaning.{argument, arguments, one_result, weights_of, results_given, initialized, takes_by, takes_all, elaborate, elaborate_each, answered, indexed, selected, place, eval, write_piece, write_wide, write_item, write_items, assign, turns, turns_until, assigns, undefines, turns_to, counts, exec, exec_all, elaborated, elaborated_where, elaborated_found, elaborate_step, elaborate_within, make, make_all, make_own, make_all_own, start_of, starts_of, Found, routine_in, activation, runs_routine, routine_does, routine_of, read, assign_living, tried, exec_arms, exec_other}
 use Rattle.ep_typed.specs.Operations.{Answer, Number, Fault, is_same, is_true, decides, is_in}
 use Rattle.ep_typed.specs.Printing.{Result, number_of, plain_text, wide_text, piece_events}
 use Rattle.ep_typed.specs.Printing as result
 use Rattle.ep_typed.specs.Calls.{Argument, Value, Handler, entered, given_back, in_call}
 use Rattle.ep_typed.specs.Calls as argument_is
 use Rattle.ep_typed.specs.Steady.{Grows, Steady, IsSteadyHandler}
-use Rattle.ep_typed.specs.Steps.{Call, End, Normal, Halted, Error, Word, Undefined, State, Outcome, Gives, Ends, Cut, state_of, Computation, give, cut, stop, go_on, bind, spend, change, found, fetch, assigned, type_at, is_within, is_among, Component, component, whole, size_of, with_type, counted, made, made_own, allocate, allocate_own, newest_assigned, with_own_bound, standard_file, first_state, using, has_ended, own_variable, word_at}
+use Rattle.ep_typed.specs.Steps.{Call, End, Normal, Halted, Error, Undefined, State, Outcome, Gives, Ends, Cut, state_of, Computation, give, cut, stop, go_on, bind, spend, change, found, fetch, assigned, type_at, Component, component, whole, size_of, with_type, counted, made, made_own, allocate, allocate_own, newest_assigned, with_own_bound, standard_file, first_state, using, has_ended, own_variable}
+use Rattle.ep_typed.specs.Steps.{Value as ValueOf}
+use Rattle.ep_typed.specs.Results.{misfit, result_of, suits, value_of, weight_of}
 use Rattle.ep_typed.specs.Trees.{Array, Enumeration, Subrange, Named, Record, Required, Denoter, Denoters, no_denoter, next_denoter, Callee, Place, Variable, Own, Standard, Indexed, Field, Expr, Constant, Text, Read, One, Two, Short, Step, Function, Actual, Evaluated, Accessed, Actuals, no_actual, next_actual, Item, Plain, Wide, Stmt, Stmts, Empty, Compound, Assign, If, While, Repeat, Control, For, Procedure, Halt, Write, none, next, Case, Arms, no_arm, next_arm, Other, no_other, otherwise_do, entire}
 use Rattle.ep_typed.specs.Routines.{made_variables, unit_variables}
 use Rattle.ep_typed.specs.Viewed.{denoter_of, stmt_of}
@@ -146,7 +148,7 @@ module _ (call other : Handler) (lasts : IsLastingHandler call other) (g j : ℕ
 
   -- the value of an allocation
   lasting_read : (line : ℕ) (v : Component) → Lasting (read call g unit line v) (read other (g + j) unit line v)
-  lasting_read line v = lasting_using _ v.allocation (lasting_bind (lasting_fetch _ _) (λ w. lasting_spend 1 (lasting_give (result.Number w))))
+  lasting_read line v = lasting_using _ v.allocation (lasting_bind (lasting_fetch _ _) (λ r. lasting_spend (suc (weight_of r)) (lasting_give r)))
 
   -- what a function gives
   lasting_one_result : (rs : List Result) → Lasting (one_result call g unit rs) (one_result other (g + j) unit rs)
@@ -217,24 +219,24 @@ module _ (call other : Handler) (lasts : IsLastingHandler call other) (g j : ℕ
   lasting_write_items line (i ∷ is) ends_line = lasting_bind (lasting_write_item line i) (λ _. lasting_write_items line is ends_line)
 
   -- a value that is assigned
-  lasting_assigned : (v : Component) (z : ℤ) → Lasting (spend 1 (change (assigned v (Word z)))) (spend 1 (change (assigned v (Word z))))
-  lasting_assigned v z = lasting_spend 1 (lasting_change (λ s. grows_quiet s (assigned v (Word z) s) refl refl))
+  lasting_assigned : (v : Component) (value : ValueOf) → Lasting (spend 1 (change (assigned v value))) (spend 1 (change (assigned v value)))
+  lasting_assigned v value = lasting_spend 1 (lasting_change (λ s. grows_quiet s (assigned v value s) refl refl))
 
   -- an assignment to a variable that lives
-  lasting_assign_living : (line : ℕ) (v : Component) (z : ℤ) → Lasting (assign_living call g unit line v z) (assign_living other (g + j) unit line v z)
-  lasting_assign_living line v z = record { steady = steady_assign_living other lasts.steady (g + j) unit line v z; by = λ m k s. go m k s (is_among (type_at v s) z) }
+  lasting_assign_living : (line : ℕ) (v : Component) (r : Result) → Lasting (assign_living call g unit line v r) (assign_living other (g + j) unit line v r)
+  lasting_assign_living line v r = record { steady = steady_assign_living other lasts.steady (g + j) unit line v r; by = λ m k s. go m k s (suits (type_at v s) r) }
     where
-      go : (m k : ℕ) (s : State) (b : Bool) → IsLonger k ((if b then spend 1 (change (assigned v (Word z))) else stop (Error run_error.OUTSIDE_TYPE unit line)) m s) ((if b then spend 1 (change (assigned v (Word z))) else stop (Error run_error.OUTSIDE_TYPE unit line)) (m + k) s)
+      go : (m k : ℕ) (s : State) (b : Bool) → IsLonger k ((if b then spend 1 (change (assigned v (value_of r))) else stop (Error (misfit r) unit line)) m s) ((if b then spend 1 (change (assigned v (value_of r))) else stop (Error (misfit r) unit line)) (m + k) s)
       go m k s true =
-          let x = lasting_assigned v z in x.by m k s
+          let x = lasting_assigned v (value_of r) in x.by m k s
       go m k s false = refl
 
   -- an assignment
-  lasting_assign : (line : ℕ) (v : Component) (z : ℤ) → Lasting (assign call g unit line v z) (assign other (g + j) unit line v z)
-  lasting_assign line v z = lasting_using _ v.allocation (lasting_assign_living line v z)
+  lasting_assign : (line : ℕ) (v : Component) (r : Result) → Lasting (assign call g unit line v r) (assign other (g + j) unit line v r)
+  lasting_assign line v r = lasting_using _ v.allocation (lasting_assign_living line v r)
 
   lasting_assigns : (line : ℕ) (p : Place) (x : Expr) → Lasting (assigns call g unit line p x) (assigns other (g + j) unit line p x)
-  lasting_assigns line p x = lasting_bind (lasting_place line p) (λ v. lasting_bind (lasting_eval line x) (λ r. lasting_assign line v (number_of r)))
+  lasting_assigns line p x = lasting_bind (lasting_place line p) (λ v. lasting_bind (lasting_eval line x) (λ r. lasting_assign line v r))
 
   -- a variable that becomes undefined
   lasting_undefines : (line : ℕ) (p : Place) → Lasting (undefines call g unit line p) (undefines other (g + j) unit line p)
@@ -375,23 +377,23 @@ lasting_in_call {A = A} levels x {c = c} {d = d} p = record { steady = steady_in
     go k s (Cut t) r is = after s t r is
 
 -- the first value of a variable
-lasting_initialized : (unit : List ℕ) (line : ℕ) (t : TypeValue) (z : ℤ) → Lasting (initialized unit line t z) (initialized unit line t z)
-lasting_initialized unit line t z = lasting_if (is_within t z) (lasting_change (λ s. grows_quiet s (newest_assigned (Word z) s) refl refl)) (lasting_stop (Error run_error.OUTSIDE_TYPE unit line))
+lasting_initialized : (unit : List ℕ) (line : ℕ) (t : TypeValue) (r : Result) → Lasting (initialized unit line t r) (initialized unit line t r)
+lasting_initialized unit line t r = lasting_if (suits (Some t) r) (lasting_change (λ s. grows_quiet s (newest_assigned (value_of r) s) refl refl)) (lasting_stop (Error (misfit r) unit line))
 
 module _ (call other : Handler) (lasts : IsLastingHandler call other) (g j : ℕ) (unit : List ℕ) (types : List UnitType) where
   -- a formal parameter that takes its argument
-  lasting_takes_value : (line number : ℕ) (f : Formal) (z : ℤ)
-      → Lasting (bind (elaborate call g unit types (denoter_of f.denoter)) (λ t. bind (allocate_own number t) (λ _. initialized unit line t z))) (bind (elaborate other (g + j) unit types (denoter_of f.denoter)) (λ t. bind (allocate_own number t) (λ _. initialized unit line t z)))
-  lasting_takes_value line number f z =
-      lasting_bind (lasting_elaborate call other lasts g j unit types (denoter_of f.denoter)) (λ t. lasting_bind (lasting_allocate_own call other lasts g j unit number t) (λ _. lasting_initialized unit line t z))
+  lasting_takes_value : (line number : ℕ) (f : Formal) (r : Result)
+      → Lasting (bind (elaborate call g unit types (denoter_of f.denoter)) (λ t. bind (allocate_own number t) (λ _. initialized unit line t r))) (bind (elaborate other (g + j) unit types (denoter_of f.denoter)) (λ t. bind (allocate_own number t) (λ _. initialized unit line t r)))
+  lasting_takes_value line number f r =
+      lasting_bind (lasting_elaborate call other lasts g j unit types (denoter_of f.denoter)) (λ t. lasting_bind (lasting_allocate_own call other lasts g j unit number t) (λ _. lasting_initialized unit line t r))
 
   lasting_takes_variable : (number : ℕ) (v : Component) → Lasting (spend 1 (change (with_own_bound number v))) (spend 1 (change (with_own_bound number v)))
   lasting_takes_variable number v = lasting_spend 1 (lasting_change (λ s. grows_quiet s (with_own_bound number v s) refl refl))
 
   lasting_takes_by : (m : FormalMode) (line number : ℕ) (f : Formal) (x : Argument) → Lasting (takes_by call g unit types m line number f x) (takes_by other (g + j) unit types m line number f x)
-  lasting_takes_by mode.Value line number f (Value r) = lasting_takes_value line number f (number_of r)
+  lasting_takes_by mode.Value line number f (Value r) = lasting_takes_value line number f r
   lasting_takes_by mode.Value line number f (argument_is.Variable n) = lasting_cut
-  lasting_takes_by mode.ProtectedValue line number f (Value r) = lasting_takes_value line number f (number_of r)
+  lasting_takes_by mode.ProtectedValue line number f (Value r) = lasting_takes_value line number f r
   lasting_takes_by mode.ProtectedValue line number f (argument_is.Variable n) = lasting_cut
   lasting_takes_by mode.Variable line number f (Value r) = lasting_cut
   lasting_takes_by mode.Variable line number f (argument_is.Variable n) = lasting_takes_variable number n
@@ -409,7 +411,7 @@ lasting_results_given : (unit : List ℕ) (line number : ℕ) (r : Option Routin
 lasting_results_given unit line number None = lasting_give []
 lasting_results_given unit line number (Some r) =
     lasting_bind (lasting_fetch (Error run_error.UNDEFINED_VALUE unit line) (own_variable 0 number)) (λ v.
-    lasting_using (Error run_error.DISPOSED unit line) v.allocation (lasting_bind (lasting_fetch (Error run_error.RESULT_UNDEFINED unit line) (word_at v)) (λ w. lasting_give (result.Number w ∷ []))))
+    lasting_using (Error run_error.DISPOSED unit line) v.allocation (lasting_bind (lasting_fetch (Error run_error.RESULT_UNDEFINED unit line) (result_of v)) (λ r. lasting_give (r ∷ []))))
 
 -- a routine
 lasting_runs_routine : (call other : Handler) → IsLastingHandler call other → (g j : ℕ) (unit : List ℕ) (f : Found) (xs : List Argument) → Lasting (runs_routine call g unit f xs) (runs_routine other (g + j) unit f xs)
@@ -423,7 +425,7 @@ lasting_routine_does : (call other : Handler) → IsLastingHandler call other �
     → Lasting (routine_does call g from line callee o xs) (routine_does other (g + j) from line callee o xs)
 lasting_routine_does call other lasts g j from line callee None xs = lasting_cut
 lasting_routine_does call other lasts g j from line callee (Some f) xs =
-    lasting_in_call callee.levels (activation f.routine.name from line) (lasting_spend 1 (lasting_runs_routine call other lasts g j callee.unit f xs))
+    lasting_in_call callee.levels (activation f.routine.name from line) (lasting_spend (suc (weights_of xs)) (lasting_runs_routine call other lasts g j callee.unit f xs))
 
 -- where calls may nest deeper
 lasting_routine_of : (units : List TypedUnit) (depth more : ℕ) → IsLastingHandler (routine_of units depth) (routine_of units (depth + more))

@@ -7,3 +7,4 @@ pub mod Lasting
 pub mod Levels
 pub mod Steady
 pub mod Typed
+pub mod ValueKinds

@@ -6,14 +6,16 @@ use Rattle.ep_outside.specs.Known.{IsPrefix}
 use Rattle.ep_typed.specs.Controls.{in_order, next_value}
 use Rattle.ep_typed.specs.Denoters.{definition_of, required_type, subrange_type, enumeration_type, array_type}
 use Rattle.ep_typed.specs.Events.{Trace}
-use Rattle.ep_typed.specs.Meaning.{argument, arguments, one_result, weight_of, result_at, results_given, initialized, takes_by, takes_all, elaborate, elaborate_each, answered, indexed, selected, place, eval, write_piece, write_wide, write_item, write_items, assign, turns, turns_until, assigns, undefines, turns_to, counts, exec, exec_all, elaborated, elaborated_where, elaborated_found, elaborate_step, elaborate_within, make, make_all, make_own, make_all_own, start_of, starts_of, Found, routine_in, activation, runs_routine, routine_does, routine_of, read, assign_living, tried, exec_arms, exec_other}
+use Rattle.ep_typed.specs.Meaning.{argument, arguments, one_result, weights_of, result_at, results_given, initialized, takes_by, takes_all, elaborate, elaborate_each, answered, indexed, selected, place, eval, write_piece, write_wide, write_item, write_items, assign, turns, turns_until, assigns, undefines, turns_to, counts, exec, exec_all, elaborated, elaborated_where, elaborated_found, elaborate_step, elaborate_within, make, make_all, make_own, make_all_own, start_of, starts_of, Found, routine_in, activation, runs_routine, routine_does, routine_of, read, assign_living, tried, exec_arms, exec_other}
 use Rattle.ep_typed.specs.Operations.{Answer, Number, Fault, is_same, is_true, decides, is_in}
 use Rattle.ep_typed.specs.Printing.{Result, number_of, plain_text, wide_text, piece_events}
 use Rattle.ep_typed.specs.Printing as result
 use Rattle.ep_typed.specs.Calls.{Argument, Value, Handler, entered, given_back, in_call}
 use Rattle.ep_typed.specs.Calls as argument_is
 use Rattle.ep_typed.specs.Steady.{Grows, Steady, IsSteadyHandler}
-use Rattle.ep_typed.specs.Steps.{Call, End, Normal, Halted, Error, Word, Undefined, State, Outcome, Gives, Ends, Cut, state_of, Computation, give, cut, stop, go_on, bind, spend, change, found, fetch, with_events, assigned, type_at, is_within, is_among, Component, component, whole, size_of, same_type, Resources, watched, words_of_type, sized, met, with_type, counted, made, made_own, allocate, allocate_own, newest_assigned, with_own_bound, standard_file, using, has_ended, own_variable, word_at}
+use Rattle.ep_typed.specs.Steps.{Call, End, Normal, Halted, Error, Undefined, State, Outcome, Gives, Ends, Cut, state_of, Computation, give, cut, stop, go_on, bind, spend, change, found, fetch, with_events, assigned, type_at, Component, component, whole, size_of, same_type, Resources, watched, words_of_type, sized, met, with_type, counted, made, made_own, allocate, allocate_own, newest_assigned, with_own_bound, standard_file, using, has_ended, own_variable}
+use Rattle.ep_typed.specs.Steps.{Value as ValueOf}
+use Rattle.ep_typed.specs.Results.{misfit, result_of, suits, value_of, weight_of}
 use Rattle.ep_typed.specs.Trees.{Array, Enumeration, Subrange, Named, Record, Required, Denoter, Denoters, no_denoter, next_denoter, Callee, Place, Variable, Own, Standard, Indexed, Field, Expr, Constant, Text, Read, One, Two, Short, Step, Function, Actual, Evaluated, Accessed, Actuals, no_actual, next_actual, Item, Plain, Wide, Stmt, Stmts, Empty, Compound, Assign, If, While, Repeat, Control, For, Procedure, Halt, Write, none, next, Case, Arms, no_arm, next_arm, Other, no_other, otherwise_do, entire}
 use Rattle.ep_typed.specs.Routines.{made_variables, unit_variables}
 use Rattle.ep_typed.specs.Viewed.{denoter_of, stmt_of}
@@ -177,7 +179,7 @@ module _ (call : Handler) (steady : IsSteadyHandler call) (g : ℕ) (unit : List
 
   -- the value of an allocation
   pub steady_read : (line : ℕ) (c : Component) → Steady (read call g unit line c)
-  steady_read line c = steady_using _ c.allocation (steady_bind (steady_fetch _ _) (λ w. steady_spend 1 (steady_give (result.Number w))))
+  steady_read line c = steady_using _ c.allocation (steady_bind (steady_fetch _ _) (λ r. steady_spend (suc (weight_of r)) (steady_give r)))
 
   -- what a function gives
   steady_one_result : (rs : List Result) → Steady (one_result call g unit rs)
@@ -248,24 +250,24 @@ module _ (call : Handler) (steady : IsSteadyHandler call) (g : ℕ) (unit : List
   steady_write_items line (i ∷ is) ends_line = steady_bind (steady_write_item line i) (λ _. steady_write_items line is ends_line)
 
   -- a value that is assigned
-  pub steady_assigned : (v : Component) (z : ℤ) → Steady (spend 1 (change (assigned v (Word z))))
-  steady_assigned v z = steady_spend 1 (steady_change (λ s. grows_quiet s (assigned v (Word z) s) refl refl))
+  pub steady_assigned : (v : Component) (value : ValueOf) → Steady (spend 1 (change (assigned v value)))
+  steady_assigned v value = steady_spend 1 (steady_change (λ s. grows_quiet s (assigned v value s) refl refl))
 
   -- an assignment to a variable that lives
-  pub steady_assign_living : (line : ℕ) (v : Component) (z : ℤ) → Steady (assign_living call g unit line v z)
-  steady_assign_living line v z = record { by = λ m s. go m s (is_among (type_at v s) z) }
+  pub steady_assign_living : (line : ℕ) (v : Component) (r : Result) → Steady (assign_living call g unit line v r)
+  steady_assign_living line v r = record { by = λ m s. go m s (suits (type_at v s) r) }
     where
-      go : (m : ℕ) (s : State) (b : Bool) → Grows s (state_of ((if b then spend 1 (change (assigned v (Word z))) else stop (Error run_error.OUTSIDE_TYPE unit line)) m s))
+      go : (m : ℕ) (s : State) (b : Bool) → Grows s (state_of ((if b then spend 1 (change (assigned v (value_of r))) else stop (Error (misfit r) unit line)) m s))
       go m s true =
-          let x = steady_assigned v z in x.by m s
+          let x = steady_assigned v (value_of r) in x.by m s
       go m s false = grows_refl s
 
   -- an assignment
-  pub steady_assign : (line : ℕ) (v : Component) (z : ℤ) → Steady (assign call g unit line v z)
-  steady_assign line v z = steady_using _ v.allocation (steady_assign_living line v z)
+  pub steady_assign : (line : ℕ) (v : Component) (r : Result) → Steady (assign call g unit line v r)
+  steady_assign line v r = steady_using _ v.allocation (steady_assign_living line v r)
 
   pub steady_assigns : (line : ℕ) (p : Place) (x : Expr) → Steady (assigns call g unit line p x)
-  steady_assigns line p x = steady_bind (steady_place line p) (λ v. steady_bind (steady_eval line x) (λ r. steady_assign line v (number_of r)))
+  steady_assigns line p x = steady_bind (steady_place line p) (λ v. steady_bind (steady_eval line x) (λ r. steady_assign line v r))
 
   -- a variable that becomes undefined
   pub steady_undefined : (v : Component) → Steady (spend 1 (change (assigned v Undefined)))
@@ -396,22 +398,22 @@ steady_in_call {A = A} levels x {c = c} g = record { by = λ m s. go m s (c m (e
     go m s (Cut t) h = h
 
 -- the first value of a variable
-pub steady_initialized : (unit : List ℕ) (line : ℕ) (t : TypeValue) (z : ℤ) → Steady (initialized unit line t z)
-steady_initialized unit line t z = steady_if (is_within t z) (steady_change (λ s. grows_quiet s (newest_assigned (Word z) s) refl refl)) (steady_stop (Error run_error.OUTSIDE_TYPE unit line))
+pub steady_initialized : (unit : List ℕ) (line : ℕ) (t : TypeValue) (r : Result) → Steady (initialized unit line t r)
+steady_initialized unit line t r = steady_if (suits (Some t) r) (steady_change (λ s. grows_quiet s (newest_assigned (value_of r) s) refl refl)) (steady_stop (Error (misfit r) unit line))
 
 module _ (call : Handler) (steady : IsSteadyHandler call) (g : ℕ) (unit : List ℕ) (types : List UnitType) where
   -- a formal parameter that takes its argument
-  steady_takes_value : (line number : ℕ) (f : Formal) (z : ℤ) → Steady (bind (elaborate call g unit types (denoter_of f.denoter)) (λ t. bind (allocate_own number t) (λ _. initialized unit line t z)))
-  steady_takes_value line number f z =
-      steady_bind (steady_elaborate call steady g unit types (denoter_of f.denoter)) (λ t. steady_bind (steady_allocate_own number t) (λ _. steady_initialized unit line t z))
+  steady_takes_value : (line number : ℕ) (f : Formal) (r : Result) → Steady (bind (elaborate call g unit types (denoter_of f.denoter)) (λ t. bind (allocate_own number t) (λ _. initialized unit line t r)))
+  steady_takes_value line number f r =
+      steady_bind (steady_elaborate call steady g unit types (denoter_of f.denoter)) (λ t. steady_bind (steady_allocate_own number t) (λ _. steady_initialized unit line t r))
 
   steady_takes_variable : (number : ℕ) (c : Component) → Steady (spend 1 (change (with_own_bound number c)))
   steady_takes_variable number c = steady_spend 1 (steady_change (λ s. grows_quiet s (with_own_bound number c s) refl refl))
 
   pub steady_takes_by : (m : FormalMode) (line number : ℕ) (f : Formal) (x : Argument) → Steady (takes_by call g unit types m line number f x)
-  steady_takes_by mode.Value line number f (Value r) = steady_takes_value line number f (number_of r)
+  steady_takes_by mode.Value line number f (Value r) = steady_takes_value line number f r
   steady_takes_by mode.Value line number f (argument_is.Variable n) = steady_cut
-  steady_takes_by mode.ProtectedValue line number f (Value r) = steady_takes_value line number f (number_of r)
+  steady_takes_by mode.ProtectedValue line number f (Value r) = steady_takes_value line number f r
   steady_takes_by mode.ProtectedValue line number f (argument_is.Variable n) = steady_cut
   steady_takes_by mode.Variable line number f (Value r) = steady_cut
   steady_takes_by mode.Variable line number f (argument_is.Variable n) = steady_takes_variable number n
@@ -428,7 +430,7 @@ module _ (call : Handler) (steady : IsSteadyHandler call) (g : ℕ) (unit : List
 pub steady_result_at : (unit : List ℕ) (line number : ℕ) → Steady (result_at unit line number)
 steady_result_at unit line number =
     steady_bind (steady_fetch (Error run_error.UNDEFINED_VALUE unit line) (own_variable 0 number)) (λ c.
-    steady_using (Error run_error.DISPOSED unit line) c.allocation (steady_bind (steady_fetch (Error run_error.RESULT_UNDEFINED unit line) (word_at c)) (λ w. steady_give (result.Number w ∷ []))))
+    steady_using (Error run_error.DISPOSED unit line) c.allocation (steady_bind (steady_fetch (Error run_error.RESULT_UNDEFINED unit line) (result_of c)) (λ r. steady_give (r ∷ []))))
 
 -- what a routine gives
 pub steady_results_given : (unit : List ℕ) (line number : ℕ) (r : Option RoutineResult) → Steady (results_given unit line number r)
@@ -447,7 +449,7 @@ steady_routine_does : (call : Handler) → IsSteadyHandler call → (g : ℕ) (f
     → Steady (routine_does call g from line callee o xs)
 steady_routine_does call steady g from line callee None xs = steady_cut
 steady_routine_does call steady g from line callee (Some f) xs =
-    steady_in_call callee.levels (activation f.routine.name from line) (steady_spend 1 (steady_runs_routine call steady g callee.unit f xs))
+    steady_in_call callee.levels (activation f.routine.name from line) (steady_spend (suc (weights_of xs)) (steady_runs_routine call steady g callee.unit f xs))
 
 -- however deep calls nest
 pub steady_routine_of : (units : List TypedUnit) (depth : ℕ) → IsSteadyHandler (routine_of units depth)

@@ -10,6 +10,7 @@ pub mod Meaning
 pub mod Nodes
 pub mod Operations
 pub mod Printing
+pub mod Results
 pub mod Routines
 pub mod Steady
 pub mod Steps

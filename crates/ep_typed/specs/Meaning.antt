@@ -1,6 +1,6 @@
 -- The meaning of typed trees, by recursion on them, in counted steps.
 use Rattle.std.specs.Str.{bytes_eq}
-use Rattle.std.specs.Prelude.{ℕ, ℤ, pos, negsuc, zero, suc, Bool, true, false, List, [], ◌∷◌, length, slice_get, Option, Some, None, if◌then◌else◌}
+use Rattle.std.specs.Prelude.{ℕ, ℤ, pos, negsuc, zero, suc, ◌+◌, Bool, true, false, List, [], ◌∷◌, length, slice_get, Option, Some, None, if◌then◌else◌}
 use Rattle.ep_typed.specs.Calls.{Argument, Value, Handler, in_call}
 use Rattle.ep_typed.specs.Calls as argument_is
 use Rattle.ep_typed.specs.Controls.{in_order, next_value}
@@ -8,10 +8,11 @@ use Rattle.ep_typed.specs.Denoters.{required_type, subrange_type, enumeration_ty
 use Rattle.ep_typed.specs.Trees.{Denoter, Required, Named, Subrange, Enumeration, Array, Record, Denoters, no_denoter, next_denoter, Callee, Place, Variable, Own, Standard, Indexed, Field, Expr, Constant, Text, Read, One, Two, Short, Step, Function, Actual, Evaluated, Accessed, Actuals, no_actual, next_actual, Item, Plain, Wide, Stmt, Stmts, Empty, Compound, Assign, If, While, Repeat, Control, For, Procedure, Halt, Write, none, next, Case, Arms, no_arm, next_arm, Other, no_other, otherwise_do, entire}
 use Rattle.ep_typed.specs.Routines.{made_variables, unit_variables}
 use Rattle.ep_typed.specs.Viewed.{denoter_of, stmt_of}
-use Rattle.ep_typed.specs.Steps.{Call, Normal, Halted, Error, Word, Undefined, Outcome, Computation, give, cut, stop, bind, spend, change, fetch, with_events, word_at, assigned, type_at, is_within, is_among, whole, Component, component, component_number, with_type, allocate, allocate_own, own_variable, newest_assigned, with_own_bound, standard_file, first_state, using}
+use Rattle.ep_typed.specs.Steps.{Call, Normal, Halted, Error, Undefined, Outcome, Computation, give, cut, stop, bind, spend, change, fetch, with_events, assigned, type_at, whole, Component, component, component_number, with_type, allocate, allocate_own, own_variable, newest_assigned, with_own_bound, standard_file, first_state, using}
 use Rattle.ep_typed.specs.Operations.{Answer, Number, Fault, unary_answer, binary_answer, step_answer, is_same, is_true, decides, is_in}
 use Rattle.ep_typed.specs.Printing.{Result, Bytes, number_of, line_end, plain_text, wide_text, piece_events}
 use Rattle.ep_typed.specs.Printing as result
+use Rattle.ep_typed.specs.Results.{misfit, result_of, suits, value_of, weight_of}
 use Rattle.ep_typed.specs.declared.interface.Formal.{Formal}
 use Rattle.ep_typed.specs.declared.interface.FormalMode.{FormalMode}
 use Rattle.ep_typed.specs.declared.interface.FormalMode.TheVariants as mode
@@ -25,11 +26,6 @@ use Rattle.ep_typed.specs.declared.unit.UnitVariable.{UnitVariable}
 use Rattle.ep_typed.specs.TypeValues as type
 use Rattle.ep_typed.specs.TypeValues.{TypeValue, ComponentTypes}
 use Rattle.ep_typed.specs.declared.unit.Unit.{Unit as TypedUnit}
-
--- the steps that a result spends besides the one of its node: a text has its length
-abbrev pub weight_of : Result → ℕ
-weight_of (result.Number z) = 0
-weight_of (Bytes bytes) = length bytes
 
 -- The forms at a line of a unit, where `call` does calls, and `g` is the most turns that a loop makes.
 module _ (call : Handler) (g : ℕ) (unit : List ℕ) where
@@ -48,7 +44,7 @@ module _ (call : Handler) (g : ℕ) (unit : List ℕ) where
 
   -- the value of a variable: an error where its allocation has ended, and else where the value is undefined
   abbrev pub read : ℕ → Component → Computation Result
-  read line c = using (Error run_error.DISPOSED unit line) c.allocation (bind (fetch (Error run_error.UNDEFINED_VALUE unit line) (word_at c)) (λ w. spend 1 (give (result.Number w))))
+  read line c = using (Error run_error.DISPOSED unit line) c.allocation (bind (fetch (Error run_error.UNDEFINED_VALUE unit line) (result_of c)) (λ r. spend (suc (weight_of r)) (give r)))
 
   -- what a call of a function gives, which has one result; what is none has no meaning
   abbrev pub one_result : List Result → Computation Result
@@ -108,17 +104,17 @@ module _ (call : Handler) (g : ℕ) (unit : List ℕ) where
   write_items line [] true = bind (write_piece (line_end ∷ [])) (λ _. spend 1 (give tt))
   write_items line (i ∷ is) ends_line = bind (write_item line i) (λ _. write_items line is ends_line)
 
-  -- an error where the value is outside the type of the variable
-  abbrev pub assign_living : ℕ → Component → ℤ → Computation (Unit {0})
-  assign_living line c z m s = (if is_among (type_at c s) z then spend 1 (change (assigned c (Word z))) else stop (Error run_error.OUTSIDE_TYPE unit line)) m s
+  -- an error where the value is outside the type of the variable, or of another type
+  abbrev pub assign_living : ℕ → Component → Result → Computation (Unit {0})
+  assign_living line c r m s = (if suits (type_at c s) r then spend 1 (change (assigned c (value_of r))) else stop (Error (misfit r) unit line)) m s
 
-  -- an error where the variable has ended, and else where the value is outside its type
-  abbrev pub assign : ℕ → Component → ℤ → Computation (Unit {0})
-  assign line c z = using (Error run_error.DISPOSED unit line) c.allocation (assign_living line c z)
+  -- an error where the variable has ended, and else where the value is outside its type, or of another one
+  abbrev pub assign : ℕ → Component → Result → Computation (Unit {0})
+  assign line c r = using (Error run_error.DISPOSED unit line) c.allocation (assign_living line c r)
 
   -- an assignment: the place, and then the value
   abbrev pub assigns : ℕ → Place → Expr → Computation (Unit {0})
-  assigns line p x = bind (place line p) (λ c. bind (eval line x) (λ r. assign line c (number_of r)))
+  assigns line p x = bind (place line p) (λ c. bind (eval line x) (λ r. assign line c r))
 
   -- a variable becomes undefined: an error where it has ended
   abbrev pub undefines : ℕ → Place → Computation (Unit {0})
@@ -270,9 +266,10 @@ routine_in (u ∷ us) unit number = if bytes_eq u.name unit then found_among u.t
 abbrev pub activation : List ℕ → List ℕ → ℕ → Call
 activation routine from line = record { routine = routine; unit = from; line = line; variables = λ k. None; around = []; made = [] }
 
--- The newest variable of the routine, which is of a type, gets its value: an error where that is outside the type.
-abbrev pub initialized : List ℕ → ℕ → TypeValue → ℤ → Computation (Unit {0})
-initialized unit line t z = if is_within t z then change (newest_assigned (Word z)) else stop (Error run_error.OUTSIDE_TYPE unit line)
+-- The newest variable of the routine, which is of a type, gets its value: an error where that is outside the type, or of
+-- another one.
+abbrev pub initialized : List ℕ → ℕ → TypeValue → Result → Computation (Unit {0})
+initialized unit line t r = if suits (Some t) r then change (newest_assigned (value_of r)) else stop (Error (misfit r) unit line)
 
 module _ (call : Handler) (g : ℕ) (unit : List ℕ) (types : List UnitType) where
   -- A formal parameter takes its argument (ISO 10206, 6.7.3.2 and 6.7.3.3): a value is the first one of a variable of the
@@ -280,9 +277,9 @@ module _ (call : Handler) (g : ℕ) (unit : List ℕ) (types : List UnitType) wh
   -- argument of it has no meaning.
   abbrev pub takes_by : FormalMode → ℕ → ℕ → Formal → Argument → Computation (Unit {0})
   takes_by mode.Value line number f (Value r) =
-      bind (elaborate call g unit types (denoter_of f.denoter)) (λ t. bind (allocate_own number t) (λ _. initialized unit line t (number_of r)))
+      bind (elaborate call g unit types (denoter_of f.denoter)) (λ t. bind (allocate_own number t) (λ _. initialized unit line t r))
   takes_by mode.ProtectedValue line number f (Value r) =
-      bind (elaborate call g unit types (denoter_of f.denoter)) (λ t. bind (allocate_own number t) (λ _. initialized unit line t (number_of r)))
+      bind (elaborate call g unit types (denoter_of f.denoter)) (λ t. bind (allocate_own number t) (λ _. initialized unit line t r))
   takes_by mode.Variable line number f (argument_is.Variable c) = spend 1 (change (with_own_bound number c))
   takes_by mode.ProtectedVariable line number f (argument_is.Variable c) = spend 1 (change (with_own_bound number c))
   takes_by mode line number f x = cut
@@ -295,11 +292,11 @@ module _ (call : Handler) (g : ℕ) (unit : List ℕ) (types : List UnitType) wh
   takes_all line number (f ∷ fs) (x ∷ xs) = bind (takes_by f.mode line number f x) (λ _. takes_all line (suc number) fs xs)
 
 -- The value that the variable of this number of the routine has. One that is undefined is an error of its own, since it is
--- the result of a function that was never given (ISO 10206, 6.7.2).
+-- the result of a function that was never given (ISO 10206, 6.7.2); an array or a record has its components as they are.
 abbrev pub result_at : List ℕ → ℕ → ℕ → Computation (List Result)
 result_at unit line number =
     bind (fetch (Error run_error.UNDEFINED_VALUE unit line) (own_variable 0 number)) (λ c.
-    using (Error run_error.DISPOSED unit line) c.allocation (bind (fetch (Error run_error.RESULT_UNDEFINED unit line) (word_at c)) (λ w. give (result.Number w ∷ []))))
+    using (Error run_error.DISPOSED unit line) c.allocation (bind (fetch (Error run_error.RESULT_UNDEFINED unit line) (result_of c)) (λ r. give (r ∷ []))))
 
 -- what a routine gives when it is done: a function the value of the variable of this number, and a procedure nothing
 abbrev pub results_given : List ℕ → ℕ → ℕ → Option RoutineResult → Computation (List Result)
@@ -316,12 +313,18 @@ runs_routine call g unit f xs =
     (λ _. bind (make_all_own call g unit f.types (length r.formals) (made_variables f.routine))
     (λ _. bind (exec call g unit (stmt_of r.block)) (λ _. results_given unit r.line (length r.formals) r.result)))
 
--- What a call of a routine does: it spends a step, and then the routine runs. What is none has no meaning, and no valid
--- unit calls one.
+-- the steps that the values spend which are given
+abbrev pub weights_of : List Argument → ℕ
+weights_of [] = 0
+weights_of (Value r ∷ xs) = weight_of r + weights_of xs
+weights_of (argument_is.Variable c ∷ xs) = weights_of xs
+
+-- What a call of a routine does: it spends a step, and once more what the values spend that it is given, and then the
+-- routine runs. What is none has no meaning, and no valid unit calls one.
 abbrev pub routine_does : Handler → ℕ → List ℕ → ℕ → Callee → Option Found → List Argument → Computation (List Result)
 routine_does call g from line callee None xs = cut
 routine_does call g from line callee (Some f) xs =
-    in_call callee.levels (activation f.routine.name from line) (spend 1 (runs_routine call g callee.unit f xs))
+    in_call callee.levels (activation f.routine.name from line) (spend (suc (weights_of xs)) (runs_routine call g callee.unit f xs))
 
 -- What a call does, where calls nest at most so deep, and loops turn at most so often in each.
 abbrev pub routine_of : List TypedUnit → ℕ → Handler

@@ -2,21 +2,26 @@
 use Rattle.std.specs.Prelude.{ℕ, ℤ, pos, zero, ◌-◌, List, [], ◌∷◌, ◌++◌, length, take, replicate, codes, unsigned_abs}
 use Rattle.std.specs.Fmt.{signed_decimal}
 use Rattle.ep_typed.specs.Events.{Trace, Write}
+use Rattle.ep_typed.specs.Steps.{Value}
+use Rattle.ep_typed.specs.TypeValues.{TypeValue}
 use Rattle.ep_typed.specs.declared.operations.Print.{Print}
 use Rattle.ep_typed.specs.declared.operations.Print.TheVariants as print
 
--- a value of an expression: a number or a text
+-- a value of an expression: a number, a text, or a value of an array or record type
 pub data Result : Type 0 where
   Number : (z : ℤ) → Result
   Bytes : (bytes : List ℕ) → Result
+  Structure : (type_value : TypeValue) (value : Value) → Result
 
 abbrev pub number_of : Result → ℤ
 number_of (Number z) = z
 number_of (Bytes bytes) = pos 0
+number_of (Structure t v) = pos 0
 
 abbrev pub bytes_of : Result → List ℕ
 bytes_of (Number z) = []
 bytes_of (Bytes bytes) = bytes
+bytes_of (Structure t v) = []
 
 -- False for 0, else True
 abbrev pub boolean_text : ℤ → List ℕ

@@ -189,13 +189,14 @@ word_of Undefined = None
 word_of (Word w) = Some w
 word_of (Components of) = None
 
-abbrev pub word_in : Option Allocation → List ℕ → Option ℤ
-word_in None path = None
-word_in (Some a) path = word_of (value_along a.value path)
+-- the value at a path of an allocation
+abbrev pub value_in : Option Allocation → List ℕ → Value
+value_in None path = Undefined
+value_in (Some a) path = value_along a.value path
 
--- the word that a variable has, where it is defined
-abbrev pub word_at : Component → State → Option ℤ
-word_at c s = word_in (allocation_at s.allocations c.allocation) c.path
+-- the value of a variable
+abbrev pub value_at : Component → State → Value
+value_at c s = value_in (allocation_at s.allocations c.allocation) c.path
 
 abbrev pub changed_at : ℕ → List ℕ → Value → List Allocation → Option Allocation → List Allocation
 changed_at n path value allocations None = allocations

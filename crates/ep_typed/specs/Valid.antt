@@ -32,10 +32,24 @@ use Rattle.ep_typed.specs.declared.unit.UnitType.{UnitType}
 use Rattle.ep_typed.specs.declared.unit.UnitVariable.{UnitVariable}
 use Rattle.ep_typed.specs.declared.unit.Unit.{Unit as TypedUnit}
 
--- what an expression is: of an ordinal type with this host, or a text
+-- what an expression is: of an ordinal type with this host, a text, or of an array or record type
 pub data Kind : Type 0 where
   Ordinal : (host : Host) → Kind
   Bytes : Kind
+  Structured : (type_value : TypeValue) → Kind
+
+-- the type value is that of an array or a record
+abbrev pub IsStructured : TypeValue → Type 0
+IsStructured (type.Ordinal low high) = ⊥
+IsStructured type.Text = ⊥
+IsStructured (type.Array low high of) = ⊤
+IsStructured (type.Record ts) = ⊤
+
+-- under a list of types a value of the denoter's type is of the kind
+abbrev pub IsOfKind : Kind → List UnitType → Denoter → Type 0
+IsOfKind (Ordinal h) types d = host_of types d ≡ Some h
+IsOfKind Bytes types d = ⊥
+IsOfKind (Structured t) types d = (type_of types d ≡ Some t) × IsStructured t
 
 -- a routine by its number, with its variables
 pub record Level : Type 0 where
@@ -129,11 +143,11 @@ printed_kind print.Text = Bytes
 abbrev pub IsProcedure : RoutineEntry → Type 0
 IsProcedure r = r.result ≡ None
 
--- the heading of a function whose result has this host, in a unit with these types
-pub record IsFunction (types : List UnitType) (h : Host) (r : RoutineEntry) : Type 0 where
+-- the heading of a function whose result is of this kind, in a unit with these types
+pub record IsFunction (types : List UnitType) (kind : Kind) (r : RoutineEntry) : Type 0 where
   pub result : RoutineResult
   pub has_result : r.result ≡ Some result
-  pub has_host : host_of types (denoter_of result.denoter) ≡ Some h
+  pub has_kind : IsOfKind kind types (denoter_of result.denoter)
 
 -- the ranges of all arms
 abbrev pub ranges_of : Arms → List CaseRange
@@ -162,19 +176,19 @@ module _ (declared : Declarations) where
     pub IsExpr : Kind → Expr → Type 0
     IsExpr kind (Constant z) = (h : Host) × (kind ≡ Ordinal h) × IsTrue (is_of_host h z)
     IsExpr kind (Text bytes) = kind ≡ Bytes
-    IsExpr kind (Read p) = (h : Host) × (kind ≡ Ordinal h) × IsPlaceWhere (λ types d. host_of types d ≡ Some h) p
+    IsExpr kind (Read p) = IsPlaceWhere (IsOfKind kind) p
     IsExpr kind (One operation x) = (k : Kind) × IsUnary operation k kind × IsExpr k x
     IsExpr kind (Two operation x y) = (k l : Kind) × IsBinary operation k l kind × IsExpr k x × IsExpr l y
     IsExpr kind (Short operation x y) = (kind ≡ Ordinal host.Boolean) × IsExpr (Ordinal host.Boolean) x × IsExpr (Ordinal host.Boolean) y
     IsExpr kind (Step down low high x y) = (h : Host) × (kind ≡ Ordinal h) × (low ≡ least h) × (high ≡ greatest h) × IsExpr (Ordinal h) x × IsExpr (Ordinal host.Integer) y
     IsExpr kind (Function callee given) =
-        (h : Host) × (kind ≡ Ordinal h) × (r : RoutineEntry) × IsCallee declared callee r × IsFunction (declared.types callee.unit) h r × AreGiven (declared.types callee.unit) r.formals given
+        (r : RoutineEntry) × IsCallee declared callee r × IsFunction (declared.types callee.unit) kind r × AreGiven (declared.types callee.unit) r.formals given
 
-    -- What may be given for a formal parameter of a unit with these types: for a value parameter an expression of its host,
+    -- What may be given for a formal parameter of a unit with these types: for a value parameter an expression of its kind,
     -- and for a variable parameter a variable of its type.
     pub IsGiven : List UnitType → FormalMode → Formal → Actual → Type 0
-    IsGiven types mode.Value f (Evaluated x) = (h : Host) × (host_of types (denoter_of f.denoter) ≡ Some h) × IsExpr (Ordinal h) x
-    IsGiven types mode.ProtectedValue f (Evaluated x) = (h : Host) × (host_of types (denoter_of f.denoter) ≡ Some h) × IsExpr (Ordinal h) x
+    IsGiven types mode.Value f (Evaluated x) = (k : Kind) × IsOfKind k types (denoter_of f.denoter) × IsExpr k x
+    IsGiven types mode.ProtectedValue f (Evaluated x) = (k : Kind) × IsOfKind k types (denoter_of f.denoter) × IsExpr k x
     IsGiven types mode.Variable f (Accessed p) = (t : TypeValue) × (type_of types (denoter_of f.denoter) ≡ Some t) × IsPlaceWhere (λ list d. type_of list d ≡ Some t) p
     IsGiven types mode.ProtectedVariable f (Accessed p) = (t : TypeValue) × (type_of types (denoter_of f.denoter) ≡ Some t) × IsPlaceWhere (λ list d. type_of list d ≡ Some t) p
     IsGiven types mode f a = ⊥
@@ -229,7 +243,7 @@ module _ (declared : Declarations) where
     pub IsStmt : Stmt → Type 0
     IsStmt Empty = ⊤
     IsStmt (Compound ss) = AreStmts ss
-    IsStmt (Assign line p x) = (h : Host) × IsPlace h p × IsExpr (Ordinal h) x
+    IsStmt (Assign line p x) = (k : Kind) × IsPlaceWhere (IsOfKind k) p × IsExpr k x
     IsStmt (If line x a b) = IsExpr (Ordinal host.Boolean) x × IsStmt a × IsStmt b
     IsStmt (While line x s) = IsExpr (Ordinal host.Boolean) x × IsStmt s
     IsStmt (Repeat line ss x) = AreStmts ss × IsExpr (Ordinal host.Boolean) x
@@ -259,6 +273,12 @@ IsTypeOf h (type.Ordinal low high) = IsTrue (int_le low high) × IsTrue (is_of_h
 IsTypeOf h type.Text = ⊥
 IsTypeOf h (type.Array low high of) = ⊥
 IsTypeOf h (type.Record ts) = ⊥
+
+-- values of the type value are of the kind
+abbrev pub IsTypeOfKind : Kind → TypeValue → Type 0
+IsTypeOfKind (Ordinal h) t = IsTypeOf h t
+IsTypeOfKind Bytes t = ⊥
+IsTypeOfKind (Structured u) t = (u ≡ t) × IsStructured u
 
 abbrev mutual
   -- no type that a type value is made of is empty, and bounds are integers
@@ -302,6 +322,12 @@ pub record IsDenoter (types : List UnitType) (d : Denoter) : Type 0 where
 pub record IsOrdinal (types : List UnitType) (d : Denoter) : Type 0 where
   pub host : Host
   pub has_host : host_of types d ≡ Some host
+  pub denoter : IsDenoter types d
+
+-- under a list of types the denoter is of a kind that values have
+pub record HasKind (types : List UnitType) (d : Denoter) : Type 0 where
+  pub kind : Kind
+  pub of_kind : IsOfKind kind types d
   pub denoter : IsDenoter types d
 
 -- The value is one of the type. A text is of none so far.
@@ -359,10 +385,10 @@ own u =
 abbrev pub in_block : TypedUnit → ℕ → UnitRoutine → Declarations
 in_block u number r = in_routine (record { number = number; variables = variables_of r } ∷ levels_of u.routines r.around) (own u)
 
--- a value parameter is of an ordinal type, and a variable parameter of any
+-- a value parameter is of a kind that values have, and a variable parameter of any type
 abbrev pub IsFormalBy : FormalMode → List UnitType → Denoter → Type 0
-IsFormalBy mode.Value types d = IsOrdinal types d
-IsFormalBy mode.ProtectedValue types d = IsOrdinal types d
+IsFormalBy mode.Value types d = HasKind types d
+IsFormalBy mode.ProtectedValue types d = HasKind types d
 IsFormalBy mode.Variable types d = IsDenoter types d
 IsFormalBy mode.ProtectedVariable types d = IsDenoter types d
 
@@ -370,10 +396,10 @@ IsFormalBy mode.ProtectedVariable types d = IsDenoter types d
 pub record IsFormal (types : List UnitType) (f : Formal) : Type 0 where
   pub denoter : IsFormalBy f.mode types (denoter_of f.denoter)
 
--- a result of an ordinal type, where there is one
+-- a result of a kind that values have, where there is one
 abbrev pub IsResult : List UnitType → Option RoutineResult → Type 0
 IsResult types None = ⊤
-IsResult types (Some r) = IsOrdinal types (denoter_of r.denoter)
+IsResult types (Some r) = HasKind types (denoter_of r.denoter)
 
 -- The routines around one of this number: the innermost stands before it, and the others are those around that one.
 abbrev pub IsAround : List UnitRoutine → ℕ → List ℕ → Type 0

@@ -5,6 +5,7 @@ use Rattle.std.proofs.lemmas.Slice.Eq.{bytes_eq-Decides}
 use Rattle.std.specs.Prelude.{All, drop, if◌then◌else◌}
 use Rattle.ep_typed.specs.Denoters.{host_of, type_of}
 use Rattle.ep_typed.specs.Trees as tree
+use Rattle.ep_typed.specs.TypeValues.{TypeValue}
 use Rattle.ep_typed.specs.Valid.{Declarations, IsCallee, IsDeclaredUp, IsPlace, around_in, heading_of, in_routine, levels_of, own}
 use Rattle.ep_typed.specs.Auxiliaries.{auxiliary_variables, first_for}
 use Rattle.ep_typed.specs.Routines.{unit_variables}
@@ -29,7 +30,7 @@ use Rattle.ep_scope.specs.declared.thing.Declaration.TheVariants as declaration
 use Rattle.ep_scope.specs.declared.thing.Declared.{Declared}
 use Rattle.ep_scope.specs.declared.thing.Thing.{Thing}
 use Rattle.ep_scope.specs.declared.thing.Thing.TheVariants as thing
-use Rattle.ep_check_expr.specs.Agreement.{Agrees, AgreesBy, AreFields, AreInterfaces, AreParameters, AreThings, Arrays, HasKind, HoldsStructure, IsDeclaration, IsDenoterOf, IsMadeOf, Records, Structure, IsFunctionWith, IsOfType, IsStoredIn, IsThing, TypeValues, structures_of}
+use Rattle.ep_check_expr.specs.Agreement.{Agrees, AgreesBy, AreFields, AreInterfaces, AreParameters, AreThings, Arrays, HasKind, HoldsStructure, IsDeclaration, IsDenoterOf, IsKind, IsMadeOf, Records, Structure, IsFunctionWith, IsOfType, IsStoredIn, IsThing, TypeValues, structures_of}
 use Rattle.ep_check_expr.specs.Arguments.{callee_at, callee_levels}
 use Rattle.ep_check_expr.specs.Hosts.{typed_host}
 use Rattle.ep_check_unit.specs.Declarations.{scopes_of, type_denoter}
@@ -40,7 +41,7 @@ use Rattle.ep_check_unit.specs.Functions.{assigned_function, assigned_functions,
 use Rattle.ep_check_unit.specs.declared.block.Enclosing.{Enclosing}
 use Rattle.ep_check_unit.specs.declared.block.OwnResult.{OwnResult}
 use Rattle.ep_unit_laws.proofs.Open.{IsOpen, around_length}
-use Rattle.ep_unit_laws.proofs.Denoting.{kind_had, kind_type}
+use Rattle.ep_unit_laws.proofs.Denoting.{DenotesKind, kind_had, kind_type}
 use Rattle.ep_unit_laws.proofs.Holds.{HasKindHere, HasTypeHere, Head, Holds, HoldsComposition, HoldsFields, HoldsStructuredType, HoldsDeclaration, HoldsOwn, HoldsParameter, HoldsResultOf, HoldsResults, HoldsScopes, HoldsThing, HoldsThings, HoldsVariable, ListsKind, head_of, holds_scopes, levels_at, lists_kind_small, lists_small, name_denotes, named_tree}
 
 name_same : (a b : List ℕ) → a ≡ b → bytes_eq a b ≡ true
@@ -84,6 +85,10 @@ module _ (u : TypedUnit) where
   abbrev pub type_values : TypeValues
   type_values t = type_of u.types (named_tree t)
 
+  -- what denotes a kind has it
+  has_kind : (i : ℕ) (d : tree.Denoter) (k : Kind) (v : TypeValue) → i ≤ length u.types → IsKind k → DenotesKind u.types i d k v → HasKind type_values u.types d k
+  has_kind i d k v le s x = kind_had u.types type_values (λ n. refl) i d k v le s x
+
   -- the parameters have their kinds and types
   parameters_hold : (i : ℕ) (ps : List FormalParameter) → i ≤ length u.types → All (HoldsParameter u i) ps → AreParameters type_values u.types ps (map formal_of ps)
   parameters_hold i [] le x = tt
@@ -91,7 +96,7 @@ module _ (u : TypedUnit) where
       let y = All-head (HoldsParameter u i) p ps x in (
         record {
           mode = refl;
-          has_kind = subst (λ d. HasKind u.types d p.kind) (sym (name_denotes p.of)) (kind_had u.types i (named_tree p.of) p.kind y.denotes.0 le (lists_kind_small u i p.kind y.lists) y.denotes.1);
+          has_kind = subst (λ d. HasKind type_values u.types d p.kind) (sym (name_denotes p.of)) (has_kind i (named_tree p.of) p.kind y.denotes.0 le (lists_kind_small u i p.kind y.lists) y.denotes.1);
           has_type = ap (type_of u.types) (name_denotes p.of);
         },
         parameters_hold i ps le (All-tail (HoldsParameter u i) p ps x),
@@ -100,7 +105,7 @@ module _ (u : TypedUnit) where
   -- a denoter is one of its type and kind
   denoter_holds : (i : ℕ) (d : tree.Denoter) (of : TypeName) (k : Kind) → i ≤ length u.types → ListsKind u i k → HasTypeHere u i d of k → IsDenoterOf type_values u.types of k d
   denoter_holds i d of k le l x = (
-    kind_had u.types i d k x.0 le (lists_kind_small u i k l) x.1,
+    has_kind i d k x.0 le (lists_kind_small u i k l) x.1,
     (
       x.0,
       kind_type u.types i (named_tree of) k x.0 x.2 (suc (length u.types)) (omega (arith, le)),
@@ -154,15 +159,15 @@ module _ (u : TypedUnit) where
     variable_stored i number unit of (kind.Structured n) le e x = (
       x.variable,
       declared_own unit number x.variable e x.at,
-      subst (λ ts. HasKind ts (denoter_of x.variable.denoter) (kind.Structured n) × All (HoldsStructure type_values ts) structures) (sym (types_own unit e))
-          (kind_had u.types i (denoter_of x.variable.denoter) (kind.Structured n) x.denotes.0 le tt x.denotes.1, all),
+      subst (λ ts. HasKind type_values ts (denoter_of x.variable.denoter) (kind.Structured n) × All (HoldsStructure type_values ts) structures) (sym (types_own unit e))
+          (has_kind i (denoter_of x.variable.denoter) (kind.Structured n) x.denotes.0 le tt x.denotes.1, all),
     )
     variable_stored i number unit of kind.Text le e x = absurd x.denotes.1
     variable_stored i number unit of kind.File le e x = absurd x.denotes.1
 
     own_stored : (es : List Enclosing) (i level number : ℕ) (of : TypeName) (k : Kind) → i ≤ length u.types → HoldsOwn u es i level number of k → IsStoredIn (in_routine (levels_at u.routines es) (own u)) type_values structures (tree.Own (length es - level) number) k
     own_stored es i level number of (kind.Ordinal h) le x = (lists_small u i h x.lists, own_place es i level number of h le x)
-    own_stored es i level number of (kind.Structured n) le x = (x.variable, x.at, (kind_had u.types i (denoter_of x.variable.denoter) (kind.Structured n) x.denotes.0 le tt x.denotes.1, all))
+    own_stored es i level number of (kind.Structured n) le x = (x.variable, x.at, (has_kind i (denoter_of x.variable.denoter) (kind.Structured n) x.denotes.0 le tt x.denotes.1, all))
     own_stored es i level number of kind.Text le x = absurd x.denotes.1
     own_stored es i level number of kind.File le x = absurd x.denotes.1
 
@@ -173,12 +178,12 @@ module _ (u : TypedUnit) where
       record {
         result = record { name = name; denoter = type_denoter of };
         has_result = is;
-        has_host = ap (host_of u.types) (name_denotes of) ∙ d.1.has_host (suc (length u.types)) (omega (arith, le));
+        has_kind = ap (host_of u.types) (name_denotes of) ∙ d.1.has_host (suc (length u.types)) (omega (arith, le));
       },
       lists_small u i h l,
     )
     function_typed i heading name of (kind.Structured n) le is l d =
-        (record { name = name; denoter = type_denoter of }, is, subst (λ x. HasKind u.types x (kind.Structured n)) (sym (name_denotes of)) (kind_had u.types i (named_tree of) (kind.Structured n) d.0 le tt d.1), all)
+        (record { name = name; denoter = type_denoter of }, is, subst (λ x. HasKind type_values u.types x (kind.Structured n)) (sym (name_denotes of)) (has_kind i (named_tree of) (kind.Structured n) d.0 le tt d.1), all)
     function_typed i heading name of kind.Text le is l d = absurd d.1
     function_typed i heading name of kind.File le is l d = absurd d.1
 
@@ -269,25 +274,27 @@ module _ (u : TypedUnit) (es : List Enclosing) where
     scopes_hold i [] le x = tt
     scopes_hold i (r ∷ rs) le x = (things_hold i r.entries le x.0, subst (AreInterfaces within (type_values u) structures (length es)) (sym x.1) tt, scopes_hold i rs le x.3)
 
-  -- the variable of a result is there, where it is of an ordinal type
-  result_placed : (i level variable : ℕ) (of : TypeName) (k : Kind) → i ≤ length u.types → HoldsOwn u es i level variable of k → IsResultAt within k (tree.Own (length es - level) variable)
+  -- the variable of a result is there
+  result_placed : (i level variable : ℕ) (of : TypeName) (k : Kind) → i ≤ length u.types → HoldsOwn u es i level variable of k → IsResultAt within (type_values u) k (tree.Own (length es - level) variable)
   result_placed i level variable of (kind.Ordinal h) le x = (lists_small u i h x.lists, own_place u es i level variable of h le x)
-  result_placed i level variable of (kind.Structured n) le x = tt
+  result_placed i level variable of (kind.Structured n) le x =
+      let d = x.denotes.1 in
+      (x.denotes.0, (d.of_number, d.of_structure), (x.variable, x.at, (d.has_type (suc (length u.types)) (omega (arith, le)), d.of_structure)))
   result_placed i level variable of kind.Text le x = tt
   result_placed i level variable of kind.File le x = tt
 
-  result_unless : (i : ℕ) (fs : List Enclosing) (r : OwnResult) (named : Bool) → i ≤ length u.types → HoldsOwn u es i (suc (length fs)) r.variable r.of r.kind → ResultsAreThere within (length es) (assigned_functions fs)
-      → ResultsAreThere within (length es) (function_before (if named then None else Some (record { function = r.function; level = suc (length fs); variable = r.variable; kind = r.kind })) (assigned_functions fs))
+  result_unless : (i : ℕ) (fs : List Enclosing) (r : OwnResult) (named : Bool) → i ≤ length u.types → HoldsOwn u es i (suc (length fs)) r.variable r.of r.kind → ResultsAreThere within (type_values u) (length es) (assigned_functions fs)
+      → ResultsAreThere within (type_values u) (length es) (function_before (if named then None else Some (record { function = r.function; level = suc (length fs); variable = r.variable; kind = r.kind })) (assigned_functions fs))
   result_unless i fs r true le x others = others
   result_unless i fs r false le x others = (result_placed i (suc (length fs)) r.variable r.of r.kind le x, others)
 
-  result_before : (i : ℕ) (fs : List Enclosing) (r : Option OwnResult) → i ≤ length u.types → HoldsResultOf u es i (suc (length fs)) r → ResultsAreThere within (length es) (assigned_functions fs)
-      → ResultsAreThere within (length es) (function_before (assigned_function (suc (length fs)) r) (assigned_functions fs))
+  result_before : (i : ℕ) (fs : List Enclosing) (r : Option OwnResult) → i ≤ length u.types → HoldsResultOf u es i (suc (length fs)) r → ResultsAreThere within (type_values u) (length es) (assigned_functions fs)
+      → ResultsAreThere within (type_values u) (length es) (function_before (assigned_function (suc (length fs)) r) (assigned_functions fs))
   result_before i fs None le x others = others
   result_before i fs (Some r) le x others = result_unless i fs r r.named le x others
 
   -- the variables of results are there
-  pub results_hold : (i : ℕ) (fs : List Enclosing) → i ≤ length u.types → HoldsResults u es i fs → ResultsAreThere within (length es) (assigned_functions fs)
+  pub results_hold : (i : ℕ) (fs : List Enclosing) → i ≤ length u.types → HoldsResults u es i fs → ResultsAreThere within (type_values u) (length es) (assigned_functions fs)
   results_hold i [] le x = tt
   results_hold i (f ∷ fs) le x = result_before i fs f.result le x.0 (results_hold i fs le x.1)
 
@@ -295,14 +302,15 @@ module _ (u : TypedUnit) (es : List Enclosing) where
 
 module _ (u : TypedUnit) where
   -- so the declarations of the unit, in the blocks that are under way, hold what the scopes declare
-  pub holds_agrees : (i : ℕ) (b : Block) → IsOpen b → i ≤ length u.types → Holds u i b → Agrees (within u b.own.enclosing) (scopes_of b)
-  holds_agrees i b under le x = (
-    type_values u,
-    subst (λ n. AgreesBy (within u b.own.enclosing) (type_values u) (structures_of (scopes_of b)) n (scopes_of b)) (sym (around_length b.own.enclosing (length b.routines) b.scopes.outer under.around))
-        (scopes_hold u b.own.enclosing (structures_of (scopes_of b)) (structures_in_view u b.own.enclosing i (scopes_of b) le (holds_scopes u i b x)) i (scopes_of b) le (holds_scopes u i b x)),
-  )
+  pub block_agrees : (i : ℕ) (b : Block) → IsOpen b → i ≤ length u.types → Holds u i b → AgreesBy (within u b.own.enclosing) (type_values u) (structures_of (scopes_of b)) (depth_in (scopes_of b)) (scopes_of b)
+  block_agrees i b under le x =
+      subst (λ n. AgreesBy (within u b.own.enclosing) (type_values u) (structures_of (scopes_of b)) n (scopes_of b)) (sym (around_length b.own.enclosing (length b.routines) b.scopes.outer under.around))
+      (scopes_hold u b.own.enclosing (structures_of (scopes_of b)) (structures_in_view u b.own.enclosing i (scopes_of b) le (holds_scopes u i b x)) i (scopes_of b) le (holds_scopes u i b x))
+
+  abbrev pub holds_agrees : (i : ℕ) (b : Block) → IsOpen b → i ≤ length u.types → Holds u i b → Agrees (within u b.own.enclosing) (scopes_of b)
+  holds_agrees i b under le x = (type_values u, block_agrees i b under le x)
 
   -- and have the results of the functions under way
-  pub holds_results : (i : ℕ) (b : Block) → IsOpen b → i ≤ length u.types → Holds u i b → ResultsAreThere (within u b.own.enclosing) (depth_in (scopes_of b)) (assigned_functions b.own.enclosing)
+  pub holds_results : (i : ℕ) (b : Block) → IsOpen b → i ≤ length u.types → Holds u i b → ResultsAreThere (within u b.own.enclosing) (type_values u) (depth_in (scopes_of b)) (assigned_functions b.own.enclosing)
   holds_results i b under le x =
-      subst (λ n. ResultsAreThere (within u b.own.enclosing) n (assigned_functions b.own.enclosing)) (sym (around_length b.own.enclosing (length b.routines) b.scopes.outer under.around)) (results_hold u b.own.enclosing i b.own.enclosing le x.results)
+      subst (λ n. ResultsAreThere (within u b.own.enclosing) (type_values u) n (assigned_functions b.own.enclosing)) (sym (around_length b.own.enclosing (length b.routines) b.scopes.outer under.around)) (results_hold u b.own.enclosing i b.own.enclosing le x.results)

@@ -89,11 +89,11 @@ module _ (u : TypedUnit) where
       over_denotes : DenotesStructured u.types Number (denoter_of Over.denoter) Number Value
       over_denotes =
           subst (λ d. DenotesStructured u.types Number d Number Value) (sym (array_is index.denoter below.denoter))
-          (denotes_array u.types Number Number (denoter_of index.denoter) (denoter_of below.denoter) (typed_host h) bounds.0 bounds.1 below_stood.denotes.0
+          (denotes_array u.types Number Number next.entry (denoter_of index.denoter) (denoter_of below.denoter) (typed_host h) bounds.0 bounds.1 below_stood.denotes.0
           (subst (Denotes u.types Number (denoter_of index.denoter) (typed_host h)) bounds.2 index_typed.1)
           (kind_type u.types Number (denoter_of below.denoter) below.kind below_stood.denotes.0 below_stood.denotes.1)
           (kind_typed u.types Number (denoter_of below.denoter) below.kind below_stood.denotes.0 below_stood.denotes.1)
-          parts_there)
+          next.at (next.definition ∙ array_is index.denoter below.denoter) within)
 
       elements_held : HoldsElements u (suc Number) Elements Parts
       elements_held = record {

@@ -2,12 +2,13 @@
 use Rattle.std.proofs.Common.{◌≡◌, ℕ, ℤ, neg_ℤ, pos, suc, zero, ◌<◌, ◌≤◌, List, [], ◌∷◌, length, Option, Some, None, slice_get, IsTrue, refl, ap, ◌∙◌, subst, arith}
 use Rattle.std.proofs.lemmas.Bool.Decides.{nat_tests}
 use Rattle.std.specs.Prelude.{⊤, int_le}
-use Rattle.ep_typed.specs.Denoters.{ArrayParts, array_of, array_type, array_within, definition_of, found_of, host_within, next_type, record_of, record_type, record_within, required_type, type_within, types_step}
+use Rattle.ep_typed.specs.Denoters.{ArrayParts, array_of, array_type, array_within, definition_of, found_of, host_within, next_type, record_of, record_type, record_within, required_type, type_of, type_within, types_step}
 use Rattle.ep_typed.specs.Hosts as host
 use Rattle.ep_typed.specs.Hosts.{Host, least, greatest, is_of_host}
 use Rattle.ep_typed.specs.Operations.{is_integer, last_char, maxint}
 use Rattle.ep_typed.specs.Trees.{Array, Denoter, Denoters, Fixed, Required, Named, Subrange, Enumeration, Record, next_denoter, no_denoter}
-use Rattle.ep_typed.specs.Valid.{AreTyped, IsDenoter, IsOrdinal, IsTyped, array, components, enumeration, named, next_typed, none_typed, required, subrange}
+use Rattle.ep_typed.specs.Valid as valid
+use Rattle.ep_typed.specs.Valid.{AreTyped, HasKind as HasValues, IsDenoter, IsOrdinal, IsStructured, IsTyped, array, components, enumeration, named, next_typed, none_typed, required, subrange}
 use Rattle.ep_typed.specs.declared.denoter.RequiredType.{RequiredType}
 use Rattle.ep_typed.specs.declared.denoter.RequiredType.TheVariants as simple
 use Rattle.ep_typed.specs.declared.unit.UnitType.{UnitType}
@@ -15,7 +16,8 @@ use Rattle.ep_typed.specs.TypeValues.{ComponentTypes, Ordinal, TypeValue, next_c
 use Rattle.ep_typed.specs.TypeValues as type
 use Rattle.ep_scope.specs.declared.kind.Kind.{Kind}
 use Rattle.ep_scope.specs.declared.kind.Kind.TheVariants as kind
-use Rattle.ep_check_expr.specs.Agreement.{Arrays, HasKind, HasStructure, IsKind, Records, Structure}
+use Rattle.ep_scope.specs.declared.parameter.TypeName.TheVariants as type_name
+use Rattle.ep_check_expr.specs.Agreement.{Arrays, HasKind, HasStructure, IsKind, Records, Structure, TypeValues}
 use Rattle.ep_check_expr.specs.Hosts.{typed_host}
 
 -- the numbers of the host are integers
@@ -43,12 +45,14 @@ abbrev pub IsMadeWithin : List UnitType → ℕ → Denoter → Structure → Ty
 IsMadeWithin types n d (Arrays p) = array_within types n d ≡ Some p
 IsMadeWithin types n d (Records ds) = record_within types n d ≡ Some ds
 
--- Alike the denoter is that of the structured type of this number, with what it is made of and its type value.
+-- Alike the denoter is that of the structured type of this number, with what it is made of and its type value, which the number has too.
 pub record DenotesStructured (types : List UnitType) (k : ℕ) (d : Denoter) (number : ℕ) (v : TypeValue) : Type 0 where
   pub structure : Structure
   pub has_structure : (n : ℕ) → k < n → IsMadeWithin types n d structure
   pub is_structured : HasStructure types (Named number []) structure
   pub has_type : (n : ℕ) → k < n → type_within types n d ≡ Some v
+  pub of_number : type_of types (Named number []) ≡ Some v
+  pub of_structure : IsStructured v
   pub typed : IsTyped types d v
 
 -- the one or the other by the kind
@@ -173,14 +177,24 @@ module _ (types : List UnitType) where
   array_found index component low high of k zero lt e f = absurd (omega (arith, lt))
   array_found index component low high of k (suc n) lt e f = ap (λ o. array_type o (type_within types (suc n) component)) e ∙ ap (array_type (Some (Ordinal low high))) f
 
+  -- the type of this number is an array by its definition
+  pub array_there : (number : ℕ) (t : UnitType) (index component : Denoter) → slice_get types number ≡ Some t → definition_of t ≡ Array index component → 0 < length types → array_of types (Named number []) ≡ Some (record { index = index; component = component })
+  array_there number t index component at is lt = ap (found_of (array_within types (length types))) at ∙ (ap (array_within types (length types)) is ∙ parts_found index component (length types) lt)
+
+  -- the type of this number has the type value of its definition
+  number_typed : (number k : ℕ) (t : UnitType) (d : Denoter) (v : TypeValue) → slice_get types number ≡ Some t → definition_of t ≡ d → k < length types → ((n : ℕ) → k < n → type_within types n d ≡ Some v) → type_of types (Named number []) ≡ Some v
+  number_typed number k t d v at is lt found = ap (found_of (type_within types (length types))) at ∙ (ap (type_within types (length types)) is ∙ found (length types) lt)
+
   -- an array of an index type and components, which is the type of this number
-  pub denotes_array : (k number : ℕ) (index component : Denoter) (h : Host) (low high : ℤ) (of : TypeValue) → Denotes types k index h (Ordinal low high) → ((n : ℕ) → k < n → type_within types n component ≡ Some of) → IsTyped types component of
-      → array_of types (Named number []) ≡ Some (record { index = index; component = component }) → DenotesStructured types k (Array index component) number (type.Array low high of)
-  denotes_array k number index component h low high of i has typed is = record {
+  pub denotes_array : (k number : ℕ) (t : UnitType) (index component : Denoter) (h : Host) (low high : ℤ) (of : TypeValue) → Denotes types k index h (Ordinal low high) → ((n : ℕ) → k < n → type_within types n component ≡ Some of) → IsTyped types component of
+      → slice_get types number ≡ Some t → definition_of t ≡ Array index component → k < length types → DenotesStructured types k (Array index component) number (type.Array low high of)
+  denotes_array k number t index component h low high of i has typed at is few = record {
     structure = Arrays (record { index = index; component = component });
     has_structure = λ n lt. parts_found index component n (omega (arith, lt));
-    is_structured = is;
+    is_structured = array_there number t index component at is (omega (arith, few));
     has_type = λ n lt. array_found index component low high of k n lt (i.has_type n lt) (has n lt);
+    of_number = number_typed number k t (Array index component) (type.Array low high of) at is few (λ n lt. array_found index component low high of k n lt (i.has_type n lt) (has n lt));
+    of_structure = tt;
     typed = array index component low high of i.typed typed;
   }
 
@@ -235,30 +249,28 @@ module _ (types : List UnitType) where
   record_found ds ts k (suc m) lt x = ap record_type (all_found k m ds ts lt x)
 
   -- a record of these components, which is the type of this number
-  pub denotes_record : (k number : ℕ) (ds : Denoters) (ts : ComponentTypes) → AreDenoted k ds ts → record_of types (Named number []) ≡ Some ds → DenotesStructured types k (Record ds) number (type.Record ts)
-  denotes_record k number ds ts x is = record {
+  pub denotes_record : (k number : ℕ) (t : UnitType) (ds : Denoters) (ts : ComponentTypes) → AreDenoted k ds ts → slice_get types number ≡ Some t → definition_of t ≡ Record ds → k < length types → DenotesStructured types k (Record ds) number (type.Record ts)
+  denotes_record k number t ds ts x at is few = record {
     structure = Records ds;
     has_structure = λ n lt. components_found ds n (omega (arith, lt));
-    is_structured = is;
+    is_structured = record_there number t ds at is (omega (arith, few));
     has_type = λ n lt. record_found ds ts k n lt x;
+    of_number = number_typed number k t (Record ds) (type.Record ts) at is few (λ n lt. record_found ds ts k n lt x);
+    of_structure = tt;
     typed = components ds ts (all_typed k ds ts x);
   }
-
-  -- the type of this number is an array by its definition
-  pub array_there : (number : ℕ) (t : UnitType) (index component : Denoter) → slice_get types number ≡ Some t → definition_of t ≡ Array index component → 0 < length types → array_of types (Named number []) ≡ Some (record { index = index; component = component })
-  array_there number t index component at is lt = ap (found_of (array_within types (length types))) at ∙ (ap (array_within types (length types)) is ∙ parts_found index component (length types) lt)
 
   -- ---- denoters of a kind
 
   pub kind_more : (k j : ℕ) (d : Denoter) (of : Kind) (v : TypeValue) → k ≤ j → DenotesKind types k d of v → DenotesKind types j d of v
   kind_more k j d (kind.Ordinal h) v le x = denotes_more k j d (typed_host h) v le x
-  kind_more k j d (kind.Structured number) v le x = record { structure = x.structure; has_structure = λ n lt. x.has_structure n (omega (arith, le, lt)); is_structured = x.is_structured; has_type = λ n lt. x.has_type n (omega (arith, le, lt)); typed = x.typed }
+  kind_more k j d (kind.Structured number) v le x = record { structure = x.structure; has_structure = λ n lt. x.has_structure n (omega (arith, le, lt)); is_structured = x.is_structured; has_type = λ n lt. x.has_type n (omega (arith, le, lt)); of_number = x.of_number; of_structure = x.of_structure; typed = x.typed }
   kind_more k j d kind.Text v le x = absurd x
   kind_more k j d kind.File v le x = absurd x
 
   pub kind_named : (index k : ℕ) (t : UnitType) (of : Kind) (v : TypeValue) → slice_get types index ≡ Some t → DenotesKind types k (definition_of t) of v → DenotesKind types (suc k) (Named index []) of v
   kind_named index k t (kind.Ordinal h) v at x = denotes_named index k t (typed_host h) v at x
-  kind_named index k t (kind.Structured number) v at x = record { structure = x.structure; has_structure = named_made index k t x.structure at x.has_structure; is_structured = x.is_structured; has_type = named_type index k t v at x.has_type; typed = named index t at x.typed }
+  kind_named index k t (kind.Structured number) v at x = record { structure = x.structure; has_structure = named_made index k t x.structure at x.has_structure; is_structured = x.is_structured; has_type = named_type index k t v at x.has_type; of_number = x.of_number; of_structure = x.of_structure; typed = named index t at x.typed }
   kind_named index k t kind.Text v at x = absurd x
   kind_named index k t kind.File v at x = absurd x
 
@@ -277,9 +289,19 @@ module _ (types : List UnitType) where
   pub kind_valid : (k : ℕ) (d : Denoter) (of : Kind) (v : TypeValue) → k ≤ length types → DenotesKind types k d of v → IsDenoter types d
   kind_valid k d of v le x = record { type_value = v; has_type = kind_type k d of v x (suc (length types)) (omega (arith, le)); typed = kind_typed k d of v x }
 
-  -- so it has the kind
-  pub kind_had : (k : ℕ) (d : Denoter) (of : Kind) (v : TypeValue) → k ≤ length types → IsKind of → DenotesKind types k d of v → HasKind types d of
-  kind_had k d (kind.Ordinal h) v le s x = (s, x.has_host (suc (length types)) (omega (arith, le)))
-  kind_had k d (kind.Structured number) v le s x = (x.structure, made_here d x.structure (x.has_structure (suc (length types)) (omega (arith, le))), x.is_structured)
-  kind_had k d kind.Text v le s x = absurd x
-  kind_had k d kind.File v le s x = absurd x
+  -- so it has the kind, where types by their numbers have their type values
+  pub kind_had : (values : TypeValues) → ((number : ℕ) → values (type_name.Entry number) ≡ type_of types (Named number [])) → (k : ℕ) (d : Denoter) (of : Kind) (v : TypeValue) → k ≤ length types → IsKind of → DenotesKind types k d of v → HasKind values types d of
+  kind_had values numbered k d (kind.Ordinal h) v le s x = (s, x.has_host (suc (length types)) (omega (arith, le)))
+  kind_had values numbered k d (kind.Structured number) v le s x = (
+    (x.structure, made_here d x.structure (x.has_structure (suc (length types)) (omega (arith, le))), x.is_structured),
+    (v, (numbered number ∙ x.of_number, x.of_structure), x.has_type (suc (length types)) (omega (arith, le))),
+  )
+  kind_had values numbered k d kind.Text v le s x = absurd x
+  kind_had values numbered k d kind.File v le s x = absurd x
+
+  -- what has a kind has values
+  pub kind_has_values : (k : ℕ) (d : Denoter) (of : Kind) (v : TypeValue) → k ≤ length types → DenotesKind types k d of v → HasValues types d
+  kind_has_values k d (kind.Ordinal h) v le x = record { kind = valid.Ordinal (typed_host h); of_kind = x.has_host (suc (length types)) (omega (arith, le)); denoter = kind_valid k d (kind.Ordinal h) v le x }
+  kind_has_values k d (kind.Structured number) v le x = record { kind = valid.Structured v; of_kind = (x.has_type (suc (length types)) (omega (arith, le)), x.of_structure); denoter = kind_valid k d (kind.Structured number) v le x }
+  kind_has_values k d kind.Text v le x = absurd x
+  kind_has_values k d kind.File v le x = absurd x

@@ -1,7 +1,6 @@
 -- The headings of routines lead from one block to the next.
 use Rattle.std.proofs.Common.{◌≡◌, ℕ, zero, suc, ◌<◌, ◌≤◌, Bool, true, false, not, ◌||◌, List, [], ◌∷◌, ◌++◌, map, length, Option, Some, None, slice_get, bytes_eq, refl, sym, ap, ◌∙◌, subst, arith}
 use Rattle.std.proofs.lemmas.List.Elements.{All-nil, All-push}
-use Rattle.std.specs.List.{list_all}
 use Rattle.std.specs.Prelude.{All, ⊤, is_none, if◌then◌else◌}
 use Rattle.ep_tree.specs.declared.declaration.FormalSection.{FormalSection}
 use Rattle.ep_tree.specs.declared.declaration.FormalType.{FormalType}
@@ -11,7 +10,7 @@ use Rattle.ep_tree.specs.declared.operator.QualifiedName.{QualifiedName}
 use Rattle.ep_tree.specs.declared.routine.RoutineStart.{RoutineStart}
 use Rattle.ep_tree.specs.declared.routine.RoutineStart.TheVariants as start
 use Rattle.ep_outside.specs.Known.{IsPrefix}
-use Rattle.ep_typed.specs.Valid.{IsOrdinal, IsResult, IsVariable}
+use Rattle.ep_typed.specs.Valid.{HasKind, IsResult, IsVariable}
 use Rattle.ep_typed.specs.declared.interface.FormalMode.{FormalMode}
 use Rattle.ep_typed.specs.declared.interface.RoutineEntry.{RoutineEntry}
 use Rattle.ep_typed.specs.declared.interface.RoutineResult.{RoutineResult}
@@ -28,15 +27,16 @@ use Rattle.ep_scope.specs.declared.thing.Thing.TheVariants as thing
 use Rattle.ep_check_expr.specs.Judgements.{Judged, Accepts, Breaks}
 use Rattle.ep_check_stmt.proofs.judged.Fits.{Any, Fits, fits_any, fits_then, fits_weaker}
 use Rattle.ep_check_unit.specs.Blocks.{Block, RoutineForm, around_of}
-use Rattle.ep_check_unit.specs.Declarations.{Standing, Written, entered, noted, own_thing, type_denoter, type_named, unused, with_name}
+use Rattle.ep_check_unit.specs.Declarations.{Standing, Written, entered, own_thing, type_denoter, type_named, unused, with_name}
 use Rattle.ep_check_unit.specs.Functions.{own_name_at, own_result, routine_declaration, same_result, typed_result}
-use Rattle.ep_check_unit.specs.Routines.{Headed, declared_routine, formal_of, forwarded, has_body, has_number, headed_again, headed_first, headed_form, headed_over, headed_then, hidden_type, identified_again, identified_over, is_built_formal, is_built_heading, is_built_result, is_parameter, is_repeated, parameter_added, parameter_type, parameters_added, result_headed, result_judged, routine_there, section_judged, section_mode, section_type, sections_judged, start_headed, with_routine}
+use Rattle.ep_check_unit.specs.Routines.{Headed, declared_routine, formal_of, forwarded, has_body, has_number, headed_again, headed_first, headed_form, headed_over, headed_then, hidden_type, identified_again, identified_over, is_parameter, is_repeated, parameter_added, parameter_type, parameters_added, result_headed, result_judged, routine_there, section_judged, section_mode, section_type, sections_judged, start_headed, with_routine}
 use Rattle.ep_check_unit.specs.declared.block.Enclosing.{Enclosing}
 use Rattle.ep_check_unit.specs.declared.functions.HeadingResult.{HeadingResult}
 use Rattle.ep_check_unit.proofs.Forms.{each_push}
-use Rattle.ep_unit_laws.proofs.Holds.{HasKindHere, Holds, HoldsDeclaration, HoldsParameter, HoldsResult, HoldsRoutine, HoldsThings, HoldsThing, ListsKind, around_innermost, both_built, formals_valid, head_of, headed_around, kind_ordinal, name_denotes, named_tree}
+use Rattle.ep_unit_laws.proofs.Denoting.{kind_has_values}
+use Rattle.ep_unit_laws.proofs.Holds.{HasKindHere, Holds, HoldsDeclaration, HoldsParameter, HoldsResult, HoldsRoutine, HoldsThings, HoldsThing, ListsKind, around_innermost, formals_valid, head_of, headed_around, name_denotes, named_tree}
 use Rattle.ep_unit_laws.proofs.Items.{LeadsOn}
-use Rattle.ep_unit_laws.proofs.Leading.{Extends, Grows, Leads, bodies_refl, head_in, leads_refl, length_push, named_holds, prefix_last, prefix_length, prefix_more, prefix_refl, waits_some}
+use Rattle.ep_unit_laws.proofs.Leading.{Extends, Grows, Leads, bodies_refl, head_in, leads_refl, length_push, named_holds, prefix_last, prefix_length, prefix_more, prefix_refl}
 use Rattle.ep_unit_laws.proofs.Meant.{HoldsIf, look_up_holds}
 use Rattle.ep_unit_laws.proofs.Open.{IsNumbered, IsNumberedAs, IsOpen, IsThingIf, IsThingOf, floor_below, look_up_numbered, not_below, open_more, open_push}
 use Rattle.ep_unit_laws.proofs.Types.{Names, type_named-names}
@@ -164,10 +164,10 @@ module _ (u : TypedUnit) where
       subst (λ n. slice_get (map head_of u.routines) n ≡ Some (head_in f)) (headings_length b.routines)
       (prefix_last (map head_in b.routines) (head_in f) (map head_of u.routines) (subst (λ hs. IsPrefix hs (map head_of u.routines)) (headings_push b.routines f) p))
 
-  -- a result that has a type and is built is valid
-  typed_valid : (i : ℕ) (r : Option HeadingResult) → i ≤ length u.types → is_built_result r ≡ true → HoldsTyped i r → IsResult u.types (typed_result r)
-  typed_valid i None le built x = tt
-  typed_valid i (Some r) le built x = subst (IsOrdinal u.types) (sym (name_denotes r.of)) (kind_ordinal u i r.kind (named_tree r.of) x.0.0 le built x.0.1)
+  -- a result that has a type is valid
+  typed_valid : (i : ℕ) (r : Option HeadingResult) → i ≤ length u.types → HoldsTyped i r → IsResult u.types (typed_result r)
+  typed_valid i None le x = tt
+  typed_valid i (Some r) le x = subst (HasKind u.types) (sym (name_denotes r.of)) (kind_has_values u.types i (named_tree r.of) r.kind x.0.0 le x.0.1)
 
   -- one routine more
   routine_grows : (name : List ℕ) (line : ℕ) (ps : List FormalParameter) (r : Option HeadingResult) (b : Block) → Grows b (with_routine name line ps r b)
@@ -189,8 +189,8 @@ module _ (u : TypedUnit) where
         bodies = λ x n g has at. (has, front_get b.routines (f ∷ []) n g at);
       }
 
-  routine_leads : (name : List ℕ) (line : ℕ) (ps : List FormalParameter) (r : Option HeadingResult) (b : Block) → is_built_heading ps r ≡ true → ParametersHeld b ps → ResultHeld b r → Leads u b (with_routine name line ps r b)
-  routine_leads name line ps r b built held typed = record {
+  routine_leads : (name : List ℕ) (line : ℕ) (ps : List FormalParameter) (r : Option HeadingResult) (b : Block) → ParametersHeld b ps → ResultHeld b r → Leads u b (with_routine name line ps r b)
+  routine_leads name line ps r b held typed = record {
     grows = routine_grows name line ps r b;
     holds = λ under e w x. record {
       unit = x.unit;
@@ -207,9 +207,9 @@ module _ (u : TypedUnit) where
       headed = x.headed;
       results = x.results;
       routines = each_push (HoldsRoutine u) b.routines (headed_form name line ps r b.own.enclosing) x.routines (record {
-        result = typed_valid (length b.types) r (prefix_length b.types u.types e.types) (both_built (list_all (λ p. is_built_formal p.mode p.kind) ps) (is_built_result r) built).1 (typed (length b.types) x);
+        result = typed_valid (length b.types) r (prefix_length b.types u.types e.types) (typed (length b.types) x);
         around = headed_around u b.own.enclosing (length b.routines) b.bodies under.under_way x.headed;
-        formals = formals_valid u (length b.types) ps (prefix_length b.types u.types e.types) (both_built (list_all (λ p. is_built_formal p.mode p.kind) ps) (is_built_result r) built).0 (held (length b.types) x);
+        formals = formals_valid u (length b.types) ps (prefix_length b.types u.types e.types) (held (length b.types) x);
         variables = All-nil (IsVariable u.types);
         block = tt;
       });
@@ -275,14 +275,13 @@ module _ (u : TypedUnit) where
     abbrev Own : Thing
     Own = own_thing b (length b.routines) (routine_declaration ps r)
 
-    -- the routine, which may not be built
-    abbrev First : Bool → Headed
-    First built = record { number = length b.routines; parameters = ps; result = r; block = with_name name Own (noted built line Added) }
+    abbrev First : Headed
+    First = record { number = length b.routines; parameters = ps; result = r; block = with_name name Own Added }
 
     one_more : length b.routines < length (b.routines ++ Form ∷ [])
     one_more = omega (arith, length_push b.routines Form)
 
-    first_grows : Grows b (First true).block
+    first_grows : Grows b First.block
     first_grows =
         let g = routine_grows name line ps r b in
         record {
@@ -304,65 +303,33 @@ module _ (u : TypedUnit) where
     abbrev Declares : Declared
     Declares = record { unit = b.unit; number = length b.routines; level = length b.own.enclosing; what = routine_declaration ps r }
 
-    first_built : is_built_heading ps r ≡ true → Leads u b (First true).block
-    first_built built = record {
+    first_leads : Leads u b First.block
+    first_leads = record {
       grows = first_grows;
       holds = λ under e w x.
           let added : Extends u Added = record { types = e.types; constants = e.constants; variables = e.variables; line = e.line; name = e.name; own = e.own; headings = e.headings; bodies = e.bodies } in
-          let y = (routine_leads name line ps r b built held typed).holds under added w x in
+          let y = (routine_leads name line ps r b held typed).holds under added w x in
           named_holds u (length b.types) name Own Added (
             y.unit,
             form_held b.own.enclosing (length b.types) Declares name line ps r refl (routine_at name line ps r b e.headings) (held (length b.types) x) (typed (length b.types) x),
           ) y;
     }
 
-    first_lead : (built : Bool) → is_built_heading ps r ≡ built → Leads u b (First built).block
-    first_lead true e = first_built e
-    first_lead false e =
-        let g = first_grows in
-        record {
-          grows = record {
-            types = g.types;
-            constants = g.constants;
-            variables = g.variables;
-            own = g.own;
-            parameters = g.parameters;
-            result = g.result;
-            enclosing = g.enclosing;
-            outer = g.outer;
-            alone = g.alone;
-            headings = g.headings;
-            waits = λ w. absurd (waits_some b.waits line w);
-            opens = g.opens;
-            bodies = g.bodies;
-          };
-          holds = λ under e w x. absurd (waits_some b.waits line w);
-        }
-
-    first_numbers : (built : Bool) → IsOpen b → IsNumbered (First built).block.own.enclosing (length (First built).block.routines) (length (First built).block.own.enclosing) (length b.routines)
-    first_numbers true under = record { level_is = refl; above = floor_below b.own.enclosing (length b.routines) b.bodies under.under_way; below = one_more }
-    first_numbers false under = record { level_is = refl; above = floor_below b.own.enclosing (length b.routines) b.bodies under.under_way; below = one_more }
-
-    first_held : (built : Bool) (i : ℕ) → Holds u i (First built).block → HoldsHeaded (First built).block.own.enclosing i (length b.routines) ps r
-    first_held true i x = declares_headed b.own.enclosing i Declares ps r refl (last_held b.own.enclosing i b.scopes.inner.entries name Own x.things).1
-    first_held false i x = declares_headed b.own.enclosing i Declares ps r refl (last_held b.own.enclosing i b.scopes.inner.entries name Own x.things).1
-
-    first_bodies : (built : Bool) → IsOpen b → has_number (length b.routines) (First built).block.bodies ≡ false
-    first_bodies true under = not_below (length b.routines) (length b.routines) b.bodies under.below (omega arith)
-    first_bodies false under = not_below (length b.routines) (length b.routines) b.bodies under.below (omega arith)
-
-    first_heads : (built : Bool) → is_built_heading ps r ≡ built → HeadsOn b (First built)
-    first_heads built e = record {
-      stands = record { leads = first_lead built e; numbered = first_numbers built; held = λ under i x. first_held built i x };
-      bodiless = first_bodies built;
+    first_heads : HeadsOn b First
+    first_heads = record {
+      stands = record {
+        leads = first_leads;
+        numbered = λ under. record { level_is = refl; above = floor_below b.own.enclosing (length b.routines) b.bodies under.under_way; below = one_more };
+        held = λ under i x. declares_headed b.own.enclosing i Declares ps r refl (last_held b.own.enclosing i b.scopes.inner.entries name Own x.things).1;
+      };
+      bodiless = λ under. not_below (length b.routines) (length b.routines) b.bodies under.below (omega arith);
     }
 
-    first_leads : Fits (HeadsOn b) (headed_first name line ps r b)
-    first_leads =
-        let added : Block = noted (is_built_heading ps r) line Added in
-        fits_then (λ d. d ≡ with_name name Own added) (HeadsOn b) (λ d. Accepts (record { number = length b.routines; parameters = ps; result = r; block = d })) (entered name Own added)
-        (fits_then Any (λ d. d ≡ with_name name Own added) (λ _. Accepts (with_name name Own added)) (unused name added) (fits_any (unused name added)) (λ a k. refl))
-        (λ d p. subst (λ k. HeadsOn b (record { number = length b.routines; parameters = ps; result = r; block = k })) (sym p) (first_heads (is_built_heading ps r) refl))
+    first_headed : Fits (HeadsOn b) (headed_first name line ps r b)
+    first_headed =
+        fits_then (λ d. d ≡ with_name name Own Added) (HeadsOn b) (λ d. Accepts (record { number = length b.routines; parameters = ps; result = r; block = d })) (entered name Own Added)
+        (fits_then Any (λ d. d ≡ with_name name Own Added) (λ _. Accepts (with_name name Own Added)) (unused name Added) (fits_any (unused name Added)) (λ a k. refl))
+        (λ d p. subst (λ k. HeadsOn b (record { number = length b.routines; parameters = ps; result = r; block = k })) (sym p) first_heads)
 
   -- ---- a routine that is declared already
 
@@ -406,7 +373,7 @@ module _ (u : TypedUnit) where
 
   over_leads : (is_forward : Bool) (name : List ℕ) (line : ℕ) (o : Option Thing) (b : Block) (r : Option HeadingResult) (ps : List FormalParameter) → FoundIn b o → ParametersHeld b ps → ResultHeld b r
       → Fits (HeadsOn b) (headed_over is_forward name line o b r ps)
-  over_leads is_forward name line None b r ps there held typed = first_leads name line ps r b held typed
+  over_leads is_forward name line None b r ps there held typed = first_headed name line ps r b held typed
   over_leads is_forward name line (Some t) b r ps there held typed =
       fits_then (StandsOn b) (HeadsOn b) (headed_again is_forward ps r) (routine_there t b) (there_stands t b there)
       (λ h k. again_if (is_forward || has_body h.number h.block || not (is_repeated ps h.parameters) || not (same_result r h.result)) b h (λ e. second_fails is_forward (has_body h.number h.block) (not (is_repeated ps h.parameters)) (three_fail (is_forward || has_body h.number h.block || not (is_repeated ps h.parameters)) (not (same_result r h.result)) e)) k)

@@ -1,13 +1,12 @@
 -- What a unit holds of the declarations of a block: each name stands for what the unit has under its number, and what stands in the block's lists is valid in the unit.
-use Rattle.std.proofs.Common.{◌≡◌, ℕ, ℤ, zero, suc, ◌<◌, ◌≤◌, ◌-◌, Bool, true, false, ◌&&◌, List, [], ◌∷◌, ◌++◌, map, length, Option, Some, None, slice_get, IsTrue, inl, inr, refl, sym, ap, ◌∙◌, subst, arith}
+use Rattle.std.proofs.Common.{◌≡◌, ℕ, ℤ, zero, suc, ◌<◌, ◌≤◌, ◌-◌, List, [], ◌∷◌, ◌++◌, map, length, Option, Some, None, slice_get, IsTrue, inl, inr, refl, sym, ap, ◌∙◌, subst, arith}
 use Rattle.std.proofs.lemmas.List.Elements.{All-cons, All-head, All-nil, All-tail}
-use Rattle.std.specs.List.{list_all}
 use Rattle.std.specs.Prelude.{All, ⊤, drop}
 use Rattle.ep_typed.specs.Denoters.{ArrayParts, definition_of}
 use Rattle.ep_typed.specs.Hosts as typed
 use Rattle.ep_typed.specs.Hosts.{is_of_host}
 use Rattle.ep_typed.specs.Trees as tree
-use Rattle.ep_typed.specs.Valid.{IsAround, IsConstant, IsFormal, IsFormalBy, IsOrdinal, IsProcedure, IsResult, IsStmt, IsType, IsVariable, Level, heading_of, in_routine, levels_of, own, variables_at, variables_in}
+use Rattle.ep_typed.specs.Valid.{IsAround, IsConstant, IsFormal, IsFormalBy, IsProcedure, IsResult, IsStmt, IsType, IsVariable, Level, heading_of, in_routine, levels_of, own, variables_at, variables_in}
 use Rattle.ep_typed.specs.Viewed.{denoter_of}
 use Rattle.ep_typed.specs.declared.denoter.Denoter.TheVariants as denoter
 use Rattle.ep_typed.proofs.Forms.{required_is, named_is}
@@ -45,12 +44,12 @@ use Rattle.ep_check_expr.specs.Agreement.{Arrays, HasStructure, IsConstantOf, Is
 use Rattle.ep_check_expr.specs.Hosts.{typed_host}
 use Rattle.ep_check_expr.specs.Origins.{IsKnownHost, IsKnownKind, IsRequiredHost, HasHost, DeclaresHost, ThingHasHost, CompositionHasHost, FieldsHaveHost, StructuresHaveHost, EntriesHaveHost, InterfacesHaveHost, ScopesHaveHost}
 use Rattle.ep_check_unit.specs.Declarations.{host_denoter, scopes_of, type_denoter}
-use Rattle.ep_check_unit.specs.Routines.{formal_of, is_built_formal, is_built_kind}
+use Rattle.ep_check_unit.specs.Routines.{formal_of}
 use Rattle.ep_check_unit.specs.Blocks.{Block, RoutineForm, around_of}
 use Rattle.ep_check_unit.specs.declared.block.Enclosing.{Enclosing}
 use Rattle.ep_check_unit.specs.declared.block.OwnResult.{OwnResult}
 use Rattle.ep_unit_laws.proofs.Open.{AreUnderWay}
-use Rattle.ep_unit_laws.proofs.Denoting.{Denotes, DenotesKind, IsSmall, full_type, denotes_more, denotes_required, denotes_named, denotes_enumeration, denotes_ordinal, kind_more, kind_valid}
+use Rattle.ep_unit_laws.proofs.Denoting.{Denotes, DenotesKind, IsSmall, full_type, denotes_more, denotes_required, denotes_named, denotes_enumeration, denotes_ordinal, kind_has_values, kind_more, kind_valid}
 
 -- ---- denoters as plain data
 
@@ -97,12 +96,6 @@ deeper_around x xs level le = ap (λ n. drop n (x ∷ xs)) {x = suc (length xs) 
 -- the levels of the routines whose blocks code is in
 abbrev pub levels_at : List UnitRoutine → List Enclosing → List Level
 levels_at rs es = levels_of rs (around_of es)
-
--- ---- kinds
-
-pub both_built : (a b : Bool) → (a && b) ≡ true → (a ≡ true) × (b ≡ true)
-both_built true b e = (refl, e)
-both_built false b e = cc
 
 module _ (u : TypedUnit) where
   -- ---- hosts
@@ -434,34 +427,23 @@ module _ (u : TypedUnit) where
   pub around_innermost : (es : List Enclosing) (level : ℕ) → level ≡ length es → around_of (drop (length es - level) es) ≡ around_of es
   around_innermost es level e = ap (λ k. around_of (drop k es)) {x = length es - level} {y = 0} (omega (arith, e))
 
-  -- one of a kind that is built is ordinal
-  pub kind_ordinal : (i : ℕ) (k : Kind) (d : tree.Denoter) (v : TypeValue) → i ≤ length u.types → is_built_kind k ≡ true → DenotesKind u.types i d k v → IsOrdinal u.types d
-  kind_ordinal i (kind.Ordinal h) d v le built x = denotes_ordinal u.types i d (typed_host h) v le x
-  kind_ordinal i (kind.Structured n) d v le built x = cc
-  kind_ordinal i kind.Text d v le built x = absurd x
-  kind_ordinal i kind.File d v le built x = absurd x
+  -- a type may be that of a parameter
+  given_by : (i : ℕ) (m : FormalMode) (k : Kind) (d : tree.Denoter) (v : TypeValue) → i ≤ length u.types → DenotesKind u.types i d k v → IsFormalBy m u.types d
+  given_by i mode.Value k d v le x = kind_has_values u.types i d k v le x
+  given_by i mode.ProtectedValue k d v le x = kind_has_values u.types i d k v le x
+  given_by i mode.Variable k d v le x = kind_valid u.types i d k v le x
+  given_by i mode.ProtectedVariable k d v le x = kind_valid u.types i d k v le x
 
-  -- a type may be that of a parameter that is built
-  given_by : (i : ℕ) (m : FormalMode) (k : Kind) (d : tree.Denoter) (v : TypeValue) → i ≤ length u.types → is_built_formal m k ≡ true → DenotesKind u.types i d k v → IsFormalBy m u.types d
-  given_by i mode.Value k d v le built x = kind_ordinal i k d v le built x
-  given_by i mode.ProtectedValue k d v le built x = kind_ordinal i k d v le built x
-  given_by i mode.Variable k d v le built x = kind_valid u.types i d k v le x
-  given_by i mode.ProtectedVariable k d v le built x = kind_valid u.types i d k v le x
-
-  -- a formal parameter that has a type and is built is valid
-  formal_valid : (i : ℕ) (p : FormalParameter) → i ≤ length u.types → is_built_formal p.mode p.kind ≡ true → HoldsParameter i p → IsFormal u.types (formal_of p)
-  formal_valid i p le built x = record {
-    denoter = subst (IsFormalBy p.mode u.types) (sym (name_denotes p.of)) (given_by i p.mode p.kind (named_tree p.of) x.denotes.0 le built x.denotes.1);
+  -- a formal parameter that has a type is valid
+  formal_valid : (i : ℕ) (p : FormalParameter) → i ≤ length u.types → HoldsParameter i p → IsFormal u.types (formal_of p)
+  formal_valid i p le x = record {
+    denoter = subst (IsFormalBy p.mode u.types) (sym (name_denotes p.of)) (given_by i p.mode p.kind (named_tree p.of) x.denotes.0 le x.denotes.1);
   }
 
-  all_built : (p : FormalParameter) (ps : List FormalParameter) → list_all (λ q. is_built_formal q.mode q.kind) (p ∷ ps) ≡ true → (is_built_formal p.mode p.kind ≡ true) × (list_all (λ q. is_built_formal q.mode q.kind) ps ≡ true)
-  all_built p ps e = both_built (is_built_formal p.mode p.kind) (list_all (λ q. is_built_formal q.mode q.kind) ps) e
-
-  pub formals_valid : (i : ℕ) (ps : List FormalParameter) → i ≤ length u.types → list_all (λ p. is_built_formal p.mode p.kind) ps ≡ true → All (HoldsParameter i) ps → All (IsFormal u.types) (map formal_of ps)
-  formals_valid i [] le built x = All-nil (IsFormal u.types)
-  formals_valid i (p ∷ ps) le built x =
-      let now = all_built p ps built in
-      All-cons (IsFormal u.types) (formal_of p) (map formal_of ps) (formal_valid i p le now.0 (All-head (HoldsParameter i) p ps x)) (formals_valid i ps le now.1 (All-tail (HoldsParameter i) p ps x))
+  pub formals_valid : (i : ℕ) (ps : List FormalParameter) → i ≤ length u.types → All (HoldsParameter i) ps → All (IsFormal u.types) (map formal_of ps)
+  formals_valid i [] le x = All-nil (IsFormal u.types)
+  formals_valid i (p ∷ ps) le x =
+      All-cons (IsFormal u.types) (formal_of p) (map formal_of ps) (formal_valid i p le (All-head (HoldsParameter i) p ps x)) (formals_valid i ps le (All-tail (HoldsParameter i) p ps x))
 
   -- ---- hosts that are known are listed
 

@@ -154,7 +154,7 @@ module _ (u : TypedUnit) where
       over_denotes : DenotesStructured u.types Number (denoter_of Over.denoter) Number Value
       over_denotes =
           subst (λ d. DenotesStructured u.types Number d Number Value) (sym (denoter_is f.fields))
-          (denotes_record u.types Number Number (components_of f.fields) (types_of Number f.fields stood.1) (all_denoted Number f.fields stood.1) components_there)
+          (denotes_record u.types Number Number next.entry (components_of f.fields) (types_of Number f.fields stood.1) (all_denoted Number f.fields stood.1) next.at (next.definition ∙ denoter_is f.fields) within)
 
       type_held : HoldsStructuredType u (suc Number) Made
       type_held = record { structure = Records (components_of f.fields); has_structure = components_there; components = all_held (suc Number) f.fields (fields_later Number (suc Number) f.fields (omega arith) stood.1) }

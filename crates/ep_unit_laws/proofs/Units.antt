@@ -16,7 +16,7 @@ use Rattle.ep_check_expr.specs.Laws.{BoundsAreKnown, BoundsAreSound, ConstantsAr
 use Rattle.ep_typed.specs.Auxiliaries.{first_for}
 use Rattle.ep_unit_laws.proofs.Auxiliaries.{unit_auxiliaries}
 use Rattle.ep_scope.specs.Scopes.{depth_in}
-use Rattle.ep_check_expr.specs.Agreement.{Agrees}
+use Rattle.ep_check_expr.specs.Agreement.{AgreesBy, structures_of}
 use Rattle.ep_check_stmt.specs.Laws.{ResultsAreThere, StatementsAreSound}
 use Rattle.ep_check_stmt.specs.Statements.{Judgement, Passes, Waits, Fails, after, compound_judged}
 use Rattle.ep_check_stmt.proofs.judged.Fits.{Fits}
@@ -26,7 +26,7 @@ use Rattle.ep_check_unit.specs.Routines.{context_of, parts_declared}
 use Rattle.ep_unit_laws.specs.Laws.{UnitsAreValid}
 use Rattle.ep_check_unit.specs.Units.{IsTypedProgram, IsUnitOf, ProgramForm, body_judged, declarations_wait, first_missing, parameters_entered, program_block, program_form, program_judged, unless_missing}
 use Rattle.ep_check_unit.specs.Blocks.{Block, routine_form}
-use Rattle.ep_unit_laws.proofs.Agreeing.{holds_agrees, within}
+use Rattle.ep_unit_laws.proofs.Agreeing.{block_agrees, type_values, within}
 use Rattle.ep_unit_laws.proofs.Holds.{Holds, HoldsStructuredType, HoldsParameter, HoldsRoutine, HoldsRoutines, head_of, innermost, levels_at}
 use Rattle.ep_unit_laws.proofs.Open.{IsOpen}
 use Rattle.ep_unit_laws.proofs.Items.{LeadsOn, parameters_lead}
@@ -117,8 +117,8 @@ module _ (statements : StatementsAreSound) (constants : ConstantsAreSound) (boun
   block_open p u form made few = (block_leads p u form made few).grows.opens (record { things = tt; around = tt; under_way = tt; below = tt })
 
   -- so it assigns to the name of no function
-  no_result : (p : Program) (u : TypedUnit) (form : ProgramForm) → IsMade p form → length u.constants ≤ maxint → ResultsAreThere (own u) (depth_in (scopes_of form.block)) (assigned_functions form.block.own.enclosing)
-  no_result p u form made few = subst (λ es. ResultsAreThere (own u) (depth_in (scopes_of form.block)) (assigned_functions es)) (sym (none_under_way p u form made few)) tt
+  no_result : (p : Program) (u : TypedUnit) (form : ProgramForm) → IsMade p form → length u.constants ≤ maxint → ResultsAreThere (own u) (type_values u) (depth_in (scopes_of form.block)) (assigned_functions form.block.own.enclosing)
+  no_result p u form made few = subst (λ es. ResultsAreThere (own u) (type_values u) (depth_in (scopes_of form.block)) (assigned_functions es)) (sym (none_under_way p u form made few)) tt
 
   -- the unit holds its block
   block_held : (p : Program) (u : TypedUnit) (form : ProgramForm) → IsMade p form → length u.constants ≤ maxint → IsUnitOf p form u → Holds u (length form.block.types) form.block
@@ -150,7 +150,11 @@ module _ (statements : StatementsAreSound) (constants : ConstantsAreSound) (boun
         variables = All-same (IsVariable u.types) u.variables t.form.block.variables t.unit.variables held.variables;
         routines = routines_valid u (subst (HoldsRoutines u) (sym t.unit.routines) held.routines);
         start = subst (IsStmt (own u)) (sym t.unit.start)
-            (statements (context_of t.form.block) p.body t.form.statements made.statements (own u) (subst (λ es. Agrees (within u es) (scopes_of t.form.block)) (none_under_way p u t.form made few) (holds_agrees u (length t.form.block.types) t.form.block (block_open p u t.form made few) le held)) (no_result p u t.form made few)
+            (statements (context_of t.form.block) p.body t.form.statements made.statements (own u) (
+              type_values u,
+              subst (λ es. AgreesBy (within u es) (type_values u) (structures_of (scopes_of t.form.block)) (depth_in (scopes_of t.form.block)) (scopes_of t.form.block)) (none_under_way p u t.form made few)
+                  (block_agrees u (length t.form.block.types) t.form.block (block_open p u t.form made few) le held),
+            ) (no_result p u t.form made few)
             (λ at has. unit_auxiliaries u t.form.block at held.unit t.unit.variables (ap first_for t.unit.start ∙ has) (none_under_way p u t.form made few)));
         stop = t.unit.stop;
       }

@@ -1,5 +1,5 @@
 -- Statements that the rules accept are valid under declarations that hold what the scopes declare.
-use Rattle.std.proofs.Common.{◌≡◌, ℕ, ◌-◌, ◌==◌, Bool, true, false, List, [], ◌∷◌, map, Option, Some, None, refl, sym, ap, ◌∙◌, subst}
+use Rattle.std.proofs.Common.{◌≡◌, ℕ, ◌-◌, Bool, true, false, List, [], ◌∷◌, map, Option, Some, None, refl, sym, ap, ◌∙◌, subst}
 use Rattle.std.specs.Prelude.{⊤, if◌then◌else◌}
 use Rattle.std.specs.Option.{option_map}
 use Rattle.ep_tree.specs.Nodes.{argument_node}
@@ -20,8 +20,9 @@ use Rattle.ep_typed.specs.Auxiliaries.{first_for, first_for_of}
 use Rattle.ep_typed.specs.Hosts as typed
 use Rattle.ep_typed.specs.Trees as tree
 use Rattle.ep_typed.specs.Trees.{Entire, Actual, Callee, Place, Expr, Item, Other, Stmt, Stmts}
+use Rattle.ep_typed.specs.TypeValues.{TypeValue}
 use Rattle.ep_typed.specs.Valid as valid
-use Rattle.ep_typed.specs.Valid.{AreItems, Declarations, IsExpr, IsItem, IsPlace, IsStmt, WritesSomething, printed_kind}
+use Rattle.ep_typed.specs.Valid.{AreItems, Declarations, IsExpr, IsItem, IsOfKind, IsPlace, IsPlaceWhere, IsStmt, WritesSomething, printed_kind}
 use Rattle.ep_typed.specs.declared.operations.Print.{Print}
 use Rattle.ep_typed.specs.declared.tree.StandardFile.{StandardFile}
 use Rattle.ep_typed.specs.declared.tree.StandardFile.TheVariants as file
@@ -36,13 +37,12 @@ use Rattle.ep_scope.specs.declared.required.Procedure.{Procedure}
 use Rattle.ep_scope.specs.declared.required.Procedure.TheVariants as procedure
 use Rattle.ep_scope.specs.declared.required.Required.{Required}
 use Rattle.ep_scope.specs.declared.required.Required.TheVariants as required
-use Rattle.ep_scope.specs.declared.rule.TheConstants as rule
 use Rattle.ep_scope.specs.declared.thing.Declaration.{Declaration}
 use Rattle.ep_scope.specs.declared.thing.Declaration.TheVariants as declaration
 use Rattle.ep_scope.specs.declared.thing.Declared.{Declared}
 use Rattle.ep_check_expr.specs.declared.access.Access.{Access}
 use Rattle.ep_check_expr.specs.declared.access.Access.TheVariants as access
-use Rattle.ep_check_expr.specs.Agreement.{Agrees, AreActuals, IsDeclaration, IsFormOf, IsProcedureOf, IsStoredIn, structures_of}
+use Rattle.ep_check_expr.specs.Agreement.{Agrees, AreActuals, IsDeclaration, IsFormOf, IsProcedureOf, IsStoredIn, IsValueOf, structures_of}
 use Rattle.ep_check_expr.specs.Arguments.{Taken, arguments_judged, callee_at, given_to, own_place, place_read, unless_protected}
 use Rattle.ep_check_expr.specs.Expressions.{given, judged, judged_value, name_judged}
 use Rattle.ep_check_expr.specs.Functions.{Given}
@@ -52,7 +52,8 @@ use Rattle.ep_check_expr.specs.Laws.{ArgumentsAreSound, ExpressionsAreSound, Lab
 use Rattle.ep_check_expr.specs.Operators.{map_both}
 use Rattle.ep_check_expr.proofs.Meant.{IsMeant, meant-declared}
 use Rattle.ep_check_expr.proofs.Nodes.{argument-judged, wide-judged}
-use Rattle.ep_check_expr.proofs.Passing.{IfForm, given-fits}
+use Rattle.ep_check_expr.proofs.Passing.{IfForm, given-fits, structured-fits}
+use Rattle.ep_check_expr.proofs.Places.{structured-place}
 use Rattle.ep_check_stmt.specs.Cases.{CaseSelector, labelled, selecting, selector_judged}
 use Rattle.ep_check_stmt.specs.Laws.{IsResultAt, ResultsAreThere, StatementsAreSound}
 use Rattle.ep_check_stmt.specs.Statements.{ArmJudged, Context, FunctionResult, Judgement, Passes, Shown, Target, Under, after, arm_judged, arm_row, arms_in_order, assigned, at_arm, at_compound, at_item, at_otherwise, at_statement, available, call_arguments, call_judged, case_judged, compound_under, condition, condition_judged, control_judged, declared_called, declared_target, expr_item, expr_threat, falls_by, file_given, formed, function_target, has_result, if_judged, in_order, item_form, item_judged, items_judged, measured, name_called, one_more, own_called, otherwise_judged, place_named, procedure_called, required_called, shown, something, statement_judged, stmt_item, stmt_threat, target_judged, target_of_selectors, tested, to_file, unless_threatening, usually_written, variable_target, width_judged, write_judged, written, written_or}
@@ -126,27 +127,28 @@ module _ (declared : Declarations) (expressions : ExpressionsAreSound) (passed :
 
   -- ---- assignments
 
-  -- a variable of an ordinal type has a place, where it is built; to no other one is anything given that is built
+  -- the place is that of a variable of the structured type of this number
+  abbrev IsStructure : ℕ → Place → Type 0
+  IsStructure n place = (t : TypeValue) × IsValueOf agrees.0 n t × IsPlaceWhere declared (IsOfKind (valid.Structured t)) place
+
+  -- a variable of an ordinal or a structured type has a place, where it is built; to no other one is anything given that is built
   abbrev IsTarget : Kind → Option Place → Type 0
   IsTarget (kind.Ordinal h) place = IfForm (IsPlace declared (typed_host h)) place
-  IsTarget (kind.Structured n) place = ⊤
+  IsTarget (kind.Structured n) place = IfForm (IsStructure n) place
   IsTarget kind.Text place = ⊤
   IsTarget kind.File place = ⊤
 
   -- a variable that is declared is such a place
   variable_fits : (place : Place) (k : Kind) → IsStoredIn declared agrees.0 structures place k → IsTarget k (Some place)
   variable_fits place (kind.Ordinal h) x = x.1
-  variable_fits place (kind.Structured n) x = tt
+  variable_fits place (kind.Structured n) x = structured-place declared agrees.0 structures n place x
   variable_fits place kind.Text x = tt
   variable_fits place kind.File x = tt
 
   -- so is what is read of a variable
   read_fits : (k : Kind) (form : Option Expr) → IsFormOf declared agrees.0 structures k form → IsTarget k (place_read form)
   read_fits (kind.Ordinal h) None f = tt
-  read_fits (kind.Ordinal h) (Some (tree.Read place)) f = subst (λ g. IsPlace declared g place) (same_ordinal (typed_host h) f.1.0 f.1.1) f.1.2
-    where
-      same_ordinal : (g k : typed.Host) → valid.Ordinal g ≡ valid.Ordinal k → k ≡ g
-      same_ordinal g k e = cc
+  read_fits (kind.Ordinal h) (Some (tree.Read place)) f = f.1
   read_fits (kind.Ordinal h) (Some (tree.Constant z)) f = tt
   read_fits (kind.Ordinal h) (Some (tree.Text bytes)) f = tt
   read_fits (kind.Ordinal h) (Some (tree.One operation x)) f = tt
@@ -154,7 +156,15 @@ module _ (declared : Declarations) (expressions : ExpressionsAreSound) (passed :
   read_fits (kind.Ordinal h) (Some (tree.Short operation x y)) f = tt
   read_fits (kind.Ordinal h) (Some (tree.Step down low high x y)) f = tt
   read_fits (kind.Ordinal h) (Some (tree.Function callee given)) f = tt
-  read_fits (kind.Structured n) form f = tt
+  read_fits (kind.Structured n) None f = tt
+  read_fits (kind.Structured n) (Some (tree.Read place)) f = structured-place declared agrees.0 structures n place f
+  read_fits (kind.Structured n) (Some (tree.Function callee given)) f = tt
+  read_fits (kind.Structured n) (Some (tree.Constant z)) f = tt
+  read_fits (kind.Structured n) (Some (tree.Text bytes)) f = tt
+  read_fits (kind.Structured n) (Some (tree.One operation x)) f = tt
+  read_fits (kind.Structured n) (Some (tree.Two operation x y)) f = tt
+  read_fits (kind.Structured n) (Some (tree.Short operation x y)) f = tt
+  read_fits (kind.Structured n) (Some (tree.Step down low high x y)) f = tt
   read_fits kind.Text form f = tt
   read_fits kind.File form f = tt
 
@@ -172,16 +182,16 @@ module _ (declared : Declarations) (expressions : ExpressionsAreSound) (passed :
 
   -- the variables of results are there
   abbrev Results : Context → Type 0
-  Results c = ResultsAreThere declared depth c.results
+  Results c = ResultsAreThere declared agrees.0 depth c.results
 
   -- so is the variable of a result
-  result_fits : (k : Kind) (place : Place) → IsResultAt declared k place → IsTarget k (Some place)
+  result_fits : (k : Kind) (place : Place) → IsResultAt declared agrees.0 k place → IsTarget k (Some place)
   result_fits (kind.Ordinal h) place x = x.1
-  result_fits (kind.Structured n) place x = tt
+  result_fits (kind.Structured n) place x = x
   result_fits kind.Text place x = tt
   result_fits kind.File place x = tt
 
-  function_fits : (unit : List ℕ) (d : Declared) (results : List FunctionResult) → ResultsAreThere declared depth results → Fits (λ t. IsTarget t.kind t.place) (function_target depth unit d results)
+  function_fits : (unit : List ℕ) (d : Declared) (results : List FunctionResult) → ResultsAreThere declared agrees.0 depth results → Fits (λ t. IsTarget t.kind t.place) (function_target depth unit d results)
   function_fits unit d [] there = tt
   function_fits unit d (r ∷ rs) there = go (has_result unit d r) (function_fits unit d rs there.1)
     where
@@ -189,7 +199,7 @@ module _ (declared : Declarations) (expressions : ExpressionsAreSound) (passed :
       go true others = result_fits r.kind (tree.Own (depth - r.level) r.variable) there.0
       go false others = others
 
-  module _ (unit : List ℕ) (results : List FunctionResult) (there : ResultsAreThere declared depth results) where
+  module _ (unit : List ℕ) (results : List FunctionResult) (there : ResultsAreThere declared agrees.0 depth results) where
     declared_fits : (d : Declared) (what : Declaration) → IsDeclaration declared agrees.0 structures depth d what → Fits (λ t. IsTarget t.kind t.place) (declared_target depth unit results d what)
     declared_fits d (declaration.Variable of k) x = variable_fits (tree.Variable d.unit d.number) k x.0
     declared_fits d (declaration.Own of k guarded) x =
@@ -223,21 +233,16 @@ module _ (declared : Declarations) (expressions : ExpressionsAreSound) (passed :
   placed_fits : (h : Host) (line : ℕ) (place : Option Place) (x : Option Expr) → IfForm (IsPlace declared (typed_host h)) place → IfForm (IsExpr declared (valid.Ordinal (typed_host h))) x → IfForm (IsStmt declared) (map_both (tree.Assign line) place x)
   placed_fits h line None x p q = tt
   placed_fits h line (Some place) None p q = tt
-  placed_fits h line (Some place) (Some x) p q = (typed_host h, p, q)
+  placed_fits h line (Some place) (Some x) p q = (valid.Ordinal (typed_host h), p, q)
+
+  -- and to one of a structured type
+  whole_fits : (line : ℕ) (place : Place) (t : TypeValue) → IsPlaceWhere declared (IsOfKind (valid.Structured t)) place → (x : Option Expr) → IfForm (IsExpr declared (valid.Structured t)) x → IfForm (IsStmt declared) (map_both (tree.Assign line) (Some place) x)
+  whole_fits line place t p None q = tt
+  whole_fits line place t p (Some x) q = (valid.Structured t, p, q)
 
   -- nothing that is built is given to another one
   abbrev IsNone : Option Expr → Type 0
   IsNone x = x ≡ None
-
-  same_array : (same : Bool) → Fits IsNone (if same then Accepts None else Breaks (rule.ASSIGNMENT ∷ []))
-  same_array true = refl
-  same_array false = tt
-
-  to_array : (m : ℕ) (from : Kind) (form : Option Expr) → Fits IsNone (given_to (λ x. x) (kind.Structured m) from form)
-  to_array m (kind.Ordinal g) form = tt
-  to_array m (kind.Structured n) form = same_array (m == n)
-  to_array m kind.Text form = tt
-  to_array m kind.File form = tt
 
   to_text : (from : Kind) (form : Option Expr) → Fits IsNone (given_to (λ x. x) kind.Text from form)
   to_text (kind.Ordinal g) form = tt
@@ -263,7 +268,11 @@ module _ (declared : Declarations) (expressions : ExpressionsAreSound) (passed :
   assign_fits (kind.Ordinal h) from line place form p f =
       fits_then (IfForm (IsExpr declared (valid.Ordinal (typed_host h)))) (IfForm (IsStmt declared)) (λ x. Accepts (map_both (tree.Assign line) place x)) (given_to (λ x. x) (kind.Ordinal h) from form)
       (given-fits declared agrees.0 structures (IsExpr declared (valid.Ordinal (typed_host h))) (λ x. x) h (λ x q. q) from form f) (λ x q. placed_fits h line place x p q)
-  assign_fits (kind.Structured m) from line place form p f = unplaced_fits line place (given_to (λ x. x) (kind.Structured m) from form) (to_array m from form)
+  assign_fits (kind.Structured m) from line None form p f =
+      fits_then Any (IfForm (IsStmt declared)) (λ x. Accepts (map_both (tree.Assign line) None x)) (given_to (λ x. x) (kind.Structured m) from form) (fits_any (given_to (λ x. x) (kind.Structured m) from form)) (λ x a. tt)
+  assign_fits (kind.Structured m) from line (Some place) form p f =
+      fits_then (IfForm (IsExpr declared (valid.Structured p.0))) (IfForm (IsStmt declared)) (λ x. Accepts (map_both (tree.Assign line) (Some place) x)) (given_to (λ x. x) (kind.Structured m) from form)
+      (structured-fits declared agrees.0 structures (IsExpr declared (valid.Structured p.0)) (λ x. x) m p.0 p.1 (λ x q. q) from form f) (λ x q. whole_fits line place p.0 p.2 x q)
   assign_fits kind.Text from line place form p f = unplaced_fits line place (given_to (λ x. x) kind.Text from form) (to_text from form)
   assign_fits kind.File from line place form p f = unplaced_fits line place (given_to (λ x. x) kind.File from form) (to_file_fits from form)
 
@@ -324,7 +333,7 @@ module _ (declared : Declarations) (expressions : ExpressionsAreSound) (passed :
   item_judged_fits : (a : Argument) → Fits (IfForm (IsItem declared)) (item_judged (given scopes a))
   item_judged_fits a =
       subst (λ g. Fits (IfForm (IsItem declared)) (item_judged g)) (sym (argument_is scopes a))
-      (fits_both IsShown IsWidth (IfForm (IsItem declared)) (λ value width. Accepts (item_form value.print value.form width)) _ _
+      (fits_both IsShown IsWidth (IfForm (IsItem declared)) (λ value width. Accepts (item_form value.print value.form width)) (when_accepted shown (judged scopes (out-Argument a).value)) (width_judged (option_map (judged scopes) (out-Argument a).width))
       (fits_then IsSoundForm IsShown shown (judged scopes (out-Argument a).value) (expression_fits (out-Argument a).value) (λ t h. shown_by t.kind t.form t refl refl h))
       (width_fits (out-Argument a).width)
       (λ s w f g. item_form_fits s.print s.form w f g))

@@ -252,6 +252,34 @@ follows_paid {A = A} {Within = Within} {G = G} {n = n} {v = v} {w = w} {k = k} {
         let p : Pays m i (suc v) d d1 = record { spent = suc w; all = omega (arith, x.1); slow = slow; fast = fast } in
         subst (Met Within G k m P d e) (sym q) (met_from Within G k k1 e P (c i s) (run_instruction G k v (Running 0 k1) o) (stays_waiting Within G k v (Running 0 k1) o within) p (h.by i (omega (arith, x.1))))
 
+-- room was lost, and an instruction of this weight ends the run for want of it
+pub record EndsForWant (G : Image) (k : State) (weight : ℕ) (s : meaning.State) : Type 0 where
+  pub lost : IsTrue s.resources.lost
+  pub number : ℕ
+  pub is_limit : (number ≡ run_error.STORAGE_LIMIT) ⊎ (number ≡ run_error.CALL_DEPTH)
+  pub unit : List ℕ
+  pub line : ℕ
+  pub trace : Trace
+  pub ends : outcome G k ≡ record { weight = weight; to = Stopped (Error number unit line) trace }
+  pub begins : IsPrefix trace s.trace
+
+-- where room was lost before steps that as many ticks are for, the machine may end instead of taking them
+pub follows_wanting : {A : Type 0} {Within : State → Type 0} {G : Image} {n w : ℕ} {k : State} {s : meaning.State} {c : Computation A} {P : A → meaning.State → State → Type 0} {e : A → ℕ}
+    → Within k → k.trace ≡ s.trace → Steady c → EndsForWant G k w s → Follows Within G n k s (spend (suc w) c) P 0 e
+follows_wanting {A = A} {Within = Within} {G = G} {n = n} {w = w} {k = k} {s = s} {c = c} {P = P} {e = e} within same steady h = record { by = λ m l. go m (few_or_all (suc w) m) }
+  where
+    stops : Going
+    stops = Stopped (Error h.number h.unit h.line) h.trace
+
+    go : (m : ℕ) → (m < suc w) ⊎ ((i : ℕ) × (suc w + i ≡ m)) → Met Within G k m P 0 e (spend (suc w) c m s)
+    go m (inl x) =
+        subst (Met Within G k m P 0 e) (sym (spend_few c (suc w) m s x)) (inl (record { ticks = m; wait = m; to = k; runs = run_waiting G k w m stops h.ends (omega (arith, x)); within = stays_less (omega (arith, x)) (stays_waiting Within G k w stops h.ends within); same = same; slow = omega arith; fast = omega arith }))
+    go m (inr x) =
+        let i : ℕ = x.0 in
+        let q : spend (suc w) c m s ≡ c i s = ap (λ j. spend (suc w) c j s) (sym x.1) ∙ spend_all c (suc w) i s in
+        let gone : GivesUp G k m 0 s = record { lost = h.lost; ticks = suc w; fast = omega (arith, x.1); number = h.number; is_limit = h.is_limit; unit = h.unit; line = h.line; trace = h.trace; runs = run_instruction G k w stops h.ends; begins = h.begins } in
+        subst (Met Within G k m P 0 e) (sym q) (inr (gives_up_grown s (state_of (c i s)) (steady.by i s) gone))
+
 -- steps without an instruction cost their number
 pub follows_moves : {A : Type 0} {Within : State → Type 0} {G : Image} {n : ℕ} (w : ℕ) {k : State} {s : meaning.State} {c : Computation A} {P : A → meaning.State → State → Type 0} {d : ℕ} {e : A → ℕ}
     → Within k → k.trace ≡ s.trace → Follows Within G n k s c P d e

@@ -1,13 +1,13 @@
 -- How the machine follows a call, whatever its instruction and the one that leaves a routine do besides.
-use Rattle.std.proofs.Common.{◌≡◌, ℕ, zero, suc, ◌+◌, ◌≤◌, ◌⊎◌, inl, inr, refl, ◌∙◌, arith}
-use Rattle.ep_object.specs.Follows.{GivesUp, Follows}
+use Rattle.std.proofs.Common.{◌≡◌, ℕ, suc, ◌+◌, ◌⊎◌, inl, inr, ◌∙◌, arith}
+use Rattle.ep_object.specs.Follows.{Follows}
 use Rattle.ep_object.specs.Runs.{outcome}
 use Rattle.ep_object.specs.State.{State, Running}
 use Rattle.ep_object.specs.declared.code.Image.{Image}
-use Rattle.ep_object.proofs.following.Bind.{Met, stays_here, stays_waiting, stays_join, gives_up_grown, gives_up_weaken, follows_paid, run_then, run_instruction}
+use Rattle.ep_object.proofs.following.Bind.{Met, EndsForWant, stays_waiting, stays_join, follows_paid, follows_wanting, run_then, run_instruction}
 use Rattle.ep_typed.specs.Calls.{entered, left_from, given_back, in_call}
 use Rattle.ep_typed.specs.Steady.{Steady}
-use Rattle.ep_typed.specs.Steps.{Call, Outcome, Gives, Ends, Cut, Computation, state_of, spend}
+use Rattle.ep_typed.specs.Steps.{Call, Outcome, Gives, Ends, Cut, Computation, spend}
 use Rattle.ep_typed.specs.Steps as meaning
 
 -- ---- the instruction that leaves a routine
@@ -42,25 +42,17 @@ follows_in_call {A = A} {Within = Within} {G = G} {n = n} {k = k} {s = s} levels
 
 -- ---- the instruction that calls
 
--- Where room was lost before the step of a call, the machine may end instead of taking it.
-pub follows_gives_up-paid : {A : Type 0} {Within : State → Type 0} {G : Image} {n : ℕ} {k : State} {s : meaning.State} {c : Computation A} {P : A → meaning.State → State → Type 0} {e : A → ℕ}
-    → Within k → k.trace ≡ s.trace → Steady c → GivesUp G k 0 1 s → Follows Within G n k s (spend 1 c) P 0 e
-follows_gives_up-paid {A = A} {Within = Within} {G = G} {n = n} {k = k} {s = s} {c = c} {P = P} {e = e} within same steady h = record { by = λ m l. go m l }
-  where
-    go : (m : ℕ) → m ≤ n → Met Within G k m P 0 e (spend 1 c m s)
-    go zero l = inl (record { ticks = 0; wait = 0; to = k; runs = refl; within = stays_here Within G k within; same = same; slow = omega arith; fast = omega arith })
-    go (suc m) l = inr (gives_up_grown s (state_of (c m s)) (steady.by m s) (gives_up_weaken (omega arith) h))
-
--- What a call does is counted, then it spends its step, and then the routine runs: the machine enters the routine by one
--- instruction, with a credit of 63, or ends for want of room; and the instruction that leaves the routine takes one.
-pub follows_called : {A : Type 0} {Within : State → Type 0} {G : Image} {n : ℕ} {k : State} {s : meaning.State} (levels : ℕ) (x : Call) {c : Computation A} {P Q : A → meaning.State → State → Type 0}
+-- What a call does is counted, then it spends its steps, as many as its ticks, and then the routine runs: the machine
+-- enters the routine by one instruction, with a credit of 63, or ends for want of room; and the instruction that leaves
+-- the routine takes one.
+pub follows_called : {A : Type 0} {Within : State → Type 0} {G : Image} {n w : ℕ} {k : State} {s : meaning.State} (levels : ℕ) (x : Call) {c : Computation A} {P Q : A → meaning.State → State → Type 0} {e : A → ℕ}
     → Within k → k.trace ≡ s.trace → Steady c
-    → ((entry : State) × (outcome G k ≡ record { weight = 0; to = Running 0 entry }) × Follows Within G n entry (entered levels x s) c P 63 (λ a. 1)) ⊎ GivesUp G k 0 1 (entered levels x s)
+    → ((entry : State) × (outcome G k ≡ record { weight = w; to = Running 0 entry }) × Follows Within G n entry (entered levels x s) c P 63 (λ a. 1 + e a)) ⊎ EndsForWant G k w (entered levels x s)
     → ((a : A) (s1 : meaning.State) (k1 : State) → P a s1 k1 → Within k1 × ((next : State) × (outcome G k1 ≡ record { weight = 0; to = Running 0 next }) × Q a (left_from s s1) next))
-    → Follows Within G (suc n) k s (in_call levels x (spend 1 c)) Q 0 (λ a. 0)
-follows_called {A = A} {Within = Within} {G = G} {n = n} {k = k} {s = s} levels x {c = c} {P = P} within same steady calls leaves = follows_in_call levels x {e = λ a. 0} (go calls) leaves
+    → Follows Within G (suc n) k s (in_call levels x (spend (suc w) c)) Q 0 e
+follows_called {A = A} {Within = Within} {G = G} {n = n} {w = w} {k = k} {s = s} levels x {c = c} {P = P} {e = e} within same steady calls leaves = follows_in_call levels x {e = e} (go calls) leaves
   where
-    go : ((entry : State) × (outcome G k ≡ record { weight = 0; to = Running 0 entry }) × Follows Within G n entry (entered levels x s) c P 63 (λ a. 1)) ⊎ GivesUp G k 0 1 (entered levels x s)
-        → Follows Within G (suc n) k (entered levels x s) (spend 1 c) P 0 (λ a. 1 + 0)
-    go (inl y) = follows_paid {v = 0} {w = 0} {d1 = 63} within same y.1 (omega arith) (omega arith) (omega arith) y.2
-    go (inr y) = follows_gives_up-paid within same steady y
+    go : ((entry : State) × (outcome G k ≡ record { weight = w; to = Running 0 entry }) × Follows Within G n entry (entered levels x s) c P 63 (λ a. 1 + e a)) ⊎ EndsForWant G k w (entered levels x s)
+        → Follows Within G (suc n) k (entered levels x s) (spend (suc w) c) P 0 (λ a. 1 + e a)
+    go (inl y) = follows_paid {v = w} {w = w} {d1 = 63} within same y.1 (omega arith) (omega arith) (omega arith) y.2
+    go (inr y) = follows_wanting within same steady y

@@ -1,5 +1,5 @@
 -- Fragments of code that may end by an error, or go one of two ways.
-use Rattle.std.proofs.Common.{◌≡◌, ℕ, ℤ, zero, suc, ◌+◌, ◌≤◌, Bool, true, false, List, ◌∷◌, Option, Some, None, refl, sym, subst, arith}
+use Rattle.std.proofs.Common.{◌≡◌, ℕ, ℤ, zero, suc, ◌+◌, ◌-◌, ◌*◌, ◌≤◌, Bool, true, false, List, ◌∷◌, Option, Some, None, refl, sym, subst, arith}
 use Rattle.std.specs.Prelude.{if◌then◌else◌}
 use Rattle.ep_object.specs.Follows.{Point, state_at, Follows, point, Facts, After, Lands, Fragment, Bare, OnTop, IsNotLeft, SameRoutine, Inside}
 use Rattle.ep_object.specs.Matching.{Memory, at, Injection, Matches, Slots, Grown}
@@ -16,6 +16,7 @@ use Rattle.ep_typed.specs.Events.{Trace}
 use Rattle.ep_typed.specs.Meaning.{answered, turns, turns_until}
 use Rattle.ep_typed.specs.Operations.{Answer, Number, Fault, is_true}
 use Rattle.ep_typed.specs.Printing.{Result, number_of}
+use Rattle.ep_typed.specs.Results.{weight_of}
 use Rattle.ep_typed.specs.Steady.{Steady}
 use Rattle.ep_typed.specs.Steps.{Computation, give, stop, go_on, bind, spend, change, found, fetch, using, has_ended}
 use Rattle.ep_typed.specs.Steps as meaning
@@ -88,6 +89,33 @@ fragment_fetched {A = A} {declared = declared} {G = G} {Here = Here} {n = n} {fr
         subst (λ y. Follows (λ k. IsNotLeft from.memory.frames k.frames) G n (state_at from s.trace) s (found (meaning.Error number unit line) y) (λ a. Lands declared G Here to (P a)) d (λ a. d1)) (sym is)
         (follows_credit {d = 1 + d1} {e = λ b. d1} le (λ b. omega arith) (follows_waits (not_left-here from.memory.frames) x.does (follows_give a (omega arith) (landed x))))
 
+-- ---- a variable that is read
+
+-- the machine has the result that the computation reads, and spends its weight, or both end with the error
+pub data ReadsResult (declared : Declarations) (G : Image) (Here : Facts) (k : State) (number : ℕ) (unit : List ℕ) (line : ℕ) (to : ℕ) (Post : Result → After) (s : meaning.State) (o : Option Result) : Type 0 where
+  Nothing : (is : o ≡ None) (fails : FailsWith G k 0 number unit line s)
+      → ReadsResult declared G Here k number unit line to Post s o
+  Result_of : (r : Result) (is : o ≡ Some r) (does : Does declared G Here k (weight_of r) to (Post r) s)
+      → ReadsResult declared G Here k number unit line to Post s o
+
+-- one instruction, with the step of the form and the weight of the result, from one state
+pub follows_read : {declared : Declarations} {G : Image} {Here : Facts} {n : ℕ} {to : ℕ} {P : Result → After} {d : ℕ} {e : Result → ℕ} {number line : ℕ} {unit : List ℕ} (from : Point) (h : meaning.State → Option Result) (s : meaning.State)
+    → ReadsResult declared G Here (state_at from s.trace) number unit line to P s (h s)
+    → 1 ≤ d → ((r : Result) → e r ≤ d + 63 * suc (weight_of r))
+    → Follows (λ k. IsNotLeft from.memory.frames k.frames) G (suc n) (state_at from s.trace) s (bind (fetch (meaning.Error number unit line) h) (λ r. spend (suc (weight_of r)) (give r))) (λ b. Lands declared G Here to (P b)) d e
+follows_read {declared = declared} {G = G} {Here = Here} {n = n} {to = to} {P = P} {d = d} {e = e} {number = number} {line = line} {unit = unit} from h s reads le le2 =
+    record { by = λ m l. let z = go (h s) reads in z.by m l }
+  where
+    go : (o : Option Result) → ReadsResult declared G Here (state_at from s.trace) number unit line to P s o
+        → Follows (λ k. IsNotLeft from.memory.frames k.frames) G (suc n) (state_at from s.trace) s (bind (found (meaning.Error number unit line) o) (λ r. spend (suc (weight_of r)) (give r))) (λ b. Lands declared G Here to (P b)) d e
+    go o (Nothing is x) =
+        subst (λ y. Follows (λ k. IsNotLeft from.memory.frames k.frames) G (suc n) (state_at from s.trace) s (bind (found (meaning.Error number unit line) y) (λ r. spend (suc (weight_of r)) (give r))) (λ b. Lands declared G Here to (P b)) d e) (sym is)
+        (follows_stop (not_left-here from.memory.frames) x.fails le)
+    go o (Result_of r is x) =
+        let small : e r ≤ d + 63 * suc (weight_of r) = le2 r in
+        subst (λ y. Follows (λ k. IsNotLeft from.memory.frames k.frames) G (suc n) (state_at from s.trace) s (bind (found (meaning.Error number unit line) y) (λ r. spend (suc (weight_of r)) (give r))) (λ b. Lands declared G Here to (P b)) d e) (sym is)
+        (follows_paid {v = weight_of r} {w = weight_of r} {d1 = d + 63 * suc (weight_of r)} (not_left-here from.memory.frames) refl x.does (omega arith) (omega arith) (omega arith) (follows_give r small (landed x)))
+
 -- ---- what is used has to live
 
 -- where an allocation has ended that is used, the instruction ends with the error, and else the computation is followed
@@ -149,6 +177,32 @@ follows_checked {declared = declared} {G = G} {Here = Here} {n = n} {to = to} {P
     fails : FailsWith G (state_at from s.trace) 0 number unit line s
         → Follows (λ k. IsNotLeft from.memory.frames k.frames) G (suc n) (state_at from s.trace) s (stop {A = Unit {0}} (meaning.Error number unit line)) (λ a. Lands declared G Here to (P a)) d e
     fails x = follows_stop (not_left-here from.memory.frames) x.fails le
+
+    go : (m : ℕ) → m ≤ suc n → (x : Bool) → b s ≡ x
+        → Met (λ k. IsNotLeft from.memory.frames k.frames) G (state_at from s.trace) m (λ a. Lands declared G Here to (P a)) d e ((if b s then spend 1 (change f) else stop (meaning.Error number unit line)) m s)
+    go m l true q =
+        let z = holds (passes q) in
+        subst (λ y. Met (λ k. IsNotLeft from.memory.frames k.frames) G (state_at from s.trace) m (λ a. Lands declared G Here to (P a)) d e ((if y then spend 1 (change f) else stop (meaning.Error number unit line)) m s)) (sym q) (z.by m l)
+    go m l false q =
+        let z = fails (refuses q) in
+        subst (λ y. Met (λ k. IsNotLeft from.memory.frames k.frames) G (state_at from s.trace) m (λ a. Lands declared G Here to (P a)) d e ((if y then spend 1 (change f) else stop (meaning.Error number unit line)) m s)) (sym q) (z.by m l)
+
+-- the same where the instruction has a weight, which is paid by the credit
+pub follows_checked-weighed : {declared : Declarations} {G : Image} {Here : Facts} {n : ℕ} {to : ℕ} {P : Unit {0} → After} {d weight : ℕ} {e : Unit {0} → ℕ} {number line : ℕ} {unit : List ℕ} (from : Point) (b : meaning.State → Bool) (f : meaning.State → meaning.State) (s : meaning.State)
+    → (b s ≡ true → Does declared G Here (state_at from s.trace) weight to (P tt) (f s))
+    → (b s ≡ false → FailsWith G (state_at from s.trace) weight number unit line s)
+    → 1 + weight ≤ d → e tt + weight ≤ d + 63
+    → Follows (λ k. IsNotLeft from.memory.frames k.frames) G (suc n) (state_at from s.trace) s (λ m s. (if b s then spend 1 (change f) else stop (meaning.Error number unit line)) m s) (λ a. Lands declared G Here to (P a)) d e
+follows_checked-weighed {declared = declared} {G = G} {Here = Here} {n = n} {to = to} {P = P} {d = d} {weight = weight} {e = e} {number = number} {line = line} {unit = unit} from b f s passes refuses le le2 =
+    record { by = λ m l. go m l (b s) refl }
+  where
+    holds : Does declared G Here (state_at from s.trace) weight to (P tt) (f s)
+        → Follows (λ k. IsNotLeft from.memory.frames k.frames) G (suc n) (state_at from s.trace) s (spend 1 (change f)) (λ a. Lands declared G Here to (P a)) d e
+    holds does = follows_paid {v = weight} {w = 0} {d1 = d + 63 - weight} (not_left-here from.memory.frames) refl does.does (omega arith) (omega arith) (omega (arith, le)) (follows_changed {n = n} f {P = λ a. Lands declared G Here to (P a)} {d = d + 63 - weight} {e = e} (omega (arith, le2)) (landed does))
+
+    fails : FailsWith G (state_at from s.trace) weight number unit line s
+        → Follows (λ k. IsNotLeft from.memory.frames k.frames) G (suc n) (state_at from s.trace) s (stop {A = Unit {0}} (meaning.Error number unit line)) (λ a. Lands declared G Here to (P a)) d e
+    fails x = follows_stop (not_left-here from.memory.frames) x.fails (omega (arith, le))
 
     go : (m : ℕ) → m ≤ suc n → (x : Bool) → b s ≡ x
         → Met (λ k. IsNotLeft from.memory.frames k.frames) G (state_at from s.trace) m (λ a. Lands declared G Here to (P a)) d e ((if b s then spend 1 (change f) else stop (meaning.Error number unit line)) m s)

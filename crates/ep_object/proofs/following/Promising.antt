@@ -5,7 +5,7 @@ use Rattle.ep_object.specs.Follows.{end_of, Facts, Since, Lasts, Fragment, After
 use Rattle.ep_object.specs.Laws.{IsRunning}
 use Rattle.ep_object.specs.Matching.{Memory, Injection, Slots, AreAmong, Grown, kept_slots}
 use Rattle.ep_object.specs.Operands.{Operand}
-use Rattle.ep_object.specs.Promises.{Passing, AreArguments, ResultsOnTop, Called, CallsAt, Promises, ComesBackAfter, CallComesTo, CallsAnswer}
+use Rattle.ep_object.specs.Promises.{Passing, AreArguments, ResultsOnTop, Called, CallsAt, Promises, ComesBackAfter, CallComesTo, CallsAnswer, credit_of}
 use Rattle.ep_object.specs.Runs.{run, trace_of, unit_in}
 use Rattle.ep_object.specs.Simulates.{EndsAfter, StaysAfter}
 use Rattle.ep_object.specs.State.{State, Frames, Running, Stopped}
@@ -65,7 +65,7 @@ pub call_follows : {declared : Declarations} {G : Image} {untouched : Slots} {He
     → ((s : meaning.State) → Here injection s memory → IsCallable types levels around injection s.calls memory)
     → (below operands : List Operand) (arguments : List Argument)
     → AreArguments injection memory formals arguments below operands
-    → Fragment declared G Here n (point injection memory place operands) (called (unit_in G memory.frames) line levels arguments) (place + 1) (λ rs. Inside untouched injection memory (ResultsOnTop results below rs)) 0 (λ rs. 0)
+    → Fragment declared G Here n (point injection memory place operands) (called (unit_in G memory.frames) line levels arguments) (place + 1) (λ rs. Inside untouched injection memory (ResultsOnTop results below rs)) 0 credit_of
 call_follows promise lasts among place levels line calls injection memory callable below operands arguments are =
     fragment_post (λ rs longer after pushed i. record { grown = grown_fewer among i.grown; routine = same_routine-fewer among i.routine; operands_are = i.operands_are })
     (fragment_since (lasts_more among lasts) (λ s held. promise.by place levels line calls injection s memory (callable s held) below operands arguments are))
@@ -84,7 +84,7 @@ module _ (declared : Declarations) (G : Image) (injection : Injection) (s : mean
 
   -- where the call gives its results the caller goes on
   comes_back : (m left : ℕ) (a : List Result) (t : meaning.State)
-      → Reaches InCaller G from_call m left 0 0 (Back a t) → (spent : ℕ) → left + spent ≡ m
+      → Reaches InCaller G from_call m left 0 (credit_of a) (Back a t) → (spent : ℕ) → left + spent ≡ m
       → ComesBackAfter declared G injection s memory (Then a) to from_call t spent
   comes_back m left a t x spent is =
       let lands = x.post in
@@ -129,7 +129,7 @@ module _ (declared : Declarations) (G : Image) (injection : Injection) (s : mean
         all = λ ticks many. subst (λ y. IsPrefix y (trace_of (run G ticks 0 from_call))) x.same (events_between G from_call x.ticks ticks (Running x.wait x.to) (run G ticks 0 from_call) (omega (arith, x.fast)) x.runs refl);
       }
 
-  comes_to : (m : ℕ) (o : Outcome (List Result)) → Met InCaller G from_call m Back 0 (λ a. 0) o
+  comes_to : (m : ℕ) (o : Outcome (List Result)) → Met InCaller G from_call m Back 0 credit_of o
       → CallComesTo declared G injection s memory Then to from_call m o ⊎ GivesUp G from_call m 0 (state_of o)
   comes_to m (Gives left a t) (inl x) = inl (comes_back m left a t x)
   comes_to m (Ends left end t) (inl x) = inl (ends_in_call m left end t x)

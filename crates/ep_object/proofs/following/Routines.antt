@@ -8,10 +8,10 @@ use Rattle.ep_object.specs.Operands.{weights}
 use Rattle.ep_object.specs.Calls.{parent_by, top_of, call_limit, new_frame, called}
 use Rattle.ep_object.specs.Frames.{level_slots}
 use Rattle.ep_object.specs.Effects.{Jumps, Fails}
-use Rattle.ep_object.specs.Follows.{Since, HasGrown, Follows, operand_of, Fragment, GivesUp, Lands, Inside, IsStillCall, StillRuns, SameRoutine, IsNotLeft, point}
+use Rattle.ep_object.specs.Follows.{Since, HasGrown, Follows, Fragment, Lands, Inside, IsStillCall, StillRuns, SameRoutine, IsNotLeft, point}
 use Rattle.ep_object.specs.Matching.{Memory, Injection, Matches, Slots, every_slot, Grown, at}
 use Rattle.ep_object.specs.Operands.{Operand}
-use Rattle.ep_object.specs.Promises.{CallsAt, ResultsOnTop}
+use Rattle.ep_object.specs.Promises.{CallsAt, ResultsOnTop, credit_of}
 use Rattle.ep_object.specs.Routines.{routine_of}
 use Rattle.ep_object.specs.Runs.{outcome, outcome_of, after, unit_in}
 use Rattle.ep_object.specs.State.{State, Frame, Frames, Running, Stopped, Error}
@@ -23,8 +23,9 @@ use Rattle.ep_object.specs.declared.code.Instr.{Instr}
 use Rattle.ep_object.specs.declared.state.FrameNumber.{FrameNumber}
 use Rattle.ep_object.specs.declared.state.FrameNumber.TheVariants as number
 use Rattle.ep_object.specs.declared.state.Place.{Place}
-use Rattle.ep_object.proofs.following.Bind.{follows_wider, gives_up}
+use Rattle.ep_object.proofs.following.Bind.{EndsForWant, follows_wider}
 use Rattle.ep_object.proofs.following.Calling.{follows_called}
+use Rattle.ep_object.proofs.matching.Awaiting.{value_anywhere}
 use Rattle.ep_object.proofs.matching.Changes.{matches_entered, matches_left}
 use Rattle.ep_object.proofs.matching.Elements.{slice_get-drop}
 use Rattle.ep_object.proofs.matching.Endings.{without, ends_both}
@@ -77,13 +78,14 @@ leaves : (G : Image) (ret : ℕ) (i : Instr) (st : List Operand) (memory : Memor
 leaves G ret i st memory trace frame below has is a b frames =
     ap (λ o. outcome_of G o (at ret st memory trace)) has ∙ rw (is, a, b, frames) refl
 
--- results lie on the operands whatever the memory
-results_anywhere : (injection : Injection) (memory : Memory) (longer : Injection) (after : Memory) (operands : List Operand) (ks : List Kind) (below : List Operand) (rs : List Result)
-    → ResultsOnTop ks below rs injection memory operands → ResultsOnTop ks below rs longer after operands
-results_anywhere injection memory longer after operands [] below [] h = h
-results_anywhere injection memory longer after operands [] below (r ∷ rs) h = absurd h
-results_anywhere injection memory longer after operands (k ∷ ks) below [] h = absurd h
-results_anywhere injection memory longer after operands (k ∷ ks) below (r ∷ rs) h = (h.0, results_anywhere injection memory longer after operands ks (operand_of r ∷ below) rs h.1)
+-- results lie on the operands in whatever memory has the same types
+results_anywhere : (injection : Injection) (memory later : Memory) → later.types ≡ memory.types → (operands : List Operand) (ks : List Kind) (below : List Operand) (rs : List Result)
+    → ResultsOnTop ks below rs injection memory operands → ResultsOnTop ks below rs injection later operands
+results_anywhere injection memory later same operands [] below [] h = h
+results_anywhere injection memory later same operands [] below (r ∷ rs) h = absurd h
+results_anywhere injection memory later same operands (k ∷ ks) below [] h = absurd h
+results_anywhere injection memory later same operands (k ∷ ks) below (r ∷ rs) (o, is, rest) =
+    (o, value_anywhere injection memory later same k r o is, results_anywhere injection memory later same operands ks (o ∷ below) rs rest)
 
 -- ---- a call
 
@@ -105,7 +107,7 @@ lost_calls depth r deep = let full : nat_le depth 9000 ≡ false = grind (arith,
     go true e = refl
     go false e = rw e refl
 
-module _ (declared : Declarations) (G : Image) (routine : ℕ) (r : ImageRoutine) (there : routine_of G routine ≡ Some r) (numbered : routine < length G.routines) (top : List Operand) (taken : length top ≡ r.arguments) (light : weights top ≡ 0) where
+module _ (declared : Declarations) (G : Image) (routine : ℕ) (r : ImageRoutine) (there : routine_of G routine ≡ Some r) (numbered : routine < length G.routines) (top : List Operand) (taken : length top ≡ r.arguments) (weight : ℕ) (weighs : weights top ≡ weight) where
   -- the frame of a call that was made at a place, with this parent and these arguments
   abbrev pub its_frame : FrameNumber → ℕ → Frame
   its_frame parent place = new_frame routine r parent (place + 1) top
@@ -123,11 +125,11 @@ module _ (declared : Declarations) (G : Image) (routine : ℕ) (r : ImageRoutine
   called_at : (place levels line : ℕ) (parent : FrameNumber) (below : List Operand) (memory : Memory) (trace : Trace) → (calls : CallsAt G place routine levels line)
       → parent_by memory.frames r levels ≡ Some parent
       → outcome G (at place (top ++ below) memory trace)
-      ≡ record { weight = 0; to = after G calls.instruction (at place (top ++ below) memory trace) (cond (ltb (length memory.frames.calls) call_limit) (Jumps r.entry (called routine r parent top below (at place (top ++ below) memory trace))) (Fails run_error.CALL_DEPTH)) }
+      ≡ record { weight = weight; to = after G calls.instruction (at place (top ++ below) memory trace) (cond (ltb (length memory.frames.calls) call_limit) (Jumps r.entry (called routine r parent top below (at place (top ++ below) memory trace))) (Fails run_error.CALL_DEPTH)) }
   called_at place levels line parent below memory trace calls is =
       let fits : ltb routine (length G.routines) ≡ true = grind (arith, nat_tests, numbered) in
       ap (λ o. outcome_of G o (at place (top ++ below) memory trace)) calls.stands
-      ∙ rw (calls.is_call, calls.names, calls.parent, fits, there, is, top_taken below, light) refl
+      ∙ rw (calls.is_call, calls.names, calls.parent, fits, there, is, top_taken below, weighs) refl
 
   -- memory has not grown by it
   pub grown_begun : {untouched : Slots} (parent : FrameNumber) (place : ℕ) (injection : Injection) (memory : Memory)
@@ -146,19 +148,19 @@ module _ (declared : Declarations) (G : Image) (routine : ℕ) (r : ImageRoutine
   -- the machine enters the routine, or ends where as many calls are under way as may be
   enters : (place levels line : ℕ) (parent : FrameNumber) (below : List Operand) (memory : Memory) (injection : Injection) (s : meaning.State) (x : Call)
       → CallsAt G place routine levels line → parent_by memory.frames r levels ≡ Some parent → Matches declared G injection s memory
-      → (outcome G (at place (top ++ below) memory s.trace) ≡ record { weight = 0; to = Running 0 (at r.entry below (begun_memory parent place memory) s.trace) })
-      ⊎ GivesUp G (at place (top ++ below) memory s.trace) 0 1 (entered levels x s)
+      → (outcome G (at place (top ++ below) memory s.trace) ≡ record { weight = weight; to = Running 0 (at r.entry below (begun_memory parent place memory) s.trace) })
+      ⊎ EndsForWant G (at place (top ++ below) memory s.trace) weight (entered levels x s)
   enters place levels line parent below memory injection s x calls is h = by_test (ltb (length memory.frames.calls) call_limit) refl
     where
       by_test : (b : Bool) → ltb (length memory.frames.calls) call_limit ≡ b
-          → (outcome G (at place (top ++ below) memory s.trace) ≡ record { weight = 0; to = Running 0 (at r.entry below (begun_memory parent place memory) s.trace) })
-          ⊎ GivesUp G (at place (top ++ below) memory s.trace) 0 1 (entered levels x s)
+          → (outcome G (at place (top ++ below) memory s.trace) ≡ record { weight = weight; to = Running 0 (at r.entry below (begun_memory parent place memory) s.trace) })
+          ⊎ EndsForWant G (at place (top ++ below) memory s.trace) weight (entered levels x s)
       by_test true e = inl (called_at place levels line parent below memory s.trace calls is ∙ rw e refl)
       by_test false e =
           let full : 10000 ≤ length memory.frames.calls = grind (arith, nat_tests, e) in
-          let stops : outcome G (at place (top ++ below) memory s.trace) ≡ record { weight = 0; to = Stopped (Error run_error.CALL_DEPTH (unit_in G memory.frames) calls.instruction.line) s.trace }
+          let stops : outcome G (at place (top ++ below) memory s.trace) ≡ record { weight = weight; to = Stopped (Error run_error.CALL_DEPTH (unit_in G memory.frames) calls.instruction.line) s.trace }
           = called_at place levels line parent below memory s.trace calls is ∙ rw e refl in
-          inr (gives_up stops (inr refl) (is_prefix s.trace) (lost_calls (suc (length s.calls)) (set_aside s.resources) (omega (arith, full, h.depth))))
+          inr (record { lost = lost_calls (suc (length s.calls)) (set_aside s.resources) (omega (arith, full, h.depth)); number = run_error.CALL_DEPTH; is_limit = inr refl; unit = unit_in G memory.frames; line = calls.instruction.line; trace = s.trace; ends = stops; begins = is_prefix s.trace })
 
   -- the parent that a call finds in the activation that makes it
   pub parent_of_call : (types : List UnitType) (levels : ℕ) (around : List Level) (injection : Injection) (calls : List Call) (memory : Memory)
@@ -213,6 +215,7 @@ module _ (declared : Declarations) (G : Image) (routine : ℕ) (r : ImageRoutine
     record GoesBack (untouched : Slots) (injection : Injection) (s t : meaning.State) (memory : Memory) (place : ℕ)
         (operands : List Operand) (longer : Injection) (after : Memory) : Type 0 where
       later : Memory
+      types : later.types ≡ after.types
       does : outcome G (at ret operands after t.trace) ≡ record { weight = 0; to = Running 0 (at (place + 1) operands later t.trace) }
       grown : Grown untouched injection memory longer later
       same : SameRoutine untouched memory.frames later.frames
@@ -236,6 +239,7 @@ module _ (declared : Declarations) (G : Image) (routine : ℕ) (r : ImageRoutine
         let made : made_in t.calls ≡ (known.call).made = ap (λ cs. made_in cs) known.calls in
         record {
           later = later;
+          types = refl;
           does = leaves G ret i operands after t.trace frame known.below stands returns a_is b_is known.frames
               ∙ (ap (λ q. record { weight = 0; to = Running 0 (at q operands (left_memory frame.made known.below after) t.trace) }) still.2
               ∙ ap (λ cs. record { weight = 0; to = Running 0 (at (place + 1) operands (left_memory frame.made cs after) t.trace) }) still.3);
@@ -252,15 +256,15 @@ module _ (declared : Declarations) (G : Image) (routine : ℕ) (r : ImageRoutine
         → (parent : FrameNumber) (injection : Injection) (began : meaning.State) (memory : Memory) (below : List Operand)
         → parent_by memory.frames r levels ≡ Some parent → IsCallable within.routine_types levels around injection began.calls memory
         → (name from : List ℕ) (results : List Kind) (body : Computation (List Result)) → Steady body → (untouched : Slots)
-        → Fragment declared G (InActivation within untouched injection (begun_memory parent place memory)) n (point injection (begun_memory parent place memory) r.entry below) body ret (λ rs. ResultsOnTop results below rs) 63 (λ rs. 1)
-        → Fragment declared G (Since untouched injection began memory) (suc n) (point injection memory place (top ++ below)) (in_call levels (activation name from line) (spend 1 body)) (place + 1) (λ rs. Inside untouched injection memory (ResultsOnTop results below rs)) 0 (λ rs. 0)
+        → Fragment declared G (InActivation within untouched injection (begun_memory parent place memory)) n (point injection (begun_memory parent place memory) r.entry below) body ret (λ rs. ResultsOnTop results below rs) 63 (λ rs. 1 + credit_of rs)
+        → Fragment declared G (Since untouched injection began memory) (suc n) (point injection memory place (top ++ below)) (in_call levels (activation name from line) (spend (suc weight) body)) (place + 1) (λ rs. Inside untouched injection memory (ResultsOnTop results below rs)) 0 credit_of
     routine_keeps within enough around levels_are n place levels line calls parent injection began memory below parent_is callable name from results body steady untouched inner =
         record {
           by = λ s matches since.
               let here : IsCallable within.routine_types levels around injection s.calls memory = subst (λ cs. IsCallable within.routine_types levels around injection cs memory) (sym since.calls) callable in
               let known : MatchesAround within injection (entered levels x s) (begun_memory parent place memory) = (λ n level at. around_begun within.routine_types levels around injection s memory x place parent parent_is here n level (sym (levels_are n) ∙ at)) in
               let ran = inner.by (entered levels x s) (matches_begun parent place levels x matches) (begins within enough place levels parent injection s memory name from line known) in
-              follows_called levels x {P = P} {Q = Q} (not_left-here memory.frames) refl steady (go s matches (enters place levels line parent below memory injection s x calls parent_is matches) (follows_wider (λ k. not_left-called memory.frames k.frames (its_frame parent place)) ran))
+              follows_called levels x {P = P} {Q = Q} {e = credit_of} (not_left-here memory.frames) refl steady (go s matches (enters place levels line parent below memory injection s x calls parent_is matches) (follows_wider (λ k. not_left-called memory.frames k.frames (its_frame parent place)) ran))
               (λ rs s1 k1 post. back s matches since rs s1 k1 post);
         }
       where
@@ -280,9 +284,9 @@ module _ (declared : Declarations) (G : Image) (routine : ℕ) (r : ImageRoutine
         entry s = at r.entry below (begun_memory parent place memory) s.trace
 
         go : (s : meaning.State) → Matches declared G injection s memory
-            → (outcome G (at place (top ++ below) memory s.trace) ≡ record { weight = 0; to = Running 0 (entry s) }) ⊎ GivesUp G (at place (top ++ below) memory s.trace) 0 1 (entered levels x s)
-            → Follows In G n (entry s) (entered levels x s) body P 63 (λ rs. 1)
-            → ((e : State) × (outcome G (at place (top ++ below) memory s.trace) ≡ record { weight = 0; to = Running 0 e }) × Follows In G n e (entered levels x s) body P 63 (λ rs. 1)) ⊎ GivesUp G (at place (top ++ below) memory s.trace) 0 1 (entered levels x s)
+            → (outcome G (at place (top ++ below) memory s.trace) ≡ record { weight = weight; to = Running 0 (entry s) }) ⊎ EndsForWant G (at place (top ++ below) memory s.trace) weight (entered levels x s)
+            → Follows In G n (entry s) (entered levels x s) body P 63 (λ rs. 1 + credit_of rs)
+            → ((e : State) × (outcome G (at place (top ++ below) memory s.trace) ≡ record { weight = weight; to = Running 0 e }) × Follows In G n e (entered levels x s) body P 63 (λ rs. 1 + credit_of rs)) ⊎ EndsForWant G (at place (top ++ below) memory s.trace) weight (entered levels x s)
         go s matches (inl o) f = inl (entry s, o, f)
         go s matches (inr y) f = inr y
 
@@ -303,7 +307,7 @@ module _ (declared : Declarations) (G : Image) (routine : ℕ) (r : ImageRoutine
                   is = refl;
                   matches = out.matches;
                   here = record { grown = grown_trans since.grown out.grown; routine = same_routine-trans since.routine out.same; calls = since.calls };
-                  post = record { grown = out.grown; routine = out.same; operands_are = results_anywhere lands.injection lands.memory lands.injection out.later lands.operands results below rs lands.post };
+                  post = record { grown = out.grown; routine = out.same; operands_are = results_anywhere lands.injection lands.memory out.later out.types lands.operands results below rs lands.post };
                 },
               ),
             )

@@ -3,14 +3,20 @@ use Rattle.std.proofs.Common.{◌≡◌, ℕ, suc, ◌+◌, ◌-◌, ◌≤◌, 
 use Rattle.std.proofs.lemmas.List.{length-map}
 use Rattle.std.specs.Prelude.{⊤}
 use Rattle.ep_object.specs.Calls.{argument_at, flat}
-use Rattle.ep_object.specs.Matching.{Memory, Injection, Slots, Grown}
-use Rattle.ep_object.specs.Operands.{Operand, weight, weights}
-use Rattle.ep_object.specs.Promises.{Passing, ByValue, ByReference, IsArgument, AreArguments}
+use Rattle.ep_object.specs.Matching.{Memory, Injection, Describes, Slots, Grown}
+use Rattle.ep_object.specs.Follows.{OnTop}
+use Rattle.ep_object.specs.Operands.{Operand, Text, Word, weight, weights}
+use Rattle.ep_object.specs.Promises.{Passing, ByValue, ByReference, IsArgument, AreArguments, IsValueOf}
 use Rattle.ep_object.specs.State.{Frame}
 use Rattle.ep_object.proofs.matching.Elements.{length-set, slice_get-set-other}
 use Rattle.ep_object.proofs.matching.Growing.{describes-grown, is_spot-grown}
 use Rattle.ep_typed.specs.Calls.{Argument, Value, Variable}
+use Rattle.ep_object.proofs.matching.Words.{has_at-longer}
+use Rattle.ep_typed.specs.Meaning.{weights_of}
+use Rattle.ep_typed.specs.Printing.{Result}
+use Rattle.ep_typed.specs.Results.{weight_of}
 use Rattle.ep_typed.specs.Valid as kind
+use Rattle.ep_typed.specs.Valid.{Kind}
 
 -- the arguments in the frame of the innermost call
 abbrev pub arguments_in : List Frame → List (Option Operand)
@@ -27,10 +33,46 @@ AreAwaited injection memory (f ∷ fs) (x ∷ xs) k inside =
 
 -- ---- what lasts
 
+-- a value is one while memory grows
+pub value-grown : {untouched : Slots} {injection longer : Injection} {memory after : Memory} (k : Kind) (r : Result) (o : Operand)
+    → Grown untouched injection memory longer after → IsValueOf injection memory k r o → IsValueOf longer after k r o
+value-grown (kind.Ordinal h) r o g v = v
+value-grown kind.Bytes r o g v = v
+value-grown (kind.Structured t) r o g v =
+    record { value = v.value; is_structure = v.is_structure; type_number = v.type_number; words = v.words; is = v.is; described = describes-grown v.type_number t g v.described; sized = v.sized; holds = has_at-longer g.larger t v.value (slice_get v.words) 0 v.holds }
+
+-- and in whatever memory has the same types
+pub value_anywhere : (injection : Injection) (memory later : Memory) → later.types ≡ memory.types → (k : Kind) (r : Result) (o : Operand)
+    → IsValueOf injection memory k r o → IsValueOf injection later k r o
+value_anywhere injection memory later same (kind.Ordinal h) r o v = v
+value_anywhere injection memory later same kind.Bytes r o v = v
+value_anywhere injection memory later same (kind.Structured t) r o v =
+    record { value = v.value; is_structure = v.is_structure; type_number = v.type_number; words = v.words; is = v.is; described = subst (λ types. Describes types v.type_number t) (sym same) v.described; sized = v.sized; holds = v.holds }
+
+-- it has the weight of the result
+pub value_weight : (injection : Injection) (memory : Memory) (k : Kind) (r : Result) (o : Operand) → IsValueOf injection memory k r o → weight o ≡ weight_of r
+value_weight injection memory (kind.Ordinal h) r o (z, r_is, of_host, o_is) = ap (λ x. weight x) o_is ∙ sym (ap weight_of r_is)
+value_weight injection memory kind.Bytes r o (bytes, r_is, o_is) = ap (λ x. weight x) o_is ∙ sym (ap weight_of r_is)
+value_weight injection memory (kind.Structured t) r o v = ap (λ x. weight x) v.is ∙ (v.sized ∙ sym (ap weight_of v.is_structure))
+
+-- what lies on top as a result of the kind is its value
+pub value_on_top : (k : Kind) (below : List Operand) (r : Result) (injection : Injection) (memory : Memory) (operands : List Operand)
+    → OnTop k below r injection memory operands → (o : Operand) × IsValueOf injection memory k r o × (operands ≡ o ∷ below)
+value_on_top (kind.Ordinal h) below r injection memory operands top = (Word top.number, (top.number, top.is_number, top.of_host, refl), top.is)
+value_on_top kind.Bytes below r injection memory operands top = (Text top.bytes, (top.bytes, top.is_text, refl), top.is)
+value_on_top (kind.Structured t) below r injection memory operands top = (top.operand, top.holds, top.is)
+
+pub on_top : (k : Kind) (below : List Operand) (r : Result) (o : Operand) (injection : Injection) (memory : Memory) (operands : List Operand)
+    → IsValueOf injection memory k r o → operands ≡ o ∷ below → OnTop k below r injection memory operands
+on_top (kind.Ordinal h) below r o injection memory operands (z, r_is, of_host, o_is) is =
+    record { number = z; is_number = r_is; of_host = of_host; is = is ∙ ap (λ x. x ∷ below) o_is }
+on_top kind.Bytes below r o injection memory operands (bytes, r_is, o_is) is = record { bytes = bytes; is_text = r_is; is = is ∙ ap (λ x. x ∷ below) o_is }
+on_top (kind.Structured t) below r o injection memory operands v is = record { operand = o; holds = v; is = is }
+
 -- an argument is one while memory grows
 pub is_argument-grown : {untouched : Slots} {injection longer : Injection} {memory after : Memory} (f : Passing) (x : Argument) (o : Operand)
     → Grown untouched injection memory longer after → IsArgument injection memory f x o → IsArgument longer after f x o
-is_argument-grown (ByValue k) (Value r) o g h = h
+is_argument-grown {injection = injection} {longer = longer} {memory = memory} {after = after} (ByValue k) (Value r) o g h = value-grown k r o g h
 is_argument-grown (ByValue k) (Variable n) o g h = h
 is_argument-grown (ByReference t) (Value r) o g h = h
 is_argument-grown (ByReference t) (Variable n) o g (p, is, spot, described) = (p, is, is_spot-grown g spot, describes-grown p.type_number t g described)
@@ -59,53 +101,51 @@ awaited-taken injection memory k inside le (f ∷ fs) (x ∷ xs) j later (o, the
 
 -- ---- arguments that are handed over
 
--- a formal parameter whose arguments have no weight
-abbrev pub IsLight : Passing → Type 0
-IsLight (ByValue (kind.Ordinal h)) = ⊤
-IsLight (ByValue kind.Bytes) = ⊥
-IsLight (ByReference t) = ⊤
+-- an argument weighs what its value does
+abbrev pub argument_weight : Argument → ℕ
+argument_weight (Value r) = weight_of r
+argument_weight (Variable c) = 0
 
-abbrev pub AreLight : List Passing → Type 0
-AreLight [] = ⊤
-AreLight (f ∷ fs) = IsLight f × AreLight fs
+weighs : (injection : Injection) (memory : Memory) (f : Passing) (x : Argument) (o : Operand) → IsArgument injection memory f x o → weight o ≡ argument_weight x
+weighs injection memory (ByValue k) (Value r) o is = value_weight injection memory k r o is
+weighs injection memory (ByValue k) (Variable n) o is = absurd is
+weighs injection memory (ByReference t) (Value r) o is = absurd is
+weighs injection memory (ByReference t) (Variable n) o (p, is, spot, described) = ap (λ y. weight y) is
 
-light_argument : (injection : Injection) (memory : Memory) (f : Passing) (x : Argument) (o : Operand) → IsLight f → IsArgument injection memory f x o → weight o ≡ 0
-light_argument injection memory (ByValue (kind.Ordinal h)) (Value r) o light ((z, r_is, of_host), is) = ap (λ y. weight y) is ∙ rw r_is refl
-light_argument injection memory (ByValue kind.Bytes) (Value r) o light is = absurd light
-light_argument injection memory (ByValue k) (Variable n) o light is = absurd is
-light_argument injection memory (ByReference t) (Value r) o light is = absurd is
-light_argument injection memory (ByReference t) (Variable n) o light (p, is, spot, described) = ap (λ y. weight y) is
+weights_first : (x : Argument) (xs : List Argument) → weights_of (x ∷ xs) ≡ argument_weight x + weights_of xs
+weights_first (Value r) xs = refl
+weights_first (Variable c) xs = omega arith
 
 -- the operand in the middle of arguments
 at_middle : (xs ys : List Operand) (o : Operand) → slice_get (map Some (xs ++ o ∷ ys)) (length xs) ≡ Some (Some o)
 at_middle [] ys o = refl
 at_middle (x ∷ xs) ys o = at_middle xs ys o
 
-weights-last : (xs : List Operand) (o : Operand) → weight o ≡ 0 → weights (xs ++ o ∷ []) ≡ weights xs
-weights-last [] o e = omega (arith, e)
-weights-last (x ∷ xs) o e = ap (λ n. weight x + n) (weights-last xs o e)
+weights-last : (xs : List Operand) (o : Operand) → weights (xs ++ o ∷ []) ≡ weights xs + weight o
+weights-last [] o = omega arith
+weights-last (x ∷ xs) o = let rest = weights-last xs o in omega (arith, rest)
 
 -- the operands of arguments, the last one on top, and that they are awaited once they lie in the frame
 pub record Handed (injection : Injection) (memory : Memory) (formals : List Passing) (xs : List Argument) (below operands : List Operand) : Type 0 where
   pub top : List Operand
   pub is : operands ≡ top ++ below
   pub many : length top ≡ length formals
-  pub light : weights top ≡ 0
+  pub weigh : weights top ≡ weights_of xs
   pub awaited : (k : ℕ) (rest : List Operand) → length rest ≡ k → AreAwaited injection memory formals xs k (map Some (top ++ rest))
 
-pub handed : (injection : Injection) (memory : Memory) (formals : List Passing) → AreLight formals → (xs : List Argument) (below operands : List Operand)
+pub handed : (injection : Injection) (memory : Memory) (formals : List Passing) (xs : List Argument) (below operands : List Operand)
     → AreArguments injection memory formals xs below operands → Handed injection memory formals xs below operands
-handed injection memory [] light [] below operands h = record { top = []; is = h; many = refl; light = refl; awaited = λ k rest e. tt }
-handed injection memory [] light (x ∷ xs) below operands h = absurd h
-handed injection memory (f ∷ fs) light [] below operands h = absurd h
-handed injection memory (f ∷ fs) light (x ∷ xs) below operands (o, is, rest_are) =
-    let later = handed injection memory fs light.1 xs (o ∷ below) operands rest_are in
+handed injection memory [] [] below operands h = record { top = []; is = h; many = refl; weigh = refl; awaited = λ k rest e. tt }
+handed injection memory [] (x ∷ xs) below operands h = absurd h
+handed injection memory (f ∷ fs) [] below operands h = absurd h
+handed injection memory (f ∷ fs) (x ∷ xs) below operands (o, is, rest_are) =
+    let later = handed injection memory fs xs (o ∷ below) operands rest_are in
     let top : List Operand = later.top ++ o ∷ [] in
     record {
       top = top;
       is = later.is ∙ sym (append_assoc later.top (o ∷ []) below);
       many = omega (arith, later.many, length-append later.top (o ∷ []));
-      light = weights-last later.top o (light_argument injection memory f x o light.0 is) ∙ later.light;
+      weigh = omega (arith, weights-last later.top o, weighs injection memory f x o is, later.weigh, weights_first x xs);
       awaited = λ k rest e.
           let same : (later.top ++ o ∷ []) ++ rest ≡ later.top ++ o ∷ rest = append_assoc later.top (o ∷ []) rest in
           let inside : List (Option Operand) = map Some (later.top ++ o ∷ rest) in

@@ -1,5 +1,5 @@
 -- How a routine takes its arguments, in its activation: `Arg`, then `Store` or `Bind`.
-use Rattle.std.proofs.Common.{◌≡◌, ℕ, ℤ, pos, suc, ◌+◌, ◌-◌, ◌≤◌, ◌<◌, Bool, true, false, List, [], ◌∷◌, length, Option, Some, None, slice_get, slice_set, refl, sym, ap, ◌∙◌, subst, arith}
+use Rattle.std.proofs.Common.{◌≡◌, ℕ, pos, suc, ◌+◌, ◌-◌, ◌*◌, ◌≤◌, ◌<◌, Bool, true, false, List, [], ◌∷◌, length, Option, Some, None, slice_get, slice_set, refl, sym, ap, ◌∙◌, subst, arith}
 use Rattle.std.specs.Prelude.{if◌then◌else◌}
 use Rattle.std.proofs.lemmas.Bool.{lt-ltb}
 use Rattle.std.proofs.lemmas.Option.{slice_get_within, same_Some}
@@ -9,7 +9,7 @@ use Rattle.ep_object.specs.Calls.{argument_at}
 use Rattle.ep_object.specs.Follows.{Facts, After, point, Follows, Fragment, Lasts, IsSameCall, IsStillCall, StillRuns, IsNotLeft, Lands}
 use Rattle.ep_object.specs.Matching.{Memory, at, Injection, IsIn, IsRepresentedWhere, IsSpot, Describes, Slots, own_slot, slot_of_frame, MatchesSlot, HasOwnType, Matches, Grown}
 use Rattle.ep_object.specs.Places.{fresh_segment}
-use Rattle.ep_object.specs.Operands.{Operand, Word, weight}
+use Rattle.ep_object.specs.Operands.{Operand, weight}
 use Rattle.ep_object.specs.Operands as operand
 use Rattle.ep_object.specs.Frames.{slots_over}
 use Rattle.ep_object.specs.Runs.{outcome, unit_in}
@@ -19,25 +19,26 @@ use Rattle.ep_object.specs.declared.state.Place.{Place}
 use Rattle.ep_object.specs.declared.state.Segment.{Segment}
 use Rattle.ep_object.proofs.following.Bind.{follows_waits, follows_paid, follows_changed, follows_stop, follows_credit}
 use Rattle.ep_object.proofs.following.Fragments.{fragment_goes, fragment_waits, fragment_from}
-use Rattle.ep_object.proofs.matching.Awaiting.{arguments_in, without_argument}
+use Rattle.ep_object.proofs.matching.Awaiting.{arguments_in, value_anywhere, value_weight, without_argument}
 use Rattle.ep_object.proofs.matching.Elements.{slice_get-set-same, slice_get-set-other}
 use Rattle.ep_object.proofs.matching.Growing.{grown_refl, grown_trans, not_left-here, still_runs-trans, still_routine, unit_in-still}
 use Rattle.ep_object.proofs.matching.Levels.{level-same}
 use Rattle.ep_object.proofs.matching.OwnVariables.{bound_own-same, bound_own-other}
 use Rattle.ep_object.proofs.matching.Standing.{slice_get-some, one_type, allocated}
-use Rattle.ep_object.proofs.rows.ChangeRows.{store_does, store_fails, type_is}
+use Rattle.ep_object.proofs.rows.ChangeRows.{may_take, value_does, value_fails, variable_type}
 use Rattle.ep_object.proofs.rows.FrameRows.{own_slots, slot_pushes}
-use Rattle.ep_object.proofs.rows.Rows.{instr, in_one, outcome_at}
+use Rattle.ep_object.proofs.rows.Rows.{instr, outcome_at}
 use Rattle.ep_typed.specs.Events.{Trace}
+use Rattle.ep_object.specs.Promises.{IsValueOf}
 use Rattle.ep_typed.specs.Meaning.{initialized}
-use Rattle.ep_typed.specs.Steps.{Component, whole, Call, named_in, Allocation, Computation, spend, change, stop, own_in, own_variable, bound_own, own_bound_in, with_own_bound, newest_assigned, is_within, is_among, type_at, has_ended, ended_in, allocation_at}
+use Rattle.ep_typed.specs.Printing.{Result}
+use Rattle.ep_typed.specs.Results.{misfit, suits, value_of, weight_of}
+use Rattle.ep_typed.specs.Steps.{Component, whole, Call, named_in, Allocation, Computation, spend, change, stop, own_in, own_variable, bound_own, own_bound_in, with_own_bound, newest_assigned, type_at, has_ended, ended_in, allocation_at}
 use Rattle.ep_typed.specs.Steps as meaning
-use Rattle.ep_typed.specs.Valid.{Declarations, variables_up}
+use Rattle.ep_typed.specs.Valid.{Declarations, IsTypeOfKind, Kind, variables_up}
 use Rattle.ep_typed.specs.declared.unit.UnitVariable.{UnitVariable}
-use Rattle.ep_typed.specs.TypeValues.{TypeValue}
-use Rattle.ep_typed.specs.TypeValues as type
+use Rattle.ep_typed.specs.TypeValues.{TypeValue, size_of}
 use Rattle.ep_object.specs.declared.op.TheConstants as op
-use Rattle.ep_typed.specs.declared.run_error.TheConstants as run_error
 
 -- ---- memory in which the innermost call is another one
 
@@ -87,12 +88,12 @@ module _ (declared : Declarations) (G : Image) (untouched : Slots) (first : Inje
 
   -- ---- `Arg`
 
-  -- `Arg` of an argument without weight
-  arg_outcome : (st : List Operand) (o : Operand) (trace : Trace) → slice_get G.instructions place ≡ Some (instr op.ARG (pos k) 0 line)
-      → argument_at frame.arguments k ≡ Some o → k < length frame.arguments → weight o ≡ 0
-      → outcome G (at place st memory trace) ≡ record { weight = 0; to = Running 0 (at (place + 1) (o ∷ st) (with_innermost (taken_from k frame) others memory) trace) }
-  arg_outcome st o trace has there within light =
-      outcome_at G (instr op.ARG (pos k) 0 line) place st memory trace has ∙ rw (frames, lt-ltb k (length frame.arguments) within, there, light) refl
+  -- `Arg` of an argument of a weight
+  arg_outcome : (st : List Operand) (o : Operand) (w : ℕ) (trace : Trace) → slice_get G.instructions place ≡ Some (instr op.ARG (pos k) 0 line)
+      → argument_at frame.arguments k ≡ Some o → k < length frame.arguments → weight o ≡ w
+      → outcome G (at place st memory trace) ≡ record { weight = w; to = Running 0 (at (place + 1) (o ∷ st) (with_innermost (taken_from k frame) others memory) trace) }
+  arg_outcome st o w trace has there within weighs =
+      outcome_at G (instr op.ARG (pos k) 0 line) place st memory trace has ∙ rw (frames, lt-ltb k (length frame.arguments) within, there, weighs) refl
 
   -- what the routine knows it knows without the argument
   knows_taken : (s : meaning.State) → InActivation declared untouched first start injection s memory → InActivation declared untouched first start injection s (with_innermost (taken_from k frame) others memory)
@@ -220,13 +221,13 @@ module _ (declared : Declarations) (G : Image) (untouched : Slots) (first : Inje
   lighter_home = unit_in-still G lighter_runs ∙ home
 
   -- `Arg` leaves the argument on top
-  arg_moves : {A : Type 0} {c : Computation A} {to n d d1 : ℕ} {P : A → After} {e : A → ℕ} (st : List Operand) (o : Operand) → slice_get G.instructions place ≡ Some (instr op.ARG (pos k) 0 line)
-      → argument_at frame.arguments k ≡ Some o → weight o ≡ 0 → 1 + d1 ≤ d
+  arg_moves : {A : Type 0} {c : Computation A} {to n d d1 : ℕ} {P : A → After} {e : A → ℕ} (st : List Operand) (o : Operand) (w : ℕ) → slice_get G.instructions place ≡ Some (instr op.ARG (pos k) 0 line)
+      → argument_at frame.arguments k ≡ Some o → weight o ≡ w → suc w + d1 ≤ d
       → Fragment declared G Here n (point injection lighter (place + 1) (o ∷ st)) c to P d1 e
       → Fragment declared G Here n (point injection memory place st) c to P d e
-  arg_moves st o has there light le next =
+  arg_moves st o w has there weighs le next =
       fragment_goes (λ s matches here. (
-        arg_outcome declared G untouched first start place line k below injection memory frame others frames st o s.trace has there within light,
+        arg_outcome declared G untouched first start place line k below injection memory frame others frames st o w s.trace has there within weighs,
         matches_innermost declared G untouched first start place line k below injection memory frame others frames (taken_from k frame) s matches,
         knows_taken declared G untouched first start place line k below injection memory frame others frames s here,
       )) lighter_runs le next
@@ -238,7 +239,7 @@ module _ (declared : Declarations) (G : Image) (untouched : Slots) (first : Inje
       → slice_get (variables_up declared 0) k ≡ Some v → ((w : UnitVariable) → slice_get (variables_up declared 0) k ≡ Some w → HasOwnType declared w t) → 2 ≤ d
       → Fragment declared G Here (suc n) (point injection memory place below) (spend 1 (change (with_own_bound k m))) (place + 1 + 1) (λ a. Taken untouched injection memory left below) d (λ a. d)
   variable_taken n m d p t v has_arg has_bind there spot described is_declared declared_so enough =
-      arg_moves {d1 = d - 1} below (operand.Place p) has_arg there refl (omega (arith, enough)) (record { by = λ s matches here. bound s matches here })
+      arg_moves {d1 = d - 1} below (operand.Place p) 0 has_arg there refl (omega (arith, enough)) (record { by = λ s matches here. bound s matches here })
     where
       final : Memory
       final = with_innermost (with_slot k p (taken_from k frame)) others lighter
@@ -265,36 +266,39 @@ module _ (declared : Declarations) (G : Image) (untouched : Slots) (first : Inje
           }))
 
   -- A value, by `Store` in the variable of the routine that was made last.
-  pub value_taken : (n d : ℕ) (low high z : ℤ) (number : ℕ) (p : Place)
+  pub value_taken : (n d : ℕ) (kind : Kind) (t : TypeValue) (r : Result) (o : Operand) (number : ℕ) (p : Place) → IsTypeOfKind kind t
       → slice_get G.instructions (place - 1) ≡ Some (instr op.SLOT (pos k) 0 line) → 1 ≤ place
       → slice_get G.instructions place ≡ Some (instr op.ARG (pos k) 0 line) → slice_get G.instructions (place + 1) ≡ Some (instr op.STORE (pos 0) 0 line)
-      → argument_at frame.arguments k ≡ Some (Word z) → own_slot memory.frames k ≡ Some (Some p)
-      → IsSpot injection memory.types (whole (length injection)) p → slice_get memory.segments p.segment ≡ Some (Some (fresh_segment number 1)) → Describes memory.types p.type_number (type.Ordinal low high) → 3 ≤ d
-      → Fragment declared G Here n (point injection memory (place - 1) below) (initialized unit line (type.Ordinal low high) z) (place + 1 + 1) (λ a. Taken untouched injection memory left below) d (λ a. d - 3)
-  value_taken n d low high z number p has_slot later has_arg has_store there slot spot stands described enough =
+      → argument_at frame.arguments k ≡ Some o → IsValueOf injection memory kind r o → own_slot memory.frames k ≡ Some (Some p)
+      → IsSpot injection memory.types (whole (length injection)) p → slice_get memory.segments p.segment ≡ Some (Some (fresh_segment number (size_of t))) → Describes memory.types p.type_number t → 3 + 2 * weight_of r ≤ d
+      → Fragment declared G Here n (point injection memory (place - 1) below) (initialized unit line t r) (place + 1 + 1) (λ a. Taken untouched injection memory left below) d (λ a. d - (3 + 2 * weight_of r))
+  value_taken n d kind t r o number p of_kind has_slot later has_arg has_store there value slot spot stands described enough =
       fragment_waits {d1 = d - 1} (λ s matches. slot_pushes G (place - 1) line k 0 below frame.slots memory s.trace has_slot (own_slots memory frame others frames) p (sym (ap (λ cs. slot_of_frame (slots_over cs None) k) frames) ∙ slot)) (omega (arith, enough))
-      (fragment_from {place = place} (omega (arith, later)) (arg_moves {d1 = d - 2} (operand.Place p ∷ below) (Word z) has_arg there refl (omega (arith, enough)) (stored (is_within (type.Ordinal low high) z) refl)))
+      (fragment_from {place = place} (omega (arith, later)) (arg_moves {d1 = d - (2 + weight_of r)} (operand.Place p ∷ below) o (weight_of r) has_arg there (value_weight injection memory kind r o value) (omega (arith, enough)) (stored (suits (Some t) r) refl)))
     where
       at_store : List Operand
-      at_store = Word z ∷ operand.Place p ∷ below
+      at_store = o ∷ operand.Place p ∷ below
+
+      given_value : IsValueOf injection lighter kind r o
+      given_value = value_anywhere injection memory lighter refl kind r o value
 
       newest_of : (s : meaning.State) → Matches declared G injection s lighter → IsSpot injection lighter.types (whole (length s.allocations)) p
       newest_of s h = let injected = h.injected in subst (λ m. IsSpot injection memory.types (whole m) p) injected.made spot
 
       living : (s : meaning.State) → Matches declared G injection s lighter → has_ended (length s.allocations) s ≡ false
-      living s h = let q = newest_of s h in lives_where (length s.allocations) p.segment (fresh_segment number 1) h q.is_in stands
+      living s h = let q = newest_of s h in lives_where (length s.allocations) p.segment (fresh_segment number (size_of t)) h q.is_in stands
 
-      its_type : (s : meaning.State) → Matches declared G injection s lighter → type_at (whole (length s.allocations)) s ≡ Some (type.Ordinal low high)
-      its_type s h = type_is declared G (place + 1) line below low high z (whole (length s.allocations)) p has_store injection lighter (newest_of s h) described s h (living s h)
+      its_type : (s : meaning.State) → Matches declared G injection s lighter → type_at (whole (length s.allocations)) s ≡ Some t
+      its_type s h = variable_type declared G (place + 1) line below t (whole (length s.allocations)) p injection lighter (newest_of s h) described s h (living s h)
 
-      given : (s : meaning.State) → Matches declared G injection s lighter → Here injection s lighter → is_within (type.Ordinal low high) z ≡ true
-          → Follows (λ j. IsNotLeft lighter.frames j.frames) G n (at (place + 1) at_store lighter s.trace) s (change (newest_assigned (meaning.Word z))) (λ a. Lands declared G Here (place + 1 + 1) (Taken untouched injection memory left below)) (d - 2) (λ a. d - 3)
+      given : (s : meaning.State) → Matches declared G injection s lighter → Here injection s lighter → suits (Some t) r ≡ true
+          → Follows (λ j. IsNotLeft lighter.frames j.frames) G n (at (place + 1) at_store lighter s.trace) s (change (newest_assigned (value_of r))) (λ a. Lands declared G Here (place + 1 + 1) (Taken untouched injection memory left below)) (d - (2 + weight_of r)) (λ a. d - (3 + 2 * weight_of r))
       given s h here e =
-          let does = store_does declared G (place + 1) line below low high z (whole (length s.allocations)) p has_store injection lighter (newest_of s h) described s h (living s h) lasts here (ap (λ t. is_among t z) (its_type s h) ∙ e) in
+          let does = value_does declared G (place + 1) line below kind t r o (whole (length s.allocations)) p (may_take kind t of_kind) has_store injection lighter given_value (newest_of s h) described s h (living s h) lasts here (ap (λ u. suits u r) (its_type s h) ∙ e) in
           let inside = does.post in
           let routine = inside.routine in
-          follows_credit {d = 1 + (d - 3)} {e = λ a. d - 3} (omega (arith, enough)) (λ a. omega (arith, enough)) (follows_waits (not_left-here lighter.frames) does.does
-          (follows_changed (newest_assigned (meaning.Word z)) (omega arith) (record {
+          follows_credit {d = suc (weight_of r) + (d - (3 + 2 * weight_of r))} {e = λ a. d - (3 + 2 * weight_of r)} (omega (arith, enough)) (λ a. omega (arith, enough)) (follows_waits (not_left-here lighter.frames) does.does
+          (follows_changed (newest_assigned (value_of r)) (omega arith) (record {
             injection = does.injection;
             memory = does.memory;
             operands = does.operands;
@@ -304,17 +308,17 @@ module _ (declared : Declarations) (G : Image) (untouched : Slots) (first : Inje
             post = record { grown = grown_trans (grown_innermost injection memory (taken_from k frame) others) inside.grown; runs = still_runs-trans lighter_runs (still_routine routine); left_are = same_arguments lighter.frames.calls does.memory.frames.calls routine.calls; operands_are = inside.operands_are };
           })))
 
-      refused : (s : meaning.State) → Matches declared G injection s lighter → is_within (type.Ordinal low high) z ≡ false
-          → Follows (λ j. IsNotLeft lighter.frames j.frames) G n (at (place + 1) at_store lighter s.trace) s (stop {A = Unit {0}} (meaning.Error run_error.OUTSIDE_TYPE unit line)) (λ a. Lands declared G Here (place + 1 + 1) (Taken untouched injection memory left below)) (d - 2) (λ a. d - 3)
+      refused : (s : meaning.State) → Matches declared G injection s lighter → suits (Some t) r ≡ false
+          → Follows (λ j. IsNotLeft lighter.frames j.frames) G n (at (place + 1) at_store lighter s.trace) s (stop {A = Unit {0}} (meaning.Error (misfit r) unit line)) (λ a. Lands declared G Here (place + 1 + 1) (Taken untouched injection memory left below)) (d - (2 + weight_of r)) (λ a. d - (3 + 2 * weight_of r))
       refused s h e =
-          let fails = store_fails declared G (place + 1) line below low high z (whole (length s.allocations)) p has_store injection lighter (newest_of s h) described s h (living s h) (ap (λ t. is_among t z) (its_type s h) ∙ e) in
-          follows_stop (not_left-here lighter.frames) (subst (λ u. outcome G (at (place + 1) at_store lighter s.trace) ≡ in_one (Stopped (Error run_error.OUTSIDE_TYPE u line) s.trace)) lighter_home fails.fails) (omega (arith, enough))
+          let fails = value_fails declared G (place + 1) line below kind t r o (whole (length s.allocations)) p (may_take kind t of_kind) has_store injection lighter given_value (newest_of s h) described s h (living s h) (ap (λ u. suits u r) (its_type s h) ∙ e) in
+          follows_stop (not_left-here lighter.frames) (subst (λ u. outcome G (at (place + 1) at_store lighter s.trace) ≡ record { weight = weight_of r; to = Stopped (Error (misfit r) u line) s.trace }) lighter_home fails.fails) (omega (arith, enough))
 
-      stored : (b : Bool) → is_within (type.Ordinal low high) z ≡ b
-          → Fragment declared G Here n (point injection lighter (place + 1) at_store) (initialized unit line (type.Ordinal low high) z) (place + 1 + 1) (λ a. Taken untouched injection memory left below) (d - 2) (λ a. d - 3)
-      stored b e = subst (λ y. Fragment declared G Here n (point injection lighter (place + 1) at_store) (if y then change (newest_assigned (meaning.Word z)) else stop (meaning.Error run_error.OUTSIDE_TYPE unit line)) (place + 1 + 1) (λ a. Taken untouched injection memory left below) (d - 2) (λ a. d - 3)) (sym e) (by_case b e)
+      stored : (b : Bool) → suits (Some t) r ≡ b
+          → Fragment declared G Here n (point injection lighter (place + 1) at_store) (initialized unit line t r) (place + 1 + 1) (λ a. Taken untouched injection memory left below) (d - (2 + weight_of r)) (λ a. d - (3 + 2 * weight_of r))
+      stored b e = subst (λ y. Fragment declared G Here n (point injection lighter (place + 1) at_store) (if y then change (newest_assigned (value_of r)) else stop (meaning.Error (misfit r) unit line)) (place + 1 + 1) (λ a. Taken untouched injection memory left below) (d - (2 + weight_of r)) (λ a. d - (3 + 2 * weight_of r))) (sym e) (by_case b e)
         where
-          by_case : (b : Bool) → is_within (type.Ordinal low high) z ≡ b
-              → Fragment declared G Here n (point injection lighter (place + 1) at_store) (if b then change (newest_assigned (meaning.Word z)) else stop (meaning.Error run_error.OUTSIDE_TYPE unit line)) (place + 1 + 1) (λ a. Taken untouched injection memory left below) (d - 2) (λ a. d - 3)
+          by_case : (b : Bool) → suits (Some t) r ≡ b
+              → Fragment declared G Here n (point injection lighter (place + 1) at_store) (if b then change (newest_assigned (value_of r)) else stop (meaning.Error (misfit r) unit line)) (place + 1 + 1) (λ a. Taken untouched injection memory left below) (d - (2 + weight_of r)) (λ a. d - (3 + 2 * weight_of r))
           by_case true e = record { by = λ s matches here. given s matches here e }
           by_case false e = record { by = λ s matches here. refused s matches e }

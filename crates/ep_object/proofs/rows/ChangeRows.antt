@@ -1,8 +1,11 @@
 -- What the rows lead to that change variables and that write, where the machine matches.
-use Rattle.std.proofs.Common.{◌≡◌, ℕ, ℤ, pos, ◌+◌, Bool, true, false, cond, List, ◌∷◌, ◌++◌, length, Some, slice_get, slice_set, refl, sym, ap, ◌∙◌, subst}
+use Rattle.std.proofs.Common.{◌≡◌, ℕ, ℤ, pos, ◌+◌, ◌==◌, ◌≤◌, arith, Bool, true, false, cond, List, ◌∷◌, ◌++◌, length, Some, None, slice_get, slice_set, refl, sym, ap, ◌∙◌, subst}
+use Rattle.std.proofs.lemmas.Bool.Decides.{nat_tests}
 use Rattle.std.proofs.lemmas.Option.{same_Some}
 use Rattle.ep_object.specs.Follows.{Facts, Lasts, Bare, Inside}
-use Rattle.ep_object.specs.Matching.{Memory, at, Injection, IsSpot, Describes, HasAt, Represents, Matches, Slots}
+use Rattle.ep_object.specs.Matching.{Memory, at, Injection, IsSpot, Describes, HasAt, part_along, all_of, Represents, Matches, Slots}
+use Rattle.ep_object.specs.Places.{words_replaced}
+use Rattle.ep_object.specs.Promises.{IsValueOf}
 use Rattle.ep_object.specs.Operands.{Operand, Word, Text}
 use Rattle.ep_object.specs.Operands as operand
 use Rattle.ep_object.specs.Runs.{outcome, unit_in}
@@ -16,17 +19,49 @@ use Rattle.ep_object.proofs.matching.Elements.{length-set}
 use Rattle.ep_object.proofs.following.Fragments.{Does, FailsWith}
 use Rattle.ep_object.proofs.matching.Growing.{slice_get-prefix, grown_refl, same_routine-refl, inside_here}
 use Rattle.ep_object.proofs.rows.Rows.{instr, in_one, outcome_at}
-use Rattle.ep_object.proofs.matching.Standing.{StandsOrdinal, ordinal_stands, allocated, place_ended, represents_living}
+use Rattle.ep_object.proofs.matching.Standing.{Stands, place_stands, StandsOrdinal, ordinal_stands, allocated, place_ended, represents_living}
+use Rattle.ep_object.proofs.matching.Described.{describes_one, one_number}
+use Rattle.ep_object.proofs.matching.Values.{part_fits, replaced_holds, replaced_length, replaced_same, taken_there, type_is_same}
 use Rattle.ep_object.proofs.matching.Words.{file_word, has_with, set-same_but, type_is-along, ordinal_word, ordinal-stored, ordinal-undefined}
 use Rattle.ep_object.proofs.rows.TextRows.{written-same}
 use Rattle.ep_typed.specs.Events.{Trace}
-use Rattle.ep_typed.specs.Printing.{piece_events}
+use Rattle.ep_typed.specs.Printing.{piece_events, Result, Structure}
+use Rattle.ep_typed.specs.Results.{misfit, suits, value_of, weight_of}
 use Rattle.ep_typed.specs.Steps.{Component, Value, Undefined, Allocation, value_along, value_with, type_along, is_among, type_in, type_at, ended_in, has_ended, is_within, assigned, with_events}
 use Rattle.ep_typed.specs.Steps as meaning
-use Rattle.ep_typed.specs.Valid.{Declarations}
+use Rattle.ep_typed.specs.Valid as kind
+use Rattle.ep_typed.specs.Valid.{Declarations, IsStructured, IsTypeOf, IsTypeOfKind, Kind}
+use Rattle.ep_typed.specs.Hosts.{Host}
+use Rattle.std.specs.Prelude.{⊤}
+use Rattle.ep_typed.specs.TypeValues.{TypeValue, size_of}
 use Rattle.ep_typed.specs.TypeValues as type
 use Rattle.ep_object.specs.declared.op.TheConstants as op
 use Rattle.ep_typed.specs.declared.run_error.TheConstants as run_error
+
+-- a variable of the type may take a value of the kind
+abbrev pub MayTake : Kind → TypeValue → Type 0
+MayTake (kind.Ordinal h) (type.Ordinal low high) = ⊤
+MayTake (kind.Ordinal h) type.Text = ⊥
+MayTake (kind.Ordinal h) (type.Array low high of) = ⊥
+MayTake (kind.Ordinal h) (type.Record ts) = ⊥
+MayTake kind.Bytes t = ⊥
+MayTake (kind.Structured u) t = (u ≡ t) × IsStructured u
+
+-- one of its own kind
+pub may_take : (k : Kind) (t : TypeValue) → IsTypeOfKind k t → MayTake k t
+may_take (kind.Ordinal h) (type.Ordinal low high) is = tt
+may_take (kind.Ordinal h) type.Text is = absurd is
+may_take (kind.Ordinal h) (type.Array low high of) is = absurd is
+may_take (kind.Ordinal h) (type.Record ts) is = absurd is
+may_take kind.Bytes t is = is
+may_take (kind.Structured u) t is = is
+
+-- and one of an ordinal type of any host
+pub ordinal_takes : (h i : Host) (t : TypeValue) → IsTypeOf h t → MayTake (kind.Ordinal i) t
+ordinal_takes h i (type.Ordinal low high) is = tt
+ordinal_takes h i type.Text is = is
+ordinal_takes h i (type.Array low high of) is = is
+ordinal_takes h i (type.Record ts) is = is
 
 module _ (declared : Declarations) (G : Image) (place line : ℕ) (below : List Operand) where
   -- `Put` of a text to `output`
@@ -116,6 +151,140 @@ module _ (declared : Declarations) (G : Image) (place line : ℕ) (below : List 
         let outside : is_within (type.Ordinal low high) z ≡ false = ap (λ t. is_among t z) (sym type_is) ∙ within in
         let old = ordinal_word (value_along (here.allocation).value v.path) here.word in
         record { fails = store_outcome memory s.trace p low high z r.type_number r.words old.0 false has described r.stands old.1 outside }
+
+  -- the type of a variable that lives is that which its place is described by
+  pub variable_type : (t : TypeValue) (v : Component) (p : Place) (injection : Injection) (memory : Memory) → IsSpot injection memory.types v p
+      → Describes memory.types p.type_number t → (s : meaning.State) → Matches declared G injection s memory → has_ended v.allocation s ≡ false
+      → type_at v s ≡ Some t
+  variable_type t v p injection memory spot described s matches living =
+      let x : Stands injection s memory v p = place_stands matches spot living in
+      let a : Allocation = x.allocation in
+      let its : x.type_value ≡ t = describes_one memory.types p.type_number x.type_value t x.described described in
+      ap (λ o. type_along (type_in o) v.path) x.is ∙ (type_is-along a.type_value v.path (record { offset = p.offset; type_value = x.type_value }) x.leads ∙ ap Some its)
+
+  -- ---- `Store` of a value of an array or a record
+
+  structure_outcome : (memory : Memory) (trace : Trace) (p : Place) (t : TypeValue) (n : ℕ) (ws : List ℤ) (type_number : ℕ) (words : List ℤ) → IsStructured t
+      → slice_get G.instructions place ≡ Some (instr op.STORE (pos 0) 0 line)
+      → Describes memory.types p.type_number t → n ≡ p.type_number
+      → slice_get memory.segments p.segment ≡ Some (Some (record { type_number = type_number; words = words }))
+      → p.offset + length ws ≤ length words
+      → outcome G (at place (operand.Value n ws ∷ operand.Place p ∷ below) memory trace) ≡ record { weight = length ws; to = Running 0 (at (place + 1) below (storing memory p.segment type_number (words_replaced words p.offset ws)) trace) }
+  structure_outcome memory trace p (type.Ordinal low high) n ws type_number words structured has described same stands fits = absurd structured
+  structure_outcome memory trace p type.Text n ws type_number words structured has described same stands fits = absurd structured
+  structure_outcome memory trace p (type.Array low high of) n ws type_number words structured has (c, entry, component) same stands fits =
+      let equal : (n == p.type_number) ≡ true = grind (arith, nat_tests, same) in
+      outcome_at G (instr op.STORE (pos 0) 0 line) place (operand.Value n ws ∷ operand.Place p ∷ below) memory trace has ∙ rw (entry, stands, equal, taken_there words p.offset (length ws) fits) refl
+  structure_outcome memory trace p (type.Record ts) n ws type_number words structured has (ps, entry, components) same stands fits =
+      let equal : (n == p.type_number) ≡ true = grind (arith, nat_tests, same) in
+      outcome_at G (instr op.STORE (pos 0) 0 line) place (operand.Value n ws ∷ operand.Place p ∷ below) memory trace has ∙ rw (entry, stands, equal, taken_there words p.offset (length ws) fits) refl
+
+  structure_ended : (memory : Memory) (trace : Trace) (p : Place) (t : TypeValue) (n : ℕ) (ws : List ℤ) → IsStructured t
+      → slice_get G.instructions place ≡ Some (instr op.STORE (pos 0) 0 line)
+      → Describes memory.types p.type_number t → slice_get memory.segments p.segment ≡ Some None
+      → outcome G (at place (operand.Value n ws ∷ operand.Place p ∷ below) memory trace) ≡ record { weight = length ws; to = Stopped (Error run_error.DISPOSED (unit_in G memory.frames) line) trace }
+  structure_ended memory trace p (type.Ordinal low high) n ws structured has described gone = absurd structured
+  structure_ended memory trace p type.Text n ws structured has described gone = absurd structured
+  structure_ended memory trace p (type.Array low high of) n ws structured has (c, entry, component) gone =
+      outcome_at G (instr op.STORE (pos 0) 0 line) place (operand.Value n ws ∷ operand.Place p ∷ below) memory trace has ∙ rw (entry, gone) refl
+  structure_ended memory trace p (type.Record ts) n ws structured has (ps, entry, components) gone =
+      outcome_at G (instr op.STORE (pos 0) 0 line) place (operand.Value n ws ∷ operand.Place p ∷ below) memory trace has ∙ rw (entry, gone) refl
+
+  module _ (t : TypeValue) (structured : IsStructured t) (v : Component) (p : Place) (has : slice_get G.instructions place ≡ Some (instr op.STORE (pos 0) 0 line)) (injection : Injection) (memory : Memory) (spot : IsSpot injection memory.types v p) (described : Describes memory.types p.type_number t) (s : meaning.State) (matches : Matches declared G injection s memory) (living : has_ended v.allocation s ≡ false) where
+    there : Stands injection s memory v p
+    there = place_stands matches spot living
+
+    its_type : there.type_value ≡ t
+    its_type = describes_one memory.types p.type_number there.type_value t there.described described
+
+    leads : part_along (Some (all_of (there.allocation).type_value)) v.path ≡ Some (record { offset = p.offset; type_value = t })
+    leads = subst (λ u. part_along (Some (all_of (there.allocation).type_value)) v.path ≡ Some (record { offset = p.offset; type_value = u })) its_type there.leads
+
+    pub structure_type : type_at v s ≡ Some t
+    structure_type = ap (λ o. type_along (type_in o) v.path) there.is ∙ type_is-along (there.allocation).type_value v.path (record { offset = p.offset; type_value = t }) leads
+
+    structure_does : {untouched : Slots} {Here : Facts} → Lasts untouched Here → Here injection s memory
+        → (value : Value) (n : ℕ) (ws : List ℤ) → Describes memory.types n t → length ws ≡ size_of t → HasAt injection t value (slice_get ws) 0
+        → Does declared G Here (at place (operand.Value n ws ∷ operand.Place p ∷ below) memory s.trace) (length ws) (place + 1) (Inside untouched injection memory (Bare below tt)) (assigned v value s)
+    structure_does {untouched = untouched} lasts known value n ws of_type sized holds =
+        let a : Allocation = there.allocation in
+        let r : Represents injection memory.segments memory.types p.segment a = there.represents in
+        let types = matches.types in
+        let same : n ≡ p.type_number = one_number memory.types t n p.type_number types of_type described in
+        let fits : p.offset + length ws ≤ length r.words = (let within = part_fits a.type_value v.path (record { offset = p.offset; type_value = t }) leads in omega (arith, within, r.sized, sized)) in
+        let words : List ℤ = words_replaced r.words p.offset ws in
+        let now : HasAt injection a.type_value (value_with a.value v.path value) (slice_get words) 0 = has_with injection a.type_value v.path a.value value (slice_get r.words) (slice_get words) (record { offset = p.offset; type_value = t }) leads (replaced_same r.words ws p.offset fits t sized) r.holds (replaced_holds r.words ws p.offset fits injection t value sized holds) in
+        record {
+          injection = injection;
+          memory = storing memory p.segment r.type_number words;
+          operands = below;
+          does = structure_outcome memory s.trace p t n ws r.type_number r.words structured has described same r.stands fits;
+          matches = matches_assigned matches v.allocation p.segment a spot.is_in there.is there.lives r words v.path value (replaced_length r.words ws p.offset fits) now;
+          here = lasts.by injection injection s (assigned v value s) memory (storing memory p.segment r.type_number words) (record { grown = grown_storing matches v.allocation p.segment a spot.is_in there.is there.lives r words; routine = same_routine-refl memory.frames; calls = refl }) known;
+          post = record { grown = grown_storing matches v.allocation p.segment a spot.is_in there.is there.lives r words; routine = same_routine-refl memory.frames; operands_are = refl };
+        }
+
+  -- ---- `Store` of any value
+
+  -- in a variable that has ended
+  pub value_ended : (k : Kind) (t : TypeValue) (r : Result) (o : Operand) (v : Component) (p : Place) → MayTake k t
+      → slice_get G.instructions place ≡ Some (instr op.STORE (pos 0) 0 line)
+      → (injection : Injection) (memory : Memory) → IsValueOf injection memory k r o → IsSpot injection memory.types v p
+      → Describes memory.types p.type_number t → (s : meaning.State)
+      → Matches declared G injection s memory → has_ended v.allocation s ≡ true
+      → FailsWith G (at place (o ∷ operand.Place p ∷ below) memory s.trace) (weight_of r) 11 (unit_in G memory.frames) line s
+  value_ended (kind.Ordinal h) (type.Ordinal low high) r o v p of_kind has injection memory (z, r_is, of_host, o_is) spot described s matches ended =
+      rw (o_is, r_is) (store_fails_ended low high z v p has injection memory spot described s matches ended)
+  value_ended (kind.Ordinal h) type.Text r o v p of_kind has injection memory is spot described s matches ended = absurd of_kind
+  value_ended (kind.Ordinal h) (type.Array low high of) r o v p of_kind has injection memory is spot described s matches ended = absurd of_kind
+  value_ended (kind.Ordinal h) (type.Record ts) r o v p of_kind has injection memory is spot described s matches ended = absurd of_kind
+  value_ended kind.Bytes t r o v p of_kind has injection memory is spot described s matches ended = absurd of_kind
+  value_ended (kind.Structured u) t r o v p (same, structured) has injection memory is spot described s matches ended =
+      let own : Describes memory.types p.type_number u = subst (Describes memory.types p.type_number) (sym same) described in
+      let fails : outcome G (at place (operand.Value is.type_number is.words ∷ operand.Place p ∷ below) memory s.trace) ≡ record { weight = size_of u; to = Stopped (Error run_error.DISPOSED (unit_in G memory.frames) line) s.trace }
+      = structure_ended memory s.trace p u is.type_number is.words structured has own (place_ended matches spot ended) ∙ ap (λ n. record { weight = n; to = Stopped (Error run_error.DISPOSED (unit_in G memory.frames) line) s.trace }) is.sized in
+      rw (is.is, is.is_structure) (record { fails = fails })
+
+  -- a value that the variable may have
+  pub value_does : {untouched : Slots} {Here : Facts} (k : Kind) (t : TypeValue) (r : Result) (o : Operand) (v : Component) (p : Place) → MayTake k t
+      → slice_get G.instructions place ≡ Some (instr op.STORE (pos 0) 0 line)
+      → (injection : Injection) (memory : Memory) → IsValueOf injection memory k r o → IsSpot injection memory.types v p
+      → Describes memory.types p.type_number t → (s : meaning.State)
+      → Matches declared G injection s memory → has_ended v.allocation s ≡ false
+      → Lasts untouched Here → Here injection s memory → suits (type_at v s) r ≡ true
+      → Does declared G Here (at place (o ∷ operand.Place p ∷ below) memory s.trace) (weight_of r) (place + 1) (Inside untouched injection memory (Bare below tt)) (assigned v (value_of r) s)
+  value_does (kind.Ordinal h) (type.Ordinal low high) r o v p of_kind has injection memory (z, r_is, of_host, o_is) spot described s matches living lasts known fits =
+      let within : is_among (type_at v s) z ≡ true = ap (suits (type_at v s)) (sym r_is) ∙ fits in
+      rw (o_is, r_is) (store_does low high z v p has injection memory spot described s matches living lasts known within)
+  value_does (kind.Ordinal h) type.Text r o v p of_kind has injection memory is spot described s matches living lasts known fits = absurd of_kind
+  value_does (kind.Ordinal h) (type.Array low high of) r o v p of_kind has injection memory is spot described s matches living lasts known fits = absurd of_kind
+  value_does (kind.Ordinal h) (type.Record ts) r o v p of_kind has injection memory is spot described s matches living lasts known fits = absurd of_kind
+  value_does kind.Bytes t r o v p of_kind has injection memory is spot described s matches living lasts known fits = absurd of_kind
+  value_does {untouched = untouched} {Here = Here} (kind.Structured u) t r o v p (same, structured) has injection memory is spot described s matches living lasts known fits =
+      let own : Describes memory.types p.type_number u = subst (Describes memory.types p.type_number) (sym same) described in
+      rw (is.is, is.is_structure)
+      (subst (λ w. Does declared G Here (at place (operand.Value is.type_number is.words ∷ operand.Place p ∷ below) memory s.trace) w (place + 1) (Inside untouched injection memory (Bare below tt)) (assigned v is.value s)) is.sized
+      (structure_does u structured v p has injection memory spot own s matches living lasts known is.value is.type_number is.words is.described is.sized is.holds))
+
+  -- one that it may not have
+  pub value_fails : (k : Kind) (t : TypeValue) (r : Result) (o : Operand) (v : Component) (p : Place) → MayTake k t
+      → slice_get G.instructions place ≡ Some (instr op.STORE (pos 0) 0 line)
+      → (injection : Injection) (memory : Memory) → IsValueOf injection memory k r o → IsSpot injection memory.types v p
+      → Describes memory.types p.type_number t → (s : meaning.State)
+      → Matches declared G injection s memory → has_ended v.allocation s ≡ false → suits (type_at v s) r ≡ false
+      → FailsWith G (at place (o ∷ operand.Place p ∷ below) memory s.trace) (weight_of r) (misfit r) (unit_in G memory.frames) line s
+  value_fails (kind.Ordinal h) (type.Ordinal low high) r o v p of_kind has injection memory (z, r_is, of_host, o_is) spot described s matches living fits =
+      let outside : is_among (type_at v s) z ≡ false = ap (suits (type_at v s)) (sym r_is) ∙ fits in
+      rw (o_is, r_is) (store_fails low high z v p has injection memory spot described s matches living outside)
+  value_fails (kind.Ordinal h) type.Text r o v p of_kind has injection memory is spot described s matches living fits = absurd of_kind
+  value_fails (kind.Ordinal h) (type.Array low high of) r o v p of_kind has injection memory is spot described s matches living fits = absurd of_kind
+  value_fails (kind.Ordinal h) (type.Record ts) r o v p of_kind has injection memory is spot described s matches living fits = absurd of_kind
+  value_fails kind.Bytes t r o v p of_kind has injection memory is spot described s matches living fits = absurd of_kind
+  value_fails (kind.Structured u) t r o v p (same, structured) has injection memory is spot described s matches living fits =
+      let own : Describes memory.types p.type_number u = subst (Describes memory.types p.type_number) (sym same) described in
+      let is_type : type_at v s ≡ Some u = structure_type u structured v p has injection memory spot own s matches living in
+      let yes : suits (type_at v s) r ≡ true = ap (suits (type_at v s)) is.is_structure ∙ (ap (λ o. suits o (Structure u is.value)) is_type ∙ type_is_same u) in
+      absurd (let e : true ≡ false = sym yes ∙ fits in cc)
 
   -- `Undefine` of a variable of an ordinal type
   undefine_outcome : (memory : Memory) (trace : Trace) (p : Place) (low high : ℤ) (type_number : ℕ) (words : List ℤ) (w : ℤ)

@@ -12,7 +12,7 @@ use Rattle.ep_object.proofs.rows.Rows.{instr, RowPushes}
 use Rattle.ep_typed.specs.Calls.{Handler}
 use Rattle.ep_typed.specs.Meaning.{write_piece}
 use Rattle.ep_typed.specs.Printing.{piece_events}
-use Rattle.ep_typed.specs.Steps.{bind, Computation, word_at, type_at, is_within, assigned}
+use Rattle.ep_typed.specs.Steps.{bind, Computation}
 use Rattle.ep_typed.specs.Steps as meaning
 use Rattle.ep_typed.specs.Valid.{Declarations}
 use Rattle.ep_object.specs.declared.op.TheConstants as op

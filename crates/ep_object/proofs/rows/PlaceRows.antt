@@ -1,8 +1,8 @@
 -- What the rows on places and variables lead to, where the machine matches.
-use Rattle.std.proofs.Common.{◌≡◌, ℕ, ℤ, pos, negsuc, ◌+◌, ◌<◌, true, false, List, ◌∷◌, Option, Some, None, slice_get, refl, ap, ◌∙◌, arith}
+use Rattle.std.proofs.Common.{◌≡◌, ℕ, ℤ, pos, negsuc, ◌+◌, ◌≤◌, ◌<◌, true, false, List, ◌∷◌, length, option_map, Option, Some, None, slice_get, refl, sym, ap, ◌∙◌, subst, arith}
 use Rattle.std.specs.Prelude.{int_lt, is_some}
 use Rattle.ep_object.specs.Follows.{Facts, OnTop, PlaceOnTop, Inside}
-use Rattle.ep_object.specs.Matching.{Memory, at, Injection, MatchesSlot, MatchesFrame, IsSpot, Describes, OrdinalAt, Represents, HasType, Matches, Slots}
+use Rattle.ep_object.specs.Matching.{Memory, at, Injection, MatchesSlot, MatchesFrame, IsSpot, Describes, HasAt, OrdinalAt, part_along, all_of, Represents, HasType, Matches, Slots}
 use Rattle.ep_object.specs.Operands.{Operand, Word, Text}
 use Rattle.ep_object.specs.Operands as operand
 use Rattle.ep_object.specs.Places.{loaded}
@@ -14,22 +14,49 @@ use Rattle.ep_object.specs.WordRows.{bit}
 use Rattle.ep_object.specs.declared.code.Image.{Image}
 use Rattle.ep_object.specs.declared.code.ImageUnit.{ImageUnit}
 use Rattle.ep_object.specs.declared.state.Place.{Place}
-use Rattle.ep_object.proofs.following.Choices.{Reads, Misses, Finds}
-use Rattle.ep_object.proofs.following.Fragments.{FailsWith}
+use Rattle.ep_object.proofs.following.Choices.{Reads, Misses, Finds, ReadsResult, Nothing, Result_of}
+use Rattle.ep_object.proofs.following.Fragments.{Does, FailsWith}
 use Rattle.ep_object.proofs.matching.Growing.{inside_here}
 use Rattle.ep_object.proofs.rows.Rows.{instr, in_one, RowPushes, outcome_at}
-use Rattle.ep_object.proofs.matching.Standing.{slice_get-some, StandsOrdinal, ordinal_stands, place_ended, within_host, word_defined}
+use Rattle.ep_object.proofs.matching.Described.{describes_one}
+use Rattle.ep_object.proofs.matching.Values.{taken, taken_length, taken_there, taken_holds, part_fits}
+use Rattle.ep_object.proofs.matching.Words.{type_is-along}
+use Rattle.ep_object.proofs.matching.Standing.{slice_get-some, Stands, place_stands, StandsOrdinal, ordinal_stands, place_ended, within_host, word_defined}
 use Rattle.ep_typed.specs.Events.{Trace}
-use Rattle.ep_typed.specs.Printing.{Number}
-use Rattle.ep_typed.specs.Steps.{Component, has_ended, value_along, Value, Undefined, Allocation, allocation_at, word_of, word_in, word_at, is_within}
+use Rattle.ep_typed.specs.Printing.{Number, Structure}
+use Rattle.ep_typed.specs.Steps.{Component, has_ended, type_along, type_at, type_in, value_along, value_at, value_in, Value, Undefined, Allocation, allocation_at, word_of}
+use Rattle.ep_typed.specs.Results.{given_by, result_of}
 use Rattle.ep_typed.specs.Steps as meaning
 use Rattle.ep_typed.specs.Valid as kind
-use Rattle.ep_typed.specs.Valid.{Declarations, IsTypeOf}
+use Rattle.ep_typed.specs.Valid.{Declarations, IsStructured, IsTypeOf, IsTypeOfKind, Kind}
 use Rattle.ep_typed.specs.Hosts.{Host}
-use Rattle.ep_typed.specs.TypeValues.{TypeValue}
+use Rattle.ep_typed.specs.TypeValues.{TypeValue, size_of}
 use Rattle.ep_typed.specs.TypeValues as type
 use Rattle.ep_typed.specs.declared.unit.UnitVariable.{UnitVariable}
 use Rattle.ep_object.specs.declared.op.TheConstants as op
+
+-- ---- the result that a variable gives
+
+type_of_variable : (t : TypeValue) (v : Component) (p : Place) (s : meaning.State) (a : Allocation)
+    → allocation_at s.allocations v.allocation ≡ Some a → part_along (Some (all_of a.type_value)) v.path ≡ Some (record { offset = p.offset; type_value = t })
+    → type_at v s ≡ Some t
+type_of_variable t v p s a is leads = ap (λ o. type_along (type_in o) v.path) is ∙ type_is-along a.type_value v.path (record { offset = p.offset; type_value = t }) leads
+
+ordinal_result : (low high : ℤ) (v : Component) (p : Place) (s : meaning.State) (a : Allocation)
+    → allocation_at s.allocations v.allocation ≡ Some a → part_along (Some (all_of a.type_value)) v.path ≡ Some (record { offset = p.offset; type_value = type.Ordinal low high })
+    → result_of v s ≡ option_map Number (word_of (value_along a.value v.path))
+ordinal_result low high v p s a is leads =
+    ap (λ t. given_by t (value_at v s)) (type_of_variable (type.Ordinal low high) v p s a is leads) ∙ ap (λ o. option_map Number (word_of (value_in o v.path))) is
+
+structure_result : (t : TypeValue) (v : Component) (p : Place) (s : meaning.State) (a : Allocation) → IsStructured t
+    → allocation_at s.allocations v.allocation ≡ Some a → part_along (Some (all_of a.type_value)) v.path ≡ Some (record { offset = p.offset; type_value = t })
+    → result_of v s ≡ Some (Structure t (value_along a.value v.path))
+structure_result (type.Ordinal low high) v p s a structured is leads = absurd structured
+structure_result type.Text v p s a structured is leads = absurd structured
+structure_result (type.Array low high of) v p s a structured is leads =
+    ap (λ t. given_by t (value_at v s)) (type_of_variable (type.Array low high of) v p s a is leads) ∙ ap (λ o. Some (Structure (type.Array low high of) (value_in o v.path))) is
+structure_result (type.Record ts) v p s a structured is leads =
+    ap (λ t. given_by t (value_at v s)) (type_of_variable (type.Record ts) v p s a is leads) ∙ ap (λ o. Some (Structure (type.Record ts) (value_in o v.path))) is
 
 module _ (declared : Declarations) (G : Image) (place line : ℕ) (below : List Operand) where
   -- `Unit`, for `output`
@@ -80,42 +107,66 @@ module _ (declared : Declarations) (G : Image) (place line : ℕ) (below : List 
   load_outcome memory trace p low high type_number words w has typed stands there =
       outcome_at G (instr op.LOAD (pos 0) 0 line) place (operand.Place p ∷ below) memory trace has ∙ rw (typed, stands, there) refl
 
+  -- what it finds of an array or a record
+  structure_outcome : (memory : Memory) (trace : Trace) (p : Place) (t : TypeValue) (type_number : ℕ) (words : List ℤ) → IsStructured t
+      → slice_get G.instructions place ≡ Some (instr op.LOAD (pos 0) 0 line)
+      → Describes memory.types p.type_number t
+      → slice_get memory.segments p.segment ≡ Some (Some (record { type_number = type_number; words = words }))
+      → (fits : p.offset + size_of t ≤ length words)
+      → outcome G (at place (operand.Place p ∷ below) memory trace) ≡ record { weight = size_of t; to = Running 0 (at (place + 1) (operand.Value p.type_number (taken words p.offset (size_of t) fits) ∷ below) memory trace) }
+  structure_outcome memory trace p (type.Ordinal low high) type_number words structured has described stands fits = absurd structured
+  structure_outcome memory trace p type.Text type_number words structured has described stands fits = absurd structured
+  structure_outcome memory trace p (type.Array low high of) type_number words structured has (c, entry, component) stands fits =
+      let size : ℕ = size_of (type.Array low high of) in
+      outcome_at G (instr op.LOAD (pos 0) 0 line) place (operand.Place p ∷ below) memory trace has ∙ rw (entry, stands, taken_there words p.offset size fits)
+      (ap (λ n. record { weight = n; to = Running 0 (at (place + 1) (operand.Value p.type_number (taken words p.offset size fits) ∷ below) memory trace) }) (taken_length words p.offset size fits))
+  structure_outcome memory trace p (type.Record ts) type_number words structured has (ps, entry, components) stands fits =
+      let size : ℕ = size_of (type.Record ts) in
+      outcome_at G (instr op.LOAD (pos 0) 0 line) place (operand.Place p ∷ below) memory trace has ∙ rw (entry, stands, taken_there words p.offset size fits)
+      (ap (λ n. record { weight = n; to = Running 0 (at (place + 1) (operand.Value p.type_number (taken words p.offset size fits) ∷ below) memory trace) }) (taken_length words p.offset size fits))
+
   -- `Load`, of a variable that has ended
-  pub load_fails : (low high : ℤ) (v : Component) (p : Place)
+  pub load_fails : (k : Kind) (t : TypeValue) (v : Component) (p : Place) → IsTypeOfKind k t
       → slice_get G.instructions place ≡ Some (instr op.LOAD (pos 0) 0 line)
       → (injection : Injection) (memory : Memory) → IsSpot injection memory.types v p
-      → Describes memory.types p.type_number (type.Ordinal low high) → (s : meaning.State)
+      → Describes memory.types p.type_number t → (s : meaning.State)
       → Matches declared G injection s memory → has_ended v.allocation s ≡ true
       → FailsWith G (at place (operand.Place p ∷ below) memory s.trace) 0 11 (unit_in G memory.frames) line s
-  load_fails low high v p has injection memory spot described s matches ended =
+  load_fails k (type.Ordinal low high) v p of_kind has injection memory spot described s matches ended =
       record { fails = outcome_at G (instr op.LOAD (pos 0) 0 line) place (operand.Place p ∷ below) memory s.trace has ∙ rw (described, place_ended matches spot ended) refl }
+  load_fails (kind.Ordinal h) type.Text v p of_kind has injection memory spot described s matches ended = absurd of_kind
+  load_fails kind.Bytes type.Text v p of_kind has injection memory spot described s matches ended = absurd of_kind
+  load_fails (kind.Structured u) type.Text v p (same, structured) has injection memory spot described s matches ended = absurd (subst IsStructured same structured)
+  load_fails k (type.Array low high of) v p of_kind has injection memory spot (c, entry, component) s matches ended =
+      record { fails = outcome_at G (instr op.LOAD (pos 0) 0 line) place (operand.Place p ∷ below) memory s.trace has ∙ rw (entry, place_ended matches spot ended) refl }
+  load_fails k (type.Record ts) v p of_kind has injection memory spot (ps, entry, components) s matches ended =
+      record { fails = outcome_at G (instr op.LOAD (pos 0) 0 line) place (operand.Place p ∷ below) memory s.trace has ∙ rw (entry, place_ended matches spot ended) refl }
 
   -- `Load`, of a variable of an ordinal type of the host, which lives
-  pub load_reads : {untouched : Slots} {Here : Facts} (host : Host) (low high : ℤ) (v : Component) (p : Place)
+  word_reads : {untouched : Slots} {Here : Facts} (host : Host) (low high : ℤ) (v : Component) (p : Place)
       → IsTypeOf host (type.Ordinal low high)
       → slice_get G.instructions place ≡ Some (instr op.LOAD (pos 0) 0 line)
       → (injection : Injection) (memory : Memory) → IsSpot injection memory.types v p
       → Describes memory.types p.type_number (type.Ordinal low high) → (s : meaning.State)
       → Matches declared G injection s memory → Here injection s memory → has_ended v.allocation s ≡ false
-      → Reads declared G Here (at place (operand.Place p ∷ below) memory s.trace) 1 (unit_in G memory.frames) line (place + 1) (λ w. Inside untouched injection memory (OnTop (kind.Ordinal host) below (Number w))) s (word_at v s)
-  load_reads {untouched = untouched} {Here = Here} host low high v p of_host has injection memory spot described s matches known living =
+      → ReadsResult declared G Here (at place (operand.Place p ∷ below) memory s.trace) 1 (unit_in G memory.frames) line (place + 1) (λ r. Inside untouched injection memory (OnTop (kind.Ordinal host) below r)) s (result_of v s)
+  word_reads {untouched = untouched} {Here = Here} host low high v p of_host has injection memory spot described s matches known living =
       let x : StandsOrdinal injection s memory v p low high = ordinal_stands low high matches spot described living in
       let a : Allocation = x.allocation in
       let r : Represents injection memory.segments memory.types p.segment a = x.represents in
-      go a x.is r.type_number r.words (value_along a.value v.path) refl r.stands x.word
+      go (value_along a.value v.path) refl (ordinal_result low high v p s a x.is x.leads) r.type_number r.words r.stands x.word
     where
-      go : (a : Allocation) → allocation_at s.allocations v.allocation ≡ Some a → (type_number : ℕ) (words : List ℤ) (value : Value)
-          → value_along a.value v.path ≡ value
+      go : (value : Value) → {value2 : Value} → value2 ≡ value → result_of v s ≡ option_map Number (word_of value2) → (type_number : ℕ) (words : List ℤ)
           → slice_get memory.segments p.segment ≡ Some (Some (record { type_number = type_number; words = words }))
           → OrdinalAt low high value (slice_get words p.offset)
-          → Reads declared G Here (at place (operand.Place p ∷ below) memory s.trace) 1 (unit_in G memory.frames) line (place + 1) (λ w. Inside untouched injection memory (OnTop (kind.Ordinal host) below (Number w))) s (word_at v s)
-      go a is type_number words Undefined value_is stands word =
-          Misses (ap (λ o. word_in o v.path) is ∙ ap word_of value_is) (record { fails = load_outcome memory s.trace p low high type_number words undefined has described stands word.is })
-      go a is type_number words (meaning.Components of) value_is stands word = absurd word.is
-      go a is type_number words (meaning.Word w) value_is stands word =
+          → ReadsResult declared G Here (at place (operand.Place p ∷ below) memory s.trace) 1 (unit_in G memory.frames) line (place + 1) (λ r. Inside untouched injection memory (OnTop (kind.Ordinal host) below r)) s (result_of v s)
+      go Undefined value_is result_is type_number words stands word =
+          Nothing (result_is ∙ ap (λ x. option_map Number (word_of x)) value_is) (record { fails = load_outcome memory s.trace p low high type_number words undefined has described stands word.is })
+      go (meaning.Components of) value_is result_is type_number words stands word = absurd word.is
+      go (meaning.Word w) value_is result_is type_number words stands word =
           let at_place = word.is in
           let found : int_lt undefined w ≡ true = word_defined low high w word.low_fits at_place.1 in
-          Finds w (ap (λ o. word_in o v.path) is ∙ ap word_of value_is) (record {
+          Result_of (Number w) (result_is ∙ ap (λ x. option_map Number (word_of x)) value_is) (record {
             injection = injection;
             memory = memory;
             operands = Word w ∷ below;
@@ -124,6 +175,63 @@ module _ (declared : Declarations) (G : Image) (place line : ℕ) (below : List 
             here = known;
             post = inside_here (record { number = w; is_number = refl; of_host = within_host host low high w of_host at_place.1; is = refl });
           })
+
+  -- of one of an array or record type, which lives: all of it is there
+  pub structure_found : {untouched : Slots} {Here : Facts} (t : TypeValue) (v : Component) (p : Place) → IsStructured t
+      → slice_get G.instructions place ≡ Some (instr op.LOAD (pos 0) 0 line)
+      → (injection : Injection) (memory : Memory) → IsSpot injection memory.types v p
+      → Describes memory.types p.type_number t → (s : meaning.State)
+      → Matches declared G injection s memory → Here injection s memory → has_ended v.allocation s ≡ false
+      → (value : Value) × (result_of v s ≡ Some (Structure t value)) × Does declared G Here (at place (operand.Place p ∷ below) memory s.trace) (size_of t) (place + 1) (Inside untouched injection memory (OnTop (kind.Structured t) below (Structure t value))) s
+  structure_found t v p structured has injection memory spot described s matches known living =
+      let x : Stands injection s memory v p = place_stands matches spot living in
+      let a : Allocation = x.allocation in
+      let r : Represents injection memory.segments memory.types p.segment a = x.represents in
+      let its_type : x.type_value ≡ t = describes_one memory.types p.type_number x.type_value t x.described described in
+      let leads : part_along (Some (all_of a.type_value)) v.path ≡ Some (record { offset = p.offset; type_value = t }) = subst (λ u. part_along (Some (all_of a.type_value)) v.path ≡ Some (record { offset = p.offset; type_value = u })) its_type x.leads in
+      let holds : HasAt injection t (value_along a.value v.path) (slice_get r.words) p.offset = subst (λ u. HasAt injection u (value_along a.value v.path) (slice_get r.words) p.offset) its_type x.holds in
+      let fits : p.offset + size_of t ≤ length r.words = (let within = part_fits a.type_value v.path (record { offset = p.offset; type_value = t }) leads in omega (arith, within, r.sized)) in (
+        value_along a.value v.path,
+        structure_result t v p s a structured x.is leads,
+        record {
+          injection = injection;
+          memory = memory;
+          operands = operand.Value p.type_number (taken r.words p.offset (size_of t) fits) ∷ below;
+          does = structure_outcome memory s.trace p t r.type_number r.words structured has described r.stands fits;
+          matches = matches;
+          here = known;
+          post = inside_here (record {
+            operand = operand.Value p.type_number (taken r.words p.offset (size_of t) fits);
+            holds = record {
+              value = value_along a.value v.path;
+              is_structure = refl;
+              type_number = p.type_number;
+              words = taken r.words p.offset (size_of t) fits;
+              is = refl;
+              described = described;
+              sized = taken_length r.words p.offset (size_of t) fits;
+              holds = taken_holds r.words p.offset (size_of t) fits injection t (value_along a.value v.path) refl holds;
+            };
+            is = refl;
+          });
+        },
+      )
+
+  -- of one of a type whose values are of the kind
+  pub load_reads : {untouched : Slots} {Here : Facts} (k : Kind) (t : TypeValue) (v : Component) (p : Place) → IsTypeOfKind k t
+      → slice_get G.instructions place ≡ Some (instr op.LOAD (pos 0) 0 line)
+      → (injection : Injection) (memory : Memory) → IsSpot injection memory.types v p
+      → Describes memory.types p.type_number t → (s : meaning.State)
+      → Matches declared G injection s memory → Here injection s memory → has_ended v.allocation s ≡ false
+      → ReadsResult declared G Here (at place (operand.Place p ∷ below) memory s.trace) 1 (unit_in G memory.frames) line (place + 1) (λ r. Inside untouched injection memory (OnTop k below r)) s (result_of v s)
+  load_reads (kind.Ordinal h) (type.Ordinal low high) v p of_kind has injection memory spot described s matches known living = word_reads h low high v p of_kind has injection memory spot described s matches known living
+  load_reads (kind.Ordinal h) type.Text v p of_kind has injection memory spot described s matches known living = absurd of_kind
+  load_reads (kind.Ordinal h) (type.Array low high of) v p of_kind has injection memory spot described s matches known living = absurd of_kind
+  load_reads (kind.Ordinal h) (type.Record ts) v p of_kind has injection memory spot described s matches known living = absurd of_kind
+  load_reads kind.Bytes t v p of_kind has injection memory spot described s matches known living = absurd of_kind
+  load_reads (kind.Structured u) t v p (same, structured) has injection memory spot described s matches known living =
+      let x = structure_found u v p structured has injection memory spot (subst (Describes memory.types p.type_number) (sym same) described) s matches known living in
+      Result_of (Structure u x.0) x.1 x.2
 
   -- what `Defined` finds
   defined_outcome : (memory : Memory) (trace : Trace) (p : Place) (low high : ℤ) (type_number : ℕ) (words : List ℤ) (w : ℤ)
@@ -151,24 +259,24 @@ module _ (declared : Declarations) (G : Image) (place line : ℕ) (below : List 
       → (injection : Injection) (memory : Memory) → IsSpot injection memory.types v p
       → Describes memory.types p.type_number (type.Ordinal low high) → (s : meaning.State)
       → Matches declared G injection s memory → has_ended v.allocation s ≡ false
-      → outcome G (at place (operand.Place p ∷ below) memory s.trace) ≡ record { weight = 0; to = Running 0 (at (place + 1) (Word (bit (is_some (word_at v s))) ∷ below) memory s.trace) }
+      → outcome G (at place (operand.Place p ∷ below) memory s.trace) ≡ record { weight = 0; to = Running 0 (at (place + 1) (Word (bit (is_some (result_of v s))) ∷ below) memory s.trace) }
   defined_tells low high v p has injection memory spot described s matches living =
       let x : StandsOrdinal injection s memory v p low high = ordinal_stands low high matches spot described living in
       let a : Allocation = x.allocation in
       let r : Represents injection memory.segments memory.types p.segment a = x.represents in
-      go a x.is r.type_number r.words (value_along a.value v.path) refl r.stands x.word
+      go (ordinal_result low high v p s a x.is x.leads) r.type_number r.words (value_along a.value v.path) refl r.stands x.word
     where
-      go : (a : Allocation) → allocation_at s.allocations v.allocation ≡ Some a → (type_number : ℕ) (words : List ℤ) (value : Value)
-          → value_along a.value v.path ≡ value
+      go : {value2 : Value} → result_of v s ≡ option_map Number (word_of value2) → (type_number : ℕ) (words : List ℤ) (value : Value)
+          → value2 ≡ value
           → slice_get memory.segments p.segment ≡ Some (Some (record { type_number = type_number; words = words }))
           → OrdinalAt low high value (slice_get words p.offset)
-          → outcome G (at place (operand.Place p ∷ below) memory s.trace) ≡ record { weight = 0; to = Running 0 (at (place + 1) (Word (bit (is_some (word_at v s))) ∷ below) memory s.trace) }
-      go a is type_number words Undefined value_is stands word =
-          let none : word_at v s ≡ None = ap (λ o. word_in o v.path) is ∙ ap word_of value_is in
+          → outcome G (at place (operand.Place p ∷ below) memory s.trace) ≡ record { weight = 0; to = Running 0 (at (place + 1) (Word (bit (is_some (result_of v s))) ∷ below) memory s.trace) }
+      go is type_number words Undefined value_is stands word =
+          let none : result_of v s ≡ None = is ∙ ap (λ x. option_map Number (word_of x)) value_is in
           defined_outcome memory s.trace p low high type_number words undefined has described stands word.is ∙ rw none refl
-      go a is type_number words (meaning.Components of) value_is stands word = absurd word.is
-      go a is type_number words (meaning.Word w) value_is stands word =
-          let some : word_at v s ≡ Some w = ap (λ o. word_in o v.path) is ∙ ap word_of value_is in
+      go is type_number words (meaning.Components of) value_is stands word = absurd word.is
+      go is type_number words (meaning.Word w) value_is stands word =
+          let some : result_of v s ≡ Some (Number w) = is ∙ ap (λ x. option_map Number (word_of x)) value_is in
           let at_place = word.is in
           let found : int_lt undefined w ≡ true = word_defined low high w word.low_fits at_place.1 in
           defined_outcome memory s.trace p low high type_number words w has described stands at_place.0 ∙ rw (some, found) refl

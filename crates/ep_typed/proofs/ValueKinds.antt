@@ -1,0 +1,54 @@
+-- The kind of a denoter's values.
+use Rattle.std.proofs.Common.{◌≡◌, ℕ, zero, suc, List, [], ◌∷◌, length, Option, Some, None, slice_get, sym, ap, ◌∙◌, subst}
+use Rattle.std.proofs.lemmas.Option.{same_Some}
+use Rattle.ep_typed.proofs.Denoters.{instances_are_one, types_are_instances}
+use Rattle.ep_typed.proofs.Typed.{typed_instance, typed_of_host}
+use Rattle.ep_typed.specs.Denoters.{definition_of, found_of, host_within, type_within}
+use Rattle.ep_typed.specs.Hosts.{Host}
+use Rattle.ep_typed.specs.Trees.{Fixed, Denoter, Required, Named, Subrange, Enumeration, Array, Record}
+use Rattle.ep_typed.specs.TypeValues.{TypeValue}
+use Rattle.ep_typed.specs.Valid as kind
+use Rattle.ep_typed.specs.Valid.{IsOfKind, IsStructured, IsTyped, IsTypeOfKind, Kind}
+use Rattle.ep_typed.specs.declared.denoter.RequiredType.TheVariants as simple
+use Rattle.ep_typed.specs.declared.unit.UnitType.{UnitType}
+
+-- a type value that is known is not that of an array or a record
+plain : {t u : TypeValue} → (IsStructured u → ⊥) → ◌≡◌ {A = Option TypeValue} (Some u) (Some t) → IsStructured t → ⊥
+plain {t = t} {u = u} not e structured = not (subst IsStructured (sym (same_Some u t e)) structured)
+
+module _ (types : List UnitType) where
+  found_hosted : (n : ℕ) (o : Option UnitType) (h : Host) (t : TypeValue) → ((d : Denoter) → host_within types n d ≡ Some h → type_within types n d ≡ Some t → ⊥)
+      → found_of (host_within types n) o ≡ Some h → found_of (type_within types n) o ≡ Some t → ⊥
+  found_hosted n None h t never e f = cc
+  found_hosted n (Some u) h t never e f = never (definition_of u) e f
+
+  -- what has a host is no array and no record
+  hosted_within : (n : ℕ) (d : Denoter) (h : Host) (t : TypeValue) → host_within types n d ≡ Some h → type_within types n d ≡ Some t → IsStructured t → ⊥
+  hosted_within zero d h t has is structured = cc
+  hosted_within (suc n) (Required simple.Integer) h t has is structured = plain (λ x. x) is structured
+  hosted_within (suc n) (Required simple.Char) h t has is structured = plain (λ x. x) is structured
+  hosted_within (suc n) (Required simple.Boolean) h t has is structured = plain (λ x. x) is structured
+  hosted_within (suc n) (Named index []) h t has is structured = found_hosted n (slice_get types index) h t (λ d e f. hosted_within n d h t e f structured) has is
+  hosted_within (suc n) (Named index (b ∷ bs)) h t has is structured = cc
+  hosted_within (suc n) (Subrange of (Fixed low) (Fixed high)) h t has is structured = plain (λ x. x) is structured
+  hosted_within (suc n) (Enumeration []) h t has is structured = cc
+  hosted_within (suc n) (Enumeration (first ∷ others)) h t has is structured = plain (λ x. x) is structured
+  hosted_within (suc n) (Array index component) h t has is structured = cc
+  hosted_within (suc n) (Record ds) h t has is structured = cc
+
+  -- a denoter's values are of one kind
+  pub kinds_are_one : (d : Denoter) (k l : Kind) → IsOfKind k types d → IsOfKind l types d → k ≡ l
+  kinds_are_one d (kind.Ordinal h) (kind.Ordinal i) p q = ap kind.Ordinal (same_Some h i (sym p ∙ q))
+  kinds_are_one d (kind.Ordinal h) kind.Bytes p q = absurd q
+  kinds_are_one d (kind.Ordinal h) (kind.Structured t) p q = absurd (hosted_within (suc (length types)) d h t p q.0 q.1)
+  kinds_are_one d kind.Bytes l p q = absurd p
+  kinds_are_one d (kind.Structured t) (kind.Ordinal h) p q = absurd (hosted_within (suc (length types)) d h t q p.0 p.1)
+  kinds_are_one d (kind.Structured t) kind.Bytes p q = absurd q
+  kinds_are_one d (kind.Structured t) (kind.Structured u) p q = ap kind.Structured (same_Some t u (sym p.0 ∙ q.0))
+
+  -- and so are those of its type value, where it is valid
+  pub typed_of_kind : (d : Denoter) (t : TypeValue) (k : Kind) → IsTyped types d t → IsOfKind k types d → IsTypeOfKind k t
+  typed_of_kind d t (kind.Ordinal h) typed of_kind = typed_of_host types d t h typed of_kind
+  typed_of_kind d t kind.Bytes typed of_kind = of_kind
+  typed_of_kind d t (kind.Structured u) typed of_kind =
+      (instances_are_one types d u t (types_are_instances types d u of_kind.0) (typed_instance types d t typed), of_kind.1)

@@ -1,0 +1,48 @@
+-- Results of expressions as values of variables.
+use Rattle.std.specs.Prelude.{ℕ, Bool, false, length, Option, Some, None, option_map}
+use Rattle.ep_typed.specs.Printing.{Result, Number, Bytes, Structure}
+use Rattle.ep_typed.specs.Steps.{Component, State, Value, Word, Undefined, is_among, type_at, value_at, word_of}
+use Rattle.ep_typed.specs.TypeValues.{TypeValue, same_type, size_of}
+use Rattle.ep_typed.specs.TypeValues as type
+use Rattle.ep_typed.specs.declared.run_error.TheConstants as run_error
+
+-- the steps that a result spends besides the one of its node: a text has its length, and an array or a record its words
+abbrev pub weight_of : Result → ℕ
+weight_of (Number z) = 0
+weight_of (Bytes bytes) = length bytes
+weight_of (Structure t v) = size_of t
+
+-- What a variable of a type gives that has this value, where it is defined: an array or a record gives all that its
+-- components have, each defined or not, and any other one a number (ISO 10206, 6.8.1).
+abbrev pub given_by : Option TypeValue → Value → Option Result
+given_by None v = option_map Number (word_of v)
+given_by (Some (type.Ordinal low high)) v = option_map Number (word_of v)
+given_by (Some type.Text) v = option_map Number (word_of v)
+given_by (Some (type.Array low high of)) v = Some (Structure (type.Array low high of) v)
+given_by (Some (type.Record ts)) v = Some (Structure (type.Record ts) v)
+
+abbrev pub result_of : Component → State → Option Result
+result_of c s = given_by (type_at c s) (value_at c s)
+
+-- what has no type is of none
+abbrev pub is_type : Option TypeValue → TypeValue → Bool
+is_type None u = false
+is_type (Some t) u = same_type t u
+
+-- whether a variable of a type may have the result as its value; a text is of none so far
+abbrev pub suits : Option TypeValue → Result → Bool
+suits t (Number z) = is_among t z
+suits t (Bytes bytes) = false
+suits t (Structure u v) = is_type t u
+
+-- the error where it may not
+abbrev pub misfit : Result → ℕ
+misfit (Number z) = run_error.OUTSIDE_TYPE
+misfit (Bytes bytes) = run_error.TUPLES_DIFFER
+misfit (Structure u v) = run_error.TUPLES_DIFFER
+
+-- the value that it then has
+abbrev pub value_of : Result → Value
+value_of (Number z) = Word z
+value_of (Bytes bytes) = Undefined
+value_of (Structure u v) = v
