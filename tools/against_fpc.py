@@ -242,14 +242,23 @@ class Programs:
             if not actual:
                 return None
             actuals.append(actual)
-        target = ""
+        target, selectors = "", ""
         if routine.result:
+            kind, selectors = self.selected(routine.result)
             # without an index, since what is called may change it
-            variable = self.variable(scope, routine.result, assigned=True, indexed=False)
+            variable = self.variable(scope, kind, assigned=True, indexed=False)
             if not variable:
                 return None
             target = f"{variable} := "
-        return f"{'if fuel > 0 then ' if scope.inside else ''}{target}{routine.name}({', '.join(actuals)})"
+        return f"{'if fuel > 0 then ' if scope.inside else ''}{target}{routine.name}({', '.join(actuals)}){selectors}"
+
+    def selected(self, kind):
+        """The kind of what is taken of a result of a kind, and the selectors that take it, whose indexes are constants."""
+        if kind not in PATHS or self.random.random() < 0.5:
+            return kind, ""
+        component = self.random.choice(tuple(PATHS[kind]))
+        path = self.random.choice(PATHS[kind][component])
+        return component, "".join(str(self.random.randint(1, 3)) if c == "#" else self.colour(None, 0) if c == "@" else c for c in path)
 
     # ---- blocks
 

@@ -13,11 +13,11 @@
 -- - the type itself, for `packed`, for what is no name, no subrange, no enumeration and no structure, for a name with a tuple, and for a name that is not built
 -- - the structure, for a set
 -- - the variant part of a record
--- - the statement, for an assignment to something else than a name that is built, alone or with indexes and fields, for a call with other selectors than one pair of parentheses, for a call of a name that is not built, for a `for` with bounds whose control variable has a name that is not built, for a `for` over the members of a set, and for what is no assignment, call, compound, empty, `if`, `case`, `while`, `repeat` or `for` statement
+-- - the statement, for an assignment to something else than a name that is built, alone or with indexes and fields, or with these behind one pair of parentheses, for a call of something else, for a `for` with bounds whose control variable has a name that is not built, for a `for` over the members of a set, and for what is no assignment, call, compound, empty, `if`, `case`, `while`, `repeat` or `for` statement
 -- - the structured value, with the name of its type or without
 -- - the expression, the simple expression or the term, for an operator that is not built
 -- - the factor, for `nil`, for a set, and for a character string of another length than one that is not the whole value of an argument of a `write` or `writeln` statement
--- - the access, for a name that is not built, and for selectors that are neither one pair of parentheses nor indexes and fields alone.
+-- - the access, for a name that is not built, and for other selectors than indexes and fields, alone or behind one pair of parentheses.
 --
 -- An identifier that is spelled as a required one counts as the required one, also where the text declares it anew. Only uses of names count, and not their declarations.
 use Rattle.std.specs.Prelude.{ℕ, pos, int_le, Bool, true, false, if◌then◌else◌, ◌&&◌, ◌||◌, not, is_none, is_some, length, ◌==◌, List, [], ◌∷◌, map, codes, Option, Some, None}
@@ -212,26 +212,26 @@ abbrev pub is_call : SelectorForm → Bool
 is_call Parentheses = true
 is_call _ = false
 
--- what is assigned to is a name that is built, alone or with indexes and fields
+-- the selectors behind a pair of parentheses that comes first, or all where none does
+abbrev pub behind_call : List SelectorForm → List SelectorForm
+behind_call [] = []
+behind_call (form ∷ forms) = if is_call form then forms else form ∷ forms
+
+-- whether selectors are indexes and fields, alone or behind a pair of parentheses
+abbrev pub are_components : List SelectorForm → Bool
+are_components forms = list_all is_component (behind_call forms)
+
+-- what is assigned to is a name that is built, alone or with such selectors
 abbrev pub built_target : Access → Bool
-built_target a = list_all is_component (map selector_form (out-Access a).selectors) && not (is_later (out-Access a).name)
+built_target a = are_components (map selector_form (out-Access a).selectors) && not (is_later (out-Access a).name)
 
 -- the control variable of a `for` with bounds has a name that is built
 abbrev pub built_control : List ℕ → Bool
 built_control name = not (is_later name)
 
--- a call has at most one selector, a pair of parentheses
-abbrev pub built_call_selectors : List Selector → Bool
-built_call_selectors [] = true
-built_call_selectors (selector ∷ []) = is_call (selector_form selector)
-built_call_selectors _ = false
-
--- a call is one of a name that is built, with such selectors
-abbrev pub built_call_of : List ℕ → List Selector → Bool
-built_call_of name selectors = not (is_later name) && built_call_selectors selectors
-
+-- a call is one of a name that is built, alone or with such selectors
 abbrev pub built_call : Access → Bool
-built_call a = built_call_of (out-Access a).name (out-Access a).selectors
+built_call a = are_components (map selector_form (out-Access a).selectors) && not (is_later (out-Access a).name)
 
 -- a statement is empty, an assignment, a call, compound, an `if`, a `case`, a `while`, a `repeat` or a `for` with bounds
 abbrev pub built_statement : {A B C D : Type 0} → Statement-F A B C D → Bool
@@ -274,14 +274,9 @@ built_factor (Factor-F.Parenthesized line inner) = true
 built_factor (Factor-F.Not line inner) = true
 built_factor _ = false
 
--- whether selectors are one pair of parentheses
-abbrev pub are_one_call : List SelectorForm → Bool
-are_one_call (form ∷ []) = is_call form
-are_one_call _ = false
-
--- an access is a name that is built, called (ISO 10206, 6.8.5), alone or with indexes and fields
+-- an access is a name that is built, alone or called (ISO 10206, 6.8.5), with indexes and fields or without (6.5.3 and 6.8.6)
 abbrev pub built_access : List ℕ → List SelectorForm → Bool
-built_access name forms = (are_one_call forms || list_all is_component forms) && not (is_later name)
+built_access name forms = are_components forms && not (is_later name)
 
 -- `"[" values "]"` without the name of a type
 abbrev pub brackets_are_built : Bool
@@ -625,9 +620,14 @@ abbrev pub call_arguments : List Selector → List Argument
 call_arguments [] = []
 call_arguments (selector ∷ selectors) = selector_arguments (out-Selector selector)
 
--- the first line in the arguments of a call statement
+-- the selectors of a call behind its arguments, or all where it has none
+abbrev pub behind_arguments : List Selector → List Selector
+behind_arguments [] = []
+behind_arguments (selector ∷ selectors) = if is_call (selector_form selector) then selectors else selector ∷ selectors
+
+-- the first line in the selectors of a call statement
 abbrev pub call_unbuilt : Access → Found
-call_unbuilt a = in_arguments (writes (out-Access a).name) (call_arguments (out-Access a).selectors)
+call_unbuilt a = option_or (in_arguments (writes (out-Access a).name) (call_arguments (out-Access a).selectors)) (lines_in (map selector_belonging (behind_arguments (out-Access a).selectors)))
 
 -- the first line inside a statement
 abbrev pub in_statement : Statement-F Found Found Placed Found → Found

@@ -1,7 +1,7 @@
 -- What the name of a field gives of a valid form is valid.
-use Rattle.std.proofs.Common.{◌≡◌, ℕ, suc, nat_le, List, [], ◌∷◌, slice_get, Option, Some, None, refl, subst}
+use Rattle.std.proofs.Common.{◌≡◌, ℕ, suc, nat_le, List, [], ◌∷◌, slice_get, Option, Some, None, refl, subst, sym}
 use Rattle.std.specs.Prelude.{All}
-use Rattle.ep_typed.specs.Trees.{Place, Expr, Constant, Text, Read, One, Two, Short, Step, Function, Field}
+use Rattle.ep_typed.specs.Trees.{Place, Expr, Constant, Text, Read, One, Two, Short, Step, Function, IndexedValue, FieldValue, Field}
 use Rattle.ep_typed.specs.Valid.{Declarations}
 use Rattle.ep_typed.specs.declared.unit.UnitType.{UnitType}
 use Rattle.ep_scope.specs.Fields.{field_number}
@@ -13,11 +13,12 @@ use Rattle.ep_scope.specs.declared.structure.Composition.{Composition}
 use Rattle.ep_scope.specs.declared.structure.Composition.TheVariants as composition
 use Rattle.ep_scope.specs.declared.structure.FieldType.{FieldType}
 use Rattle.ep_scope.specs.declared.structure.StructuredType.{StructuredType}
-use Rattle.ep_check_expr.specs.Agreement.{HoldsStructure, IsFormOf, IsStructuredAt, TypeValues, structures_of}
-use Rattle.ep_check_expr.specs.FieldDesignators.{designated, designated_by, field_by, field_form, field_if, field_typed, field_within}
+use Rattle.ep_check_expr.specs.Agreement.{HoldsStructure, IsAccessOf, IsFormOf, IsStructuredAt, IsStructuredValue, TypeValues, structures_of}
+use Rattle.ep_check_expr.specs.FieldDesignators.{designated, designated_by, field_by, field_form, field_if, field_typed, field_within, part_form}
 use Rattle.ep_check_expr.specs.Judgements.{Judged, Accepts, Breaks, Typed}
+use Rattle.ep_check_expr.specs.declared.access.Access.{Access}
 use Rattle.ep_check_expr.specs.declared.forms.TheConstants as limit
-use Rattle.ep_check_expr.proofs.Components.{IsComponentForm, built-component, unbuilt-component}
+use Rattle.ep_check_expr.proofs.Components.{IsComponentForm, built-component, field-component, unbuilt-component}
 use Rattle.ep_check_expr.proofs.Keeping.{Satisfies, if-satisfies}
 use Rattle.ep_check_expr.proofs.Passing.{IsForm}
 use Rattle.ep_check_expr.proofs.Places.{field-place, made_so, some-field, structure_in-holds}
@@ -56,34 +57,42 @@ module _ (declared : Declarations) (types : TypeValues) (structures : List Struc
 
   module _ (n : ℕ) (fs : List FieldType) (number : ℕ) (f : FieldType) (there : slice_get fs number ≡ Some f) (in_view : (list : List UnitType) → All (HoldsStructure types list) structures → HoldsStructure types list (made_so n (composition.Record fs))) where
     -- a field has a valid form, where the record has one
-    abbrev IsFieldForm : Option Expr → Type 0
-    IsFieldForm x = IsComponentForm declared types structures f.of f.kind (field_form x number)
+    abbrev IsFieldForm : Access → Option Expr → Type 0
+    IsFieldForm whole x = IsComponentForm declared types structures f.of f.kind whole (field_form x number)
 
     -- where the record is not built
-    unbuilt-field : (list : List UnitType) → All (HoldsStructure types list) structures → IsFieldForm None
-    unbuilt-field list all = unbuilt-component declared types structures f.of f.kind (some-field declared types structures n (composition.Record fs) in_view fs refl number f there) list all
+    unbuilt-field : (list : List UnitType) → All (HoldsStructure types list) structures → (whole : Access) → IsFieldForm whole None
+    unbuilt-field list all whole = unbuilt-component declared types structures f.of f.kind (some-field declared types structures n (composition.Record fs) in_view fs refl number f there) list all whole
 
     -- where it is read of a variable
-    read-field : (place : Place) → IsStructuredAt declared types structures n place → IsFieldForm (Some (Read place))
-    read-field place at = built-component declared types structures f.of f.kind (Field place number) (field-place declared types structures n (composition.Record fs) in_view fs refl number f there place at)
+    read-field : (place : Place) → IsStructuredAt declared types structures n place → (whole : Access) → IsFieldForm whole (Some (Read place))
+    read-field place at whole = built-component declared types structures f.of f.kind (Field place number) (field-place declared types structures n (composition.Record fs) in_view fs refl number f there place at) whole
 
-    -- either way
-    field-form : (x : Option Expr) → IsFormOf declared types structures (kind.Structured n) x → IsFieldForm x
-    field-form None g = unbuilt-field g.0 g.1
-    field-form (Some (Read place)) g = read-field place g
-    field-form (Some (Function callee given)) g = unbuilt-field g.1.0 g.1.1
-    field-form (Some (Constant z)) g = absurd g
-    field-form (Some (Text bytes)) g = absurd g
-    field-form (Some (One operation x)) g = absurd g
-    field-form (Some (Two operation x y)) g = absurd g
-    field-form (Some (Short operation x y)) g = absurd g
-    field-form (Some (Step down low high x y)) g = absurd g
+    -- where it is a value
+    value-field : (x : Expr) → part_form number x ≡ FieldValue x number → ((place : Place) → x ≡ Read place → ⊥) → IsStructuredValue declared types structures n x → (whole : Access) → IsAccessOf declared types whole (Some x) → IsFieldForm whole (Some x)
+    value-field x is unread v whole g =
+        subst (λ z. IsComponentForm declared types structures f.of f.kind whole (Some z)) (sym is)
+        (field-component declared types structures n x unread v fs number f there (in_view v.1.0 v.1.1) whole g)
+
+    -- each way
+    field-valid : (x : Option Expr) → IsFormOf declared types structures (kind.Structured n) x → (whole : Access) → IsAccessOf declared types whole x → IsFieldForm whole x
+    field-valid None g whole h = unbuilt-field g.0 g.1 whole
+    field-valid (Some (Read place)) g whole h = read-field place g whole
+    field-valid (Some (Function callee given)) g whole h = value-field (Function callee given) refl (λ place e. cc) g whole h
+    field-valid (Some (IndexedValue array index)) g whole h = value-field (IndexedValue array index) refl (λ place e. cc) g whole h
+    field-valid (Some (FieldValue inner k)) g whole h = value-field (FieldValue inner k) refl (λ place e. cc) g whole h
+    field-valid (Some (Constant z)) g whole h = absurd g
+    field-valid (Some (Text bytes)) g whole h = absurd g
+    field-valid (Some (One operation x)) g whole h = absurd g
+    field-valid (Some (Two operation x y)) g whole h = absurd g
+    field-valid (Some (Short operation x y)) g whole h = absurd g
+    field-valid (Some (Step down low high x y)) g whole h = absurd g
 
     -- a field of a valid record is valid
-    field-fits : (x : Typed) → IsFormOf declared types structures (kind.Structured n) x.form → Holds (field_typed number f x)
-    field-fits x g =
-        let c = field-form x.form g in
-        if-satisfies (IsForm declared types structures) (nat_le (suc x.depth) limit.DEPTH) (Accepts _) (Breaks (rule.TOO_DEEP ∷ [])) (λ e. (c.0, c.1 x.access)) tt
+    field-fits : (x : Typed) → IsFormOf declared types structures (kind.Structured n) x.form → IsAccessOf declared types x.access x.form → Holds (field_typed number f x)
+    field-fits x g h =
+        let c = field-valid x.form g x.access h in
+        if-satisfies (IsForm declared types structures) (nat_le (suc x.depth) limit.DEPTH) (Accepts _) (Breaks (rule.TOO_DEEP ∷ [])) (λ e. c) tt
 
 module _ (declared : Declarations) (types : TypeValues) (scopes : List Region) where
   -- what the name of a field gives of a valid form is one
@@ -91,4 +100,4 @@ module _ (declared : Declarations) (types : TypeValues) (scopes : List Region) w
   designated-fits name x p =
       field-given (IsForm declared types (structures_of scopes)) scopes x.kind name x
       (λ n fs number f is e there.
-      field-fits declared types (structures_of scopes) n fs number f there (λ list all. structure_in-holds (HoldsStructure types list) n scopes (composition.Record fs) all e) x (subst (λ k. IsFormOf declared types (structures_of scopes) k x.form) is p.0))
+      field-fits declared types (structures_of scopes) n fs number f there (λ list all. structure_in-holds (HoldsStructure types list) n scopes (composition.Record fs) all e) x (subst (λ k. IsFormOf declared types (structures_of scopes) k x.form) is p.0) p.1)

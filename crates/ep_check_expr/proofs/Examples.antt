@@ -11,7 +11,7 @@ use Rattle.ep_tree.specs.declared.expression.Term.{Term}
 use Rattle.ep_tree.specs.declared.operator.AddingOperator.TheVariants as adding
 use Rattle.ep_tree.specs.declared.operator.MultiplyingOperator.TheVariants as multiplying
 use Rattle.ep_tree.specs.declared.operator.RelationalOperator.TheVariants as relation
-use Rattle.ep_typed.specs.Trees.{Field, Accessed, Callee, Constant, Evaluated, Function, Indexed, Own, Place, Read, Two, Step, Variable, next_actual, no_actual}
+use Rattle.ep_typed.specs.Trees.{Expr, Field, Accessed, Callee, Constant, Evaluated, FieldValue, Function, Indexed, IndexedValue, Own, Place, Read, Two, Step, Variable, next_actual, no_actual}
 use Rattle.ep_typed.specs.declared.operations.Binary.TheVariants as binary
 use Rattle.ep_typed.specs.declared.value.Value.TheVariants as value
 use Rattle.ep_scope.specs.Scopes.{Region}
@@ -307,8 +307,31 @@ given_array_for_integer : judged scope (bare (call (codes "r") (plain (name (cod
 given_array_for_integer = simp (expression-judged, simple-judged, term-judged, name-judged, arguments-judged, argument-judged) refl
 
 -- s[red], which is no variable
-component_given : judged scope (bare (indexed (codes "s") (bare (name (codes "red")) ∷ []))) ≡ Accepts (record { form = None; kind = integer; depth = 3; access = access.Value })
+abbrev red_of_s : Expr
+red_of_s = IndexedValue (Function (of_program 4) no_actual) (Constant (pos 0))
+
+component_given : judged scope (bare (indexed (codes "s") (bare (name (codes "red")) ∷ []))) ≡ Accepts (record { form = Some red_of_s; kind = integer; depth = 2; access = access.Value })
 component_given = simp (expression-judged, simple-judged, term-judged, name-judged, indexes-judged) refl
+
+-- s[red], where a constant and where a bound is asked for
+constant_component_given : constant_expression scope (bare (indexed (codes "s") (bare (name (codes "red")) ∷ []))) ≡ Breaks (rule.CONSTANT ∷ [])
+constant_component_given = simp (expression-judged, simple-judged, term-judged, name-judged, indexes-judged) refl
+
+bound_component_given : bound_judged scope (bare (indexed (codes "s") (bare (name (codes "red")) ∷ []))) ≡ Breaks (rule.BOUND_CONSTANT ∷ rule.CONSTANT ∷ [])
+bound_component_given = simp (expression-judged, simple-judged, term-judged, name-judged, indexes-judged) refl
+
+-- g(s[red])
+component_given_for_variable : judged scope (bare (call (codes "g") (plain (indexed (codes "s") (bare (name (codes "red")) ∷ [])) ∷ []))) ≡ Breaks (rule.VARIABLE_NEEDED ∷ [])
+component_given_for_variable = simp (expression-judged, simple-judged, term-judged, name-judged, indexes-judged, arguments-judged, argument-judged) refl
+
+-- r(3)[red]
+component_of_call : judged scope (bare (factor.Access (access_node 1 (codes "r") (selector.Arguments 1 (plain (number 3) ∷ []) ∷ selector.Index 1 (bare (name (codes "red")) ∷ []) ∷ []))))
+    ≡ Accepts (record { form = Some (IndexedValue (Function (of_program 3) (next_actual (Evaluated (Constant (pos 3))) no_actual)) (Constant (pos 0))); kind = integer; depth = 3; access = access.Value })
+component_of_call = simp (expression-judged, simple-judged, term-judged, name-judged, indexes-judged, arguments-judged, argument-judged, number-judged) refl
+
+-- f(3).x, of a color
+field_of_color : judged scope (bare (factor.Access (access_node 1 (codes "f") (selector.Arguments 1 (plain (number 3) ∷ []) ∷ selector.Field 1 (codes "x") ∷ [])))) ≡ Breaks (rule.FIELD ∷ [])
+field_of_color = simp (expression-judged, simple-judged, term-judged, name-judged, field-judged, arguments-judged, argument-judged, number-judged) refl
 
 -- s[1], where the index is a color
 other_index_given : judged scope (bare (indexed (codes "s") (bare (number 1) ∷ []))) ≡ Breaks (rule.INDEX ∷ [])
@@ -340,10 +363,11 @@ point = record { number = 5; composition = composition.Record (record { name = c
 abbrev points : StructuredType
 points = record { number = 6; composition = composition.Array (record { index = color; component = type_name.Entry 5; kind = kind.Structured 5 }) }
 
--- the record c, the array d, the integer x, and an interface that exports a color x
+-- the record c, the array d, a function e that gives such an array, the integer x, and an interface that exports a color x
 abbrev with_records : List Region
 with_records = record {
   entries = (codes "c", declares 8 (declaration.Variable (type_name.Entry 5) (kind.Structured 5))) ∷ (codes "d", declares 9 (declaration.Variable (type_name.Entry 6) (kind.Structured 6)))
+      ∷ (codes "e", declares 2 (declaration.Function [] (type_name.Entry 6) (kind.Structured 6)))
       ∷ (codes "x", declares 0 (declaration.Variable (type_name.Required simple.Integer) integer)) ∷ (codes "red", declares 0 (declaration.Constant (kind.Ordinal color) (value.Word (pos 0)))) ∷ [];
   qualified = (codes "shades", (codes "x", declares 1 (declaration.Constant (kind.Ordinal color) (value.Word (pos 1)))) ∷ []) ∷ [];
   structures = point ∷ points ∷ [];
@@ -361,6 +385,15 @@ second_field = simp (expression-judged, simple-judged, term-judged, name-judged,
 field_of_component : judged with_records (bare (factor.Access (access_node 1 (codes "d") (selector.Index 1 (bare (name (codes "red")) ∷ []) ∷ selector.Field 1 (codes "x") ∷ []))))
     ≡ Accepts (record { form = Some (Read (Field (Indexed (Variable (codes "p") 9) (Constant (pos 0))) 0)); kind = integer; depth = 4; access = access.Variable (type_name.Required simple.Integer) protection.Unprotected })
 field_of_component = simp (expression-judged, simple-judged, term-judged, name-judged, indexes-judged, field-judged) refl
+
+-- e[red].y
+field_of_given : judged with_records (bare (factor.Access (access_node 1 (codes "e") (selector.Index 1 (bare (name (codes "red")) ∷ []) ∷ selector.Field 1 (codes "y") ∷ []))))
+    ≡ Accepts (record { form = Some (FieldValue (IndexedValue (Function (of_program 2) no_actual) (Constant (pos 0))) 1); kind = kind.Ordinal color; depth = 3; access = access.Value })
+field_of_given = simp (expression-judged, simple-judged, term-judged, name-judged, indexes-judged, field-judged) refl
+
+-- e.y, of an array
+field_of_given_array : judged with_records (bare (field (codes "e") (codes "y"))) ≡ Breaks (rule.FIELD ∷ [])
+field_of_given_array = simp (expression-judged, simple-judged, term-judged, name-judged, field-judged) refl
 
 -- c.z, which the record has not
 no_such_field : judged with_records (bare (field (codes "c") (codes "z"))) ≡ Breaks (rule.FIELD ∷ [])

@@ -294,7 +294,7 @@ module _ (scopes : List Region) where
 
   component_comes : (n : ℕ) (a : ArrayType) (x i : Typed) → structure_in scopes n ≡ Some (composition.Array a) → Comes (component_typed a x i)
   component_comes n a x i e =
-      if-satisfies IsKnown (nat_le (component_depth x.depth i.depth) 1000) (Accepts _) (Breaks (rule.TOO_DEEP ∷ [])) (λ d. kind_comes a.kind (λ h p. structure_comes n scopes (composition.Array a) h e p)) tt
+      if-satisfies IsKnown (nat_le (component_depth x.access x.depth i.depth) 1000) (Accepts _) (Breaks (rule.TOO_DEEP ∷ [])) (λ d. kind_comes a.kind (λ h p. structure_comes n scopes (composition.Array a) h e p)) tt
 
   field_comes : (n : ℕ) (fs : List FieldType) (number : ℕ) (f : FieldType) (x : Typed) → structure_in scopes n ≡ Some (composition.Record fs) → slice_get fs number ≡ Some f → Comes (field_typed number f x)
   field_comes n fs number f x e there =

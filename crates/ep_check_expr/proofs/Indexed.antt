@@ -1,7 +1,7 @@
 -- What an index gives of a valid form is valid.
-use Rattle.std.proofs.Common.{◌≡◌, true, ℕ, suc, max, nat_le, List, [], ◌∷◌, Option, Some, None, refl, subst}
+use Rattle.std.proofs.Common.{◌≡◌, true, ℕ, suc, max, nat_le, List, [], ◌∷◌, Option, Some, None, refl, subst, sym}
 use Rattle.std.specs.Prelude.{All}
-use Rattle.ep_typed.specs.Trees.{Place, Expr, Constant, Text, Read, One, Two, Short, Step, Function, Indexed}
+use Rattle.ep_typed.specs.Trees.{Place, Expr, Constant, Text, Read, One, Two, Short, Step, Function, IndexedValue, FieldValue, Indexed}
 use Rattle.ep_typed.specs.Valid.{Declarations}
 use Rattle.ep_typed.specs.declared.unit.UnitType.{UnitType}
 use Rattle.ep_scope.specs.Scopes.{Region, structure_in}
@@ -12,12 +12,13 @@ use Rattle.ep_scope.specs.declared.structure.ArrayType.{ArrayType}
 use Rattle.ep_scope.specs.declared.structure.Composition.{Composition}
 use Rattle.ep_scope.specs.declared.structure.Composition.TheVariants as composition
 use Rattle.ep_scope.specs.declared.structure.StructuredType.{StructuredType}
-use Rattle.ep_check_expr.specs.Agreement.{HoldsStructure, IsFormOf, IsStructuredAt, TypeValues, structures_of}
-use Rattle.ep_check_expr.specs.Indexing.{component_depth, component_form, component_typed, indexed, indexed_by, indexed_if, no_index}
+use Rattle.ep_check_expr.specs.Agreement.{HoldsStructure, IsAccessOf, IsFormOf, IsStructuredAt, IsStructuredValue, TypeValues, structures_of}
+use Rattle.ep_check_expr.specs.Indexing.{component_depth, component_form, component_typed, element_form, indexed, indexed_by, indexed_if, no_index}
 use Rattle.ep_check_expr.specs.Judgements.{Judged, Accepts, Breaks, Typed}
 use Rattle.ep_check_expr.specs.Operators.{are_compatible, character, is_integer, unbuilt_typed}
+use Rattle.ep_check_expr.specs.declared.access.Access.{Access}
 use Rattle.ep_check_expr.specs.declared.forms.TheConstants as limit
-use Rattle.ep_check_expr.proofs.Components.{IsComponentForm, built-component, unbuilt-component}
+use Rattle.ep_check_expr.proofs.Components.{IsComponentForm, built-component, indexed-component, unbuilt-component}
 use Rattle.ep_check_expr.proofs.Keeping.{Satisfies, if-satisfies}
 use Rattle.ep_check_expr.proofs.Passing.{IsForm}
 use Rattle.ep_check_expr.proofs.Places.{component-place, made_so, some-component, some-list, structure_in-holds}
@@ -49,35 +50,45 @@ module _ (declared : Declarations) (types : TypeValues) (structures : List Struc
 
   module _ (a : ArrayType) (n : ℕ) (in_view : (list : List UnitType) → All (HoldsStructure types list) structures → HoldsStructure types list (made_so n (composition.Array a))) where
     -- a component has a valid form, where the array and the index have one
-    abbrev IsElement : Option Expr → Option Expr → Type 0
-    IsElement x i = IsComponentForm declared types structures a.component a.kind (component_form x i)
+    abbrev IsElement : Access → Option Expr → Option Expr → Type 0
+    IsElement whole x i = IsComponentForm declared types structures a.component a.kind whole (component_form x i)
 
     -- where the array or the index is not built
-    unbuilt-element : (list : List UnitType) → All (HoldsStructure types list) structures → IsComponentForm declared types structures a.component a.kind None
-    unbuilt-element list all = unbuilt-component declared types structures a.component a.kind (some-component declared types structures n (composition.Array a) in_view a refl) list all
+    unbuilt-element : (list : List UnitType) → All (HoldsStructure types list) structures → (whole : Access) → IsComponentForm declared types structures a.component a.kind whole None
+    unbuilt-element list all whole = unbuilt-component declared types structures a.component a.kind (some-component declared types structures n (composition.Array a) in_view a refl) list all whole
 
-    -- where the array is
-    read-element : (place : Place) (i : Option Expr) → IsStructuredAt declared types structures n place → IsFormOf declared types structures (kind.Ordinal a.index) i → IsElement (Some (Read place)) i
-    read-element place None at f = let p = some-list declared types structures n place at in unbuilt-element p.0 p.1
-    read-element place (Some x) at f = built-component declared types structures a.component a.kind (Indexed place x) (component-place declared types structures n (composition.Array a) in_view a refl place x at f.1)
+    -- where the array is read of a variable
+    read-element : (place : Place) (i : Option Expr) → IsStructuredAt declared types structures n place → IsFormOf declared types structures (kind.Ordinal a.index) i → (whole : Access) → IsElement whole (Some (Read place)) i
+    read-element place None at f whole = let p = some-list declared types structures n place at in unbuilt-element p.0 p.1 whole
+    read-element place (Some x) at f whole = built-component declared types structures a.component a.kind (Indexed place x) (component-place declared types structures n (composition.Array a) in_view a refl place x at f.1) whole
 
-    -- either way
-    element-form : (x i : Option Expr) → IsFormOf declared types structures (kind.Structured n) x → IsFormOf declared types structures (kind.Ordinal a.index) i → IsElement x i
-    element-form None i f g = unbuilt-element f.0 f.1
-    element-form (Some (Read place)) i f g = read-element place i f g
-    element-form (Some (Function callee given)) i f g = unbuilt-element f.1.0 f.1.1
-    element-form (Some (Constant z)) i f g = absurd f
-    element-form (Some (Text bytes)) i f g = absurd f
-    element-form (Some (One operation x)) i f g = absurd f
-    element-form (Some (Two operation x y)) i f g = absurd f
-    element-form (Some (Short operation x y)) i f g = absurd f
-    element-form (Some (Step down low high x y)) i f g = absurd f
+    -- where it is a value
+    value-element : (x : Expr) → ((j : Expr) → element_form x j ≡ IndexedValue x j) → ((place : Place) → x ≡ Read place → ⊥) → (i : Option Expr) → IsStructuredValue declared types structures n x → IsFormOf declared types structures (kind.Ordinal a.index) i
+        → (whole : Access) → IsAccessOf declared types whole (Some x) → IsElement whole (Some x) i
+    value-element x is unread None v f whole g = unbuilt-element v.1.0 v.1.1 whole
+    value-element x is unread (Some j) v f whole g =
+        subst (λ z. IsComponentForm declared types structures a.component a.kind whole (Some z)) (sym (is j))
+        (indexed-component declared types structures n x unread v a j (in_view v.1.0 v.1.1) f.1 whole g)
+
+    -- each way
+    element-valid : (x i : Option Expr) → IsFormOf declared types structures (kind.Structured n) x → IsFormOf declared types structures (kind.Ordinal a.index) i → (whole : Access) → IsAccessOf declared types whole x → IsElement whole x i
+    element-valid None i f g whole h = unbuilt-element f.0 f.1 whole
+    element-valid (Some (Read place)) i f g whole h = read-element place i f g whole
+    element-valid (Some (Function callee given)) i f g whole h = value-element (Function callee given) (λ j. refl) (λ place e. cc) i f g whole h
+    element-valid (Some (IndexedValue array index)) i f g whole h = value-element (IndexedValue array index) (λ j. refl) (λ place e. cc) i f g whole h
+    element-valid (Some (FieldValue inner number)) i f g whole h = value-element (FieldValue inner number) (λ j. refl) (λ place e. cc) i f g whole h
+    element-valid (Some (Constant z)) i f g whole h = absurd f
+    element-valid (Some (Text bytes)) i f g whole h = absurd f
+    element-valid (Some (One operation x)) i f g whole h = absurd f
+    element-valid (Some (Two operation x y)) i f g whole h = absurd f
+    element-valid (Some (Short operation x y)) i f g whole h = absurd f
+    element-valid (Some (Step down low high x y)) i f g whole h = absurd f
 
     -- a component of a valid array at a valid index is valid
-    component-fits : (x i : Typed) → IsFormOf declared types structures (kind.Structured n) x.form → IsFormOf declared types structures (kind.Ordinal a.index) i.form → Holds (component_typed a x i)
-    component-fits x i f g =
-        let c = element-form x.form i.form f g in
-        if-satisfies (IsForm declared types structures) (nat_le (component_depth x.depth i.depth) limit.DEPTH) (Accepts _) (Breaks (rule.TOO_DEEP ∷ [])) (λ e. (c.0, c.1 x.access)) tt
+    component-fits : (x i : Typed) → IsFormOf declared types structures (kind.Structured n) x.form → IsFormOf declared types structures (kind.Ordinal a.index) i.form → IsAccessOf declared types x.access x.form → Holds (component_typed a x i)
+    component-fits x i f g h =
+        let c = element-valid x.form i.form f g x.access h in
+        if-satisfies (IsForm declared types structures) (nat_le (component_depth x.access x.depth i.depth) limit.DEPTH) (Accepts _) (Breaks (rule.TOO_DEEP ∷ [])) (λ e. c) tt
 
 module _ (declared : Declarations) (types : TypeValues) (scopes : List Region) where
   -- what is accepted is valid where these scopes are in view
@@ -86,10 +97,10 @@ module _ (declared : Declarations) (types : TypeValues) (scopes : List Region) w
 
   -- an index is valid where it has the host of the index type
   array-fits : (n : ℕ) (a : ArrayType) (x i : Typed) → structure_in scopes n ≡ Some (composition.Array a) → are_compatible (kind.Ordinal a.index) i.kind ≡ true
-      → IsFormOf declared types (structures_of scopes) (kind.Structured n) x.form → IsFormOf declared types (structures_of scopes) i.kind i.form → Fits (component_typed a x i)
-  array-fits n a x i e same f g =
+      → IsFormOf declared types (structures_of scopes) (kind.Structured n) x.form → IsFormOf declared types (structures_of scopes) i.kind i.form → IsAccessOf declared types x.access x.form → Fits (component_typed a x i)
+  array-fits n a x i e same f g h =
       component-fits declared types (structures_of scopes) a n (λ list all. structure_in-holds (HoldsStructure types list) n scopes (composition.Array a) all e) x i f
-      (compatible-form declared types (structures_of scopes) a.index i.kind i.form same g)
+      (compatible-form declared types (structures_of scopes) a.index i.kind i.form same g) h
 
   -- a character of a string is valid
   character-fits : (x i : Typed) → Fits (unbuilt_typed character x i)
@@ -98,4 +109,4 @@ module _ (declared : Declarations) (types : TypeValues) (scopes : List Region) w
   -- what an index gives of a valid form is one
   pub indexed-fits : (x i : Typed) → IsForm declared types (structures_of scopes) x → IsForm declared types (structures_of scopes) i → Fits (indexed scopes x i)
   indexed-fits x i p q =
-      index-given (IsForm declared types (structures_of scopes)) scopes x.kind x i (λ n a is e same. array-fits n a x i e same (subst (λ k. IsFormOf declared types (structures_of scopes) k x.form) is p.0) q.0) (character-fits x i)
+      index-given (IsForm declared types (structures_of scopes)) scopes x.kind x i (λ n a is e same. array-fits n a x i e same (subst (λ k. IsFormOf declared types (structures_of scopes) k x.form) is p.0) q.0 p.1) (character-fits x i)

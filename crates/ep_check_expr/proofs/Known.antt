@@ -5,7 +5,7 @@ use Rattle.std.specs.Prelude.{⊤, if◌then◌else◌, ◌-ℤ◌, unsigned_abs
 use Rattle.ep_typed.specs.Hosts.{Host, least, greatest, is_of_host}
 use Rattle.ep_typed.specs.Hosts as host
 use Rattle.ep_typed.specs.Operations.{Answer, Number, Fault, is_integer, decides, within, ordinal_of, unary_answer, binary_answer, step_answer}
-use Rattle.ep_typed.specs.Trees.{Expr, Constant, Text, Read, One, Two, Short, Step, Function}
+use Rattle.ep_typed.specs.Trees.{Expr, Constant, Text, Read, One, Two, Short, Step, Function, IndexedValue, FieldValue}
 use Rattle.ep_typed.specs.Valid.{Declarations, IsExpr, IsUnary, IsBinary}
 use Rattle.ep_typed.specs.Valid as valid
 use Rattle.ep_typed.specs.declared.operations.Unary.{Unary}
@@ -169,6 +169,8 @@ module _ (declared : Declarations) where
       as_host h host.Boolean z v.0 (short_folded-known (λ z. IsTrue (is_of_host host.Boolean z)) operation (folded x) (folded y) z (λ w e. known-of_kind x (valid.Ordinal host.Boolean) w v.1 e) (λ w e. known-of_kind y (valid.Ordinal host.Boolean) w v.2 e) f)
   known-of_kind (Step down low high x y) (valid.Ordinal h) z v f = let p = two_folded-known (step_answer down low high) (folded x) (folded y) z f in step-of_host down low high h v.0 p.left p.right z v.1 v.2 v.3 p.is_answer
   known-of_kind (Function callee given) (valid.Ordinal h) z v f = cc
+  known-of_kind (IndexedValue array index) (valid.Ordinal h) z v f = cc
+  known-of_kind (FieldValue whole number) (valid.Ordinal h) z v f = cc
 
   -- of a valid form of a host it is a value of the host
   pub known-of_host : (e : Expr) (h : Host) (z : ℤ) → IsExpr declared (valid.Ordinal h) e → folded e ≡ Known z → IsTrue (is_of_host h z)
@@ -229,6 +231,8 @@ module _ (declared : Declarations) (types : TypeValues) (structures : List Struc
   constant-fits (kind.Ordinal h) (Some (Short operation x y)) s = folded-constant h (Short operation x y) (folded (Short operation x y)) refl s.0 s.1
   constant-fits (kind.Ordinal h) (Some (Step down low high x y)) s = folded-constant h (Step down low high x y) (folded (Step down low high x y)) refl s.0 s.1
   constant-fits (kind.Ordinal h) (Some (Function callee given)) s = tt
+  constant-fits (kind.Ordinal h) (Some (IndexedValue array index)) s = tt
+  constant-fits (kind.Ordinal h) (Some (FieldValue whole number)) s = tt
   constant-fits (kind.Structured n) None s = tt
   constant-fits (kind.Structured n) (Some (Text bytes)) s = absurd s
   constant-fits (kind.Structured n) (Some (Constant z)) s = absurd s
@@ -238,6 +242,8 @@ module _ (declared : Declarations) (types : TypeValues) (structures : List Struc
   constant-fits (kind.Structured n) (Some (Short operation x y)) s = absurd s
   constant-fits (kind.Structured n) (Some (Step down low high x y)) s = absurd s
   constant-fits (kind.Structured n) (Some (Function callee given)) s = tt
+  constant-fits (kind.Structured n) (Some (IndexedValue array index)) s = tt
+  constant-fits (kind.Structured n) (Some (FieldValue whole number)) s = tt
   constant-fits kind.Text None s = tt
   constant-fits kind.Text (Some (Text bytes)) s = tt
   constant-fits kind.Text (Some (Constant z)) s = let e = s.1 in cc
@@ -247,6 +253,8 @@ module _ (declared : Declarations) (types : TypeValues) (structures : List Struc
   constant-fits kind.Text (Some (Short operation x y)) s = let e = s.0 in cc
   constant-fits kind.Text (Some (Step down low high x y)) s = let e = s.1 in cc
   constant-fits kind.Text (Some (Function callee given)) s = tt
+  constant-fits kind.Text (Some (IndexedValue array index)) s = tt
+  constant-fits kind.Text (Some (FieldValue whole number)) s = tt
   constant-fits kind.File None s = absurd s
   constant-fits kind.File (Some (Text bytes)) s = absurd s
   constant-fits kind.File (Some (Constant z)) s = absurd s
@@ -256,3 +264,5 @@ module _ (declared : Declarations) (types : TypeValues) (structures : List Struc
   constant-fits kind.File (Some (Short operation x y)) s = absurd s
   constant-fits kind.File (Some (Step down low high x y)) s = absurd s
   constant-fits kind.File (Some (Function callee given)) s = absurd s
+  constant-fits kind.File (Some (IndexedValue array index)) s = absurd s
+  constant-fits kind.File (Some (FieldValue whole number)) s = absurd s

@@ -2,7 +2,7 @@
 use Rattle.std.proofs.Common.{◌≡◌, ℕ, ℤ, Bool, true, false, List, ◌∷◌, [], Option, Some, None, map, refl, ap, sym, subst}
 use Rattle.std.specs.Prelude.{if◌then◌else◌}
 use Rattle.ep_typed.specs.Hosts.{is_of_host}
-use Rattle.ep_typed.specs.Trees.{Expr, Constant, Text, Read, One, Two, Short, Step, Function}
+use Rattle.ep_typed.specs.Trees.{Expr, Constant, Text, Read, One, Two, Short, Step, Function, IndexedValue, FieldValue}
 use Rattle.ep_typed.specs.Valid.{Declarations}
 use Rattle.ep_typed.specs.declared.value.Value.TheVariants as value
 use Rattle.ep_tree.specs.declared.expression.Access.{Access}
@@ -200,6 +200,8 @@ same_kind k (Some (Two operation x y)) c e = folded_kind k (folded (Two operatio
 same_kind k (Some (Short operation x y)) c e = folded_kind k (folded (Short operation x y)) c e
 same_kind k (Some (Step down low high x y)) c e = folded_kind k (folded (Step down low high x y)) c e
 same_kind k (Some (Function callee given)) c e = folded_kind k (folded (Function callee given)) c e
+same_kind k (Some (IndexedValue array index)) c e = folded_kind k (folded (IndexedValue array index)) c e
+same_kind k (Some (FieldValue whole number)) c e = folded_kind k (folded (FieldValue whole number)) c e
 
 -- a constant has the kind of its expression
 known_constant : (scopes : List Region) (kind : Kind) (form : Option Expr) → IsKnownKind scopes kind → (c : ConstantForm) → constant_of kind form ≡ Accepts c → IsKnownKind scopes c.kind

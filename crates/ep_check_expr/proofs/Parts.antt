@@ -137,8 +137,7 @@ module _ (Q : Typed → Type 0) where
     -- a name with what follows it
     pub access_judged-fits : (name : List ℕ) (ss : List Selected) → AreSelected ss → Satisfies Q (access_judged scopes name ss)
     access_judged-fits name [] p = kept.named name
-    access_judged-fits name (Arguments gs ∷ []) p = call_named-fits (depth_in scopes) name (meant scopes name) gs (kept.called name) p.0
+    access_judged-fits name (Arguments gs ∷ ss) p = selected_all-fits (call_named (depth_in scopes) name (meant scopes name) gs) ss (call_named-fits (depth_in scopes) name (meant scopes name) gs (kept.called name) p.0) p.1
     access_judged-fits name (Field field ∷ ss) p = selected_all-fits (qualified_value scopes name field) ss (qualified-fits name field) p.1
     access_judged-fits name (Indexes is ∷ ss) p = selected_all-fits (value_named (depth_in scopes) name (meant scopes name)) (Indexes is ∷ ss) (kept.named name) p
     access_judged-fits name (Other ∷ ss) p = tt
-    access_judged-fits name (Arguments gs ∷ s ∷ ss) p = tt

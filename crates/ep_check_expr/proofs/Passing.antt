@@ -96,6 +96,8 @@ module _ (declared : Declarations) (types : TypeValues) (structures : List Struc
 pub structured-expr : (declared : Declarations) (types : TypeValues) (structures : List StructuredType) (n : ℕ) (x : Expr) → IsStructuredForm declared types structures n x → (t : TypeValue) × IsValueOf types n t × IsExpr declared (valid.Structured t) x
 structured-expr declared types structures n (tree.Read place) f = structured-place declared types structures n place f
 structured-expr declared types structures n (tree.Function callee given) f = f.0
+structured-expr declared types structures n (tree.IndexedValue array index) f = f.0
+structured-expr declared types structures n (tree.FieldValue whole number) f = f.0
 structured-expr declared types structures n (tree.Constant z) f = absurd f
 structured-expr declared types structures n (tree.Text bytes) f = absurd f
 structured-expr declared types structures n (tree.One operation x) f = absurd f

@@ -116,7 +116,7 @@ module _ (list : List UnitType) where
   module _ (types : TypeValues) (d : Denoter) (n : ℕ) (of : IsStructuredDenoter list d n) where
     -- the parts of an array
     array_parts : (a : ArrayType) → HoldsStructure types list (made_so n (composition.Array a)) → (p : ArrayParts) × (array_of list d ≡ Some p) × IsArrayOf types list a p
-    array_parts a h = within h.0 h.1 h.2
+    array_parts a h = within h.structure h.has_structure h.made_of
       where
         within : (m : Structure) → HasStructure list (Named n []) m → IsMadeOf types list (composition.Array a) m → (p : ArrayParts) × (array_of list d ≡ Some p) × IsArrayOf types list a p
         within (Arrays p) there made = (p, alike d n of.0 (Arrays p) of.1 of.2 there, made)
@@ -124,7 +124,7 @@ module _ (list : List UnitType) where
 
     -- the components of a record
     record_parts : (fs : List FieldType) → HoldsStructure types list (made_so n (composition.Record fs)) → (ds : Denoters) × (record_of list d ≡ Some ds) × AreFields types list fs ds
-    record_parts fs h = within h.0 h.1 h.2
+    record_parts fs h = within h.structure h.has_structure h.made_of
       where
         within : (m : Structure) → HasStructure list (Named n []) m → IsMadeOf types list (composition.Record fs) m → (ds : Denoters) × (record_of list d ≡ Some ds) × AreFields types list fs ds
         within (Arrays p) there made = absurd made
@@ -186,7 +186,7 @@ module _ (declared : Declarations) (types : TypeValues) (structures : List Struc
 
     -- some denoter is that of a component
     pub some-component : (a : ArrayType) → c ≡ composition.Array a → (list : List UnitType) → All (HoldsStructure types list) structures → (d : Denoter) × HasKind types list d a.kind
-    some-component a is list all = within h.0 h.2
+    some-component a is list all = within h.structure h.made_of
       where
         h : HoldsStructure types list (made_so n (composition.Array a))
         h = subst (λ z. HoldsStructure types list (made_so n z)) is (in_view list all)
@@ -196,7 +196,7 @@ module _ (declared : Declarations) (types : TypeValues) (structures : List Struc
         within (Records ds) made = absurd made
 
     pub some-field : (fs : List FieldType) → c ≡ composition.Record fs → (number : ℕ) (f : FieldType) → slice_get fs number ≡ Some f → (list : List UnitType) → All (HoldsStructure types list) structures → (d : Denoter) × HasKind types list d f.kind
-    some-field fs is number f there list all = within h.0 h.2
+    some-field fs is number f there list all = within h.structure h.made_of
       where
         h : HoldsStructure types list (made_so n (composition.Record fs))
         h = subst (λ z. HoldsStructure types list (made_so n z)) is (in_view list all)

@@ -1,10 +1,10 @@
 -- What is the bare name of a variable is read of a place.
-use Rattle.std.proofs.Common.{◌≡◌, ℕ, suc, nat_le, List, [], ◌∷◌, Option, Some, None, Result, Ok, Err, refl, subst, sym, ◌∙◌}
+use Rattle.std.proofs.Common.{◌≡◌, ℕ, suc, nat_le, List, [], ◌∷◌, Option, Some, None, Result, Ok, Err, ap, refl, subst, sym, ◌∙◌}
 use Rattle.std.specs.Prelude.{IfOk}
 use Rattle.std.specs.Option.{option_map}
 use Rattle.ep_tree.specs.declared.expression.Access as syntax
 use Rattle.ep_tree.specs.declared.expression.Argument.{Argument, out-Argument}
-use Rattle.ep_typed.specs.Trees.{Callee, Expr, Constant, Text, Read, One, Two, Short, Step, Field, Function, Indexed, Variable}
+use Rattle.ep_typed.specs.Trees.{Callee, Expr, Field, Indexed, Variable}
 use Rattle.ep_typed.specs.Viewed.{expr_of}
 use Rattle.ep_scope.specs.Scopes.{Region, Meant, Declares, Requires, Nothing, depth_in, meant, meant_in}
 use Rattle.ep_scope.specs.Scopes as meaning
@@ -28,9 +28,9 @@ use Rattle.ep_check_expr.specs.declared.forms.Typed as code
 use Rattle.ep_check_expr.specs.Answers.{AnswersTyped, typed_of}
 use Rattle.ep_check_expr.specs.Arguments.{IsReading, IsReadingIf, Taken, arguments_judged, callee_at, function_typed, own_place}
 use Rattle.ep_check_expr.specs.Expressions.{given, name_judged}
-use Rattle.ep_check_expr.specs.FieldDesignators.{field_form, field_typed}
+use Rattle.ep_check_expr.specs.FieldDesignators.{field_form, field_typed, part_form}
 use Rattle.ep_check_expr.specs.Functions.{Given}
-use Rattle.ep_check_expr.specs.Indexing.{component_access, component_depth, component_form, component_typed}
+use Rattle.ep_check_expr.specs.Indexing.{component_access, component_depth, component_form, component_typed, element_form}
 use Rattle.ep_check_expr.specs.Judgements.{Judged, Accepts, Breaks, Typed, when_accepted}
 use Rattle.ep_check_expr.specs.Names.{call_declared, value_declared, value_named, value_required}
 use Rattle.ep_check_expr.proofs.Accepted.{accesses-fit, expressions-fit}
@@ -87,45 +87,33 @@ call-placed depth (meaning.Standard file) = tt
 call-placed depth (Requires r) = tt
 call-placed depth Nothing = tt
 
--- a component that is built is read of its place
-component-placed : (x i : Option Expr) → IsReadingIf (component_form x i)
-component-placed None i = tt
-component-placed (Some (Read place)) None = tt
-component-placed (Some (Read place)) (Some x) = (Indexed place x, refl)
-component-placed (Some (Constant z)) i = tt
-component-placed (Some (Text bytes)) i = tt
-component-placed (Some (One operation x)) i = tt
-component-placed (Some (Two operation x y)) i = tt
-component-placed (Some (Short operation x y)) i = tt
-component-placed (Some (Step down low high x y)) i = tt
-component-placed (Some (Function callee given)) i = tt
+-- a component is read of its place where the array is
+component-placed : (x i : Option Expr) → IsReadingIf x → IsReadingIf (component_form x i)
+component-placed None i r = tt
+component-placed (Some x) None r = tt
+component-placed (Some x) (Some i) r = (Indexed r.0 i, ap (λ z. element_form z i) r.1)
 
--- so is what is a variable
-access-placed : (component : TypeName) (a : Access) (form : Option Expr) → IsReadingIf form → IsReading (component_access component a) form
-access-placed component (access.Variable of guarded) form r = r
-access-placed component access.File form r = tt
-access-placed component access.Constant form r = tt
-access-placed component access.Value form r = tt
+-- so is what is a variable, where the whole is one
+access-placed : (component : TypeName) (a : Access) (x form : Option Expr) → (IsReadingIf x → IsReadingIf form) → IsReading a x → IsReading (component_access component a) form
+access-placed component (access.Variable of guarded) x form f r = f r
+access-placed component access.File x form f r = tt
+access-placed component access.Constant x form f r = tt
+access-placed component access.Value x form f r = tt
 
 -- a component is read of a place where it is a variable
-index-placed : (a : ArrayType) (x i : Typed) → Satisfies IsPlaced (component_typed a x i)
-index-placed a x i =
-    if-satisfies IsPlaced (nat_le (component_depth x.depth i.depth) limit.DEPTH) (Accepts _) (Breaks (rule.TOO_DEEP ∷ [])) (λ e. access-placed a.component x.access (component_form x.form i.form) (component-placed x.form i.form)) tt
+index-placed : (a : ArrayType) (x i : Typed) → IsPlaced x → Satisfies IsPlaced (component_typed a x i)
+index-placed a x i p =
+    if-satisfies IsPlaced (nat_le (component_depth x.access x.depth i.depth) limit.DEPTH) (Accepts _) (Breaks (rule.TOO_DEEP ∷ []))
+    (λ e. access-placed a.component x.access x.form (component_form x.form i.form) (component-placed x.form i.form) p) tt
 
 -- so is a field
-field-built : (x : Option Expr) (number : ℕ) → IsReadingIf (field_form x number)
-field-built None number = tt
-field-built (Some (Read place)) number = (Field place number, refl)
-field-built (Some (Constant z)) number = tt
-field-built (Some (Text bytes)) number = tt
-field-built (Some (One operation x)) number = tt
-field-built (Some (Two operation x y)) number = tt
-field-built (Some (Short operation x y)) number = tt
-field-built (Some (Step down low high x y)) number = tt
-field-built (Some (Function callee given)) number = tt
+field-built : (x : Option Expr) (number : ℕ) → IsReadingIf x → IsReadingIf (field_form x number)
+field-built None number r = tt
+field-built (Some x) number r = (Field r.0 number, ap (part_form number) r.1)
 
-field-placed : (number : ℕ) (f : FieldType) (x : Typed) → Satisfies IsPlaced (field_typed number f x)
-field-placed number f x = if-satisfies IsPlaced (nat_le (suc x.depth) limit.DEPTH) (Accepts _) (Breaks (rule.TOO_DEEP ∷ [])) (λ e. access-placed f.of x.access (field_form x.form number) (field-built x.form number)) tt
+field-placed : (number : ℕ) (f : FieldType) (x : Typed) → IsPlaced x → Satisfies IsPlaced (field_typed number f x)
+field-placed number f x p =
+    if-satisfies IsPlaced (nat_le (suc x.depth) limit.DEPTH) (Accepts _) (Breaks (rule.TOO_DEEP ∷ [])) (λ e. access-placed f.of x.access x.form (field_form x.form number) (field-built x.form number) p) tt
 
 -- each rule keeps it
 placing_is_kept : (scopes : List Region) → IsKept IsPlaced scopes
@@ -136,8 +124,8 @@ placing_is_kept scopes = record {
   named = λ name. named-placed (depth_in scopes) name (meant scopes name);
   within = λ interface name. named-placed (depth_in scopes) name (meant_in scopes interface name);
   called = λ name. call-placed (depth_in scopes) (meant scopes name);
-  indexes = λ x i p q. index-given IsPlaced scopes x.kind x i (λ n a is e same. index-placed a x i) (deep-plain IsPlaced plain _ _ _);
-  fields = λ name x p. field-given IsPlaced scopes x.kind name x (λ n fs number f is e there. field-placed number f x);
+  indexes = λ x i p q. index-given IsPlaced scopes x.kind x i (λ n a is e same. index-placed a x i p) (deep-plain IsPlaced plain _ _ _);
+  fields = λ name x p. field-given IsPlaced scopes x.kind name x (λ n fs number f is e there. field-placed number f x p);
   parenthesizes = λ x p. tt;
   signs = signed-plain IsPlaced plain;
   negates = λ x p. negated-plain IsPlaced plain x;

@@ -1,9 +1,10 @@
--- Rows of indexes and fields, read from the left.
-use Rattle.std.proofs.Common.{◌≡◌, ℕ, ◌+◌, ◌<◌, Bool, true, false, ◌||◌, not, List, [], ◌∷◌, drop, get_or, length, map, Option, Some, None, ◌⊎◌, inl, inr, refl, sym, ap, ◌∙◌, subst}
+-- Rows of indexes and fields, read from the left, behind a name or a call.
+use Rattle.std.proofs.Common.{◌≡◌, ℕ, ◌+◌, ◌<◌, true, false, not, List, [], ◌∷◌, drop, get_or, length, map, Option, Some, None, ◌⊎◌, inl, inr, refl, sym, ap, ◌∙◌, subst}
+use Rattle.std.specs.Prelude.{if◌then◌else◌}
 use Rattle.std.specs.List.{list_all}
 use Rattle.std.specs.Option.{option_or}
 use Rattle.ep_built.specs.Built as built
-use Rattle.ep_built.specs.Built.{Belonging, Found, Placed, Selecting, access_unbuilt, are_one_call, argument_unbuilt, at_node, built_access, expression_unbuilt, first_in, form_told, is_call, is_component, is_later, lines_in, placed_access, selector_belonging}
+use Rattle.ep_built.specs.Built.{Belonging, Found, Placed, Selecting, access_unbuilt, argument_unbuilt, at_node, behind_call, built_access, expression_unbuilt, first_in, form_told, is_call, is_component, is_later, lines_in, placed_access, selector_belonging}
 use Rattle.ep_scope.specs.Scopes.{Region, depth_in, meant}
 use Rattle.ep_tree.specs.Shapes.{arguments_in, field_in, when_some}
 use Rattle.ep_tree.specs.declared.expression.ComponentValue.TheFolds.{fold_out-Access, fold-roll-Selector}
@@ -23,15 +24,15 @@ use Rattle.ep_tree.specs.declared.expression.Selector.TheVariants as selector
 use Rattle.ep_tree.specs.declared.expression.Simple.{Simple}
 use Rattle.ep_tree.specs.declared.expression.Term.{Term}
 use Rattle.ep_tree.specs.declared.expression.Values.{Values}
-use Rattle.ep_check_expr.specs.Expressions.{Indexes, access_judged, judged, name_judged, selected, selected_all}
+use Rattle.ep_check_expr.specs.Expressions.{Indexes, access_judged, given, judged, name_judged, selected, selected_all}
 use Rattle.ep_check_expr.specs.FieldDesignators.{designated}
 use Rattle.ep_check_expr.specs.Indexing.{indexed, indexed_all}
 use Rattle.ep_check_expr.specs.Judgements.{Judged, Accepts, Typed, both, breaks, when_accepted}
-use Rattle.ep_check_expr.specs.Names.{qualified_value, value_named}
-use Rattle.ep_check_expr.specs.Shapes.{field_first, only_arguments}
+use Rattle.ep_check_expr.specs.Names.{call_named, qualified_value, value_named}
+use Rattle.ep_check_expr.specs.Shapes.{arguments_first, field_first}
 use Rattle.ep_check_expr.proofs.Breaking.{both-first, both-second, when_accepted-part}
 use Rattle.ep_check_expr.proofs.Folds.{name_judged-is}
-use Rattle.ep_check_expr.proofs.Nodes.{field-judged, indexes-judged}
+use Rattle.ep_check_expr.proofs.Nodes.{arguments-judged, field-judged, indexes-judged}
 use Rattle.ep_check_expr.proofs.Rows.{and_first, and_second, at_node-built, at_node-inner, left-cons, or-first, or-second}
 
 -- ---- indexes and fields
@@ -187,27 +188,92 @@ call-layer (Selector-F.Field line name) h = rw fold-roll-Selector refl
 call-layer (Selector-F.Dereference line) h = rw fold-roll-Selector refl
 call-layer (Selector-F.Arguments line arguments) h = cc
 
--- what has no arguments alone is no call
-no_call : (ss : List Selector) → only_arguments ss ≡ None → are_one_call (map form_told (map selector_belonging ss)) ≡ false
-no_call [] h = refl
-no_call (s ∷ []) h = ap (λ z. is_call (form_told (selector_belonging z))) (sym (roll-out-Selector s)) ∙ call-layer (out-Selector s) h
-no_call (s ∷ u ∷ more) h = refl
+-- what gives nothing of a selector has nothing of it
+none-first : {A : Type 0} (more : List Selector) (o : Option A) → when_some {B = A × List Selector} o (λ a. Some (a, more)) ≡ None → o ≡ None
+none-first more None h = refl
+none-first more (Some a) h = cc
 
--- of two of which one holds, the second where the first one does not
-second_of : (a b : Bool) → a ≡ false → (a || b) ≡ true → b ≡ true
-second_of true b h e = cc
-second_of false b h e = e
+-- where no arguments come first, all selectors stand behind no call
+no_call : (ss : List Selector) → arguments_first ss ≡ None → behind_call (map form_told (map selector_belonging ss)) ≡ map form_told (map selector_belonging ss)
+no_call [] h = refl
+no_call (s ∷ more) h =
+    let e : is_call (form_told (selector_belonging s)) ≡ false = ap (λ z. is_call (form_told (selector_belonging z))) (sym (roll-out-Selector s)) ∙ call-layer (out-Selector s) (none-first more (arguments_in (out-Selector s)) h) in
+    ap (λ b. if b then map form_told (map selector_belonging more) else form_told (selector_belonging s) ∷ map form_told (map selector_belonging more)) e
 
 module _ (a : Access) (built_is : access_unbuilt a ≡ None) where
   -- the selectors of an access that is built are
   pub access-lines : lines_in (map selector_belonging (out-Access a).selectors) ≡ None
   access-lines = at_node-inner _ _ _ (sym (unbuilt-is a) ∙ built_is)
 
-  -- and they are of components, where it is no call
-  pub access-components : only_arguments (out-Access a).selectors ≡ None → AreComponents (out-Access a).selectors
-  access-components none =
-      second_of (are_one_call (map form_told (map selector_belonging (out-Access a).selectors))) (list_all is_component (map form_told (map selector_belonging (out-Access a).selectors))) (no_call (out-Access a).selectors none)
-      (and_first (are_one_call (map form_told (map selector_belonging (out-Access a).selectors)) || list_all is_component (map form_told (map selector_belonging (out-Access a).selectors))) (not (is_later (out-Access a).name)) (at_node-built _ _ _ (sym (unbuilt-is a) ∙ built_is)))
+  -- and they are of components, behind a call or alone
+  selectors-behind : list_all is_component (behind_call (map form_told (map selector_belonging (out-Access a).selectors))) ≡ true
+  selectors-behind = and_first (list_all is_component (behind_call (map form_told (map selector_belonging (out-Access a).selectors)))) (not (is_later (out-Access a).name)) (at_node-built _ _ _ (sym (unbuilt-is a) ∙ built_is))
+
+  pub access-components : arguments_first (out-Access a).selectors ≡ None → AreComponents (out-Access a).selectors
+  access-components none = subst (λ forms. list_all is_component forms ≡ true) (no_call (out-Access a).selectors none) selectors-behind
+
+-- ---- arguments that come first
+
+-- the first selector and the others
+abbrev pub FirstArguments : List Selector → List Selector → List Argument → Type 0
+FirstArguments ss more arguments = (s : Selector) × (line : ℕ) × (s ≡ selector.Arguments line arguments) × (ss ≡ s ∷ more)
+
+arguments_layer : (l : Selector-F ComponentValue Element Factor Selector Access Addend Argument Comparison Expression Label Multiplier Simple Term Values) (rest more : List Selector) (arguments : List Argument)
+    → when_some {B = List Argument × List Selector} (arguments_in l) (λ xs. Some (xs, rest)) ≡ Some (arguments, more) → FirstArguments (roll-Selector l ∷ rest) more arguments
+arguments_layer (Selector-F.Arguments line xs) rest more arguments h =
+    let both : ◌≡◌ {A = List Argument × List Selector} (xs, rest) (arguments, more) = cc in
+    (roll-Selector (Selector-F.Arguments line xs), line, selector.rolls-Arguments line xs ∙ ap (λ z. selector.Arguments line z.0) both, ap (λ z. roll-Selector (Selector-F.Arguments line xs) ∷ z.1) both)
+arguments_layer (Selector-F.Field line name) rest more arguments h = cc
+arguments_layer (Selector-F.Index line indexes) rest more arguments h = cc
+arguments_layer (Selector-F.Dereference line) rest more arguments h = cc
+
+pub arguments-split : (ss more : List Selector) (arguments : List Argument) → arguments_first ss ≡ Some (arguments, more) → FirstArguments ss more arguments
+arguments-split [] more arguments h = cc
+arguments-split (s ∷ rest) more arguments h = subst (λ z. FirstArguments (z ∷ rest) more arguments) (roll-out-Selector s) (arguments_layer (out-Selector s) rest more arguments h)
+
+-- what such a selector is told to its access
+arguments_belonging : (at : ℕ) (more : List Argument) → selector_belonging (selector.Arguments at more) ≡ (built.Parentheses, first_in (map argument_unbuilt more))
+arguments_belonging at more = ap selector_belonging (sym (selector.rolls-Arguments at more)) ∙ simp fold-roll-Selector
+
+module _ (a : Access) (built_is : access_unbuilt a ≡ None) (arguments : List Argument) (more : List Selector) (split : arguments_first (out-Access a).selectors ≡ Some (arguments, more)) where
+  call_split : FirstArguments (out-Access a).selectors more arguments
+  call_split = arguments-split (out-Access a).selectors more arguments split
+
+  told : selector_belonging call_split.0 ≡ (built.Parentheses, first_in (map argument_unbuilt arguments))
+  told = ap selector_belonging call_split.2 ∙ arguments_belonging call_split.1 arguments
+
+  call_lines : option_or (selector_belonging call_split.0).1 (lines_in (map selector_belonging more)) ≡ None
+  call_lines = subst (λ ss. lines_in (map selector_belonging ss) ≡ None) call_split.3 (access-lines a built_is)
+
+  -- the selectors behind a call are components
+  pub call-components : AreComponents more
+  call-components =
+      let behind : list_all is_component (behind_call (map form_told (map selector_belonging (call_split.0 ∷ more)))) ≡ true =
+      subst (λ ss. list_all is_component (behind_call (map form_told (map selector_belonging ss))) ≡ true) call_split.3 (selectors-behind a built_is) in
+      subst (λ b. list_all is_component (if b then map form_told (map selector_belonging more) else form_told (selector_belonging call_split.0) ∷ map form_told (map selector_belonging more)) ≡ true)
+      (ap (λ p. is_call (form_told p)) told) behind
+
+  -- they are built
+  pub call-lines : lines_in (map selector_belonging more) ≡ None
+  call-lines = or-second (selector_belonging call_split.0).1 (lines_in (map selector_belonging more)) call_lines
+
+  -- and so are the arguments
+  pub call-built : first_in (map argument_unbuilt arguments) ≡ None
+  call-built = ap (λ p. p.1) (sym told) ∙ or-first (selector_belonging call_split.0).1 (lines_in (map selector_belonging more)) call_lines
+
+  module _ (scopes : List Region) where
+    -- what is called
+    abbrev pub called : Judged Typed
+    called = call_named (depth_in scopes) (out-Access a).name (meant scopes (out-Access a).name) (map (given scopes) arguments)
+
+    pub access-call : name_judged scopes a ≡ selected_all scopes called (map (selected scopes) more)
+    access-call =
+        name_judged-is scopes a ∙
+        (ap (λ zs. access_judged scopes (out-Access a).name (map (selected scopes) zs)) call_split.3 ∙ ap (λ z. access_judged scopes (out-Access a).name (z ∷ map (selected scopes) more)) (ap (selected scopes) call_split.2 ∙ arguments-judged scopes call_split.1 arguments))
+
+    -- a rule that fails in the call
+    pub access-call-fails : (n : ℕ) → breaks n called ≡ true → breaks n (name_judged scopes a) ≡ true
+    access-call-fails n h = rw access-call (selected_all-first scopes n called more call-components h)
 
 -- ---- a field that comes first
 
@@ -235,12 +301,8 @@ index-layer (Selector-F.Field line name) none h = cc
 index-layer (Selector-F.Dereference line) none h = let e = rw fold-roll-Selector at h in cc
 index-layer (Selector-F.Arguments line arguments) none h = let e = rw fold-roll-Selector at h in cc
 
-no-name : (more : List Selector) (o : Option (List ℕ)) → when_some {B = List ℕ × List Selector} o (λ name. Some (name, more)) ≡ None → o ≡ None
-no-name more None h = refl
-no-name more (Some name) h = cc
-
 index-node : (s : Selector) (more : List Selector) → field_first (s ∷ more) ≡ None → IsComponent s → IndexNode s
-index-node s more none h = subst IndexNode (roll-out-Selector s) (index-layer (out-Selector s) (no-name more (field_in (out-Selector s)) none) (subst IsComponent (sym (roll-out-Selector s)) h))
+index-node s more none h = subst IndexNode (roll-out-Selector s) (index-layer (out-Selector s) (none-first more (field_in (out-Selector s)) none) (subst IsComponent (sym (roll-out-Selector s)) h))
 
 -- ---- the name of an access with what follows it
 
@@ -262,7 +324,7 @@ module _ (scopes : List Region) (name : List ℕ) where
       let e : selected scopes s ≡ Indexes (map (judged scopes) i.1) = ap (selected scopes) i.2 ∙ indexes-judged scopes i.0 i.1 in
       ap (λ z. access_judged scopes name (z ∷ map (selected scopes) more)) e ∙ sym (ap (λ z. selected_all scopes alone (z ∷ map (selected scopes) more)) e)
 
-module _ (a : Access) (built_is : access_unbuilt a ≡ None) (none : only_arguments (out-Access a).selectors ≡ None) (scopes : List Region) where
+module _ (a : Access) (built_is : access_unbuilt a ≡ None) (none : arguments_first (out-Access a).selectors ≡ None) (scopes : List Region) where
   abbrev Selectors : List Selector
   Selectors = (out-Access a).selectors
 

@@ -1,17 +1,18 @@
 -- Declarations that hold what scopes declare, under which typed forms are valid.
-use Rattle.std.specs.Prelude.{◌≡◌, ℕ, pos, All, List, [], ◌∷◌, ◌++◌, Option, Some, None, IsTrue, int_le, ⊤}
+use Rattle.std.specs.Prelude.{◌≡◌, ℕ, ℤ, pos, All, List, [], ◌∷◌, ◌++◌, Option, Some, None, IsTrue, int_le, ⊤}
 use Rattle.ep_typed.specs.Denoters.{ArrayParts, array_of, host_of, record_of, type_of}
 use Rattle.ep_typed.specs.Hosts.{greatest, is_of_host}
 use Rattle.ep_typed.specs.Operations.{maxint}
-use Rattle.ep_typed.specs.Trees.{Denoter, Denoters, Named, no_denoter, next_denoter, Callee, Place, Variable, Expr, Constant, Text, Read, One, Two, Short, Step, Function, Actual, actuals}
-use Rattle.ep_typed.specs.Valid.{Declarations, AreGiven, IsCallee, IsFunction, IsPlace, IsPlaceWhere, IsExpr, IsProcedure, IsStructured, IsVariableOf}
+use Rattle.ep_typed.specs.Trees.{Denoter, Denoters, Named, no_denoter, next_denoter, Callee, Place, Variable, Expr, Constant, Text, Read, One, Two, Short, Step, Function, IndexedValue, FieldValue, Actual, actuals}
+use Rattle.ep_typed.specs.Valid.{Declarations, AreGiven, IsCallee, IsFunction, IsPlace, IsPlaceWhere, IsExpr, IsProcedure, IsStructured, IsTypeOf, IsVariableOf}
 use Rattle.ep_typed.specs.Valid as valid
 use Rattle.ep_typed.specs.Viewed.{denoter_of}
 use Rattle.ep_typed.specs.declared.interface.Formal.{Formal}
 use Rattle.ep_typed.specs.declared.interface.RoutineEntry.{RoutineEntry}
 use Rattle.ep_typed.specs.declared.interface.RoutineResult.{RoutineResult}
 use Rattle.ep_typed.specs.declared.unit.UnitType.{UnitType}
-use Rattle.ep_typed.specs.TypeValues.{TypeValue}
+use Rattle.ep_typed.specs.TypeValues.{ComponentTypes, TypeValue}
+use Rattle.ep_typed.specs.TypeValues as type
 use Rattle.ep_typed.specs.declared.value.Value.{Value}
 use Rattle.ep_typed.specs.declared.value.Value.TheVariants as value
 use Rattle.ep_scope.specs.Scopes.{Entries, Region, depth_in}
@@ -67,6 +68,8 @@ IsFile (Two operation x y) = ⊥
 IsFile (Short operation x y) = ⊥
 IsFile (Step down low high x y) = ⊥
 IsFile (Function callee given) = ⊥
+IsFile (IndexedValue array index) = ⊥
+IsFile (FieldValue whole number) = ⊥
 
 -- the type value of each type, where it has one
 abbrev pub TypeValues : Type 0
@@ -99,6 +102,31 @@ HasKind types list d (kind.Structured n) = IsStructuredDenoter list d n × ((t :
 HasKind types list d kind.Text = ⊥
 HasKind types list d kind.File = ⊥
 
+-- ---- type values of structured types
+
+module _ (types : TypeValues) where
+  -- the type value is one of the kind; none is of a string type or of a file type so far
+  abbrev pub IsValueOfKind : Kind → TypeValue → Type 0
+  IsValueOfKind (kind.Ordinal h) t = IsHost h × IsTypeOf (typed_host h) t
+  IsValueOfKind (kind.Structured n) t = IsValueOf types n t
+  IsValueOfKind kind.Text t = ⊥
+  IsValueOfKind kind.File t = ⊥
+
+  -- it is that of an array with an index type of this host, and components of their kind
+  abbrev pub IsArrayValue : ArrayType → TypeValue → Type 0
+  IsArrayValue a t = (low high : ℤ) × (of : TypeValue) × (t ≡ type.Array low high of) × IsTypeOf (typed_host a.index) (type.Ordinal low high) × IsValueOfKind a.kind of
+
+  -- they are those of the fields of a record, one for one
+  abbrev pub AreFieldValues : List FieldType → ComponentTypes → Type 0
+  AreFieldValues [] type.no_component = ⊤
+  AreFieldValues (f ∷ fs) (type.next_component t ts) = IsValueOfKind f.kind t × AreFieldValues fs ts
+  AreFieldValues fs ts = ⊥
+
+  -- the type value is made of those of the components
+  abbrev pub IsValueMadeOf : Composition → TypeValue → Type 0
+  IsValueMadeOf (composition.Array a) t = IsArrayValue a t
+  IsValueMadeOf (composition.Record fs) t = (ts : ComponentTypes) × (t ≡ type.Record ts) × AreFieldValues fs ts
+
 module _ (types : TypeValues) (list : List UnitType) where
   -- the denoter is one of this type and kind
   abbrev pub IsDenoterOf : TypeName → Kind → Denoter → Type 0
@@ -119,9 +147,14 @@ module _ (types : TypeValues) (list : List UnitType) where
   IsMadeOf (composition.Record fs) (Records ds) = AreFields fs ds
   IsMadeOf _ _ = ⊥
 
-  -- the list has the structured type under its number
-  abbrev pub HoldsStructure : StructuredType → Type 0
-  HoldsStructure s = (m : Structure) × HasStructure list (Named s.number []) m × IsMadeOf s.composition m
+  -- the list has the structured type under its number, and its type value is that of its components
+  pub record HoldsStructure (s : StructuredType) : Type 0 where
+    pub structure : Structure
+    pub has_structure : HasStructure list (Named s.number []) structure
+    pub made_of : IsMadeOf s.composition structure
+    pub type_value : TypeValue
+    pub has_value : types (type_name.Entry s.number) ≡ Some type_value
+    pub value_made : IsValueMadeOf types s.composition type_value
 
 -- some list of types holds these structured types
 abbrev pub AreHeld : TypeValues → List StructuredType → Type 0
@@ -165,7 +198,11 @@ module _ (declared : Declarations) (types : TypeValues) (structures : List Struc
   IsStoredIn place kind.Text = ⊥
   IsStoredIn place kind.File = ⊤
 
-  -- The expression has a value of the structured type of this number: it is read of a variable of that type, or a function is called whose result is of that type.
+  -- The expression is one of the type value of this number, with the structured types in view.
+  abbrev pub IsStructuredValue : ℕ → Expr → Type 0
+  IsStructuredValue n x = ((t : TypeValue) × IsValueOf types n t × IsExpr declared (valid.Structured t) x) × AreHeld types structures
+
+  -- The expression has a value of the structured type of this number: it is read of a variable of that type, or a function is called whose result is of that type, or it is a component of that type of such a value.
   abbrev pub IsStructuredForm : ℕ → Expr → Type 0
   IsStructuredForm n (Constant z) = ⊥
   IsStructuredForm n (Text bytes) = ⊥
@@ -174,7 +211,9 @@ module _ (declared : Declarations) (types : TypeValues) (structures : List Struc
   IsStructuredForm n (Two operation x y) = ⊥
   IsStructuredForm n (Short operation x y) = ⊥
   IsStructuredForm n (Step down low high x y) = ⊥
-  IsStructuredForm n (Function callee given) = ((t : TypeValue) × IsValueOf types n t × IsExpr declared (valid.Structured t) (Function callee given)) × AreHeld types structures
+  IsStructuredForm n (Function callee given) = IsStructuredValue n (Function callee given)
+  IsStructuredForm n (IndexedValue array index) = IsStructuredValue n (IndexedValue array index)
+  IsStructuredForm n (FieldValue whole number) = IsStructuredValue n (FieldValue whole number)
 
   -- the form is a valid expression of the kind
   abbrev pub IsFormOf : Kind → Option Expr → Type 0

@@ -88,9 +88,9 @@ module _ (scopes : List Region) where
   selected_all x (Arguments given ∷ more) = unbuilt
   selected_all x (Other ∷ more) = unbuilt
 
-  -- a name with arguments; or a name, one that an interface has or a field, alone or with what follows
+  -- a name with arguments; or a name, one that an interface has or a field; each alone or with what follows
   abbrev pub access_judged : List ℕ → List Selected → Judged Typed
-  access_judged name (Arguments given ∷ []) = call_named (depth_in scopes) name (meant scopes name) given
+  access_judged name (Arguments given ∷ more) = selected_all (call_named (depth_in scopes) name (meant scopes name) given) more
   access_judged name (Field field ∷ more) = selected_all (qualified_value scopes name field) more
   access_judged name selectors = selected_all (value_named (depth_in scopes) name (meant scopes name)) selectors
 

@@ -1,6 +1,7 @@
 -- What the name of a field gives of a record (ISO 10206, 6.5.3.3).
 use Rattle.std.specs.Prelude.{ℕ, suc, nat_le, List, [], ◌∷◌, slice_get, Option, Some, None, if◌then◌else◌}
-use Rattle.ep_typed.specs.Trees.{Expr, Field, Read}
+use Rattle.std.specs.Option.{option_map}
+use Rattle.ep_typed.specs.Trees.{Expr, Field, FieldValue, Read}
 use Rattle.ep_scope.specs.Fields.{field_number}
 use Rattle.ep_scope.specs.Scopes.{Region, structure_in}
 use Rattle.ep_scope.specs.declared.kind.Kind.{Kind}
@@ -13,10 +14,14 @@ use Rattle.ep_check_expr.specs.Indexing.{component_access}
 use Rattle.ep_check_expr.specs.Judgements.{Judged, Accepts, Breaks, Typed}
 use Rattle.ep_check_expr.specs.declared.forms.TheConstants as limit
 
--- what is read of a field, where the record is read of a place
+-- a field is read of its place where the record is (ISO 10206, 6.5.3.3), and else taken of its value (6.8.6.3)
+abbrev pub part_form : ℕ → Expr → Expr
+part_form number (Read place) = Read (Field place number)
+part_form number whole = FieldValue whole number
+
+-- a field, where the record is built
 abbrev pub field_form : Option Expr → ℕ → Option Expr
-field_form (Some (Read place)) number = Some (Read (Field place number))
-field_form form number = None
+field_form form number = option_map (part_form number) form
 
 -- the field with this number
 abbrev pub field_typed : ℕ → FieldType → Typed → Judged Typed

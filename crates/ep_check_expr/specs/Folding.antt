@@ -1,7 +1,7 @@
 -- What is known of a typed form as a constant, by the operations that a run has (ISO 10206, 6.8.2).
 use Rattle.std.specs.Prelude.{◌≡◌, ℤ, Result, Ok, Err, if◌then◌else◌}
 use Rattle.ep_typed.specs.Operations.{Answer, Number, Fault, is_integer, decides, unary_answer, binary_answer, step_answer}
-use Rattle.ep_typed.specs.Trees.{Expr, Constant, Text, Read, One, Two, Short, Step, Function}
+use Rattle.ep_typed.specs.Trees.{Expr, Constant, Text, Read, One, Two, Short, Step, Function, IndexedValue, FieldValue}
 use Rattle.ep_typed.specs.declared.operations.ShortOperation.{ShortOperation}
 use Rattle.ep_check_expr.specs.declared.folding.Folded.{Folded}
 use Rattle.ep_check_expr.specs.declared.folding.Folded.TheVariants.{Known, Varies, Errs}
@@ -46,6 +46,8 @@ folded (Two operation x y) = two_folded (binary_answer operation) (folded x) (fo
 folded (Short operation x y) = short_folded operation (folded x) (folded y)
 folded (Step down low high x count) = two_folded (step_answer down low high) (folded x) (folded count)
 folded (Function callee given) = Varies
+folded (IndexedValue array index) = Varies
+folded (FieldValue whole number) = Varies
 
 -- two numbers, or what is known of a form of the two
 abbrev pub AnswersPair : Folded → Folded → Result (ℤ × ℤ) Folded → Type 0

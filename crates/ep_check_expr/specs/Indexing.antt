@@ -1,6 +1,6 @@
 -- What an index gives of an array (ISO 10206, 6.5.3.2).
 use Rattle.std.specs.Prelude.{ℕ, suc, ◌-◌, max, nat_le, List, [], ◌∷◌, Option, Some, None, if◌then◌else◌}
-use Rattle.ep_typed.specs.Trees.{Expr, Indexed, Read}
+use Rattle.ep_typed.specs.Trees.{Expr, Indexed, IndexedValue, Read}
 use Rattle.ep_scope.specs.Scopes.{Region, structure_in}
 use Rattle.ep_scope.specs.declared.kind.Kind.{Kind}
 use Rattle.ep_scope.specs.declared.kind.Kind.TheVariants as kind
@@ -10,30 +10,38 @@ use Rattle.ep_scope.specs.declared.structure.ArrayType.{ArrayType}
 use Rattle.ep_scope.specs.declared.structure.Composition.{Composition}
 use Rattle.ep_scope.specs.declared.structure.Composition.TheVariants as composition
 use Rattle.ep_check_expr.specs.Judgements.{Judged, Accepts, Breaks, Typed, both}
-use Rattle.ep_check_expr.specs.Operators.{are_compatible, character, is_integer, unbuilt_typed}
+use Rattle.ep_check_expr.specs.Operators.{are_compatible, character, is_integer, map_both, unbuilt_typed}
 use Rattle.ep_check_expr.specs.declared.access.Access.{Access}
 use Rattle.ep_check_expr.specs.declared.access.Access.TheVariants as access
 use Rattle.ep_check_expr.specs.declared.forms.TheConstants as limit
 
--- what is read of a component, where the array is read of a place
+-- a component is read of its place where the array is (ISO 10206, 6.5.3.2), and else taken of its value (6.8.6.2)
+abbrev pub element_form : Expr → Expr → Expr
+element_form (Read place) index = Read (Indexed place index)
+element_form array index = IndexedValue array index
+
+-- a component, where the array and the index are built
 abbrev pub component_form : Option Expr → Option Expr → Option Expr
-component_form (Some (Read place)) (Some index) = Some (Read (Indexed place index))
-component_form array index = None
+component_form = map_both element_form
 
 -- a component is a variable where the array or the record is one, and protected where that is (ISO 10206, 6.5.1)
 abbrev pub component_access : TypeName → Access → Access
 component_access component (access.Variable of guarded) = access.Variable component guarded
 component_access component whole = whole
 
--- what is read stands above its place, and that above the place of the array and the index
-abbrev pub component_depth : ℕ → ℕ → ℕ
-component_depth array index = suc (suc (max (array - 1) index))
+-- What a component stands above: where it is read of a variable its place, which is above the place of the array and the index, and else the value of the array and the index.
+abbrev pub below_component : Access → ℕ → ℕ → ℕ
+below_component (access.Variable of guarded) array index = suc (max (array - 1) index)
+below_component whole array index = max array index
+
+abbrev pub component_depth : Access → ℕ → ℕ → ℕ
+component_depth whole array index = suc (below_component whole array index)
 
 -- a component of an array of this type
 abbrev pub component_typed : ArrayType → Typed → Typed → Judged Typed
 component_typed a x i =
-    if nat_le (component_depth x.depth i.depth) limit.DEPTH
-    then Accepts (record { form = component_form x.form i.form; kind = a.kind; depth = component_depth x.depth i.depth; access = component_access a.component x.access })
+    if nat_le (component_depth x.access x.depth i.depth) limit.DEPTH
+    then Accepts (record { form = component_form x.form i.form; kind = a.kind; depth = component_depth x.access x.depth i.depth; access = component_access a.component x.access })
     else Breaks (rule.TOO_DEEP ∷ [])
 
 -- what is indexed has no index, or the index another host

@@ -22,7 +22,7 @@ use crate::functions::{applied_to_one, applied_to_two, takes};
 use crate::indexing::indexed;
 use crate::names::{named, qualified, undeclared};
 use crate::operators::{added, compared, multiplied, negated, signed};
-use crate::shapes::{bare, field_first, only_arguments};
+use crate::shapes::{arguments_first, bare, field_first};
 use ep_base::Name;
 use ep_scope::{
     Declaration, Declared, FormalParameter, Function, Host, Meaning, Required, Scope, depth_in,
@@ -187,14 +187,15 @@ pub(crate) fn string(alloc: Global, bytes: &[u8]) -> Result<Typed, Refusal>
     }
 }
 
-/// `access`, which is a name, called, alone or with indexes and fields
+/// `access`, which is a name, alone or called, with indexes and fields or without
 #[cycle(typed)]
 fn access(alloc: Global, a: &Access, scopes: &[Scope]) -> Result<Typed, Refusal>
     requires built { access_unbuilt a.now ≡ None }
     ensures { AnswersTyped result (name_judged scopes.now a.now) }
 {
-    if let Some(arguments) = only_arguments(a.selectors.items()) {
-        return call(alloc, &a.name, arguments, scopes);
+    if let Some((arguments, more)) = arguments_first(a.selectors.items()) {
+        let value = call(alloc, &a.name, arguments, scopes)?;
+        return selected(alloc, value, more, scopes);
     }
     match field_first(a.selectors.items()) {
         Some((field, more)) => {

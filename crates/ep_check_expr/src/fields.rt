@@ -4,7 +4,7 @@ ghost use Rattle.std.specs.Prelude.{◌≡◌, IfOk};
 ghost use Rattle.std.specs.Option.{option_map};
 ghost use Rattle.ep_typed.specs.Viewed.{expr_of};
 ghost use Rattle.ep_check_expr.specs.Answers.{AnswersTyped, typed_of};
-ghost use Rattle.ep_check_expr.specs.FieldDesignators.{designated, field_form, field_typed};
+ghost use Rattle.ep_check_expr.specs.FieldDesignators.{designated, field_form, field_typed, part_form};
 
 use crate::forms::{Refusal, Typed, above};
 use crate::indexing::component_access;
@@ -13,36 +13,50 @@ use ep_scope::{Composition, FieldType, Kind, Scope, field_number, rule, structur
 use ep_typed::{TypedExpr, TypedPlace};
 use std::alloc::{AllocError, Global};
 
-/// What is read of a field, where the record is built and read of a place.
-fn field_form(
+/// A field, read of its place where the record is, and else taken of its value.
+fn part_form(
     alloc: Global,
-    variable: Option<Boxed<TypedExpr>>,
     number: u32,
-) -> Result<Option<Boxed<TypedExpr>>, NoMemory>
-    ensures { IfOk result (λ now. option_map expr_of now ≡ field_form (option_map expr_of variable) number) }
+    whole: Boxed<TypedExpr>,
+) -> Result<Boxed<TypedExpr>, NoMemory>
+    ensures { IfOk result (λ now. expr_of now ≡ part_form number (expr_of whole)) }
 {
-    let Some(read) = variable else {
-        return Ok(None);
-    };
-    match read.into_inner() {
+    match whole.into_inner() {
         TypedExpr::Read(place) => {
             let place = TypedPlace::Field(Boxed::new(alloc, place)?, number);
-            Ok(Some(Boxed::new(alloc, TypedExpr::Read(place))?))
+            Boxed::new(alloc, TypedExpr::Read(place))
         }
-        _ => Ok(None),
+        value => {
+            let whole = Boxed::new(alloc, value)?;
+            Boxed::new(alloc, TypedExpr::FieldValue(whole, number))
+        }
+    }
+}
+
+/// A field, where the record is built.
+fn field_form(
+    alloc: Global,
+    whole: Option<Boxed<TypedExpr>>,
+    number: u32,
+) -> Result<Option<Boxed<TypedExpr>>, NoMemory>
+    ensures { IfOk result (λ now. option_map expr_of now ≡ field_form (option_map expr_of whole) number) }
+{
+    match whole {
+        Some(whole) => Ok(Some(part_form(alloc, number, whole)?)),
+        None => Ok(None),
     }
 }
 
 /// The field with this number of a record.
-fn field(alloc: Global, number: usize, field: &FieldType, variable: Typed) -> Result<Typed, Refusal>
-    ensures { AnswersTyped result (field_typed number field.now (typed_of variable)) }
+fn field(alloc: Global, number: usize, field: &FieldType, whole: Typed) -> Result<Typed, Refusal>
+    ensures { AnswersTyped result (field_typed number field.now (typed_of whole)) }
 {
-    let depth = above(variable.depth)?;
+    let depth = above(whole.depth)?;
     let Ok(number) = u32::try_from(number) else {
         return Err(AllocError)?;
     };
-    let access = component_access(field.of, variable.access);
-    let form = field_form(alloc, variable.into_form(), number)?;
+    let access = component_access(field.of, whole.access);
+    let form = field_form(alloc, whole.into_form(), number)?;
     Ok(Typed {
         form,
         kind: field.kind,

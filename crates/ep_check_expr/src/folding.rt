@@ -30,6 +30,8 @@ pub fn folded_form(e: &TypedExpr) -> Folded
         TypedExpr::Text(_) => Folded::Errs,
         TypedExpr::Read(_) => Folded::Varies,
         TypedExpr::Function(_, _) => Folded::Varies,
+        TypedExpr::IndexedValue(_, _) => Folded::Varies,
+        TypedExpr::FieldValue(_, _) => Folded::Varies,
         TypedExpr::Unary(operation, operand) => {
             match folded_form(operand.get()) {
                 Folded::Known(x) => unary(*operation, x),

@@ -1,13 +1,13 @@
 //! What an index gives of an array.
 
-ghost use Rattle.std.specs.Prelude.{◌≡◌, suc, ◌-◌, max, Some, IfOk};
+ghost use Rattle.std.specs.Prelude.{◌≡◌, IfOk};
 ghost use Rattle.std.specs.Option.{option_map};
 ghost use Rattle.ep_typed.specs.Viewed.{expr_of};
 ghost use Rattle.ep_check_expr.specs.Answers.{AnswersDepth, AnswersTyped, typed_of};
-ghost use Rattle.ep_check_expr.specs.Indexing.{component_access, component_form, component_typed, indexed, indexed_array, indexed_text};
+ghost use Rattle.ep_check_expr.specs.Indexing.{below_component, component_access, component_form, element_form, component_typed, indexed, indexed_array, indexed_text};
 
 use crate::access::Access;
-use crate::forms::{DEPTH, Refusal, Typed};
+use crate::forms::{DEPTH, Refusal, Typed, above};
 use crate::operators::{are_compatible, is_integer};
 use ep_base::{Boxed, NoMemory};
 use ep_scope::{ArrayType, Composition, Host, Kind, Scope, TypeName, rule, structure_of};
@@ -24,36 +24,44 @@ pub(crate) fn component_access(component: TypeName, whole: Access) -> Access
     }
 }
 
-/// The depth of what is read of a component.
-fn component_depth(array: u32, index: u32) -> Result<u32, Refusal>
-    ensures { AnswersDepth (suc (max (array - 1) index)) result }
+/// The depth of a component of what is such an access.
+fn component_depth(access: Access, array: u32, index: u32) -> Result<u32, Refusal>
+    ensures { AnswersDepth (below_component access array index) result }
 {
-    let inner = array.saturating_sub(1).max(index);
-    if inner < DEPTH - 1 {
-        Ok(inner + 2)
-    } else {
-        Err(Refusal::Rule(rule::TOO_DEEP))
+    match access {
+        Access::Variable(_, _) => {
+            let inner = array.saturating_sub(1).max(index);
+            if inner < DEPTH - 1 {
+                Ok(inner + 2)
+            } else {
+                Err(Refusal::Rule(rule::TOO_DEEP))
+            }
+        }
+        _ => above(array.max(index)),
     }
 }
 
-/// What is read of a component, where the array is read of a place.
-fn component_of(
+/// A component, read of its place where the array is, and else taken of its value.
+fn element_form(
     alloc: Global,
     array: Boxed<TypedExpr>,
     index: Boxed<TypedExpr>,
-) -> Result<Option<Boxed<TypedExpr>>, NoMemory>
-    ensures { IfOk result (λ now. option_map expr_of now ≡ component_form (Some (expr_of array)) (Some (expr_of index))) }
+) -> Result<Boxed<TypedExpr>, NoMemory>
+    ensures { IfOk result (λ now. expr_of now ≡ element_form (expr_of array) (expr_of index)) }
 {
     match array.into_inner() {
         TypedExpr::Read(place) => {
             let place = TypedPlace::Indexed(Boxed::new(alloc, place)?, index);
-            Ok(Some(Boxed::new(alloc, TypedExpr::Read(place))?))
+            Boxed::new(alloc, TypedExpr::Read(place))
         }
-        _ => Ok(None),
+        value => {
+            let array = Boxed::new(alloc, value)?;
+            Boxed::new(alloc, TypedExpr::IndexedValue(array, index))
+        }
     }
 }
 
-/// What is read of a component, where the array and the index are built.
+/// A component, where the array and the index are built.
 fn component_form(
     alloc: Global,
     array: Option<Boxed<TypedExpr>>,
@@ -62,7 +70,7 @@ fn component_form(
     ensures { IfOk result (λ now. option_map expr_of now ≡ component_form (option_map expr_of array) (option_map expr_of index)) }
 {
     match (array, index) {
-        (Some(array), Some(index)) => component_of(alloc, array, index),
+        (Some(array), Some(index)) => Ok(Some(element_form(alloc, array, index)?)),
         _ => Ok(None),
     }
 }
@@ -71,7 +79,7 @@ fn component_form(
 fn component(alloc: Global, of: ArrayType, array: Typed, index: Typed) -> Result<Typed, Refusal>
     ensures { AnswersTyped result (component_typed of (typed_of array) (typed_of index)) }
 {
-    let depth = component_depth(array.depth, index.depth)?;
+    let depth = component_depth(array.access, array.depth, index.depth)?;
     let access = component_access(of.component, array.access);
     let form = component_form(alloc, array.into_form(), index.into_form())?;
     Ok(Typed {

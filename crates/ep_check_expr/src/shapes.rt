@@ -3,7 +3,7 @@
 ghost use Rattle.std.specs.Prelude.{◌≡◌};
 ghost use Rattle.std.specs.Option.{option_copied, option_map};
 ghost use Rattle.ep_tree.specs.Shapes.{bare};
-ghost use Rattle.ep_check_expr.specs.Shapes.{field_first, only_arguments, split_of};
+ghost use Rattle.ep_check_expr.specs.Shapes.{arguments_first, field_first, split_of};
 
 use ep_base::Name;
 use ep_tree::{Argument, Expression, Factor, Selector};
@@ -27,12 +27,13 @@ pub(crate) fn bare(e: &Expression) -> Option<&Factor>
     }
 }
 
-/// The arguments of an access that has nothing else.
-pub(crate) fn only_arguments(selectors: &[Selector]) -> Option<&[Argument]>
-    ensures { option_copied result ≡ only_arguments selectors.now }
+/// The arguments that come first, and the selectors behind them.
+pub(crate) fn arguments_first(selectors: &[Selector]) -> Option<(&[Argument], &[Selector])>
+    ensures { option_map split_of result ≡ arguments_first selectors.now }
 {
-    match selectors {
-        [Selector::Arguments(_, arguments)] => Some(arguments.items()),
+    let (first, more) = selectors.split_first()?;
+    match first {
+        Selector::Arguments(_, arguments) => Some((arguments.items(), more)),
         _ => None,
     }
 }

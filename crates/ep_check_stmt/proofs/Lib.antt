@@ -2,7 +2,7 @@ pub mod Branches
 pub mod Called
 pub mod CaseParts
 pub mod Examples
-pub mod ForParts
+pub mod BuiltParts
 pub mod Gathered
 pub mod judged
 pub mod Printing

@@ -45,7 +45,7 @@ use Rattle.ep_check_expr.specs.declared.access.Access.{Access}
 use Rattle.ep_check_expr.specs.declared.access.Access.TheVariants as access
 use Rattle.ep_check_expr.specs.Arguments.{arguments_judged, callee_at, given_to, own_place, place_read, unless_protected}
 use Rattle.ep_check_expr.specs.Hosts.{typed_host}
-use Rattle.ep_check_expr.specs.Judgements.{Judged, Accepts, Breaks, Typed, unbuilt, when_accepted, both}
+use Rattle.ep_check_expr.specs.Judgements.{Judged, Accepts, Breaks, Typed, when_accepted, both}
 use Rattle.ep_check_expr.specs.Functions.{Given}
 use Rattle.ep_check_expr.specs.Names.{undeclared}
 use Rattle.ep_check_expr.specs.Operators.{map_both}
@@ -431,11 +431,32 @@ abbrev pub file_meant : Meant → Option StandardFile
 file_meant (Standard f) = Some f
 file_meant _ = None
 
--- the arguments of a call, which are none or stand in one pair of parentheses
+-- the arguments of a call, which are none or stand in one pair of parentheses; what has other selectors is no call
 abbrev pub call_arguments : List Selector → Option (List Argument)
 call_arguments [] = Some []
 call_arguments (s ∷ []) = arguments_in (out-Selector s)
 call_arguments _ = None
+
+-- A component is no statement (ISO 10206, 6.9.2.3): the rules that fail where one stands behind what is declared, where one of a required identifier, and where one of a name that means this.
+abbrev pub declared_rules : Declaration → List ℕ
+declared_rules (declaration.Procedure parameters) = rule.PROCEDURE ∷ rule.OTHER_THING ∷ []
+declared_rules (declaration.Function parameters of h) = rule.PROCEDURE ∷ []
+declared_rules (declaration.Constant k value) = rule.OTHER_THING ∷ []
+declared_rules (declaration.«Type» of h nodes) = rule.OTHER_THING ∷ []
+declared_rules (declaration.Variable of k) = rule.OTHER_THING ∷ []
+declared_rules (declaration.Own of k guarded) = rule.OTHER_THING ∷ []
+
+abbrev pub required_rules : Required → List ℕ
+required_rules (required.Constant c) = rule.OTHER_THING ∷ []
+required_rules (required.«Type» t) = rule.OTHER_THING ∷ []
+required_rules (required.Function f) = rule.PROCEDURE ∷ []
+required_rules (required.Procedure p) = rule.PROCEDURE ∷ rule.OTHER_THING ∷ []
+
+abbrev pub component_rules : List ℕ → Meant → List ℕ
+component_rules name (Declares d) = declared_rules d.what
+component_rules name (Standard f) = rule.OTHER_THING ∷ []
+component_rules name (Requires r) = required_rules r
+component_rules name Nothing = undeclared name
 
 module _ (context : Context) where
   -- the text file that a parameter is, where it is a name without a width
@@ -495,7 +516,7 @@ module _ (context : Context) where
   call_judged line name Nothing arguments = Breaks (undeclared name)
 
   abbrev pub name_called : ℕ → List ℕ → Option (List Argument) → Judged (Option Stmt)
-  name_called line name None = unbuilt
+  name_called line name None = Breaks (component_rules name (meant context.scopes name))
   name_called line name (Some arguments) = call_judged line name (meant context.scopes name) arguments
 
   -- what is assigned to: a name, which may be that of a function, or the variable that an access with these selectors denotes

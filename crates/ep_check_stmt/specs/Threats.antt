@@ -8,7 +8,7 @@ use Rattle.ep_tree.specs.declared.statement.Statement.TheOpen.{Statement-F, Arm-
 use Rattle.ep_tree.specs.declared.statement.Statement.{Statement, fold-Statement}
 use Rattle.ep_tree.specs.declared.statement.Arm.{Arm, fold-Arm}
 use Rattle.ep_tree.specs.declared.statement.Compound.{Compound, fold-Compound}
-use Rattle.ep_typed.specs.Trees.{Entire, OfUnit, OfRoutine, entire, Place, Variable, Own, Standard, Indexed, Field, Expr, Constant, Text, Read, One, Two, Short, Step, Function, Actual, Evaluated, Accessed, Actuals, no_actual, next_actual, Item, Plain, Wide, Stmt, Stmts, Empty, Assign, If, While, Repeat, For, Procedure, Case, Halt, Write, none, next, Arms, no_arm, next_arm, Other, no_other, otherwise_do}
+use Rattle.ep_typed.specs.Trees.{Entire, OfUnit, OfRoutine, entire, Place, Variable, Own, Standard, Indexed, Field, Expr, Constant, Text, Read, One, Two, Short, Step, Function, IndexedValue, FieldValue, Actual, Evaluated, Accessed, Actuals, no_actual, next_actual, Item, Plain, Wide, Stmt, Stmts, Empty, Assign, If, While, Repeat, For, Procedure, Case, Halt, Write, none, next, Arms, no_arm, next_arm, Other, no_other, otherwise_do}
 use Rattle.ep_typed.specs.Trees as tree
 use Rattle.ep_typed.specs.declared.interface.Formal.{Formal}
 use Rattle.ep_typed.specs.declared.interface.FormalMode.{FormalMode}
@@ -45,6 +45,8 @@ module _ (formals_of : List ℕ → ℕ → List Formal) (variable : Entire) whe
     expr_threatens (Short operation x y) = expr_threatens x || expr_threatens y
     expr_threatens (Step down low high x y) = expr_threatens x || expr_threatens y
     expr_threatens (Function callee given) = actuals_threaten (formals_of callee.unit callee.number) given
+    expr_threatens (IndexedValue array index) = expr_threatens array || expr_threatens index
+    expr_threatens (FieldValue whole number) = expr_threatens whole
 
     -- whether an index in a place does
     pub place_threatens : Place → Bool

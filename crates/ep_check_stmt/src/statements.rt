@@ -1,8 +1,9 @@
 //! Statements, item by item.
 
 ghost use Rattle.std.specs.Prelude.{◌≡◌, ℕ, List, ◌∷◌, None, true, IsTrue, map};
-ghost use Rattle.std.specs.Option.{option_map};
-ghost use Rattle.ep_built.specs.Built.{access_unbuilt, arm_unbuilt, built_call, call_unbuilt, component_value_unbuilt, compound_unbuilt, expression_unbuilt, first_if, first_in, statement_unbuilt, written_unbuilt};
+ghost use Rattle.std.specs.Option.{option_copied, option_map};
+ghost use Rattle.ep_built.specs.Built.{access_unbuilt, arm_unbuilt, call_unbuilt, component_value_unbuilt, compound_unbuilt, expression_unbuilt, first_if, first_in, statement_unbuilt, written_unbuilt};
+ghost use Rattle.ep_scope.specs.Meanings.{meant_by};
 ghost use Rattle.ep_scope.specs.Scopes.{meant};
 ghost use Rattle.ep_tree.specs.declared.expression.Access.{out-Access};
 ghost use Rattle.ep_typed.specs.Trees as tree;
@@ -11,9 +12,9 @@ ghost use Rattle.ep_typed.specs.Viewed.{arm_of, expr_of, stmt_of};
 ghost use Rattle.ep_check_expr.specs.Answers.{typed_of};
 ghost use Rattle.ep_check_expr.specs.Expressions.{judged, judged_value};
 ghost use Rattle.ep_check_expr.specs.Judgements.{both};
-ghost use Rattle.ep_check_stmt.specs.Answers.{AnswersForm, AnswersRow, arms_of, context_of, entire_of, stmts_of, target_of};
+ghost use Rattle.ep_check_stmt.specs.Answers.{AnswersForm, AnswersRow, arms_of, context_of, entire_of, fails_among, stmts_of, target_of};
 ghost use Rattle.ep_check_stmt.specs.Statements as spec;
-ghost use Rattle.ep_check_stmt.specs.Statements.{Judgement, after, arm_judged, arm_row, arms_in_order, assigned, compound_judged, compound_under, condition_judged, control_judged, declared_called, for_judged, formed, if_judged, in_order, name_called, own_called, repeat_judged, required_called, statement_judged, target_judged, tested};
+ghost use Rattle.ep_check_stmt.specs.Statements.{Judgement, after, arm_judged, arm_row, arms_in_order, assigned, component_rules, compound_judged, compound_under, condition_judged, control_judged, declared_called, for_judged, formed, if_judged, in_order, name_called, own_called, repeat_judged, required_called, statement_judged, target_judged, tested};
 
 use crate::cases::{arm_form, case_form, no_otherwise, otherwise_form};
 use crate::loops::{falls_by, for_form, one_more};
@@ -187,15 +188,30 @@ fn repeat_form(
     }
 }
 
-/// The arguments of a call, which are none or stand in one pair of parentheses.
-fn call_arguments(access: &Access) -> &[Argument]
-    requires { built_call access.now ≡ true }
-    ensures { spec.call_arguments (out-Access access.now).selectors ≡ Some result.now }
+/// The arguments of a call, which are none or stand in one pair of parentheses. What has other selectors is no call.
+fn call_arguments(access: &Access) -> Option<&[Argument]>
+    ensures { option_copied result ≡ spec.call_arguments (out-Access access.now).selectors }
 {
     match access.selectors.items() {
-        [] => &[],
-        [Selector::Arguments(_, arguments)] => arguments.items(),
-        _ => unreachable!(),
+        [] => Some(&[]),
+        [Selector::Arguments(_, arguments)] => Some(arguments.items()),
+        _ => None,
+    }
+}
+
+/// A rule that fails where a component stands as a statement, behind a name that means this.
+fn component_rule(name: &Name, meaning: Meaning<'_>) -> u32
+    ensures { IsTrue (fails_among result (component_rules name.now (meant_by meaning.entry))) }
+{
+    match meaning {
+        Meaning::Declared(declared) => match &declared.what {
+            Declaration::Procedure(_) | Declaration::Function(_, _, _) => rule::PROCEDURE,
+            _ => rule::OTHER_THING,
+        },
+        Meaning::Standard(_) => rule::OTHER_THING,
+        Meaning::Required(Required::Function(_) | Required::Procedure(_)) => rule::PROCEDURE,
+        Meaning::Required(_) => rule::OTHER_THING,
+        Meaning::Nothing => undeclared(name),
     }
 }
 
@@ -447,13 +463,15 @@ impl<'a> Context<'a> {
 
     /// `access` as a statement.
     fn call(&self, line: Line, access: &Access) -> Result<Option<Boxed<TypedStmt>>, Refusal>
-        requires call { built_call access.now ≡ true }
         requires arguments { call_unbuilt access.now ≡ None }
         ensures { AnswersForm (option_map stmt_of) result (name_called (context_of self.now) line
             (out-Access access.now).name (spec.call_arguments (out-Access access.now).selectors)) }
     {
-        let arguments = call_arguments(access);
-        match &meaning_of(self.scopes, &access.name) {
+        let meaning = meaning_of(self.scopes, &access.name);
+        let Some(arguments) = call_arguments(access) else {
+            return Err(Refusal::Rule(component_rule(&access.name, meaning)));
+        };
+        match &meaning {
             Meaning::Declared(declared) => self.call_declared(line, declared, arguments),
             Meaning::Standard(_) => Err(Refusal::Rule(rule::OTHER_THING)),
             Meaning::Required(required) => self.call_required(line, *required, arguments),

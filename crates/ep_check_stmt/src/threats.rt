@@ -241,6 +241,11 @@ pub(crate) fn expr_threatens(x: &TypedExpr, routines: &[UnitRoutine], variable: 
             let formals = formals_of(routines, callee.number);
             actuals_threaten(formals, given.items(), routines, variable)
         }
+        TypedExpr::IndexedValue(array, index) => {
+            expr_threatens(array.get(), routines, variable)
+                || expr_threatens(index.get(), routines, variable)
+        }
+        TypedExpr::FieldValue(whole, _) => expr_threatens(whole.get(), routines, variable),
     }
 }
 

@@ -483,6 +483,22 @@ Routine:1:1 Push:2 Push:0 TArr Make:0 Slot:0 Arg:0 Store Slot:0 Push:0 Index Loa
 Call:1 Drop Return Routine:0:1 Push:2 Push:0 TArr Make:0 Slot:0 Load Return=|normal|16\n\
 Push:2 Push:0 TArr Make:0 Slot:0 Load Call:1 Return Routine:1 Peek:0=|broken at 8|14";
 
+/// Components of values, which leave what `Load` leaves of a variable.
+const PARTS: &str = "\
+Unit:-1:1 Push:2 Push:0 TArr Make:0 Slot:0 Push:1 Index Push:9 Store \
+Slot:0 Load Push:1 Index Form Put Return=9|normal|25\n\
+Unit:-1:1 Push:0 Push:2 TRec:2 Make:0 Slot:0 Field:0 Push:5 Store \
+Slot:0 Load Field:0 Form Put Return=5|normal|25\n\
+Unit:-1:1 Push:2 Push:2 Push:0 TArr TArr Make:0 Slot:0 Push:0 Index Push:1 Index Push:6 Store \
+Slot:0 Load Push:0 Index Push:1 Index Form Put Return=6|normal|41\n\
+Push:2 Push:0 TArr Make:0 Slot:0 Load Push:0 Index=|error 1 at 8|14\n\
+Push:2 Push:0 TArr Make:0 Slot:0 Load Push:2 Index=|error 3 at 8|14\n\
+Push:2 Push:0 TArr Make:0 Slot:0 Load Push:1 Index Halt=|budget|11=13\n\
+Push:0 Push:2 TRec:2 Make:0 Slot:0 Load Field:1=|error 1 at 7|15\n\
+Push:2 Push:0 TArr Make:0 Slot:0 Load Field:0=|broken at 6|11\n\
+Push:0 Push:2 TRec:2 Make:0 Slot:0 Load Push:0 Index=|broken at 7|14\n\
+Push:0 Push:2 TRec:2 Make:0 Slot:0 Load Field:2=|broken at 6|13";
+
 /// What is printed.
 const PRINTS: &str = "\
 Unit:-1:1 Push:65 Chars Put Return=A|normal|7\n\
@@ -516,6 +532,7 @@ fn each_row_comes_to_what_the_table_of_instructions_says(rt: HostRuntime) -> Res
         ARRAY_TYPES,
         COMPONENTS,
         VALUES,
+        PARTS,
         PRINTS,
     ] {
         let differing = differing(rt.alloc(), table)?;

@@ -82,6 +82,24 @@ const EXPRESSIONS: &[Trees] = &[
         0,
         2,
     ),
+    // a field of a component of the array that a function gives
+    (
+        &[
+            Step::Function(2),
+            Step::Constant(5),
+            Step::Indexed,
+            Step::Field(1),
+        ],
+        &[
+            (op::CALL, 0, 0, 3),
+            (op::JUMP, 2, 0, 3),
+            (op::PUSH, 5, 0, 3),
+            (op::INDEX, 0, 0, 3),
+            (op::FIELD, 1, 0, 3),
+        ],
+        0,
+        1,
+    ),
     // the same text twice
     (
         &[Step::Text(b"ab"), Step::Text(b"ab")],

@@ -1,3 +1,4 @@
 mod CallEntry
 mod CallFrames
+mod Tops
 mod Words

@@ -36,8 +36,8 @@ use Rattle.ep_typed.specs.Printing as result
 use Rattle.ep_typed.specs.Denoters.{type_of}
 use Rattle.ep_typed.specs.Steps.{Component, Computation, bind, give, spend, component, component_number, type_at, own_variable, has_ended}
 use Rattle.ep_typed.specs.Steps as meaning
-use Rattle.ep_typed.specs.Trees.{Callee, Place, Variable, Own, Standard, Indexed, Field, Expr, Constant, Text, Read, One, Two, Short, Step, Function, Actual, Evaluated, Accessed, Actuals, no_actual, next_actual}
-use Rattle.ep_typed.specs.Valid.{Declarations, Kind, Ordinal, Bytes, IsUnary, IsBinary, IsTypeOfKind, IsExpr, AreGiven, IsDeclaredUp, Level, variables_at, variables_up}
+use Rattle.ep_typed.specs.Trees.{Callee, Place, Variable, Own, Standard, Indexed, Field, Expr, Constant, Text, Read, One, Two, Short, Step, Function, IndexedValue, FieldValue, Actual, Evaluated, Accessed, Actuals, no_actual, next_actual}
+use Rattle.ep_typed.specs.Valid.{Declarations, Kind, Ordinal, Bytes, Structured, IsUnary, IsBinary, IsTypeOfKind, IsExpr, AreGiven, IsDeclaredUp, Level, variables_at, variables_up}
 use Rattle.ep_typed.specs.declared.interface.Formal.{Formal}
 use Rattle.ep_typed.specs.declared.interface.RoutineEntry.{RoutineEntry}
 use Rattle.ep_typed.specs.declared.unit.UnitType.{UnitType}
@@ -60,6 +60,7 @@ use Rattle.ep_gen_expr.proofs.Placed.{code_front, code_back, text_at, variable_a
 use Rattle.ep_gen_expr.proofs.PlaceTypes.{IsArrayWhere, IsRecordWhere, valid_place, typed_place, kind_place, variable_type}
 use Rattle.ep_gen_expr.proofs.Stepping.{step_follows}
 use Rattle.ep_gen_expr.proofs.TwoOperands.{BinaryFollows, binary_follows}
+use Rattle.ep_gen_expr.proofs.ValueParts.{field_value_follows, indexed_value_follows}
 use Rattle.ep_object.specs.declared.op.TheConstants as op
 use Rattle.ep_typed.specs.declared.run_error.TheConstants as run_error
 
@@ -203,9 +204,9 @@ module _ {declared : Declarations} {G : Image} {untouched : Slots} {Here : Facts
       → IsSpot injection memory.types a q → Describes memory.types q.type_number t
       → unit_in G memory.frames ≡ unit → (s : meaning.State) → Matches declared G injection s memory
       → Here injection s memory → has_ended a.allocation s ≡ false
-      → ReadsResult declared G Here (at place (operand.Place q ∷ below) memory s.trace) 1 unit line (place + 1) (λ r. Inside untouched injection memory (OnTop kind below r)) s (result_of a s)
+      → ReadsResult declared G Here (at place (operand.Place q ∷ below) memory s.trace) 0 1 unit line (place + 1) (λ r. Inside untouched injection memory (OnTop kind below r)) s (result_of a s)
   load_finds place line kind t of_kind has injection memory below a q spot described unit_is s matches here living =
-      subst (λ u. ReadsResult declared G Here (at place (operand.Place q ∷ below) memory s.trace) 1 u line (place + 1) (λ r. Inside untouched injection memory (OnTop kind below r)) s (result_of a s)) unit_is (load_reads declared G place line below kind t a q of_kind has injection memory spot described s matches here living)
+      subst (λ u. ReadsResult declared G Here (at place (operand.Place q ∷ below) memory s.trace) 0 1 u line (place + 1) (λ r. Inside untouched injection memory (OnTop kind below r)) s (result_of a s)) unit_is (load_reads declared G place line below kind t a q of_kind has injection memory spot described s matches here living)
 
   -- the value of a variable, by its place and `Load`
   read_follows : (n : ℕ) (kind : Kind) (t : TypeValue) → IsTypeOfKind kind t → (q : Place) (line at : ℕ) (xs : List Instr) → IsPlaceFollowed declared G untouched Here p call g unit n t q line at xs → CodeStands G ps p references (at + length xs) (bare line op.LOAD ∷ []) → IsFollowed declared G untouched Here p call g unit n kind (Read q) line at (xs ++ bare line op.LOAD ∷ [])
@@ -357,6 +358,24 @@ module _ {declared : Declarations} {G : Image} {untouched : Slots} {Here : Facts
             (function_follows ps p references room knows scene.own_types_are lasts among call steady_call g unit n kind line at callee k given xs r keeps is_function
             (arguments_follow (declared.types callee.unit) r.formals keeps.formals given keeps.passed are_given line at xs given_code (code_front G ps p references at xs (instr op.CALL (pos k) callee.levels line ∷ instr op.JUMP (pos (at + length xs + 2)) 0 line ∷ []) all) (omega (arith, ends, inside)))
             is_callee.declared_up named all (omega (arith, ends, inside)))
+        expression_follows kind (IndexedValue x y) (low, high, of, is_x, of_kind, (h, of_host, is_y)) line at code (xs, ys, x_code, y_code, is) stands inside =
+            let index : Instr = bare line op.INDEX in
+            let all : CodeStands G ps p references at (xs ++ (ys ++ index ∷ [])) = subst (λ c. CodeStands G ps p references at c) is stands in
+            let rest : CodeStands G ps p references (at + length xs) (ys ++ index ∷ []) = code_back G ps p references at xs (ys ++ index ∷ []) all in
+            let ends : length code ≡ length xs + length ys + 1 = omega (arith, ap length is, length-append xs (ys ++ index ∷ []), length-append ys (index ∷ [])) in
+            followed_as n kind kind (IndexedValue x y) line at code (xs ++ (ys ++ index ∷ [])) refl is
+            (indexed_value_follows ps p references call steady_call g unit line n kind h low high of of_kind x y at xs ys
+            (expression_follows (Structured (type.Array low high of)) x is_x line at xs x_code (code_front G ps p references at xs (ys ++ index ∷ []) all) (omega (arith, ends, inside)))
+            (expression_follows (Ordinal h) y is_y line (at + length xs) ys y_code (code_front G ps p references (at + length xs) ys (index ∷ []) rest) (omega (arith, ends, inside)))
+            (code_back G ps p references (at + length xs) ys (index ∷ []) rest))
+        expression_follows kind (FieldValue x k) (ts, of, is_x, among_types, of_kind) line at code (xs, x_code, is) stands inside =
+            let field : Instr = instr op.FIELD (pos k) 0 line in
+            let all : CodeStands G ps p references at (xs ++ field ∷ []) = subst (λ c. CodeStands G ps p references at c) is stands in
+            let ends : length code ≡ length xs + 1 = omega (arith, ap length is, length-append xs (field ∷ [])) in
+            followed_as n kind kind (FieldValue x k) line at code (xs ++ field ∷ []) refl is
+            (field_value_follows ps p references call steady_call g unit line n kind ts k of among_types of_kind x at xs
+            (expression_follows (Structured (type.Record ts)) x is_x line at xs x_code (code_front G ps p references at xs (field ∷ []) all) (omega (arith, ends, inside)))
+            (code_back G ps p references at xs (field ∷ []) all))
 
         -- an actual parameter
         argument_follows : (k : Passing) (a : Actual) → Fits declared k a → (line at : ℕ) (is : List Instr) → IsActualCode texts references line at a is → CodeStands G ps p references at is → at + length is < p.instructions.own → IsArgumentFollowed declared G untouched Here p call g unit n k a line at is

@@ -3,7 +3,7 @@ use Rattle.std.proofs.Common.{◌≡◌, ℕ, ℤ, pos, ◌+◌, ◌<◌, ◌-�
 use Rattle.ep_object.specs.declared.code.Instr.{Instr}
 use Rattle.ep_object.specs.declared.code.Reference.{Reference}
 use Rattle.ep_typed.specs.Operations.{last_char}
-use Rattle.ep_typed.specs.Trees.{Place, Variable, Own, Standard, Indexed, Field, Expr, Constant, Text, Read, One, Two, Short, Step}
+use Rattle.ep_typed.specs.Trees.{Place, Variable, Own, Standard, Indexed, Field, Expr, Constant, Text, Read, One, Two, Short, Step, IndexedValue, FieldValue}
 use Rattle.ep_typed.specs.declared.operations.Unary.{Unary}
 use Rattle.ep_typed.specs.declared.operations.Unary.TheVariants as unary
 use Rattle.ep_typed.specs.declared.operations.Binary.{Binary}
@@ -115,6 +115,14 @@ pub appends_two : {a b c d : Code} (operation : Binary) (x y : Expr) → Appends
 appends_two {a = a} operation x y p q r =
     whole_expr (Two operation x y) (p.code ++ (q.code ++ two_code a.line operation ∷ [])) (p.code, q.code, first_part x p (grows_then q.grows r), second_part y p.grows q r, refl) (after_parts (λ line. two_code line operation ∷ []) p.grows q.grows r)
 
+pub appends_indexed_value : {a b c d : Code} (array index : Expr) → AppendsExpr a b array → AppendsExpr b c index → Grows c d (bare c.line op.INDEX ∷ []) → AppendsExpr a d (IndexedValue array index)
+appends_indexed_value {a = a} array index p q r =
+    whole_expr (IndexedValue array index) (p.code ++ (q.code ++ bare a.line op.INDEX ∷ [])) (p.code, q.code, first_part array p (grows_then q.grows r), second_part index p.grows q r, refl) (after_parts (λ line. bare line op.INDEX ∷ []) p.grows q.grows r)
+
+pub appends_field_value : {a b c : Code} (x : Expr) (number : ℕ) → AppendsExpr a b x → Grows b c (instr op.FIELD (pos number) 0 b.line ∷ []) → AppendsExpr a c (FieldValue x number)
+appends_field_value {a = a} x number p q =
+    whole_expr (FieldValue x number) (p.code ++ instr op.FIELD (pos number) 0 a.line ∷ []) (p.code, first_part x p q, refl) (grows_at (λ line. instr op.FIELD (pos number) 0 line ∷ []) p.grows q)
+
 -- what gives an operand twice, the upper one negated
 pub grows_twice : {a b c : Code} → Grows a b (bare a.line op.DUP ∷ []) → Grows b c (bare b.line op.NOT ∷ []) → Grows a c (keep_code a.line short.OrElse)
 grows_twice p q = grows_at (λ line. bare line op.NOT ∷ []) p q
@@ -213,4 +221,4 @@ on_ok (Err e) f h = tt
 
 pub ruleset numbers = (numbers_old_text, numbers_old_reference)
 
-pub ruleset forms = (appends_variable, appends_own, appends_standard, appends_indexed, appends_field, appends_constant, appends_text, appends_read, appends_one, appends_two, appends_step)
+pub ruleset forms = (appends_variable, appends_own, appends_standard, appends_indexed, appends_field, appends_constant, appends_text, appends_read, appends_one, appends_two, appends_step, appends_indexed_value, appends_field_value)

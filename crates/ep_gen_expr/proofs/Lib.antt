@@ -15,3 +15,4 @@ pub mod Answering
 pub mod OneOperand
 pub mod TwoOperands
 pub mod Stepping
+pub mod ValueParts

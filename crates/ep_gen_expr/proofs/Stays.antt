@@ -3,7 +3,7 @@ use Rattle.std.proofs.Common.{◌≡◌, ℕ, ℤ, pos, ◌+◌, ◌*◌, ◌≤
 use Rattle.ep_outside.specs.Known.{IsPrefix}
 use Rattle.ep_object.specs.declared.code.Instr.{Instr}
 use Rattle.ep_object.specs.declared.code.Reference.{Reference}
-use Rattle.ep_typed.specs.Trees.{Place, Variable, Own, Standard, Indexed, Field, Expr, Constant, Text, Read, One, Two, Short, Step, Function, Actual, Evaluated, Accessed, Actuals, no_actual, next_actual}
+use Rattle.ep_typed.specs.Trees.{Place, Variable, Own, Standard, Indexed, Field, Expr, Constant, Text, Read, One, Two, Short, Step, Function, IndexedValue, FieldValue, Actual, Evaluated, Accessed, Actuals, no_actual, next_actual}
 use Rattle.ep_typed.specs.declared.operations.Unary.{Unary}
 use Rattle.ep_typed.specs.declared.operations.Unary.TheVariants as unary
 use Rattle.ep_typed.specs.declared.operations.ShortOperation.{ShortOperation}
@@ -34,6 +34,8 @@ module _ (ts us : List (List ℕ)) (rs ss : List Reference) (line : ℕ) (a : Is
         (h.0, h.1, expr_code_stays at x h.0 h.2, expr_code_stays (at + length h.0 + length (keep_code line operation) + 2) y h.1 h.3, h.4)
     expr_code_stays at (Step down low high x n) is h = (h.0, h.1, expr_code_stays at x h.0 h.2, expr_code_stays (at + length h.0) n h.1 h.3, h.4)
     expr_code_stays at (Function callee given) is h = (h.0, h.1, actuals_code_stays at given h.0 h.2, get_later h.1 (reference callee.unit callee.number) b h.3, h.4)
+    expr_code_stays at (IndexedValue x y) is h = (h.0, h.1, expr_code_stays at x h.0 h.2, expr_code_stays (at + length h.0) y h.1 h.3, h.4)
+    expr_code_stays at (FieldValue x number) is h = (h.0, expr_code_stays at x h.0 h.1, h.2)
 
     -- that of an actual parameter
     pub actual_code_stays : (at : ℕ) (x : Actual) (is : List Instr) → IsActualCode ts rs line at x is → IsActualCode us ss line at x is
@@ -97,6 +99,9 @@ module _ (ts : List (List ℕ)) (rs : List Reference) (line : ℕ) where
     expr_code_short at (Step down low high x n) is h =
         omega (arith, ap length h.4, length-append h.0 (h.1 ++ step_code line down low high), length-append h.1 (step_code line down low high), expr_code_short at x h.0 h.2, expr_code_short (at + length h.0) n h.1 h.3, step_short line down low high)
     expr_code_short at (Function callee given) is h = call_short h.0 _ _ is h.4 (actuals_nodes given) (actuals_code_short at given h.0 h.2)
+    expr_code_short at (IndexedValue x y) is h =
+        omega (arith, ap length h.4, length-append h.0 (h.1 ++ bare line op.INDEX ∷ []), length-append h.1 (bare line op.INDEX ∷ []), expr_code_short at x h.0 h.2, expr_code_short (at + length h.0) y h.1 h.3)
+    expr_code_short at (FieldValue x number) is h = omega (arith, ap length h.2, length-append h.0 (instr op.FIELD (pos number) 0 line ∷ []), expr_code_short at x h.0 h.1)
 
     -- that of an actual parameter
     pub actual_code_short : (at : ℕ) (x : Actual) (is : List Instr) → IsActualCode ts rs line at x is → length is ≤ 32 * actual_nodes x

@@ -6,7 +6,7 @@ pub use Rattle.ep_object.specs.Table.{instr}
 use Rattle.ep_object.specs.declared.code.Instr.{Instr}
 use Rattle.ep_object.specs.declared.code.Reference.{Reference}
 use Rattle.ep_typed.specs.Operations.{last_char}
-use Rattle.ep_typed.specs.Trees.{Place, Variable, Own, Standard, Indexed, Field, Expr, Constant, Text, Read, One, Two, Short, Step, Function, Actual, Evaluated, Accessed, Actuals, no_actual, next_actual}
+use Rattle.ep_typed.specs.Trees.{Place, Variable, Own, Standard, Indexed, Field, Expr, Constant, Text, Read, One, Two, Short, Step, Function, IndexedValue, FieldValue, Actual, Evaluated, Accessed, Actuals, no_actual, next_actual}
 use Rattle.ep_typed.specs.declared.operations.Unary.{Unary}
 use Rattle.ep_typed.specs.declared.operations.Unary.TheVariants as unary
 use Rattle.ep_typed.specs.declared.operations.Binary.{Binary}
@@ -113,6 +113,10 @@ module _ (texts : List (List ℕ)) (references : List Reference) (line : ℕ) wh
     IsExprCode at (Function callee given) is =
         (xs : List Instr) × (k : ℕ) × AreActualsCode at given xs × (slice_get references k ≡ Some (reference callee.unit callee.number))
         × (is ≡ xs ++ instr op.CALL (pos k) callee.levels line ∷ instr op.JUMP (pos (at + length xs + 2)) 0 line ∷ [])
+    -- A component of what a function gives: the array, the index, and `Index` (ISO 10206, 6.8.6.2), or the record and `Field`
+    -- (6.8.6.3).
+    IsExprCode at (IndexedValue x y) is = (xs ys : List Instr) × IsExprCode at x xs × IsExprCode (at + length xs) y ys × (is ≡ xs ++ (ys ++ bare line op.INDEX ∷ []))
+    IsExprCode at (FieldValue x number) is = (xs : List Instr) × IsExprCode at x xs × (is ≡ xs ++ instr op.FIELD (pos number) 0 line ∷ [])
 
     -- the code of an actual parameter: that of the value, or of the variable (ISO 10206, 6.7.3)
     pub IsActualCode : ℕ → Actual → List Instr → Type 0

@@ -2,7 +2,7 @@
 
 ghost use Rattle.std.specs.Prelude.{OnOk, map};
 ghost use Rattle.ep_typed.specs.Trees as tree;
-ghost use Rattle.ep_typed.specs.Trees.{entire, Constant, Field, Function, Indexed, One, Own, Read, Short, Step, Text, Two, Variable};
+ghost use Rattle.ep_typed.specs.Trees.{entire, Constant, Field, FieldValue, Function, Indexed, IndexedValue, One, Own, Read, Short, Step, Text, Two, Variable};
 ghost use Rattle.ep_typed.specs.Viewed.{actual_of, callee_of, entire_of, expr_of, place_of};
 ghost use Rattle.ep_gen_expr.specs.Growth.{AppendsActual, AppendsActuals, AppendsExpr, AppendsPlace};
 
@@ -111,6 +111,12 @@ pub fn expression_code(alloc: Global, e: &TypedExpr, code: &mut Code) -> Result<
             step_code(alloc, *down, *low, *high, value.get(), count.get(), code)
         }
         TypedExpr::Function(callee, given) => call_code(alloc, callee, given.items(), code),
+        TypedExpr::IndexedValue(array, index) => {
+            indexed_value_code(alloc, array.get(), index.get(), code)
+        }
+        TypedExpr::FieldValue(whole, number) => {
+            field_value_code(alloc, whole.get(), *number, code)
+        }
     }
 }
 
@@ -237,6 +243,37 @@ pub fn call_code(
     emit(code, op::CALL, routine as i64, callee.levels)?;
     let next = next_place(code)? + 1;
     emit(code, op::JUMP, next as i64, 0)
+}
+
+/// Appends the code of the component at an index of an array that a function gives (ISO 10206, 6.8.6.2).
+#[cycle(expression)]
+#[tactic(auto, using(crate::proofs::Forms::forms))]
+fn indexed_value_code(
+    alloc: Global,
+    array: &TypedExpr,
+    index: &TypedExpr,
+    code: &mut Code,
+) -> Result<(), NoMemory>
+    ensures { OnOk result (AppendsExpr code.old code.new (IndexedValue (expr_of array.now) (expr_of index.now))) }
+{
+    expression_code(alloc, array, code)?;
+    expression_code(alloc, index, code)?;
+    emit(code, op::INDEX, 0, 0)
+}
+
+/// Appends the code of the component with this number of a record that a function gives (ISO 10206, 6.8.6.3).
+#[cycle(expression)]
+#[tactic(auto, using(crate::proofs::Forms::forms))]
+fn field_value_code(
+    alloc: Global,
+    whole: &TypedExpr,
+    number: u32,
+    code: &mut Code,
+) -> Result<(), NoMemory>
+    ensures { OnOk result (AppendsExpr code.old code.new (FieldValue (expr_of whole.now) number)) }
+{
+    expression_code(alloc, whole, code)?;
+    emit(code, op::FIELD, number as i64, 0)
 }
 
 /// Appends the code of actual parameters one after another.

@@ -72,7 +72,7 @@ module _ {declared : Declarations} {G : Image} {Here : Facts} (untouched : Slots
       jumped : (z : ℤ) → outcome G (standing ((p.instructions.before + at) + 2 + 1) (Word z ∷ operand.Place q ∷ below) memory s.trace) ≡ record { weight = 0; to = Running 0 (standing (if is_true z then (p.instructions.before + at) + 2 + 1 + 1 else p.instructions.before + (at + 6)) (operand.Place q ∷ below) memory s.trace) }
       jumped z = jump_false_jumps G ((p.instructions.before + at) + 2 + 1) line (operand.Place q ∷ below) z (p.instructions.before + (at + 6)) (omega (arith, room, inside)) (instr_at G (omega arith) (jump_false_has G ps p references line (at + 1 + 1 + 1) (at + 6) (bare line op.LOAD ∷ bare line op.RETURN ∷ instr op.FAIL (pos run_error.RESULT_UNDEFINED) 0 line ∷ []) inside stands.1.1.1)) memory s.trace
 
-      by_value : ReadsResult declared G Here (standing ((p.instructions.before + at) + 4) (operand.Place q ∷ below) memory s.trace) 1 (unit_in G memory.frames) line ((p.instructions.before + at) + 4 + 1) (λ r. Inside untouched injection memory (OnTop (kind.Ordinal h) below r)) s (result_of a s)
+      by_value : ReadsResult declared G Here (standing ((p.instructions.before + at) + 4) (operand.Place q ∷ below) memory s.trace) 0 1 (unit_in G memory.frames) line ((p.instructions.before + at) + 4 + 1) (λ r. Inside untouched injection memory (OnTop (kind.Ordinal h) below r)) s (result_of a s)
           → Follows In G n (standing ((p.instructions.before + at) + 2) (operand.Place q ∷ operand.Place q ∷ below) memory s.trace) s (bind (fetch (meaning.Error run_error.RESULT_UNDEFINED unit line) (result_of a)) (λ r. give (r ∷ []))) (λ rs. Lands declared G Here ((p.instructions.before + at) + 5) (ResultsOnTop (kind.Ordinal h ∷ []) below rs)) d (λ rs. 1 + credit_of rs)
       by_value (Nothing none fails) =
           follows_found (meaning.Error run_error.RESULT_UNDEFINED unit line) (result_of a) (λ r. give (r ∷ [])) None none
@@ -82,12 +82,13 @@ module _ {declared : Declarations} {G : Image} {Here : Facts} (untouched : Slots
           (follows_stop (not_left-here memory.frames)
           (fail_fails G (p.instructions.before + (at + 6)) line (operand.Place q ∷ below) run_error.RESULT_UNDEFINED refl (instr_at G (omega arith) stands.1.1.1.1.1.1.0) memory s.trace ∙ ap (λ u. record { weight = 0; to = Stopped (Error run_error.RESULT_UNDEFINED u line) s.trace }) home)
           (omega (arith, enough))))))
-      by_value (Result_of r some does) =
+      by_value (Result_of r some weight weighs does) =
           let reached = does.post in
           let top = reached.operands_are in
           let light : weight_of r ≡ 0 = ap weight_of top.is_number in
+          let none : weight ≡ 0 = omega (arith, weighs, light) in
           follows_found (meaning.Error run_error.RESULT_UNDEFINED unit line) (result_of a) (λ r. give (r ∷ [])) (Some r) some
-          (follows_credit {d = 1 + (1 + (suc (weight_of r) + (d - 3)))} {e = λ rs. 1 + credit_of rs} (omega (arith, enough, light)) (λ rs. omega (arith, enough, light))
+          (follows_credit {d = 1 + (1 + (suc weight + (d - 3)))} {e = λ rs. 1 + credit_of rs} (omega (arith, enough, none)) (λ rs. omega (arith, enough, none))
           (follows_waits (not_left-here memory.frames) (asked ∙ ap (λ o. record { weight = 0; to = Running 0 (standing ((p.instructions.before + at) + 2 + 1) (Word (bit (is_some o)) ∷ operand.Place q ∷ below) memory s.trace) }) some)
           (follows_waits (not_left-here memory.frames) (jumped (pos 1) ∙ ap (λ k. record { weight = 0; to = Running 0 (standing k (operand.Place q ∷ below) memory s.trace) }) {x = (p.instructions.before + at) + 2 + 1 + 1} {y = (p.instructions.before + at) + 4} (omega arith))
           (follows_waits (not_left-here memory.frames) does.does

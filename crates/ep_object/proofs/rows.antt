@@ -7,6 +7,7 @@ pub mod IndexRow
 pub mod MakeRow
 pub mod NewTypes
 pub mod OwnRows
+pub mod PartRows
 pub mod Pieces
 pub mod PlaceRows
 pub mod Rows

@@ -8,6 +8,7 @@ pub mod Implements
 pub mod Laws
 pub mod Matching
 pub mod Operands
+pub mod Parts
 pub mod Places
 pub mod Placing
 pub mod Pointers

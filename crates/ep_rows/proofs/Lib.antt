@@ -1,3 +1,4 @@
+mod Elements
 mod Endings
 mod IndexTypes
 mod Indexing

@@ -2,4 +2,5 @@ pub mod Parts
 pub mod Printing
 pub mod Records
 pub mod Steps
+pub mod Taken
 pub mod Values

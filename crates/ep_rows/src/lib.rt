@@ -8,6 +8,7 @@
 
 mod bounds;
 pub mod control;
+pub mod parts;
 pub mod places;
 pub mod pointers;
 pub mod records;

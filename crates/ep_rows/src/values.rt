@@ -27,14 +27,13 @@ fn is_structured(kind: &Kind) -> bool
 }
 
 /// So many words from an offset on, where there are so many.
-fn words_at(words: &[i64], offset: u32, size: usize) -> Option<&[i64]>
+pub(crate) fn words_at(words: &[i64], offset: usize, size: usize) -> Option<&[i64]>
     ensures { option_map (λ w. w.now) result ≡ words_at words.now offset size }
 {
-    let from = offset as usize;
-    if from > words.len() || size > words.len() - from {
+    if offset > words.len() || size > words.len() - offset {
         return None;
     }
-    Some(&words[from..from + size])
+    Some(&words[offset..offset + size])
 }
 
 /// All words of a variable, or the error in their place, or none where the code is broken.
@@ -47,7 +46,7 @@ fn value_at<'a>(p: Place, size: u32, segments: &'a [Stored]) -> Result<&'a [i64]
     let Some(words) = segment.words() else {
         return Err(Some(run_error::DISPOSED));
     };
-    match words_at(words, p.offset, size as usize) {
+    match words_at(words, p.offset as usize, size as usize) {
         Some(value) => Ok(value),
         None => Err(None),
     }
@@ -159,7 +158,7 @@ fn put_value(p: Place, type_number: u32, words: &[i64], segments: &mut Vec<Store
     if type_number != p.type_number {
         return Step::Error(run_error::TUPLES_DIFFER);
     }
-    if words_at(old, p.offset, words.len()).is_none() {
+    if words_at(old, p.offset as usize, words.len()).is_none() {
         return Step::Broken;
     }
     if p.offset as u64 + words.len() as u64 > u64::from(u32::MAX) {

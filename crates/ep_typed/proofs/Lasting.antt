@@ -3,7 +3,7 @@ use Rattle.std.proofs.Common.{slice_get, ◌≡◌, ℕ, ℤ, pos, negsuc, zero,
 use Rattle.std.specs.Prelude.{if◌then◌else◌}
 use Rattle.ep_typed.specs.Controls.{in_order, next_value}
 use Rattle.ep_typed.specs.Denoters.{definition_of, required_type, subrange_type, enumeration_type, array_type}
-use Rattle.ep_typed.specs.Meaning.{argument, arguments, one_result, weights_of, results_given, initialized, takes_by, takes_all, elaborate, elaborate_each, answered, indexed, selected, place, eval, write_piece, write_wide, write_item, write_items, assign, turns, turns_until, assigns, undefines, turns_to, counts, exec, exec_all, elaborated, elaborated_where, elaborated_found, elaborate_step, elaborate_within, make, make_all, make_own, make_all_own, start_of, starts_of, Found, routine_in, activation, runs_routine, routine_does, routine_of, read, assign_living, tried, exec_arms, exec_other}
+use Rattle.ep_typed.specs.Meaning.{argument, arguments, one_result, weights_of, results_given, initialized, takes_by, takes_all, elaborate, elaborate_each, answered, indexed, selected, part, place, eval, write_piece, write_wide, write_item, write_items, assign, turns, turns_until, assigns, undefines, turns_to, counts, exec, exec_all, elaborated, elaborated_where, elaborated_found, elaborate_step, elaborate_within, make, make_all, make_own, make_all_own, start_of, starts_of, Found, routine_in, activation, runs_routine, routine_does, routine_of, read, assign_living, tried, exec_arms, exec_other}
 use Rattle.ep_typed.specs.Operations.{Answer, Number, Fault, is_same, is_true, decides, is_in}
 use Rattle.ep_typed.specs.Printing.{Result, number_of, plain_text, wide_text, piece_events}
 use Rattle.ep_typed.specs.Printing as result
@@ -13,7 +13,7 @@ use Rattle.ep_typed.specs.Steady.{Grows, Steady, IsSteadyHandler}
 use Rattle.ep_typed.specs.Steps.{Call, End, Normal, Halted, Error, Undefined, State, Outcome, Gives, Ends, Cut, state_of, Computation, give, cut, stop, go_on, bind, spend, change, found, fetch, assigned, type_at, Component, component, whole, size_of, with_type, counted, made, made_own, allocate, allocate_own, newest_assigned, with_own_bound, standard_file, first_state, using, has_ended, own_variable}
 use Rattle.ep_typed.specs.Steps.{Value as ValueOf}
 use Rattle.ep_typed.specs.Results.{misfit, result_of, suits, value_of, weight_of}
-use Rattle.ep_typed.specs.Trees.{Array, Enumeration, Subrange, Named, Record, Required, Denoter, Denoters, no_denoter, next_denoter, Callee, Place, Variable, Own, Standard, Indexed, Field, Expr, Constant, Text, Read, One, Two, Short, Step, Function, Actual, Evaluated, Accessed, Actuals, no_actual, next_actual, Item, Plain, Wide, Stmt, Stmts, Empty, Compound, Assign, If, While, Repeat, Control, For, Procedure, Halt, Write, none, next, Case, Arms, no_arm, next_arm, Other, no_other, otherwise_do, entire}
+use Rattle.ep_typed.specs.Trees.{Array, Enumeration, Subrange, Named, Record, Required, Denoter, Denoters, no_denoter, next_denoter, Callee, Place, Variable, Own, Standard, Indexed, Field, Expr, Constant, Text, Read, One, Two, Short, Step, Function, IndexedValue, FieldValue, Actual, Evaluated, Accessed, Actuals, no_actual, next_actual, Item, Plain, Wide, Stmt, Stmts, Empty, Compound, Assign, If, While, Repeat, Control, For, Procedure, Halt, Write, none, next, Case, Arms, no_arm, next_arm, Other, no_other, otherwise_do, entire}
 use Rattle.ep_typed.specs.Routines.{made_variables, unit_variables}
 use Rattle.ep_typed.specs.Viewed.{denoter_of, stmt_of}
 use Rattle.ep_typed.specs.declared.interface.Formal.{Formal}
@@ -150,6 +150,10 @@ module _ (call other : Handler) (lasts : IsLastingHandler call other) (g j : ℕ
   lasting_read : (line : ℕ) (v : Component) → Lasting (read call g unit line v) (read other (g + j) unit line v)
   lasting_read line v = lasting_using _ v.allocation (lasting_bind (lasting_fetch _ _) (λ r. lasting_spend (suc (weight_of r)) (lasting_give r)))
 
+  -- the component of a value
+  lasting_part : (line : ℕ) (r : Result) (k : ℕ) → Lasting (part call g unit line r k) (part other (g + j) unit line r k)
+  lasting_part line r k = lasting_bind (lasting_fetch _ _) (λ p. lasting_spend (suc (weight_of p)) (lasting_give p))
+
   -- what a function gives
   lasting_one_result : (rs : List Result) → Lasting (one_result call g unit rs) (one_result other (g + j) unit rs)
   lasting_one_result [] = lasting_cut
@@ -187,6 +191,8 @@ module _ (call other : Handler) (lasts : IsLastingHandler call other) (g j : ℕ
         lasting_bind (lasting_eval line x) (λ a. lasting_bind (lasting_eval line y) (λ b. lasting_bind (lasting_answered line _) (λ z. lasting_spend 1 (lasting_give (result.Number z)))))
     lasting_eval line (Function callee given) =
         lasting_bind (lasting_arguments line given) (λ xs. lasting_bind (lasts.by unit line callee xs) lasting_one_result)
+    lasting_eval line (IndexedValue x y) = lasting_bind (lasting_eval line x) (λ a. lasting_bind (lasting_eval line y) (λ b. lasting_bind (lasting_fetch _ _) (λ k. lasting_part line a k)))
+    lasting_eval line (FieldValue x number) = lasting_bind (lasting_eval line x) (λ a. lasting_part line a number)
 
     -- arguments
     lasting_argument : (line : ℕ) (a : Actual) → Lasting (argument call g unit line a) (argument other (g + j) unit line a)

@@ -5,14 +5,14 @@ use Rattle.ep_typed.specs.Calls.{Argument, Value, Handler, in_call}
 use Rattle.ep_typed.specs.Calls as argument_is
 use Rattle.ep_typed.specs.Controls.{in_order, next_value}
 use Rattle.ep_typed.specs.Denoters.{required_type, subrange_type, enumeration_type, array_type, definition_of}
-use Rattle.ep_typed.specs.Trees.{Denoter, Required, Named, Subrange, Enumeration, Array, Record, Denoters, no_denoter, next_denoter, Callee, Place, Variable, Own, Standard, Indexed, Field, Expr, Constant, Text, Read, One, Two, Short, Step, Function, Actual, Evaluated, Accessed, Actuals, no_actual, next_actual, Item, Plain, Wide, Stmt, Stmts, Empty, Compound, Assign, If, While, Repeat, Control, For, Procedure, Halt, Write, none, next, Case, Arms, no_arm, next_arm, Other, no_other, otherwise_do, entire}
+use Rattle.ep_typed.specs.Trees.{Denoter, Required, Named, Subrange, Enumeration, Array, Record, Denoters, no_denoter, next_denoter, Callee, Place, Variable, Own, Standard, Indexed, Field, Expr, Constant, Text, Read, One, Two, Short, Step, Function, IndexedValue, FieldValue, Actual, Evaluated, Accessed, Actuals, no_actual, next_actual, Item, Plain, Wide, Stmt, Stmts, Empty, Compound, Assign, If, While, Repeat, Control, For, Procedure, Halt, Write, none, next, Case, Arms, no_arm, next_arm, Other, no_other, otherwise_do, entire}
 use Rattle.ep_typed.specs.Routines.{made_variables, unit_variables}
 use Rattle.ep_typed.specs.Viewed.{denoter_of, stmt_of}
 use Rattle.ep_typed.specs.Steps.{Call, Normal, Halted, Error, Undefined, Outcome, Computation, give, cut, stop, bind, spend, change, fetch, with_events, assigned, type_at, whole, Component, component, component_number, with_type, allocate, allocate_own, own_variable, newest_assigned, with_own_bound, standard_file, first_state, using}
 use Rattle.ep_typed.specs.Operations.{Answer, Number, Fault, unary_answer, binary_answer, step_answer, is_same, is_true, decides, is_in}
 use Rattle.ep_typed.specs.Printing.{Result, Bytes, number_of, line_end, plain_text, wide_text, piece_events}
 use Rattle.ep_typed.specs.Printing as result
-use Rattle.ep_typed.specs.Results.{misfit, result_of, suits, value_of, weight_of}
+use Rattle.ep_typed.specs.Results.{misfit, part_at, part_of, result_of, suits, value_of, weight_of}
 use Rattle.ep_typed.specs.declared.interface.Formal.{Formal}
 use Rattle.ep_typed.specs.declared.interface.FormalMode.{FormalMode}
 use Rattle.ep_typed.specs.declared.interface.FormalMode.TheVariants as mode
@@ -46,6 +46,14 @@ module _ (call : Handler) (g : ℕ) (unit : List ℕ) where
   abbrev pub read : ℕ → Component → Computation Result
   read line c = using (Error run_error.DISPOSED unit line) c.allocation (bind (fetch (Error run_error.UNDEFINED_VALUE unit line) (result_of c)) (λ r. spend (suc (weight_of r)) (give r)))
 
+  -- the component with this number of a result: an error where it is undefined
+  abbrev pub part : ℕ → Result → ℕ → Computation Result
+  part line r k = bind (fetch (Error run_error.UNDEFINED_VALUE unit line) (λ s. part_of r k)) (λ p. spend (suc (weight_of p)) (give p))
+
+  -- the one at an index: an error where that is outside of the bounds
+  abbrev pub part_indexed : ℕ → Result → ℤ → Computation Result
+  part_indexed line r z = bind (fetch (Error run_error.INDEX unit line) (λ s. part_at r z)) (λ k. part line r k)
+
   -- what a call of a function gives, which has one result; what is none has no meaning
   abbrev pub one_result : List Result → Computation Result
   one_result [] = cut
@@ -74,6 +82,8 @@ module _ (call : Handler) (g : ℕ) (unit : List ℕ) where
     eval line (Step down low high x y) =
         bind (eval line x) (λ a. bind (eval line y) (λ b. bind (answered line (step_answer down low high (number_of a) (number_of b))) (λ z. spend 1 (give (result.Number z)))))
     eval line (Function callee given) = bind (arguments line given) (λ xs. bind (call unit line callee xs) one_result)
+    eval line (IndexedValue x y) = bind (eval line x) (λ a. bind (eval line y) (λ b. part_indexed line a (number_of b)))
+    eval line (FieldValue x number) = bind (eval line x) (λ a. part line a number)
 
     -- an argument: a value, or a variable (ISO 10206, 6.7.3)
     pub argument : ℕ → Actual → Computation Argument

@@ -1,8 +1,8 @@
 -- Results of expressions as values of variables.
-use Rattle.std.specs.Prelude.{ℕ, Bool, false, length, Option, Some, None, option_map}
+use Rattle.std.specs.Prelude.{ℕ, ℤ, Bool, false, length, Option, Some, None, option_map}
 use Rattle.ep_typed.specs.Printing.{Result, Number, Bytes, Structure}
-use Rattle.ep_typed.specs.Steps.{Component, State, Value, Word, Undefined, is_among, type_at, value_at, word_of}
-use Rattle.ep_typed.specs.TypeValues.{TypeValue, same_type, size_of}
+use Rattle.ep_typed.specs.Steps.{Component, State, Value, Word, Undefined, component_number, component_of, is_among, type_at, value_at, word_of}
+use Rattle.ep_typed.specs.TypeValues.{TypeValue, component_type, same_type, size_of}
 use Rattle.ep_typed.specs.TypeValues as type
 use Rattle.ep_typed.specs.declared.run_error.TheConstants as run_error
 
@@ -23,6 +23,18 @@ given_by (Some (type.Record ts)) v = Some (Structure (type.Record ts) v)
 
 abbrev pub result_of : Component → State → Option Result
 result_of c s = given_by (type_at c s) (value_at c s)
+
+-- what the component with this number of an array or a record gives that is a result itself
+abbrev pub part_of : Result → ℕ → Option Result
+part_of (Number z) k = None
+part_of (Bytes bytes) k = None
+part_of (Structure t v) k = given_by (component_type t k) (component_of v k)
+
+-- the number of the component with this index, where the result is an array and the index is within its bounds
+abbrev pub part_at : Result → ℤ → Option ℕ
+part_at (Number n) z = None
+part_at (Bytes bytes) z = None
+part_at (Structure t v) z = component_number (Some t) z
 
 -- what has no type is of none
 abbrev pub is_type : Option TypeValue → TypeValue → Bool

@@ -67,6 +67,10 @@ mutual
     Step : (down : Bool) (low high : ℤ) (value count : Expr) → Expr
     -- the function is called with these parameters
     Function : (callee : Callee) (given : Actuals) → Expr
+    -- the component at an index of an array that a function gives (ISO 10206, 6.8.6.2)
+    IndexedValue : (array index : Expr) → Expr
+    -- the component with this number of a record that a function gives (ISO 10206, 6.8.6.3)
+    FieldValue : (whole : Expr) (number : ℕ) → Expr
 
   -- an actual parameter: the value of an expression, or a variable that is accessed
   pub data Actual : Type 0 where

@@ -6,7 +6,7 @@ use Rattle.ep_typed.specs.Hosts.{Host, least, greatest, is_of_host}
 use Rattle.ep_typed.specs.Hosts as host
 use Rattle.ep_typed.specs.Operations.{is_integer, is_apart}
 use Rattle.ep_typed.specs.Steps.{is_within}
-use Rattle.ep_typed.specs.Trees.{Fixed, Denoter, Required, Named, Subrange, Enumeration, Array, Record, Denoters, no_denoter, next_denoter, Callee, Place, Variable, Own, Standard, Indexed, Field, Expr, Constant, Text, Read, One, Two, Short, Step, Function, Actual, Evaluated, Accessed, Actuals, no_actual, next_actual, Item, Plain, Wide, Stmt, Stmts, Empty, Compound, Assign, If, While, Repeat, Control, For, Procedure, Halt, Write, none, next, Case, Arms, no_arm, next_arm, Other, no_other, otherwise_do, entire}
+use Rattle.ep_typed.specs.Trees.{Fixed, Denoter, Required, Named, Subrange, Enumeration, Array, Record, Denoters, no_denoter, next_denoter, Callee, Place, Variable, Own, Standard, Indexed, Field, Expr, Constant, Text, Read, One, Two, Short, Step, Function, IndexedValue, FieldValue, Actual, Evaluated, Accessed, Actuals, no_actual, next_actual, Item, Plain, Wide, Stmt, Stmts, Empty, Compound, Assign, If, While, Repeat, Control, For, Procedure, Halt, Write, none, next, Case, Arms, no_arm, next_arm, Other, no_other, otherwise_do, entire}
 pub use Rattle.ep_typed.specs.Routines.{heading_of, formal_variable, variables_of, unit_variables}
 use Rattle.ep_typed.specs.Viewed.{denoter_of, stmt_of}
 use Rattle.ep_typed.specs.declared.operations.Unary.{Unary}
@@ -23,7 +23,7 @@ use Rattle.ep_typed.specs.declared.interface.FormalMode.TheVariants as mode
 use Rattle.ep_typed.specs.declared.interface.RoutineEntry.{RoutineEntry}
 use Rattle.ep_typed.specs.declared.interface.RoutineResult.{RoutineResult}
 use Rattle.ep_typed.specs.declared.tree.CaseRange.{CaseRange}
-use Rattle.ep_typed.specs.TypeValues.{TypeValue, ComponentTypes}
+use Rattle.ep_typed.specs.TypeValues.{TypeValue, ComponentTypes, type_among}
 use Rattle.ep_typed.specs.TypeValues as type
 use Rattle.ep_typed.specs.declared.value.Value.{Value}
 use Rattle.ep_typed.specs.declared.value.Value.TheVariants as value
@@ -50,6 +50,19 @@ abbrev pub IsOfKind : Kind → List UnitType → Denoter → Type 0
 IsOfKind (Ordinal h) types d = host_of types d ≡ Some h
 IsOfKind Bytes types d = ⊥
 IsOfKind (Structured t) types d = (type_of types d ≡ Some t) × IsStructured t
+
+-- a type is not empty, and its values are integers of the host
+abbrev pub IsTypeOf : Host → TypeValue → Type 0
+IsTypeOf h (type.Ordinal low high) = IsTrue (int_le low high) × IsTrue (is_of_host h low) × IsTrue (is_of_host h high) × IsTrue (is_integer low) × IsTrue (is_integer high)
+IsTypeOf h type.Text = ⊥
+IsTypeOf h (type.Array low high of) = ⊥
+IsTypeOf h (type.Record ts) = ⊥
+
+-- values of the type value are of the kind
+abbrev pub IsTypeOfKind : Kind → TypeValue → Type 0
+IsTypeOfKind (Ordinal h) t = IsTypeOf h t
+IsTypeOfKind Bytes t = ⊥
+IsTypeOfKind (Structured u) t = (u ≡ t) × IsStructured u
 
 -- a routine by its number, with its variables
 pub record Level : Type 0 where
@@ -183,6 +196,9 @@ module _ (declared : Declarations) where
     IsExpr kind (Step down low high x y) = (h : Host) × (kind ≡ Ordinal h) × (low ≡ least h) × (high ≡ greatest h) × IsExpr (Ordinal h) x × IsExpr (Ordinal host.Integer) y
     IsExpr kind (Function callee given) =
         (r : RoutineEntry) × IsCallee declared callee r × IsFunction (declared.types callee.unit) kind r × AreGiven (declared.types callee.unit) r.formals given
+    IsExpr kind (IndexedValue x y) =
+        (low high : ℤ) × (of : TypeValue) × IsExpr (Structured (type.Array low high of)) x × IsTypeOfKind kind of × ((h : Host) × IsTypeOf h (type.Ordinal low high) × IsExpr (Ordinal h) y)
+    IsExpr kind (FieldValue x number) = (ts : ComponentTypes) × (of : TypeValue) × IsExpr (Structured (type.Record ts)) x × (type_among ts number ≡ Some of) × IsTypeOfKind kind of
 
     -- What may be given for a formal parameter of a unit with these types: for a value parameter an expression of its kind,
     -- and for a variable parameter a variable of its type.
@@ -266,19 +282,6 @@ module _ (declared : Declarations) where
     pub IsOther : Other → Type 0
     IsOther no_other = ⊤
     IsOther (otherwise_do ss) = AreStmts ss
-
--- a type is not empty, and its values are integers of the host
-abbrev pub IsTypeOf : Host → TypeValue → Type 0
-IsTypeOf h (type.Ordinal low high) = IsTrue (int_le low high) × IsTrue (is_of_host h low) × IsTrue (is_of_host h high) × IsTrue (is_integer low) × IsTrue (is_integer high)
-IsTypeOf h type.Text = ⊥
-IsTypeOf h (type.Array low high of) = ⊥
-IsTypeOf h (type.Record ts) = ⊥
-
--- values of the type value are of the kind
-abbrev pub IsTypeOfKind : Kind → TypeValue → Type 0
-IsTypeOfKind (Ordinal h) t = IsTypeOf h t
-IsTypeOfKind Bytes t = ⊥
-IsTypeOfKind (Structured u) t = (u ≡ t) × IsStructured u
 
 abbrev mutual
   -- no type that a type value is made of is empty, and bounds are integers

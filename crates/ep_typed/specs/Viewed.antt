@@ -63,6 +63,8 @@ expr_step (expr.Binary operation left right) = tree.Two operation left right
 expr_step (expr.Short operation left right) = tree.Short operation left right
 expr_step (expr.Step down low high value count) = tree.Step down low high value count
 expr_step (expr.Function callee given) = tree.Function (callee_of callee) (tree.actuals given)
+expr_step (expr.IndexedValue array index) = tree.IndexedValue array index
+expr_step (expr.FieldValue whole number) = tree.FieldValue whole number
 
 abbrev pub actual_step : Actual-F tree.Actual tree.Expr tree.Place → tree.Actual
 actual_step (expr.Value value) = tree.Evaluated value

@@ -343,5 +343,11 @@ fn expression(x: &TypedExpr) -> u64
                 .saturating_add(1)
         }
         TypedExpr::Function(_, given) => actuals(given.items()).saturating_add(1),
+        TypedExpr::IndexedValue(array, index) => {
+            expression(array.get())
+                .saturating_add(expression(index.get()))
+                .saturating_add(1)
+        }
+        TypedExpr::FieldValue(whole, _) => expression(whole.get()).saturating_add(1),
     }
 }

@@ -87,6 +87,10 @@ pub enum TypedExpr {
     Step(bool, i64, i64, Boxed<TypedExpr>, Boxed<TypedExpr>),
     /// A function designator: the function, and what it is given for its parameters (ISO 10206, 6.8.5).
     Function(Callee, Actuals),
+    /// The component at an index of an array that a function gives (ISO 10206, 6.8.6.2).
+    IndexedValue(Boxed<TypedExpr>, Boxed<TypedExpr>),
+    /// The component of a record that a function gives, by its number (ISO 10206, 6.8.6.3).
+    FieldValue(Boxed<TypedExpr>, u32),
 }
 
 /// An owned list of expressions.

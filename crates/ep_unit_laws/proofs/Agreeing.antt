@@ -30,7 +30,7 @@ use Rattle.ep_scope.specs.declared.thing.Declaration.TheVariants as declaration
 use Rattle.ep_scope.specs.declared.thing.Declared.{Declared}
 use Rattle.ep_scope.specs.declared.thing.Thing.{Thing}
 use Rattle.ep_scope.specs.declared.thing.Thing.TheVariants as thing
-use Rattle.ep_check_expr.specs.Agreement.{Agrees, AgreesBy, AreFields, AreInterfaces, AreParameters, AreThings, Arrays, HasKind, HoldsStructure, IsDeclaration, IsDenoterOf, IsKind, IsMadeOf, Records, Structure, IsFunctionWith, IsOfType, IsStoredIn, IsThing, TypeValues, structures_of}
+use Rattle.ep_check_expr.specs.Agreement.{Agrees, AgreesBy, AreFields, AreInterfaces, AreParameters, AreThings, Arrays, HasKind, HoldsStructure, IsDeclaration, IsDenoterOf, IsKind, IsMadeOf, Records, Structure, IsFunctionWith, IsOfType, IsStoredIn, IsThing, structures_of}
 use Rattle.ep_check_expr.specs.Arguments.{callee_at, callee_levels}
 use Rattle.ep_check_expr.specs.Hosts.{typed_host}
 use Rattle.ep_check_unit.specs.Declarations.{scopes_of, type_denoter}
@@ -42,7 +42,7 @@ use Rattle.ep_check_unit.specs.declared.block.Enclosing.{Enclosing}
 use Rattle.ep_check_unit.specs.declared.block.OwnResult.{OwnResult}
 use Rattle.ep_unit_laws.proofs.Open.{IsOpen, around_length}
 use Rattle.ep_unit_laws.proofs.Denoting.{DenotesKind, kind_had, kind_type}
-use Rattle.ep_unit_laws.proofs.Holds.{HasKindHere, HasTypeHere, Head, Holds, HoldsComposition, HoldsFields, HoldsStructuredType, HoldsDeclaration, HoldsOwn, HoldsParameter, HoldsResultOf, HoldsResults, HoldsScopes, HoldsThing, HoldsThings, HoldsVariable, ListsKind, head_of, holds_scopes, levels_at, lists_kind_small, lists_small, name_denotes, named_tree}
+use Rattle.ep_unit_laws.proofs.Holds.{HasKindHere, HasTypeHere, Head, Holds, HoldsComposition, HoldsFields, HoldsStructuredType, HoldsDeclaration, HoldsOwn, HoldsParameter, HoldsResultOf, HoldsResults, HoldsScopes, HoldsThing, HoldsThings, HoldsVariable, ListsKind, head_of, holds_scopes, levels_at, lists_kind_small, lists_small, name_denotes, named_tree, type_values}
 
 name_same : (a b : List ℕ) → a ≡ b → bytes_eq a b ≡ true
 name_same a b h = grind (arith, bytes_eq-Decides)
@@ -81,29 +81,25 @@ levels_drop rs (suc n) (e ∷ es) = levels_drop rs n es
 module _ (u : TypedUnit) where
   -- ---- type values
 
-  -- the type value of each type
-  abbrev pub type_values : TypeValues
-  type_values t = type_of u.types (named_tree t)
-
   -- what denotes a kind has it
-  has_kind : (i : ℕ) (d : tree.Denoter) (k : Kind) (v : TypeValue) → i ≤ length u.types → IsKind k → DenotesKind u.types i d k v → HasKind type_values u.types d k
-  has_kind i d k v le s x = kind_had u.types type_values (λ n. refl) i d k v le s x
+  has_kind : (i : ℕ) (d : tree.Denoter) (k : Kind) (v : TypeValue) → i ≤ length u.types → IsKind k → DenotesKind u.types i d k v → HasKind (type_values u) u.types d k
+  has_kind i d k v le s x = kind_had u.types (type_values u) (λ n. refl) i d k v le s x
 
   -- the parameters have their kinds and types
-  parameters_hold : (i : ℕ) (ps : List FormalParameter) → i ≤ length u.types → All (HoldsParameter u i) ps → AreParameters type_values u.types ps (map formal_of ps)
+  parameters_hold : (i : ℕ) (ps : List FormalParameter) → i ≤ length u.types → All (HoldsParameter u i) ps → AreParameters (type_values u) u.types ps (map formal_of ps)
   parameters_hold i [] le x = tt
   parameters_hold i (p ∷ ps) le x =
       let y = All-head (HoldsParameter u i) p ps x in (
         record {
           mode = refl;
-          has_kind = subst (λ d. HasKind type_values u.types d p.kind) (sym (name_denotes p.of)) (has_kind i (named_tree p.of) p.kind y.denotes.0 le (lists_kind_small u i p.kind y.lists) y.denotes.1);
+          has_kind = subst (λ d. HasKind (type_values u) u.types d p.kind) (sym (name_denotes p.of)) (has_kind i (named_tree p.of) p.kind y.denotes.0 le (lists_kind_small u i p.kind y.lists) y.denotes.1);
           has_type = ap (type_of u.types) (name_denotes p.of);
         },
         parameters_hold i ps le (All-tail (HoldsParameter u i) p ps x),
       )
 
   -- a denoter is one of its type and kind
-  denoter_holds : (i : ℕ) (d : tree.Denoter) (of : TypeName) (k : Kind) → i ≤ length u.types → ListsKind u i k → HasTypeHere u i d of k → IsDenoterOf type_values u.types of k d
+  denoter_holds : (i : ℕ) (d : tree.Denoter) (of : TypeName) (k : Kind) → i ≤ length u.types → ListsKind u i k → HasTypeHere u i d of k → IsDenoterOf (type_values u) u.types of k d
   denoter_holds i d of k le l x = (
     has_kind i d k x.0 le (lists_kind_small u i k l) x.1,
     (
@@ -113,26 +109,33 @@ module _ (u : TypedUnit) where
     ),
   )
 
-  fields_hold : (i : ℕ) (fs : List FieldType) (ds : tree.Denoters) → i ≤ length u.types → HoldsFields u i fs ds → AreFields type_values u.types fs ds
+  fields_hold : (i : ℕ) (fs : List FieldType) (ds : tree.Denoters) → i ≤ length u.types → HoldsFields u i fs ds → AreFields (type_values u) u.types fs ds
   fields_hold i [] tree.no_denoter le x = tt
   fields_hold i [] (tree.next_denoter d ds) le x = absurd x
   fields_hold i (f ∷ fs) tree.no_denoter le x = absurd x
   fields_hold i (f ∷ fs) (tree.next_denoter d ds) le x = (denoter_holds i d f.of f.kind le x.0 x.1, fields_hold i fs ds le x.2)
 
-  components_hold : (i : ℕ) (c : Composition) (s : Structure) → i ≤ length u.types → HoldsComposition u i c s → IsMadeOf type_values u.types c s
+  components_hold : (i : ℕ) (c : Composition) (s : Structure) → i ≤ length u.types → HoldsComposition u i c s → IsMadeOf (type_values u) u.types c s
   components_hold i (composition.Array a) (Arrays p) le x = (lists_small u i a.index x.index_lists, x.index.1.has_host (suc (length u.types)) (omega (arith, le)), denoter_holds i p.component a.component a.kind le x.lists x.denotes)
   components_hold i (composition.Array a) (Records ds) le x = absurd x
   components_hold i (composition.Record fs) (Arrays p) le x = absurd x
   components_hold i (composition.Record fs) (Records ds) le x = fields_hold i fs ds le x
 
   -- a structured type, with what it is made of
-  structure_holds : (i : ℕ) (s : StructuredType) → i ≤ length u.types → HoldsStructuredType u i s → HoldsStructure type_values u.types s
-  structure_holds i s le x = (x.structure, x.has_structure, components_hold i s.composition x.structure le x.components)
+  structure_holds : (i : ℕ) (s : StructuredType) → i ≤ length u.types → HoldsStructuredType u i s → HoldsStructure (type_values u) u.types s
+  structure_holds i s le x = record {
+    structure = x.structure;
+    has_structure = x.has_structure;
+    made_of = components_hold i s.composition x.structure le x.components;
+    type_value = x.type_value;
+    has_value = x.has_value;
+    value_made = x.value_made;
+  }
 
-  structures_hold : (i : ℕ) (all : List StructuredType) → i ≤ length u.types → All (HoldsStructuredType u i) all → All (HoldsStructure type_values u.types) all
-  structures_hold i [] le x = All-nil (HoldsStructure type_values u.types)
+  structures_hold : (i : ℕ) (all : List StructuredType) → i ≤ length u.types → All (HoldsStructuredType u i) all → All (HoldsStructure (type_values u) u.types) all
+  structures_hold i [] le x = All-nil (HoldsStructure (type_values u) u.types)
   structures_hold i (a ∷ more) le x =
-      All-cons (HoldsStructure type_values u.types) a more (structure_holds i a le (All-head (HoldsStructuredType u i) a more x)) (structures_hold i more le (All-tail (HoldsStructuredType u i) a more x))
+      All-cons (HoldsStructure (type_values u) u.types) a more (structure_holds i a le (All-head (HoldsStructuredType u i) a more x)) (structures_hold i more le (All-tail (HoldsStructuredType u i) a more x))
 
   -- ---- places
 
@@ -150,8 +153,8 @@ module _ (u : TypedUnit) where
   own_place es i level number of h le x = (x.variable, x.at, x.denotes.1.has_host (suc (length u.types)) (omega (arith, le)))
 
   -- a variable that is held is a place of its kind, where these structured types are held
-  module _ (structures : List StructuredType) (all : All (HoldsStructure type_values u.types) structures) where
-    variable_stored : (i number : ℕ) (unit : List ℕ) (of : TypeName) (k : Kind) → i ≤ length u.types → unit ≡ u.name → HoldsVariable u i number of k → IsStoredIn (own u) type_values structures (tree.Variable unit number) k
+  module _ (structures : List StructuredType) (all : All (HoldsStructure (type_values u) u.types) structures) where
+    variable_stored : (i number : ℕ) (unit : List ℕ) (of : TypeName) (k : Kind) → i ≤ length u.types → unit ≡ u.name → HoldsVariable u i number of k → IsStoredIn (own u) (type_values u) structures (tree.Variable unit number) k
     variable_stored i number unit of (kind.Ordinal h) le e x = (
       lists_small u i h x.lists,
       (x.variable, declared_own unit number x.variable e x.at, ap (λ ts. host_of ts (denoter_of x.variable.denoter)) (types_own unit e) ∙ x.denotes.1.has_host (suc (length u.types)) (omega (arith, le))),
@@ -159,13 +162,13 @@ module _ (u : TypedUnit) where
     variable_stored i number unit of (kind.Structured n) le e x = (
       x.variable,
       declared_own unit number x.variable e x.at,
-      subst (λ ts. HasKind type_values ts (denoter_of x.variable.denoter) (kind.Structured n) × All (HoldsStructure type_values ts) structures) (sym (types_own unit e))
+      subst (λ ts. HasKind (type_values u) ts (denoter_of x.variable.denoter) (kind.Structured n) × All (HoldsStructure (type_values u) ts) structures) (sym (types_own unit e))
           (has_kind i (denoter_of x.variable.denoter) (kind.Structured n) x.denotes.0 le tt x.denotes.1, all),
     )
     variable_stored i number unit of kind.Text le e x = absurd x.denotes.1
     variable_stored i number unit of kind.File le e x = absurd x.denotes.1
 
-    own_stored : (es : List Enclosing) (i level number : ℕ) (of : TypeName) (k : Kind) → i ≤ length u.types → HoldsOwn u es i level number of k → IsStoredIn (in_routine (levels_at u.routines es) (own u)) type_values structures (tree.Own (length es - level) number) k
+    own_stored : (es : List Enclosing) (i level number : ℕ) (of : TypeName) (k : Kind) → i ≤ length u.types → HoldsOwn u es i level number of k → IsStoredIn (in_routine (levels_at u.routines es) (own u)) (type_values u) structures (tree.Own (length es - level) number) k
     own_stored es i level number of (kind.Ordinal h) le x = (lists_small u i h x.lists, own_place es i level number of h le x)
     own_stored es i level number of (kind.Structured n) le x = (x.variable, x.at, (has_kind i (denoter_of x.variable.denoter) (kind.Structured n) x.denotes.0 le tt x.denotes.1, all))
     own_stored es i level number of kind.Text le x = absurd x.denotes.1
@@ -173,7 +176,7 @@ module _ (u : TypedUnit) where
 
     -- a heading that is held is that of a function
     function_typed : (i : ℕ) (heading : RoutineEntry) (name : Option (List ℕ)) (of : TypeName) (k : Kind) → i ≤ length u.types → heading.result ≡ Some (record { name = name; denoter = type_denoter of }) → ListsKind u i k → HasKindHere u i (named_tree of) k
-        → IsFunctionWith (own u) type_values structures u.types k heading
+        → IsFunctionWith (own u) (type_values u) structures u.types k heading
     function_typed i heading name of (kind.Ordinal h) le is l d = (
       record {
         result = record { name = name; denoter = type_denoter of };
@@ -183,19 +186,19 @@ module _ (u : TypedUnit) where
       lists_small u i h l,
     )
     function_typed i heading name of (kind.Structured n) le is l d =
-        (record { name = name; denoter = type_denoter of }, is, subst (λ x. HasKind type_values u.types x (kind.Structured n)) (sym (name_denotes of)) (has_kind i (named_tree of) (kind.Structured n) d.0 le tt d.1), all)
+        (record { name = name; denoter = type_denoter of }, is, subst (λ x. HasKind (type_values u) u.types x (kind.Structured n)) (sym (name_denotes of)) (has_kind i (named_tree of) (kind.Structured n) d.0 le tt d.1), all)
     function_typed i heading name of kind.Text le is l d = absurd d.1
     function_typed i heading name of kind.File le is l d = absurd d.1
 
   -- it has its type
-  variable_typed : (i number : ℕ) (unit : List ℕ) (of : TypeName) (k : Kind) → i ≤ length u.types → unit ≡ u.name → HoldsVariable u i number of k → IsOfType (own u) type_values (tree.Variable unit number) of
+  variable_typed : (i number : ℕ) (unit : List ℕ) (of : TypeName) (k : Kind) → i ≤ length u.types → unit ≡ u.name → HoldsVariable u i number of k → IsOfType (own u) (type_values u) (tree.Variable unit number) of
   variable_typed i number unit of k le e x = (
     x.denotes.0,
     kind_type u.types i (named_tree of) k x.denotes.0 x.denotes.2 (suc (length u.types)) (omega (arith, le)),
     (x.variable, declared_own unit number x.variable e x.at, ap (λ ts. type_of ts (denoter_of x.variable.denoter)) (types_own unit e) ∙ kind_type u.types i (denoter_of x.variable.denoter) k x.denotes.0 x.denotes.1 (suc (length u.types)) (omega (arith, le))),
   )
 
-  own_typed : (es : List Enclosing) (i level number : ℕ) (of : TypeName) (k : Kind) → i ≤ length u.types → HoldsOwn u es i level number of k → IsOfType (in_routine (levels_at u.routines es) (own u)) type_values (tree.Own (length es - level) number) of
+  own_typed : (es : List Enclosing) (i level number : ℕ) (of : TypeName) (k : Kind) → i ≤ length u.types → HoldsOwn u es i level number of k → IsOfType (in_routine (levels_at u.routines es) (own u)) (type_values u) (tree.Own (length es - level) number) of
   own_typed es i level number of k le x = (
     x.denotes.0,
     kind_type u.types i (named_tree of) k x.denotes.0 x.denotes.2 (suc (length u.types)) (omega (arith, le)),

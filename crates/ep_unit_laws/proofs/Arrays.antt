@@ -1,27 +1,29 @@
 -- Array types that are written in a block: the unit that has the block's lists has them as valid types.
-use Rattle.std.proofs.Common.{◌≡◌, ℕ, ℤ, suc, ◌<◌, ◌≤◌, [], length, Some, None, sym, ap, ◌∙◌, subst, arith}
+use Rattle.std.proofs.Common.{◌≡◌, ℕ, ℤ, suc, ◌<◌, ◌≤◌, [], length, Some, None, refl, sym, ap, ◌∙◌, subst, arith}
 use Rattle.std.proofs.lemmas.Option.{slice_get_within}
 use Rattle.ep_typed.specs.Denoters.{ArrayParts, array_of}
 use Rattle.ep_typed.specs.Trees as tree
 use Rattle.ep_typed.specs.TypeValues as type
 use Rattle.ep_typed.specs.TypeValues.{TypeValue}
+use Rattle.ep_typed.specs.Valid.{IsTyped}
 use Rattle.ep_typed.specs.Viewed.{denoter_of}
 use Rattle.ep_typed.specs.declared.unit.Unit.{Unit as TypedUnit}
 use Rattle.ep_typed.proofs.Forms.{array_is}
+use Rattle.ep_typed.proofs.Typed.{typed_of_host}
 use Rattle.ep_scope.specs.declared.structure.ArrayType.{ArrayType}
 use Rattle.ep_scope.specs.declared.structure.Composition.TheVariants as composition
 use Rattle.ep_scope.specs.declared.structure.StructuredType.{StructuredType}
 use Rattle.ep_scope.specs.declared.kind.Host.{Host}
 use Rattle.ep_scope.specs.declared.kind.Kind.{Kind}
 use Rattle.ep_scope.specs.declared.kind.Kind.TheVariants as kind
-use Rattle.ep_check_expr.specs.Agreement.{Arrays}
+use Rattle.ep_check_expr.specs.Agreement.{Arrays, IsArrayValue}
 use Rattle.ep_check_expr.specs.Hosts.{typed_host}
 use Rattle.ep_check_expr.specs.Judgements.{Accepts, when_accepted}
 use Rattle.ep_check_stmt.proofs.judged.Fits.{Fits, fits_is, fits_then}
 use Rattle.ep_check_unit.specs.Blocks.{Block}
 use Rattle.ep_check_unit.specs.Declarations.{Part, Written, array_over, array_written, index_host, settled_part}
-use Rattle.ep_unit_laws.proofs.Denoting.{Denotes, DenotesStructured, array_there, denotes_array, kind_more, kind_type, kind_typed, ordinal_value}
-use Rattle.ep_unit_laws.proofs.Holds.{HasKindHere, HasTypeHere, Holds, HoldsElements, HoldsStructuredType, ListsKind, has_type_more, holds_more, lists_more, lists_kind_more}
+use Rattle.ep_unit_laws.proofs.Denoting.{Denotes, DenotesStructured, array_there, denotes_array, kind_more, kind_type, kind_typed, kind_valued, ordinal_value}
+use Rattle.ep_unit_laws.proofs.Holds.{HasKindHere, HasTypeHere, Holds, HoldsElements, HoldsStructuredType, ListsKind, has_type_more, holds_more, lists_more, lists_kind_more, lists_kind_small, type_values}
 use Rattle.ep_unit_laws.proofs.Leading.{Extends, Grows, extends_before, grows_trans, prefix_length}
 use Rattle.ep_unit_laws.proofs.Open.{IsOpen}
 use Rattle.ep_unit_laws.proofs.Types.{IsNext, Settles, Stood, Wrote, Writes, next_denotes}
@@ -103,8 +105,19 @@ module _ (u : TypedUnit) where
         denotes = has_type_more u Number (suc Number) (denoter_of below.denoter) below.of below.kind (omega arith) below_stood.denotes;
       }
 
+      -- its type value is that of its index type and of its components
+      value_made : IsArrayValue (type_values u) Elements Value
+      value_made = (
+        bounds.0,
+        bounds.1,
+        below_stood.denotes.0,
+        refl,
+        typed_of_host u.types (denoter_of index.denoter) (type.Ordinal bounds.0 bounds.1) (typed_host h) (subst (IsTyped u.types (denoter_of index.denoter)) bounds.2 index_typed.1.typed) (index_typed.1.has_host (suc (length u.types)) (omega (arith, within))),
+        kind_valued u.types (type_values u) (λ n. refl) Number (denoter_of below.denoter) below.kind below_stood.denotes.0 (omega (arith, within)) (lists_kind_small u Number below.kind below_stood.lists) below_stood.denotes.1,
+      )
+
       type_held : HoldsStructuredType u (suc Number) Made
-      type_held = record { structure = Arrays Parts; has_structure = parts_there; components = elements_held }
+      type_held = record { structure = Arrays Parts; has_structure = parts_there; components = elements_held; type_value = Value; has_value = over_denotes.of_number; value_made = value_made }
 
       over_wrote : Wrote u Number Over
       over_wrote = record {

@@ -9,6 +9,7 @@ use Rattle.ep_typed.specs.Operations.{is_integer, last_char, maxint}
 use Rattle.ep_typed.specs.Trees.{Array, Denoter, Denoters, Fixed, Required, Named, Subrange, Enumeration, Record, next_denoter, no_denoter}
 use Rattle.ep_typed.specs.Valid as valid
 use Rattle.ep_typed.specs.Valid.{AreTyped, HasKind as HasValues, IsDenoter, IsOrdinal, IsStructured, IsTyped, array, components, enumeration, named, next_typed, none_typed, required, subrange}
+use Rattle.ep_typed.proofs.Typed.{typed_of_host}
 use Rattle.ep_typed.specs.declared.denoter.RequiredType.{RequiredType}
 use Rattle.ep_typed.specs.declared.denoter.RequiredType.TheVariants as simple
 use Rattle.ep_typed.specs.declared.unit.UnitType.{UnitType}
@@ -17,7 +18,7 @@ use Rattle.ep_typed.specs.TypeValues as type
 use Rattle.ep_scope.specs.declared.kind.Kind.{Kind}
 use Rattle.ep_scope.specs.declared.kind.Kind.TheVariants as kind
 use Rattle.ep_scope.specs.declared.parameter.TypeName.TheVariants as type_name
-use Rattle.ep_check_expr.specs.Agreement.{Arrays, HasKind, HasStructure, IsKind, Records, Structure, TypeValues}
+use Rattle.ep_check_expr.specs.Agreement.{Arrays, HasKind, HasStructure, IsKind, IsValueOfKind, Records, Structure, TypeValues}
 use Rattle.ep_check_expr.specs.Hosts.{typed_host}
 
 -- the numbers of the host are integers
@@ -298,6 +299,13 @@ module _ (types : List UnitType) where
   )
   kind_had values numbered k d kind.Text v le s x = absurd x
   kind_had values numbered k d kind.File v le s x = absurd x
+
+  -- and its type value is one of the kind
+  pub kind_valued : (values : TypeValues) → ((number : ℕ) → values (type_name.Entry number) ≡ type_of types (Named number [])) → (k : ℕ) (d : Denoter) (of : Kind) (v : TypeValue) → k ≤ length types → IsKind of → DenotesKind types k d of v → IsValueOfKind values of v
+  kind_valued values numbered k d (kind.Ordinal h) v le s x = (s, typed_of_host types d v (typed_host h) x.typed (x.has_host (suc (length types)) (omega (arith, le))))
+  kind_valued values numbered k d (kind.Structured number) v le s x = (numbered number ∙ x.of_number, x.of_structure)
+  kind_valued values numbered k d kind.Text v le s x = absurd x
+  kind_valued values numbered k d kind.File v le s x = absurd x
 
   -- what has a kind has values
   pub kind_has_values : (k : ℕ) (d : Denoter) (of : Kind) (v : TypeValue) → k ≤ length types → DenotesKind types k d of v → HasValues types d

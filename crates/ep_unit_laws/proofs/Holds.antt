@@ -2,7 +2,7 @@
 use Rattle.std.proofs.Common.{◌≡◌, ℕ, ℤ, zero, suc, ◌<◌, ◌≤◌, ◌-◌, List, [], ◌∷◌, ◌++◌, map, length, Option, Some, None, slice_get, IsTrue, inl, inr, refl, sym, ap, ◌∙◌, subst, arith}
 use Rattle.std.proofs.lemmas.List.Elements.{All-cons, All-head, All-nil, All-tail}
 use Rattle.std.specs.Prelude.{All, ⊤, drop}
-use Rattle.ep_typed.specs.Denoters.{ArrayParts, definition_of}
+use Rattle.ep_typed.specs.Denoters.{ArrayParts, definition_of, type_of}
 use Rattle.ep_typed.specs.Hosts as typed
 use Rattle.ep_typed.specs.Hosts.{is_of_host}
 use Rattle.ep_typed.specs.Trees as tree
@@ -40,7 +40,7 @@ use Rattle.ep_scope.specs.declared.thing.Declaration.TheVariants as declaration
 use Rattle.ep_scope.specs.declared.thing.Declared.{Declared}
 use Rattle.ep_scope.specs.declared.thing.Thing.{Thing}
 use Rattle.ep_scope.specs.declared.thing.Thing.TheVariants as thing
-use Rattle.ep_check_expr.specs.Agreement.{Arrays, HasStructure, IsConstantOf, IsHost, IsKind, Records, Structure}
+use Rattle.ep_check_expr.specs.Agreement.{Arrays, HasStructure, IsConstantOf, IsHost, IsKind, IsValueMadeOf, Records, Structure, TypeValues}
 use Rattle.ep_check_expr.specs.Hosts.{typed_host}
 use Rattle.ep_check_expr.specs.Origins.{IsKnownHost, IsKnownKind, IsRequiredHost, HasHost, DeclaresHost, ThingHasHost, CompositionHasHost, FieldsHaveHost, StructuresHaveHost, EntriesHaveHost, InterfacesHaveHost, ScopesHaveHost}
 use Rattle.ep_check_unit.specs.Declarations.{host_denoter, scopes_of, type_denoter}
@@ -231,11 +231,18 @@ module _ (u : TypedUnit) where
   HoldsComposition i (composition.Record fs) (Records ds) = HoldsFields i fs ds
   HoldsComposition i c s = ⊥
 
-  -- the structured type is made so under its number
+  -- the type value of each type
+  abbrev pub type_values : TypeValues
+  type_values t = type_of u.types (named_tree t)
+
+  -- the structured type is made so under its number, and so is its type value
   pub record HoldsStructuredType (i : ℕ) (s : StructuredType) : Type 0 where
     pub structure : Structure
     pub has_structure : HasStructure u.types (tree.Named s.number []) structure
     pub components : HoldsComposition i s.composition structure
+    pub type_value : TypeValue
+    pub has_value : type_of u.types (tree.Named s.number []) ≡ Some type_value
+    pub value_made : IsValueMadeOf type_values s.composition type_value
 
   -- In code of these blocks, the routine of this number and level is a procedure with these formal parameters.
   pub record HoldsProcedure (es : List Enclosing) (i level number : ℕ) (ps : List FormalParameter) : Type 0 where
@@ -337,7 +344,7 @@ module _ (u : TypedUnit) where
   components_more i j (composition.Record fs) (Records ds) le x = fields_more i j fs ds le x
 
   structure_more : (i j : ℕ) (s : StructuredType) → i ≤ j → HoldsStructuredType i s → HoldsStructuredType j s
-  structure_more i j s le x = record { structure = x.structure; has_structure = x.has_structure; components = components_more i j s.composition x.structure le x.components }
+  structure_more i j s le x = record { structure = x.structure; has_structure = x.has_structure; components = components_more i j s.composition x.structure le x.components; type_value = x.type_value; has_value = x.has_value; value_made = x.value_made }
 
   pub structures_more : (i j : ℕ) (all : List StructuredType) → i ≤ j → All (HoldsStructuredType i) all → All (HoldsStructuredType j) all
   structures_more i j [] le x = All-nil (HoldsStructuredType j)

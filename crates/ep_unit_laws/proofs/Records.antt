@@ -16,14 +16,14 @@ use Rattle.ep_scope.specs.declared.kind.Kind.TheVariants as kind
 use Rattle.ep_scope.specs.declared.rule.TheConstants as rule
 use Rattle.ep_scope.specs.declared.structure.Composition.TheVariants as composition
 use Rattle.ep_scope.specs.declared.structure.StructuredType.{StructuredType}
-use Rattle.ep_check_expr.specs.Agreement.{Records}
+use Rattle.ep_check_expr.specs.Agreement.{AreFieldValues, Records}
 use Rattle.ep_check_expr.specs.Judgements.{Accepts, Breaks, when_accepted}
 use Rattle.ep_check_stmt.proofs.judged.Fits.{Fits, fits_then, fits_weaker}
 use Rattle.ep_check_unit.specs.Blocks.{Block}
 use Rattle.ep_check_unit.specs.Declarations.{Field, Fielded, Section, Written, field_of, field_type, fields_named, has_field, record_field, record_over, record_written, section_written, sections_written, settled_part}
 use Rattle.ep_check_unit.proofs.Denoters.{AreKept}
-use Rattle.ep_unit_laws.proofs.Denoting.{AreDenoted, DenotesStructured, denotes_record, kind_type, kind_typed, record_there}
-use Rattle.ep_unit_laws.proofs.Holds.{HasTypeHere, Holds, HoldsFields, HoldsStructuredType, ListsKind, has_type_more, holds_more, lists_kind_more}
+use Rattle.ep_unit_laws.proofs.Denoting.{AreDenoted, DenotesStructured, denotes_record, kind_type, kind_typed, kind_valued, record_there}
+use Rattle.ep_unit_laws.proofs.Holds.{HasTypeHere, Holds, HoldsFields, HoldsStructuredType, ListsKind, has_type_more, holds_more, lists_kind_more, lists_kind_small, type_values}
 use Rattle.ep_unit_laws.proofs.Leading.{Extends, Grows, extends_before, grows_refl, grows_trans, prefix_length}
 use Rattle.ep_unit_laws.proofs.Open.{IsOpen}
 use Rattle.ep_unit_laws.proofs.Structures.{IsKnown, part_settles, structure_grows, structure_held}
@@ -123,6 +123,13 @@ module _ (u : TypedUnit) where
   all_held i [] x = tt
   all_held i (f ∷ fs) x = (x.0.0, x.0.1, all_held i fs x.1)
 
+  -- which are those of their kinds
+  all_valued : (i : ℕ) (fs : List Field) (x : HaveFields i fs) → i ≤ length u.types → AreFieldValues (type_values u) (map field_type fs) (types_of i fs x)
+  unfolding types_of
+  all_valued i [] x le = tt
+  all_valued i (f ∷ fs) x le =
+      (kind_valued u.types (type_values u) (λ n. refl) i (denoter_of f.denoter) f.kind x.0.1.0 le (lists_kind_small u i f.kind x.0.0) x.0.1.1, all_valued i fs x.1 le)
+
   -- ---- a record of fields that stand
 
   module _ (b : Block) (f : Fielded) (fields : Fields b f) where
@@ -157,7 +164,14 @@ module _ (u : TypedUnit) where
           (denotes_record u.types Number Number next.entry (components_of f.fields) (types_of Number f.fields stood.1) (all_denoted Number f.fields stood.1) next.at (next.definition ∙ denoter_is f.fields) within)
 
       type_held : HoldsStructuredType u (suc Number) Made
-      type_held = record { structure = Records (components_of f.fields); has_structure = components_there; components = all_held (suc Number) f.fields (fields_later Number (suc Number) f.fields (omega arith) stood.1) }
+      type_held = record {
+        structure = Records (components_of f.fields);
+        has_structure = components_there;
+        components = all_held (suc Number) f.fields (fields_later Number (suc Number) f.fields (omega arith) stood.1);
+        type_value = Value;
+        has_value = over_denotes.of_number;
+        value_made = (types_of Number f.fields stood.1, refl, all_valued Number f.fields stood.1 (omega (arith, within)));
+      }
 
       over_wrote : Wrote u Number Over
       over_wrote = record {

@@ -26,8 +26,8 @@ use Rattle.ep_check_unit.specs.Routines.{context_of, parts_declared}
 use Rattle.ep_unit_laws.specs.Laws.{UnitsAreValid}
 use Rattle.ep_check_unit.specs.Units.{IsTypedProgram, IsUnitOf, ProgramForm, body_judged, declarations_wait, first_missing, parameters_entered, program_block, program_form, program_judged, unless_missing}
 use Rattle.ep_check_unit.specs.Blocks.{Block, routine_form}
-use Rattle.ep_unit_laws.proofs.Agreeing.{block_agrees, type_values, within}
-use Rattle.ep_unit_laws.proofs.Holds.{Holds, HoldsStructuredType, HoldsParameter, HoldsRoutine, HoldsRoutines, head_of, innermost, levels_at}
+use Rattle.ep_unit_laws.proofs.Agreeing.{block_agrees, within}
+use Rattle.ep_unit_laws.proofs.Holds.{Holds, HoldsStructuredType, HoldsParameter, HoldsRoutine, HoldsRoutines, head_of, innermost, levels_at, type_values}
 use Rattle.ep_unit_laws.proofs.Open.{IsOpen}
 use Rattle.ep_unit_laws.proofs.Items.{LeadsOn, parameters_lead}
 use Rattle.ep_unit_laws.proofs.Leading.{Leads, head_in, leads_trans, prefix_refl, variables_in}

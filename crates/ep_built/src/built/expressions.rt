@@ -123,7 +123,7 @@ pub(super) fn access(a: &Access) -> Option<Line>
 }
 
 #[cycle(lines)]
-fn selectors(all: &[Selector]) -> Option<Line>
+pub(super) fn selectors(all: &[Selector]) -> Option<Line>
     ensures { result ≡ lines_in (map selector_belonging all.now) }
 {
     for s in all {

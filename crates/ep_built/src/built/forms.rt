@@ -4,7 +4,7 @@
 ghost use Rattle.std.specs.Prelude.{◌≡◌, map};
 ghost use Rattle.std.specs.List.{list_all};
 ghost use Rattle.ep_tree.specs.Shapes.{bare};
-ghost use Rattle.ep_built.specs.Built.{built_component, built_program, built_import, built_type_name, built_heading, built_start, built_routine, built_type_definition, built_type_denoter, built_plain, built_formal_type, built_section, built_core, built_structure, variants_are_built, selector_form, is_component, is_call, are_one_call, built_target, built_control, built_call_selectors, built_call_of, built_call, built_statement, built_relation, built_adding, built_multiplying, is_character, built_factor, built_access, form_told, selector_belonging, brackets_are_built, is_bare_text};
+ghost use Rattle.ep_built.specs.Built.{built_component, built_program, built_import, built_type_name, built_heading, built_start, built_routine, built_type_definition, built_type_denoter, built_plain, built_formal_type, built_section, built_core, built_structure, variants_are_built, selector_form, is_component, behind_call, is_call, built_target, built_control, built_call, behind_arguments, built_statement, built_relation, built_adding, built_multiplying, is_character, built_factor, built_access, form_told, selector_belonging, brackets_are_built, is_bare_text};
 ghost use Rattle.ep_tree.specs.declared.expression.Factor.{out-Factor};
 ghost use Rattle.ep_tree.specs.declared.types.Core.{out-Core};
 ghost use Rattle.ep_tree.specs.declared.types.Plain.{out-Plain};
@@ -175,11 +175,22 @@ fn are_components(selectors: &[Selector]) -> bool
     true
 }
 
-/// What is assigned to is a name that is built, alone or with indexes and fields.
+/// The selectors behind a pair of parentheses that comes first, or all where none does.
+pub(super) fn behind_call(selectors: &[Selector]) -> &[Selector]
+    ensures forms { map selector_form result.now ≡ behind_call (map selector_form selectors.now) }
+    ensures selectors { result.now ≡ behind_arguments selectors.now }
+{
+    match selectors.split_first() {
+        Some((first, more)) if is_call(first) => more,
+        _ => selectors,
+    }
+}
+
+/// What is assigned to is a name that is built, alone or with selectors that are.
 fn target_is_built(a: &Access) -> bool
     ensures { result ≡ built_target a.now }
 {
-    are_components(a.selectors.items()) && !names::is_later(&a.name)
+    are_components(behind_call(a.selectors.items())) && !names::is_later(&a.name)
 }
 
 /// The control variable of a `for` with bounds has a name that is built.
@@ -189,28 +200,11 @@ fn control_is_built(name: &Name) -> bool
     !names::is_later(name)
 }
 
-/// A call has at most one selector, a pair of parentheses.
-fn call_selectors_are_built(selectors: &[Selector]) -> bool
-    ensures { result ≡ built_call_selectors selectors.now }
-{
-    match selectors {
-        [] => true,
-        [selector] => is_call(selector),
-        _ => false,
-    }
-}
-
-/// A call is one of a name that is built, with at most one pair of parentheses.
-fn call_of_is_built(name: &Name, selectors: &[Selector]) -> bool
-    ensures { result ≡ built_call_of name.now selectors.now }
-{
-    !names::is_later(name) && call_selectors_are_built(selectors)
-}
-
+/// A call is one of a name that is built, alone or with selectors that are.
 fn call_is_built(a: &Access) -> bool
     ensures { result ≡ built_call a.now }
 {
-    call_of_is_built(&a.name, a.selectors.items())
+    are_components(behind_call(a.selectors.items())) && !names::is_later(&a.name)
 }
 
 pub(super) fn statement_is_built(s: &Statement) -> bool
@@ -271,22 +265,12 @@ pub(super) fn factor_is_built(f: &Factor) -> bool
     }
 }
 
-/// Whether selectors are one pair of parentheses.
-fn are_one_call(selectors: &[Selector]) -> bool
-    ensures { result ≡ are_one_call (map selector_form selectors.now) }
-{
-    match selectors {
-        [selector] => is_call(selector),
-        _ => false,
-    }
-}
-
-/// An access is a name that is built, called, alone or with indexes and fields.
+/// An access is a name that is built, alone or called, with indexes and fields or without.
 #[tactic(auto, using(crate::proofs::Selectors::forms_told))]
 pub(super) fn access_is_built(name: &Name, selectors: &[Selector]) -> bool
     ensures { result ≡ built_access name.now (map form_told (map selector_belonging selectors.now)) }
 {
-    (are_one_call(selectors) || are_components(selectors)) && !names::is_later(name)
+    are_components(behind_call(selectors)) && !names::is_later(name)
 }
 
 /// Of a structured value without the name of its type.

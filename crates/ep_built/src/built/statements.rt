@@ -1,11 +1,13 @@
 //! The first node of a statement that is not built.
 
 ghost use Rattle.std.specs.Prelude.{◌≡◌, map};
-ghost use Rattle.ep_built.specs.Built.{first_in, access_unbuilt, written_value_unbuilt, written_unbuilt, call_unbuilt, statement_unbuilt, arm_unbuilt, compound_unbuilt};
+ghost use Rattle.ep_built.specs.Built.{first_in, access_unbuilt, written_value_unbuilt, written_unbuilt, writes, call_arguments, call_unbuilt, in_arguments, statement_unbuilt, arm_unbuilt, compound_unbuilt};
 
-use crate::built::expressions::{access, arguments, component_value, expression, labels};
+use crate::built::expressions::{
+    access, arguments, component_value, expression, labels, selectors,
+};
 use crate::built::{at_node, forms, names};
-use ep_base::Line;
+use ep_base::{Line, Name};
 use ep_tree::{Access, Argument, Arm, Compound, Expression, Selector, Statement};
 
 /// The first line in a compound statement, whose own form the node around it tells.
@@ -113,13 +115,21 @@ fn accesses(all: &[Access]) -> Option<Line>
     None
 }
 
-/// The first line in the arguments of a call statement.
+/// The first line in the selectors of a call statement.
 fn call(a: &Access) -> Option<Line>
     ensures { result ≡ call_unbuilt a.now }
 {
-    match a.selectors.items() {
+    let all = a.selectors.items();
+    call_arguments(&a.name, all).or(selectors(forms::behind_call(all)))
+}
+
+/// The first line in the arguments of a call of this name.
+fn call_arguments(name: &Name, selectors: &[Selector]) -> Option<Line>
+    ensures { result ≡ in_arguments (writes name.now) (call_arguments selectors.now) }
+{
+    match selectors {
         [Selector::Arguments(_, all), ..] => {
-            if names::writes(&a.name) {
+            if names::writes(name) {
                 written(all.items())
             } else {
                 arguments(all.items())

@@ -156,9 +156,13 @@ module _ (declared : Declarations) (expressions : ExpressionsAreSound) (passed :
   read_fits (kind.Ordinal h) (Some (tree.Short operation x y)) f = tt
   read_fits (kind.Ordinal h) (Some (tree.Step down low high x y)) f = tt
   read_fits (kind.Ordinal h) (Some (tree.Function callee given)) f = tt
+  read_fits (kind.Ordinal h) (Some (tree.IndexedValue array index)) f = tt
+  read_fits (kind.Ordinal h) (Some (tree.FieldValue whole number)) f = tt
   read_fits (kind.Structured n) None f = tt
   read_fits (kind.Structured n) (Some (tree.Read place)) f = structured-place declared agrees.0 structures n place f
   read_fits (kind.Structured n) (Some (tree.Function callee given)) f = tt
+  read_fits (kind.Structured n) (Some (tree.IndexedValue array index)) f = tt
+  read_fits (kind.Structured n) (Some (tree.FieldValue whole number)) f = tt
   read_fits (kind.Structured n) (Some (tree.Constant z)) f = tt
   read_fits (kind.Structured n) (Some (tree.Text bytes)) f = tt
   read_fits (kind.Structured n) (Some (tree.One operation x)) f = tt

@@ -19,6 +19,12 @@ pub(crate) enum Step {
     Two(Binary),
     /// `succ` of a char and a count, or with the flag `pred`.
     CharStep(bool),
+    /// What the function of this number of `main` gives, which has no parameters.
+    Function(u32),
+    /// The component of an array that a function gives, at an index.
+    Indexed,
+    /// The component of this number of a record that a function gives.
+    Field(u32),
     /// A value that is written.
     Plain(Print),
     /// A value that is written, and its width.
@@ -100,6 +106,9 @@ impl Builder {
             Step::One(operation) => self.one(operation),
             Step::Two(operation) => self.two(operation),
             Step::CharStep(down) => self.char_step(down),
+            Step::Function(number) => self.function(number),
+            Step::Indexed => self.indexed(),
+            Step::Field(number) => self.field(number),
             Step::Plain(print) => self.plain(print),
             Step::Wide(print) => self.wide(print),
             Step::Empty => self.put(TypedStmt::Empty),
@@ -113,13 +122,19 @@ impl Builder {
         }
     }
 
-    /// A call of a procedure of `main`.
-    fn call(&mut self, line: Line, number: u32) -> Result<(), Unbuilt> {
-        let callee = Callee {
-            unit: Name::from_bytes(self.alloc, b"main")?,
+    /// The routine of this number of `main`.
+    fn callee(&self, number: u32) -> Result<Callee, Unbuilt> {
+        let unit = Name::from_bytes(self.alloc, b"main")?;
+        Ok(Callee {
+            unit,
             number,
             levels: 0,
-        };
+        })
+    }
+
+    /// A call of a procedure of `main`.
+    fn call(&mut self, line: Line, number: u32) -> Result<(), Unbuilt> {
+        let callee = self.callee(number)?;
         let none = List::new(self.alloc);
         self.put(TypedStmt::Procedure(line, callee, none))
     }
@@ -179,6 +194,23 @@ impl Builder {
         let count = self.expression()?;
         let value = self.expression()?;
         self.push(TypedExpr::Step(down, 0, 255, value, count))
+    }
+
+    fn function(&mut self, number: u32) -> Result<(), Unbuilt> {
+        let callee = self.callee(number)?;
+        let none = List::new(self.alloc);
+        self.push(TypedExpr::Function(callee, none))
+    }
+
+    fn indexed(&mut self) -> Result<(), Unbuilt> {
+        let index = self.expression()?;
+        let array = self.expression()?;
+        self.push(TypedExpr::IndexedValue(array, index))
+    }
+
+    fn field(&mut self, number: u32) -> Result<(), Unbuilt> {
+        let whole = self.expression()?;
+        self.push(TypedExpr::FieldValue(whole, number))
     }
 
     fn plain(&mut self, print: Print) -> Result<(), Unbuilt> {

@@ -91,30 +91,46 @@ fragment_fetched {A = A} {declared = declared} {G = G} {Here = Here} {n = n} {fr
 
 -- ---- a variable that is read
 
--- the machine has the result that the computation reads, and spends its weight, or both end with the error
-pub data ReadsResult (declared : Declarations) (G : Image) (Here : Facts) (k : State) (number : ℕ) (unit : List ℕ) (line : ℕ) (to : ℕ) (Post : Result → After) (s : meaning.State) (o : Option Result) : Type 0 where
-  Nothing : (is : o ≡ None) (fails : FailsWith G k 0 number unit line s)
-      → ReadsResult declared G Here k number unit line to Post s o
-  Result_of : (r : Result) (is : o ≡ Some r) (does : Does declared G Here k (weight_of r) to (Post r) s)
-      → ReadsResult declared G Here k number unit line to Post s o
+-- the machine has the result that the computation reads, and spends its weight and so many ticks besides, or both end with the error after those
+pub data ReadsResult (declared : Declarations) (G : Image) (Here : Facts) (k : State) (besides number : ℕ) (unit : List ℕ) (line : ℕ) (to : ℕ) (Post : Result → After) (s : meaning.State) (o : Option Result) : Type 0 where
+  Nothing : (is : o ≡ None) (fails : FailsWith G k besides number unit line s)
+      → ReadsResult declared G Here k besides number unit line to Post s o
+  Result_of : (r : Result) (is : o ≡ Some r) (weight : ℕ) (weighs : weight ≡ weight_of r + besides) (does : Does declared G Here k weight to (Post r) s)
+      → ReadsResult declared G Here k besides number unit line to Post s o
 
 -- one instruction, with the step of the form and the weight of the result, from one state
-pub follows_read : {declared : Declarations} {G : Image} {Here : Facts} {n : ℕ} {to : ℕ} {P : Result → After} {d : ℕ} {e : Result → ℕ} {number line : ℕ} {unit : List ℕ} (from : Point) (h : meaning.State → Option Result) (s : meaning.State)
-    → ReadsResult declared G Here (state_at from s.trace) number unit line to P s (h s)
-    → 1 ≤ d → ((r : Result) → e r ≤ d + 63 * suc (weight_of r))
+pub follows_read : {declared : Declarations} {G : Image} {Here : Facts} {n : ℕ} {to : ℕ} {P : Result → After} {d : ℕ} {e : Result → ℕ} {besides number line : ℕ} {unit : List ℕ} (from : Point) (h : meaning.State → Option Result) (s : meaning.State)
+    → ReadsResult declared G Here (state_at from s.trace) besides number unit line to P s (h s)
+    → suc besides ≤ d → ((r : Result) → e r + besides ≤ d + 63 * suc (weight_of r))
     → Follows (λ k. IsNotLeft from.memory.frames k.frames) G (suc n) (state_at from s.trace) s (bind (fetch (meaning.Error number unit line) h) (λ r. spend (suc (weight_of r)) (give r))) (λ b. Lands declared G Here to (P b)) d e
-follows_read {declared = declared} {G = G} {Here = Here} {n = n} {to = to} {P = P} {d = d} {e = e} {number = number} {line = line} {unit = unit} from h s reads le le2 =
+follows_read {declared = declared} {G = G} {Here = Here} {n = n} {to = to} {P = P} {d = d} {e = e} {besides = besides} {number = number} {line = line} {unit = unit} from h s reads le le2 =
     record { by = λ m l. let z = go (h s) reads in z.by m l }
   where
-    go : (o : Option Result) → ReadsResult declared G Here (state_at from s.trace) number unit line to P s o
+    go : (o : Option Result) → ReadsResult declared G Here (state_at from s.trace) besides number unit line to P s o
         → Follows (λ k. IsNotLeft from.memory.frames k.frames) G (suc n) (state_at from s.trace) s (bind (found (meaning.Error number unit line) o) (λ r. spend (suc (weight_of r)) (give r))) (λ b. Lands declared G Here to (P b)) d e
     go o (Nothing is x) =
         subst (λ y. Follows (λ k. IsNotLeft from.memory.frames k.frames) G (suc n) (state_at from s.trace) s (bind (found (meaning.Error number unit line) y) (λ r. spend (suc (weight_of r)) (give r))) (λ b. Lands declared G Here to (P b)) d e) (sym is)
         (follows_stop (not_left-here from.memory.frames) x.fails le)
-    go o (Result_of r is x) =
-        let small : e r ≤ d + 63 * suc (weight_of r) = le2 r in
+    go o (Result_of r is weight weighs x) =
+        let small : e r ≤ d + 63 * suc (weight_of r) - besides = (let enough = le2 r in omega (arith, enough)) in
         subst (λ y. Follows (λ k. IsNotLeft from.memory.frames k.frames) G (suc n) (state_at from s.trace) s (bind (found (meaning.Error number unit line) y) (λ r. spend (suc (weight_of r)) (give r))) (λ b. Lands declared G Here to (P b)) d e) (sym is)
-        (follows_paid {v = weight_of r} {w = weight_of r} {d1 = d + 63 * suc (weight_of r)} (not_left-here from.memory.frames) refl x.does (omega arith) (omega arith) (omega arith) (follows_give r small (landed x)))
+        (follows_paid {v = weight} {w = weight_of r} {d1 = d + 63 * suc (weight_of r) - besides} (not_left-here from.memory.frames) refl x.does (omega (arith, weighs)) (omega (arith, weighs)) (omega (arith, weighs, le)) (follows_give r small (landed x)))
+
+-- ---- what is known before any state
+
+-- what is looked up without the state, or the instruction that ends with the error, and what comes after it
+pub fragment_known : {A B : Type 0} {declared : Declarations} {G : Image} {Here : Facts} {n : ℕ} {from : Point} {to : ℕ} {P : B → After} {d : ℕ} {e : B → ℕ} {weight number line : ℕ} {unit : List ℕ} (o : Option A) (f : A → Computation B)
+    → (o ≡ None → (s : meaning.State) → Matches declared G from.injection s from.memory → FailsWith G (state_at from s.trace) weight number unit line s)
+    → suc weight ≤ d
+    → ((a : A) → o ≡ Some a → Fragment declared G Here n from (f a) to P d e)
+    → Fragment declared G Here n from (bind (fetch (meaning.Error number unit line) (λ s. o)) f) to P d e
+fragment_known {B = B} {declared = declared} {G = G} {Here = Here} {n = n} {from = from} {to = to} {P = P} {d = d} {e = e} {number = number} {line = line} {unit = unit} None f fails le next =
+    record { by = λ s matches here. record { by = λ m l. let z = stops s (fails refl s matches) le in z.by m l } }
+  where
+    stops : {weight : ℕ} (s : meaning.State) → FailsWith G (state_at from s.trace) weight number unit line s → suc weight ≤ d
+        → Follows (λ k. IsNotLeft from.memory.frames k.frames) G n (state_at from s.trace) s (stop {A = B} (meaning.Error number unit line)) (λ b. Lands declared G Here to (P b)) d e
+    stops s x enough = follows_stop (not_left-here from.memory.frames) x.fails enough
+fragment_known (Some a) f fails le next = record { by = λ s matches here. record { by = λ m l. let z = next a refl in let w = z.by s matches here in w.by m l } }
 
 -- ---- what is used has to live
 

@@ -74,7 +74,7 @@ among_within before (type.next_component t ts) (suc k) p h =
     let x = among_within (before + size_of t) ts k p h in (omega (arith, x.0), omega (arith, x.1))
 
 -- a component lies within its type
-component_within : (t : TypeValue) (k : ℕ) (p : Part) → part_of t k ≡ Some p → p.offset + size_of p.type_value ≤ size_of t
+pub component_within : (t : TypeValue) (k : ℕ) (p : Part) → part_of t k ≡ Some p → p.offset + size_of p.type_value ≤ size_of t
 component_within (type.Ordinal low high) k p h = cc
 component_within type.Text k p h = cc
 component_within (type.Array low high of) k p h =
@@ -109,7 +109,7 @@ among_type before (type.next_component t ts) zero p h = ap (λ (q : Part). Some 
 among_type before (type.next_component t ts) (suc k) p h = among_type (before + size_of t) ts k p h
 
 -- the type of a component
-component_type-is : (t : TypeValue) (k : ℕ) (p : Part) → part_of t k ≡ Some p → component_type t k ≡ Some p.type_value
+pub component_type-is : (t : TypeValue) (k : ℕ) (p : Part) → part_of t k ≡ Some p → component_type t k ≡ Some p.type_value
 component_type-is (type.Ordinal low high) k p h = cc
 component_type-is type.Text k p h = cc
 component_type-is (type.Array low high of) k p h =
@@ -252,7 +252,7 @@ to_start : (injection : Injection) (ts : ComponentTypes) (values : ℕ → Value
 to_start injection ts values words offset h = let same : offset + 0 ≡ offset = omega arith in subst (HaveAt injection ts values words) same h
 
 -- the words of a component hold it
-component_has : (injection : Injection) (t : TypeValue) (k : ℕ) (value : Value) (words : Words) (offset : ℕ) (p : Part)
+pub component_has : (injection : Injection) (t : TypeValue) (k : ℕ) (value : Value) (words : Words) (offset : ℕ) (p : Part)
     → part_of t k ≡ Some p → HasAt injection t value words offset
     → HasAt injection p.type_value (component_of value k) words (offset + p.offset)
 component_has injection (type.Ordinal low high) k value words offset p is h = cc

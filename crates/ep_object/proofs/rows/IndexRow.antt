@@ -31,7 +31,7 @@ use Rattle.ep_object.specs.declared.op.TheConstants as op
 use Rattle.ep_typed.specs.declared.run_error.TheConstants as run_error
 
 -- a component that is found is one of those that there are
-is_within_count : (n : ℕ) (o : Option ℕ) (k : ℕ) → within_count n o ≡ Some k → k < n
+pub is_within_count : (n : ℕ) (o : Option ℕ) (k : ℕ) → within_count n o ≡ Some k → k < n
 is_within_count n None k h = cc
 is_within_count n (Some j) k h = go (ltb j n) refl h
   where

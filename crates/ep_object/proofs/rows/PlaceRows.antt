@@ -149,7 +149,7 @@ module _ (declared : Declarations) (G : Image) (place line : ℕ) (below : List 
       → (injection : Injection) (memory : Memory) → IsSpot injection memory.types v p
       → Describes memory.types p.type_number (type.Ordinal low high) → (s : meaning.State)
       → Matches declared G injection s memory → Here injection s memory → has_ended v.allocation s ≡ false
-      → ReadsResult declared G Here (at place (operand.Place p ∷ below) memory s.trace) 1 (unit_in G memory.frames) line (place + 1) (λ r. Inside untouched injection memory (OnTop (kind.Ordinal host) below r)) s (result_of v s)
+      → ReadsResult declared G Here (at place (operand.Place p ∷ below) memory s.trace) 0 1 (unit_in G memory.frames) line (place + 1) (λ r. Inside untouched injection memory (OnTop (kind.Ordinal host) below r)) s (result_of v s)
   word_reads {untouched = untouched} {Here = Here} host low high v p of_host has injection memory spot described s matches known living =
       let x : StandsOrdinal injection s memory v p low high = ordinal_stands low high matches spot described living in
       let a : Allocation = x.allocation in
@@ -159,14 +159,14 @@ module _ (declared : Declarations) (G : Image) (place line : ℕ) (below : List 
       go : (value : Value) → {value2 : Value} → value2 ≡ value → result_of v s ≡ option_map Number (word_of value2) → (type_number : ℕ) (words : List ℤ)
           → slice_get memory.segments p.segment ≡ Some (Some (record { type_number = type_number; words = words }))
           → OrdinalAt low high value (slice_get words p.offset)
-          → ReadsResult declared G Here (at place (operand.Place p ∷ below) memory s.trace) 1 (unit_in G memory.frames) line (place + 1) (λ r. Inside untouched injection memory (OnTop (kind.Ordinal host) below r)) s (result_of v s)
+          → ReadsResult declared G Here (at place (operand.Place p ∷ below) memory s.trace) 0 1 (unit_in G memory.frames) line (place + 1) (λ r. Inside untouched injection memory (OnTop (kind.Ordinal host) below r)) s (result_of v s)
       go Undefined value_is result_is type_number words stands word =
           Nothing (result_is ∙ ap (λ x. option_map Number (word_of x)) value_is) (record { fails = load_outcome memory s.trace p low high type_number words undefined has described stands word.is })
       go (meaning.Components of) value_is result_is type_number words stands word = absurd word.is
       go (meaning.Word w) value_is result_is type_number words stands word =
           let at_place = word.is in
           let found : int_lt undefined w ≡ true = word_defined low high w word.low_fits at_place.1 in
-          Result_of (Number w) (result_is ∙ ap (λ x. option_map Number (word_of x)) value_is) (record {
+          Result_of (Number w) (result_is ∙ ap (λ x. option_map Number (word_of x)) value_is) 0 (omega arith) (record {
             injection = injection;
             memory = memory;
             operands = Word w ∷ below;
@@ -223,7 +223,7 @@ module _ (declared : Declarations) (G : Image) (place line : ℕ) (below : List 
       → (injection : Injection) (memory : Memory) → IsSpot injection memory.types v p
       → Describes memory.types p.type_number t → (s : meaning.State)
       → Matches declared G injection s memory → Here injection s memory → has_ended v.allocation s ≡ false
-      → ReadsResult declared G Here (at place (operand.Place p ∷ below) memory s.trace) 1 (unit_in G memory.frames) line (place + 1) (λ r. Inside untouched injection memory (OnTop k below r)) s (result_of v s)
+      → ReadsResult declared G Here (at place (operand.Place p ∷ below) memory s.trace) 0 1 (unit_in G memory.frames) line (place + 1) (λ r. Inside untouched injection memory (OnTop k below r)) s (result_of v s)
   load_reads (kind.Ordinal h) (type.Ordinal low high) v p of_kind has injection memory spot described s matches known living = word_reads h low high v p of_kind has injection memory spot described s matches known living
   load_reads (kind.Ordinal h) type.Text v p of_kind has injection memory spot described s matches known living = absurd of_kind
   load_reads (kind.Ordinal h) (type.Array low high of) v p of_kind has injection memory spot described s matches known living = absurd of_kind
@@ -231,7 +231,7 @@ module _ (declared : Declarations) (G : Image) (place line : ℕ) (below : List 
   load_reads kind.Bytes t v p of_kind has injection memory spot described s matches known living = absurd of_kind
   load_reads (kind.Structured u) t v p (same, structured) has injection memory spot described s matches known living =
       let x = structure_found u v p structured has injection memory spot (subst (Describes memory.types p.type_number) (sym same) described) s matches known living in
-      Result_of (Structure u x.0) x.1 x.2
+      Result_of (Structure u x.0) x.1 (size_of u) (omega arith) x.2
 
   -- what `Defined` finds
   defined_outcome : (memory : Memory) (trace : Trace) (p : Place) (low high : ℤ) (type_number : ℕ) (words : List ℤ) (w : ℤ)

@@ -9,7 +9,7 @@ use Rattle.ep_check_expr.proofs.Breaking.{part-exit, refused-exit, chained-first
 use Rattle.ep_check_expr.proofs.Calls.{given-exit, one-item, two-items, applied-one, applied-two, applied-fault, applied-number, fault-exit, first-fault, later-fault}
 use Rattle.ep_check_expr.proofs.Folds.{addend_judged-is, multiplier_judged-is, addend_belonging-is, multiplier_belonging-is, simple_judged-is, term_judged-is, simple_unbuilt-is, term_unbuilt-is}
 use Rattle.ep_check_expr.proofs.Rows.{next-built, rest-built, chained-operand, chained-operator, chained-step, operands-built, operator-built, operators-built, at_node-built, at_node-inner, or-first, or-second}
-use Rattle.ep_check_expr.proofs.Selectors.{FieldNode, IndexNode, access-alone-fails, access-field-fails, component-node, field-acts, field-split, index-acts, index-fails, index-turned, indexing-fails, more-components, more-lines, next-component, node-lines, rest-components, rest-lines, selector-fails, selector-turned}
+use Rattle.ep_check_expr.proofs.Selectors.{FieldNode, IndexNode, access-alone-fails, access-call-fails, access-field-fails, arguments-split, call-components, call-lines, component-node, field-acts, field-split, index-acts, index-fails, index-turned, indexing-fails, more-components, more-lines, next-component, node-lines, rest-components, rest-lines, selector-fails, selector-turned}
 use Rattle.ep_check_expr.proofs.expressions.+typed.Goals as goal
 use Rattle.ep_check_expr.proofs.expressions.+typed.Goals.{selected-in-Index+in_ok-variable-in-Index, selected-in-Field+in_ok-variable-in-Field}
 use Rattle.ep_check_expr.specs.Answers.{taken_of, typed_of}
@@ -20,7 +20,7 @@ use Rattle.ep_check_expr.proofs.Written.{all_written}
 use Rattle.ep_check_expr.specs.Expressions.{addend_judged, multiplier_judged, given, selected, selected_all}
 use Rattle.ep_check_expr.specs.Judgements.{Accepts}
 use Rattle.ep_check_expr.specs.Operators.{added, multiplied}
-use Rattle.ep_check_expr.specs.Shapes.{field_first, only_arguments}
+use Rattle.ep_check_expr.specs.Shapes.{arguments_first, field_first}
 
 pub addends-added-requires : goal.addends-added-requires
 addends-added-requires t c = operator-built addend_belonging c.args.all.now c.loop-addend.addend-index c.addend-item.result c.loop-addend-test.true c.addend-item.is _ _ (addend_belonging-is c.addend-item.result) c.loop-addend.invariant.operators
@@ -185,15 +185,29 @@ application-argument-requires-in-len2 t c =
 
 pub access-returns-in_err-variable-in-Some-field_first : goal.access-returns-in_err-variable-in-Some-field_first
 access-returns-in_err-variable-in-Some-field_first t c =
-    let none : only_arguments (out-Access c.args.a.now).selectors ≡ None = ap only_arguments (sym c.items.ensures) ∙ sym c.in_default.ensures in
+    let none : arguments_first (out-Access c.args.a.now).selectors ≡ None = ap arguments_first (sym c.items.ensures) ∙ sym c.in_default.ensures in
     let split : field_first (out-Access c.args.a.now).selectors ≡ Some (c.in-Some-field_first.field.now, c.in-Some-field_first.more.now) = ap field_first (sym c.items-2.ensures) ∙ sym c.in-Some-field_first.ensures in
-    refused-exit c.from_residual.result c.in_err-variable-in-Some-field_first.field-0.0 _ _ c.from_residual.ensures.1
+    refused-exit c.from_residual-in_err-variable-in-Some-field_first.result c.in_err-variable-in-Some-field_first.field-0.0 _ _ c.from_residual-in_err-variable-in-Some-field_first.ensures.1
     (λ n h. access-field-fails c.args.a.now c.requires.built none c.args.scopes.now c.in-Some-field_first.field.now c.in-Some-field_first.more.now split n h)
     c.in_err-variable-in-Some-field_first.ensures
 
+pub access-returns-in_err-value : goal.access-returns-in_err-value
+access-returns-in_err-value t c =
+    let split : arguments_first (out-Access c.args.a.now).selectors ≡ Some (c.in-Some.arguments.now, c.in-Some.more.now) = ap arguments_first (sym c.items.ensures) ∙ sym c.in-Some.ensures in
+    refused-exit c.from_residual.result c.in_err-value.field-0.0 _ _ c.from_residual.ensures.1
+    (λ n h. access-call-fails c.args.a.now c.requires.built c.in-Some.arguments.now c.in-Some.more.now split c.args.scopes.now n h)
+    c.in_err-value.ensures
+
 pub access-selected-requires : goal.access-selected-requires
 access-selected-requires t c =
-    let none : only_arguments (out-Access c.args.a.now).selectors ≡ None = ap only_arguments (sym c.items.ensures) ∙ sym c.in_default.ensures in
+    let split : arguments_first (out-Access c.args.a.now).selectors ≡ Some (c.in-Some.arguments.now, c.in-Some.more.now) = ap arguments_first (sym c.items.ensures) ∙ sym c.in-Some.ensures in
+    let p = arguments-split (out-Access c.args.a.now).selectors c.in-Some.more.now c.in-Some.arguments.now split in
+    let whole = p.3 in
+    (search (rules, the_lemmas, whole), (call-components c.args.a.now c.requires.built c.in-Some.arguments.now c.in-Some.more.now split, call-lines c.args.a.now c.requires.built c.in-Some.arguments.now c.in-Some.more.now split))
+
+pub access-selected-requires-in-Some-field_first : goal.access-selected-requires-in-Some-field_first
+access-selected-requires-in-Some-field_first t c =
+    let none : arguments_first (out-Access c.args.a.now).selectors ≡ None = ap arguments_first (sym c.items.ensures) ∙ sym c.in_default.ensures in
     let split : field_first (out-Access c.args.a.now).selectors ≡ Some (c.in-Some-field_first.field.now, c.in-Some-field_first.more.now) = ap field_first (sym c.items-2.ensures) ∙ sym c.in-Some-field_first.ensures in
     let p = field-split (out-Access c.args.a.now).selectors c.in-Some-field_first.more.now c.in-Some-field_first.field.now split in
     let whole = p.3 in
@@ -201,7 +215,7 @@ access-selected-requires t c =
 
 pub access-returns-in_err-variable-in-None : goal.access-returns-in_err-variable-in-None
 access-returns-in_err-variable-in-None t c =
-    let none : only_arguments (out-Access c.args.a.now).selectors ≡ None = ap only_arguments (sym c.items.ensures) ∙ sym c.in_default.ensures in
+    let none : arguments_first (out-Access c.args.a.now).selectors ≡ None = ap arguments_first (sym c.items.ensures) ∙ sym c.in_default.ensures in
     let plain : field_first (out-Access c.args.a.now).selectors ≡ None = ap field_first (sym c.items-2.ensures) ∙ sym c.in-None.ensures in
     refused-exit c.from_residual-in_err-variable-in-None.result c.in_err-variable-in-None.field-0.0 _ _ c.from_residual-in_err-variable-in-None.ensures.1
     (λ n h. access-alone-fails c.args.a.now c.requires.built none c.args.scopes.now plain n h) c.in_err-variable-in-None.ensures

@@ -37,6 +37,12 @@ decreases-step_code l = 4 * max (size-TypedExpr l.value.now) (size-TypedExpr l.c
 abbrev pub decreases-call_code : goal.decreases-call_code
 decreases-call_code l = 4 * goal.size-call_code l + 2
 
+abbrev pub decreases-indexed_value_code : goal.decreases-indexed_value_code
+decreases-indexed_value_code l = 4 * max (size-TypedExpr l.array.now) (size-TypedExpr l.index.now) + 1
+
+abbrev pub decreases-field_value_code : goal.decreases-field_value_code
+decreases-field_value_code l = 4 * size-TypedExpr l.whole.now + 1
+
 abbrev pub decreases-actuals_code : goal.decreases-actuals_code
 decreases-actuals_code l = 4 * goal.size-actuals_code l + 1
 

@@ -11,7 +11,7 @@ use Rattle.ep_check_stmt.specs.Statements.{arm_judged, arm_row, arms_in_order, a
 use Rattle.ep_check_stmt.proofs.CaseParts.{all_arms, arms_more, case_is, less_arms, more_arms, rest_judged, selector_falls}
 use Rattle.ep_check_stmt.proofs.judged.Rounds.{rest_built}
 use Rattle.ep_check_stmt.proofs.Branches.{call_is, for_is, other_built, repeat_is, then_built, while_is}
-use Rattle.ep_check_stmt.proofs.ForParts.{end_built, inner_built, start_built}
+use Rattle.ep_check_stmt.proofs.BuiltParts.{body_built, end_built, inner_built, start_built, target_built, value_built}
 use Rattle.ep_check_stmt.proofs.Rows.{all_together, assignment_is, item_answers, less_together, more_together, statements_more}
 use Rattle.ep_check_stmt.proofs.statements.Context.+statements.Goals as goal
 use Rattle.ep_check_stmt.proofs.statements.Context.+statements.Goals.{arms-in-Passes+in_ok-push-in-Passes, arms-in-Waits, statement-in-None-other, statement-in-Some-other, statements-in-Passes+in_ok-push-in-Passes, statements-in-Waits}
@@ -69,6 +69,16 @@ counting-returns t c =
 pub statement-returns-in-While : goal.statement-returns-in-While
 statement-returns-in-While t c =
     rw (c.in-While.is, while_is) (c.while_form.ensures _ _ (rw c.get-in-While-2.ensures at c.condition-in-While.ensures) (rw c.get-in-While.ensures at c.statement-inner.ensures))
+
+pub statement-assignment-form-requires-clause-target : goal.statement-assignment-form-requires-clause-target
+statement-assignment-form-requires-clause-target t c = target_built c.in-Assignment.line c.in-Assignment.access c.in-Assignment.value (rw c.in-Assignment.is at c.requires)
+
+pub statement-assignment-form-requires-clause-value : goal.statement-assignment-form-requires-clause-value
+statement-assignment-form-requires-clause-value t c = value_built c.in-Assignment.line c.in-Assignment.access c.in-Assignment.value (rw c.in-Assignment.is at c.requires)
+
+pub statement-statement-inner-requires : goal.statement-statement-inner-requires
+statement-statement-inner-requires t c =
+    (search (rules, the_lemmas), rw c.get-in-While.ensures (body_built c.in-While.line c.in-While.e c.in-While.body (rw c.in-While.is at c.requires)))
 
 pub statement-statement-first-requires : goal.statement-statement-first-requires
 statement-statement-first-requires t c =

@@ -1,0 +1,43 @@
+-- A component that is taken out of a value.
+use Rattle.std.specs.Prelude.{◌≤◌, ℕ, ℤ, ◌+◌, List, ◌∷◌, length, Option, Some, None, ⊤}
+use Rattle.ep_object.specs.Effects.{Breaks, Continues, Fails, Work, having, having_weighed, light, weighing}
+use Rattle.ep_object.specs.Operands.{Operand, Value}
+use Rattle.ep_object.specs.Places.{loaded, words_at}
+use Rattle.ep_rows.specs.declared.parts.AtIndex.{AtIndex}
+use Rattle.ep_rows.specs.declared.parts.AtIndex.TheVariants as at_index
+use Rattle.ep_rows.specs.declared.parts.Found.{Found}
+use Rattle.ep_rows.specs.declared.parts.Part.{Part}
+use Rattle.ep_rows.specs.declared.parts.Part.TheVariants as part
+use Rattle.ep_typed.specs.declared.run_error.TheConstants as run_error
+
+-- what comes of a component with the type of this number whose words begin at an offset in those of a value
+abbrev pub part_told : List ℤ → ℕ → ℕ → Part → List Operand → Work (List Operand)
+part_told ws offset n (part.Word w) st = weighing (length ws) (having w (λ x. loaded x st))
+part_told ws offset n (part.Words size) st = having_weighed (words_at ws offset size) (λ us. weighing (length ws + length us) (Continues (Value n us ∷ st)))
+
+-- what comes of one that was found, or of broken code in its place
+abbrev pub found_told : List ℤ → Option Found → List Operand → Work (List Operand)
+found_told ws None st = light Breaks
+found_told ws (Some f) st = part_told ws f.offset f.type_number f.part st
+
+-- what comes of what is at an index
+abbrev pub element_told : List ℤ → AtIndex → List Operand → Work (List Operand)
+element_told ws at_index.Broken st = light Breaks
+element_told ws at_index.Outside st = weighing (length ws) (Fails run_error.INDEX)
+element_told ws (at_index.There f) st = found_told ws (Some f) st
+
+-- as many words as the component has are there, from the offset on
+abbrev pub IsThere : List ℤ → ℕ → Part → Type 0
+IsThere ws offset (part.Word w) = ⊤
+IsThere ws offset (part.Words size) = offset + size ≤ length ws
+
+-- where an element is found it is there
+abbrev pub OnThere : List ℤ → AtIndex → Type 0
+OnThere ws at_index.Broken = ⊤
+OnThere ws at_index.Outside = ⊤
+OnThere ws (at_index.There f) = IsThere ws f.offset f.part
+
+-- the ticks that a component spends that is taken out of a value of so many words
+abbrev pub weight_of : ℕ → Part → ℕ
+weight_of size (part.Word w) = size
+weight_of size (part.Words kept) = size + kept

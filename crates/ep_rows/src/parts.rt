@@ -1,0 +1,266 @@
+//! The rows on components of values.
+
+ghost use Rattle.std.specs.Prelude.{◌≡◌, ◌<◌, ◌+◌, ◌*◌, ◌∷◌, suc, if◌then◌else◌, leb, ℕ, ℤ, List, IfSome, MatchOption, Some, length, pos};
+ghost use Rattle.ep_frames.specs.Stacks.{value_top, value_under_word};
+ghost use Rattle.ep_object.specs.Effects.{Fails, having, weighing};
+ghost use Rattle.ep_object.specs.Operands.{Operand, Value, Word};
+ghost use Rattle.ep_object.specs.Parts.{field_any_row, index_any_row, part_at, value_element, value_field};
+ghost use Rattle.ep_object.specs.Places.{loaded};
+ghost use Rattle.ep_rows.specs.Steps.{IsDone, IsStep};
+ghost use Rattle.ep_typed.specs.declared.run_error.TheConstants as run_error;
+ghost use Rattle.ep_rows.specs.Taken.{IsThere, OnThere, element_told, found_told, part_told, weight_of};
+
+use crate::bounds::component_at;
+use crate::control::spend;
+use crate::step::Step;
+use crate::values::words_at;
+use crate::{places, words};
+use ep_frames::{Stack, Stored};
+use ep_object::{Kind, TypeEntry};
+use ep_typed::run_error;
+
+/// What a component leaves of the value that it is taken out of.
+#[derive(Clone, Copy, Drop)]
+pub(crate) enum Part {
+    /// The word of one of an ordinal type or a pointer, where it has one.
+    Word(Option<i64>),
+    /// So many of its words, those of an array or a record.
+    Words(u32),
+}
+
+/// A component of a value.
+#[derive(Clone, Copy, Drop)]
+pub(crate) struct Found {
+    type_number: u32,
+    /// Where its words begin in those of the value.
+    offset: usize,
+    part: Part,
+}
+
+/// What is at an index of a value.
+#[derive(Clone, Copy, Drop)]
+pub(crate) enum AtIndex {
+    /// The code is broken.
+    Broken,
+    /// Nothing, since the index is outside of the bounds.
+    Outside,
+    /// A component.
+    There(Found),
+}
+
+/// The component of the type of this number whose words begin at an offset in these, or none where the code is broken.
+fn part_of(words: &[i64], offset: usize, type_number: u32, types: &[TypeEntry]) -> Option<Found>
+    ensures told { (st : List Operand) → part_at types.now words.now offset type_number st
+        ≡ found_told words.now result st }
+    ensures there { IfSome result (λ f. IsThere words.now f.offset f.part) }
+{
+    let entry = types.get(type_number as usize)?;
+    let value = words_at(words, offset, entry.size as usize)?;
+    let part = match &entry.kind {
+        Kind::Text => return None,
+        Kind::Ord(_, _) | Kind::Pointer => Part::Word(value.first().copied()),
+        Kind::Array(_, _, _) | Kind::Record(_) => Part::Words(entry.size),
+    };
+    Some(Found {
+        type_number,
+        offset,
+        part,
+    })
+}
+
+/// The component of this number of the value of a record, or none where the code is broken.
+fn field_found(number: usize, types: &[TypeEntry], whole: u32, words: &[i64]) -> Option<Found>
+    ensures told { (st : List Operand) → value_field types.now number whole words.now st
+        ≡ found_told words.now result st }
+    ensures there { IfSome result (λ f. IsThere words.now f.offset f.part) }
+{
+    let entry = types.get(whole as usize)?;
+    let Kind::Record(parts) = &entry.kind else {
+        return None;
+    };
+    let found = parts.items().get(number)?;
+    part_of(words, found.offset as usize, found.type_number, types)
+}
+
+/// Where the component of this number begins, each of which has so many words, where it is within so many.
+fn offset_of(number: u64, size: u32, within: usize) -> Option<usize>
+    ensures { MatchOption result (within < number * size) (λ offset. offset ≡ number * size) }
+{
+    match number.checked_mul(u64::from(size)) {
+        Some(offset) if offset <= within as u64 => Some(offset as usize),
+        _ => None,
+    }
+}
+
+/// What is at an index of the value of an array.
+fn element_found(index: i64, types: &[TypeEntry], array: u32, words: &[i64]) -> AtIndex
+    ensures told { (st : List Operand) → value_element types.now index array words.now st
+        ≡ element_told words.now result st }
+    ensures there { OnThere words.now result }
+{
+    let Some(entry) = types.get(array as usize) else {
+        return AtIndex::Broken;
+    };
+    let Kind::Array(lo, hi, type_number) = entry.kind else {
+        return AtIndex::Broken;
+    };
+    let Some(component) = types.get(type_number as usize) else {
+        return AtIndex::Broken;
+    };
+    let Some(number) = component_at(lo, hi, index) else {
+        return AtIndex::Outside;
+    };
+    let Some(offset) = offset_of(number, component.size, words.len()) else {
+        return AtIndex::Broken;
+    };
+    match part_of(words, offset, type_number, types) {
+        Some(found) => AtIndex::There(found),
+        None => AtIndex::Broken,
+    }
+}
+
+/// One more word, which is defined.
+fn push_defined(word: Option<i64>, stack: &mut Stack) -> Step
+    ensures { IsStep (having word (λ w. loaded w stack.old)) result stack.new }
+{
+    match word {
+        None => Step::Broken,
+        Some(w) => {
+            if w > i64::MIN {
+                words::push_word(stack, w)
+            } else {
+                Step::Error(run_error::UNDEFINED_VALUE)
+            }
+        }
+    }
+}
+
+/// Spends what a component does that is taken out of a value of so many words, where the limit allows it.
+fn spend_part(part: Part, size: usize, limit: u64, ticks: &mut u64) -> bool
+    requires { ticks.old < limit }
+    ensures fits { result ≡ leb (ticks.old + suc (weight_of size part)) limit }
+    ensures spent { ticks.new ≡ (if result then ticks.old + weight_of size part else ticks.old) }
+    ensures within { ticks.new < limit }
+{
+    match part {
+        Part::Word(_) => spend(limit, ticks, size as u64),
+        Part::Words(kept) => match (size as u64).checked_add(u64::from(kept)) {
+            Some(weight) => spend(limit, ticks, weight),
+            None => false,
+        },
+    }
+}
+
+/// The component takes the place of the value on top, which it was found in.
+fn put(found: Found, stack: &mut Stack) -> Step
+    ensures { (n : ℕ) (ws : List ℤ) (st : List Operand) → stack.old ≡ Value n ws ∷ st → IsThere ws found.offset found.part
+        → IsStep (part_told ws found.offset found.type_number found.part st).effect result stack.new }
+{
+    match found.part {
+        Part::Word(word) => {
+            stack.pop();
+            push_defined(word, stack)
+        }
+        Part::Words(kept) => {
+            if stack.keep_part(found.type_number, found.offset, kept) {
+                Step::Next
+            } else {
+                Step::Broken
+            }
+        }
+    }
+}
+
+/// The component takes the place of the value of so many words on top, which it was found in.
+fn leave(found: Found, size: usize, limit: u64, ticks: &mut u64, stack: &mut Stack) -> Step
+    requires { ticks.old < limit }
+    ensures within { ticks.new < limit }
+    ensures done { (n : ℕ) (ws : List ℤ) (st : List Operand) → stack.old ≡ Value n ws ∷ st → length ws ≡ size
+        → IsThere ws found.offset found.part
+        → IsDone limit (found_told ws (Some found) st) result ticks.old ticks.new stack.old stack.new }
+{
+    if !spend_part(found.part, size, limit, ticks) {
+        return Step::Full;
+    }
+    put(found, stack)
+}
+
+/// So it does where the value stands right below an index.
+fn leave_indexed(found: Found, size: usize, limit: u64, ticks: &mut u64, stack: &mut Stack) -> Step
+    requires { ticks.old < limit }
+    ensures within { ticks.new < limit }
+    ensures done { (z : ℤ) (n : ℕ) (ws : List ℤ) (st : List Operand) → stack.old ≡ Word z ∷ Value n ws ∷ st
+        → length ws ≡ size → IsThere ws found.offset found.part
+        → IsDone limit (found_told ws (Some found) st) result ticks.old ticks.new stack.old stack.new }
+{
+    if !spend_part(found.part, size, limit, ticks) {
+        return Step::Full;
+    }
+    stack.pop();
+    put(found, stack)
+}
+
+/// The component of this number of the record on top, which is a place or a value.
+pub fn field(
+    number: usize,
+    limit: u64,
+    ticks: &mut u64,
+    types: &[TypeEntry],
+    segments: &[Stored],
+    stack: &mut Stack,
+) -> Step
+    requires { ticks.old < limit }
+    ensures within { ticks.new < limit }
+    ensures done { IsDone limit (field_any_row types.now segments.now (pos number) stack.old) result ticks.old ticks.new
+        stack.old stack.new }
+{
+    let Some((whole, words)) = stack.value_top() else {
+        return places::field_at(number, types, segments, stack);
+    };
+    let Some(found) = field_found(number, types, whole, words) else {
+        return Step::Broken;
+    };
+    let size = words.len();
+    leave(found, size, limit, ticks, stack)
+}
+
+/// Nothing is at the index, and as many ticks are spent as the value has words.
+fn outside(size: usize, limit: u64, ticks: &mut u64) -> Step
+    requires { ticks.old < limit }
+    ensures within { ticks.new < limit }
+    ensures done { (ws : List ℤ) (st : List Operand) → length ws ≡ size
+        → IsDone limit (weighing (length ws) (Fails run_error.INDEX)) result ticks.old ticks.new st st }
+{
+    if spend(limit, ticks, size as u64) {
+        Step::Error(run_error::INDEX)
+    } else {
+        Step::Full
+    }
+}
+
+/// The component of the array at the index on top, which is a place or a value.
+pub fn element(
+    limit: u64,
+    ticks: &mut u64,
+    types: &[TypeEntry],
+    segments: &[Stored],
+    stack: &mut Stack,
+) -> Step
+    requires { ticks.old < limit }
+    ensures within { ticks.new < limit }
+    ensures done { IsDone limit (index_any_row types.now segments.now stack.old) result ticks.old ticks.new
+        stack.old stack.new }
+{
+    let Some((array, words)) = stack.value_under_word() else {
+        return places::component_at_index(types, segments, stack);
+    };
+    let Some(index) = stack.word_top() else {
+        return Step::Broken;
+    };
+    let size = words.len();
+    match element_found(index, types, array, words) {
+        AtIndex::Broken => Step::Broken,
+        AtIndex::Outside => outside(size, limit, ticks),
+        AtIndex::There(found) => leave_indexed(found, size, limit, ticks, stack),
+    }
+}
