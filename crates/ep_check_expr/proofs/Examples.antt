@@ -11,10 +11,10 @@ use Rattle.ep_tree.specs.declared.expression.Term.{Term}
 use Rattle.ep_tree.specs.declared.operator.AddingOperator.TheVariants as adding
 use Rattle.ep_tree.specs.declared.operator.MultiplyingOperator.TheVariants as multiplying
 use Rattle.ep_tree.specs.declared.operator.RelationalOperator.TheVariants as relation
-use Rattle.ep_typed.specs.Trees.{Expr, Field, Accessed, Callee, Constant, Evaluated, FieldValue, Function, Indexed, IndexedValue, Own, Place, Read, Two, Step, Variable, next_actual, no_actual}
+use Rattle.ep_typed.specs.Trees.{Expr, Field, Accessed, Callee, Constant, Evaluated, FieldValue, Function, Indexed, IndexedValue, OfUnit, Own, Place, Read, Two, Step, Variable, next_actual, no_actual}
 use Rattle.ep_typed.specs.declared.operations.Binary.TheVariants as binary
 use Rattle.ep_typed.specs.declared.value.Value.TheVariants as value
-use Rattle.ep_scope.specs.Scopes.{Region}
+use Rattle.ep_scope.specs.Scopes.{Region, within}
 use Rattle.ep_scope.specs.declared.structure.Composition.TheVariants as composition
 use Rattle.ep_scope.specs.declared.structure.StructuredType.{StructuredType}
 use Rattle.ep_scope.specs.declared.kind.Host.{Host}
@@ -130,6 +130,7 @@ scope = record {
       ∷ (codes "r", declares 3 (giving_row (integer_parameter mode.Value ∷ []))) ∷ (codes "s", declares 4 (giving_row [])) ∷ (codes "k", declares 5 (function_of_row mode.Value)) ∷ (codes "l", declares 6 (function_of_row mode.Variable)) ∷ [];
   qualified = [];
   structures = row ∷ table ∷ [];
+  records = [];
 } ∷ []
 
 -- a function of the program
@@ -142,8 +143,8 @@ integer_variable = declaration.Own (type_name.Required simple.Integer) integer p
 
 -- In the block of a routine in a routine, of which the outer one has the integer y and the function i, and the inner one the integer z.
 abbrev inside : List Region
-inside = record { entries = (codes "z", declares_at 2 4 integer_variable) ∷ []; qualified = []; structures = [] }
-    ∷ record { entries = (codes "y", declares_at 1 3 integer_variable) ∷ (codes "i", declares_at 1 5 (declaration.Function [] (type_name.Required simple.Integer) integer)) ∷ []; qualified = []; structures = [] } ∷ scope
+inside = record { entries = (codes "z", declares_at 2 4 integer_variable) ∷ []; qualified = []; structures = []; records = [] }
+    ∷ record { entries = (codes "y", declares_at 1 3 integer_variable) ∷ (codes "i", declares_at 1 5 (declaration.Function [] (type_name.Required simple.Integer) integer)) ∷ []; qualified = []; structures = []; records = [] } ∷ scope
 
 -- y + z, by the levels between
 levels_between : judged inside (sum (name (codes "y")) (name (codes "z"))) ≡ Accepts (record { form = Some (Two binary.Add (Read (Own 1 3)) (Read (Own 0 4))); kind = integer; depth = 3; access = access.Value })
@@ -371,6 +372,7 @@ with_records = record {
       ∷ (codes "x", declares 0 (declaration.Variable (type_name.Required simple.Integer) integer)) ∷ (codes "red", declares 0 (declaration.Constant (kind.Ordinal color) (value.Word (pos 0)))) ∷ [];
   qualified = (codes "shades", (codes "x", declares 1 (declaration.Constant (kind.Ordinal color) (value.Word (pos 1)))) ∷ []) ∷ [];
   structures = point ∷ points ∷ [];
+  records = [];
 } ∷ []
 
 abbrev field : List ℕ → List ℕ → Factor
@@ -417,3 +419,27 @@ constituent = simp (expression-judged, simple-judged, term-judged, name-judged, 
 -- tints.x, which stands for nothing
 field_of_nothing : judged with_records (bare (field (codes "tints") (codes "x"))) ≡ Breaks (rule.UNDECLARED ∷ [])
 field_of_nothing = simp (expression-judged, simple-judged, term-judged, name-judged, field-judged) refl
+
+-- ---- records that are open
+
+-- in the statement of a `with` that names c, which is protected
+abbrev with_open : List Region
+with_open =
+    within
+    (record {
+      variable = OfUnit (codes "p") 20;
+      guarded = protection.Protected;
+      fields = record { name = codes "x"; of = type_name.Required simple.Integer; kind = integer } ∷ record { name = codes "shades"; of = type_name.Entry 0; kind = kind.Ordinal color } ∷ [];
+    }) with_records
+
+-- x, which hides the variable of its name
+open_field : judged with_open (bare (name (codes "x"))) ≡ Accepts (record { form = Some (Read (Field (Variable (codes "p") 20) 0)); kind = integer; depth = 3; access = access.Variable (type_name.Required simple.Integer) protection.Protected })
+open_field = simp (expression-judged, simple-judged, term-judged, name-judged) refl
+
+-- red, which is no field
+name_outside : judged with_open (bare (name (codes "red"))) ≡ Accepts (record { form = Some (Constant (pos 0)); kind = kind.Ordinal color; depth = 1; access = access.Constant })
+name_outside = simp (expression-judged, simple-judged, term-judged, name-judged) refl
+
+-- shades.x, where a field has the name of the interface
+interface_hidden : judged with_open (bare (field (codes "shades") (codes "x"))) ≡ Breaks (rule.FIELD ∷ [])
+interface_hidden = simp (expression-judged, simple-judged, term-judged, name-judged, field-judged) refl

@@ -14,8 +14,9 @@ use Rattle.ep_typed.specs.Trees.{Callee, Expr, Constant}
 use Rattle.ep_typed.specs.declared.operations.Unary.{Unary}
 use Rattle.ep_typed.specs.declared.operations.Binary.{Binary}
 use Rattle.ep_typed.specs.declared.operations.ShortOperation.{ShortOperation}
+use Rattle.ep_scope.specs.Fields.{field_number}
 use Rattle.ep_scope.specs.Required.{look_up, required_of}
-use Rattle.ep_scope.specs.Scopes.{Entries, Region, Meant, Declares, Requires, Nothing, structure_among, structure_in, structure_or, as_required, as_thing, depth_in, look_up_if, look_up_in, meant, meant_in, or_outside, unless_hidden}
+use Rattle.ep_scope.specs.Scopes.{Entries, OpenField, OpenRecord, Region, Meant, Declares, Requires, FieldOf, Nothing, field_among, field_at, field_if, field_of, field_or, or_field, unless_field, structure_among, structure_in, structure_or, as_required, as_thing, depth_in, look_up_if, look_up_in, meant, meant_in, or_outside, unless_hidden}
 use Rattle.ep_scope.specs.Scopes as meaning
 use Rattle.ep_scope.specs.declared.structure.ArrayType.{ArrayType}
 use Rattle.ep_scope.specs.declared.structure.Composition.{Composition}
@@ -47,7 +48,7 @@ use Rattle.ep_check_expr.specs.Indexing.{component_depth, component_typed}
 use Rattle.ep_check_expr.specs.Judgements.{Judged, Accepts, Breaks, Typed, unbuilt, when_accepted}
 use Rattle.ep_check_expr.specs.Names.{call_declared, leaf, value_declared, value_named, value_required}
 use Rattle.ep_check_expr.specs.Operators.{added, are_compatible, arithmetic, binary_typed, boolean, character, compared, comparison, integer, is_boolean, is_integer, is_string, logical, misfit, multiplied, short_circuit, short_typed, sign_of, signed, unary_typed, unbuilt_typed, within_depth}
-use Rattle.ep_check_expr.specs.Origins.{CompositionHasHost, DeclaresHost, EntriesHaveHost, FieldsHaveHost, HasHost, StructuresHaveHost, InterfacesHaveHost, IsKnownHost, IsKnownKind, ScopesHaveHost, ThingHasHost}
+use Rattle.ep_check_expr.specs.Origins.{CompositionHasHost, DeclaresHost, EntriesHaveHost, FieldsHaveHost, HasHost, StructuresHaveHost, InterfacesHaveHost, IsKnownHost, IsKnownKind, RecordsHaveHost, ScopesHaveHost, ThingHasHost}
 use Rattle.ep_check_expr.proofs.Designated.{field-given}
 use Rattle.ep_check_expr.proofs.Indexed.{index-given}
 use Rattle.ep_check_expr.proofs.Keeping.{IsCalled, IsKept, Satisfies, if-satisfies}
@@ -63,6 +64,7 @@ abbrev MeantComes : (Host → Type 0) → Meant → Type 0
 MeantComes P (Declares d) = (h : Host) → DeclaresHost d.what h → P h
 MeantComes P (meaning.Standard file) = ⊤
 MeantComes P (Requires r) = ⊤
+MeantComes P (FieldOf f) = (h : Host) → HasHost f.kind h → P h
 MeantComes P Nothing = ⊤
 
 thing_wider : (P Q : Host → Type 0) (o : Option Thing) → ((h : Host) → P h → Q h) → ThingComes P o → ThingComes Q o
@@ -73,6 +75,7 @@ meant_wider : (P Q : Host → Type 0) (m : Meant) → ((h : Host) → P h → Q 
 meant_wider P Q (Declares d) f c = λ h e. f h (c h e)
 meant_wider P Q (meaning.Standard file) f c = tt
 meant_wider P Q (Requires r) f c = tt
+meant_wider P Q (FieldOf x) f c = λ h e. f h (c h e)
 meant_wider P Q Nothing f c = tt
 
 found_comes : (P : Host → Type 0) (b : Bool) (t : Thing) (o : Option Thing) → ((h : Host) → ThingHasHost t h → P h) → ThingComes P o → ThingComes P (if b then Some t else o)
@@ -108,20 +111,65 @@ hidden_comes : (P : Host → Type 0) (o : Option Thing) (m : Meant) → MeantCom
 hidden_comes P None m c = c
 hidden_comes P (Some t) m c = tt
 
+-- the host of a field is one of those that the fields have
+field_has : (fs : List FieldType) (number : ℕ) (f : FieldType) (h : Host) → slice_get fs number ≡ Some f → HasHost f.kind h → FieldsHaveHost fs h
+field_has [] number f h e p = cc
+field_has (g ∷ gs) zero f h e p = let is : g ≡ f = cc in inl (subst (λ (x : FieldType). HasHost x.kind h) (sym is) p)
+field_has (g ∷ gs) (suc number) f h e p = inr (field_has gs number f h e p)
+
+-- so is that of a field of an open record
+abbrev FieldComes : (Host → Type 0) → Option OpenField → Type 0
+FieldComes P None = ⊤
+FieldComes P (Some f) = (h : Host) → HasHost f.kind h → P h
+
+field_wider : (P Q : Host → Type 0) (o : Option OpenField) → ((h : Host) → P h → Q h) → FieldComes P o → FieldComes Q o
+field_wider P Q None f c = tt
+field_wider P Q (Some x) f c = λ h e. f h (c h e)
+
+open_comes : (r : OpenRecord) (number : ℕ) (o : Option FieldType) → slice_get r.fields number ≡ o → FieldComes (FieldsHaveHost r.fields) (field_if r number o)
+open_comes r number None e = tt
+open_comes r number (Some f) e = λ h p. field_has r.fields number f h e p
+
+numbered_comes : (r : OpenRecord) (o : Option ℕ) → FieldComes (FieldsHaveHost r.fields) (field_at r o)
+numbered_comes r None = tt
+numbered_comes r (Some number) = open_comes r number (slice_get r.fields number) refl
+
+field_or_comes : (P : Host → Type 0) (f g : Option OpenField) → FieldComes P f → FieldComes P g → FieldComes P (field_or f g)
+field_or_comes P None g p q = q
+field_or_comes P (Some f) g p q = p
+
+field_among_comes : (rs : List OpenRecord) (name : List ℕ) → FieldComes (RecordsHaveHost rs) (field_among rs name)
+field_among_comes [] name = tt
+field_among_comes (r ∷ rs) name =
+    field_or_comes (RecordsHaveHost (r ∷ rs)) (field_of r name) (field_among rs name)
+    (field_wider (FieldsHaveHost r.fields) (RecordsHaveHost (r ∷ rs)) (field_of r name) (λ h p. inl p) (numbered_comes r (field_number r.fields name)))
+    (field_wider (RecordsHaveHost rs) (RecordsHaveHost (r ∷ rs)) (field_among rs name) (λ h p. inr p) (field_among_comes rs name))
+
+or_field_comes : (P : Host → Type 0) (o : Option OpenField) (m : Meant) → FieldComes P o → MeantComes P m → MeantComes P (or_field o m)
+or_field_comes P None m c d = d
+or_field_comes P (Some f) m c d = c
+
+unless_field_comes : (P : Host → Type 0) (o : Option OpenField) (m : Meant) → MeantComes P m → MeantComes P (unless_field o m)
+unless_field_comes P None m c = c
+unless_field_comes P (Some f) m c = tt
+
 meant_comes : (scopes : List Region) (name : List ℕ) → MeantComes (ScopesHaveHost scopes) (meant scopes name)
 meant_comes [] name = required_comes (ScopesHaveHost []) (required_of name)
 meant_comes (r ∷ rs) name =
-    outside_comes (ScopesHaveHost (r ∷ rs)) (look_up r.entries name) (meant rs name)
+    or_field_comes (ScopesHaveHost (r ∷ rs)) (field_among r.records name) (or_outside (look_up r.entries name) (meant rs name))
+    (field_wider (RecordsHaveHost r.records) (ScopesHaveHost (r ∷ rs)) (field_among r.records name) (λ h p. inr (inr (inr (inr p)))) (field_among_comes r.records name))
+    (outside_comes (ScopesHaveHost (r ∷ rs)) (look_up r.entries name) (meant rs name)
     (thing_wider (EntriesHaveHost r.entries) (ScopesHaveHost (r ∷ rs)) (look_up r.entries name) (λ h p. inl p) (entry_comes r.entries name))
-    (meant_wider (ScopesHaveHost rs) (ScopesHaveHost (r ∷ rs)) (meant rs name) (λ h p. inr (inr (inr p))) (meant_comes rs name))
+    (meant_wider (ScopesHaveHost rs) (ScopesHaveHost (r ∷ rs)) (meant rs name) (λ h p. inr (inr (inr (inl p)))) (meant_comes rs name)))
 
 meant_in_comes : (scopes : List Region) (interface name : List ℕ) → MeantComes (ScopesHaveHost scopes) (meant_in scopes interface name)
 meant_in_comes [] interface name = tt
 meant_in_comes (r ∷ rs) interface name =
-    hidden_comes (ScopesHaveHost (r ∷ rs)) (look_up r.entries interface) (or_outside (look_up_in r interface name) (meant_in rs interface name))
+    unless_field_comes (ScopesHaveHost (r ∷ rs)) (field_among r.records interface) (unless_hidden (look_up r.entries interface) (or_outside (look_up_in r interface name) (meant_in rs interface name)))
+    (hidden_comes (ScopesHaveHost (r ∷ rs)) (look_up r.entries interface) (or_outside (look_up_in r interface name) (meant_in rs interface name))
     (outside_comes (ScopesHaveHost (r ∷ rs)) (look_up_in r interface name) (meant_in rs interface name)
     (thing_wider (InterfacesHaveHost r.qualified) (ScopesHaveHost (r ∷ rs)) (look_up_in r interface name) (λ h p. inr (inl p)) (interface_comes r.qualified interface name))
-    (meant_wider (ScopesHaveHost rs) (ScopesHaveHost (r ∷ rs)) (meant_in rs interface name) (λ h p. inr (inr (inr p))) (meant_in_comes rs interface name)))
+    (meant_wider (ScopesHaveHost rs) (ScopesHaveHost (r ∷ rs)) (meant_in rs interface name) (λ h p. inr (inr (inr (inl p)))) (meant_in_comes rs interface name))))
 
 -- ---- structured types
 
@@ -140,14 +188,8 @@ structure_comes n [] c h e p = cc
 structure_comes n (r ∷ rs) c h e p = found (structure_among n r.structures) refl (λ later. structure_comes n rs c h later p) e
   where
     found : (o : Option Composition) → structure_among n r.structures ≡ o → (structure_in rs n ≡ Some c → ScopesHaveHost rs h) → structure_or o (structure_in rs n) ≡ Some c → ScopesHaveHost (r ∷ rs) h
-    found None is later e = inr (inr (inr (later e)))
+    found None is later e = inr (inr (inr (inl (later e))))
     found (Some d) is later e = inr (inr (inl (among_comes n r.structures c h (is ∙ e) p)))
-
--- the host of a field is one of those that the fields have
-field_has : (fs : List FieldType) (number : ℕ) (f : FieldType) (h : Host) → slice_get fs number ≡ Some f → HasHost f.kind h → FieldsHaveHost fs h
-field_has [] number f h e p = cc
-field_has (g ∷ gs) zero f h e p = let is : g ≡ f = cc in inl (subst (λ (x : FieldType). HasHost x.kind h) (sym is) p)
-field_has (g ∷ gs) (suc number) f h e p = inr (field_has gs number f h e p)
 
 -- ---- rules
 
@@ -192,6 +234,7 @@ module _ (scopes : List Region) where
   called_comes (Declares d) c = λ gs p. call_comes (depth_in scopes) d d.what gs c
   called_comes (meaning.Standard file) c = tt
   called_comes (Requires r) c = tt
+  called_comes (FieldOf f) c = tt
   called_comes Nothing c = tt
 
   value_comes : (r : Required) → Comes (value_required r)
@@ -207,6 +250,7 @@ module _ (scopes : List Region) where
   named_comes name (Declares d) c = declared_comes (depth_in scopes) d d.what c
   named_comes name (meaning.Standard file) c = tt
   named_comes name (Requires r) c = value_comes r
+  named_comes name (FieldOf f) c = kind_comes f.kind c
   named_comes name Nothing c = tt
 
   unary_comes : (b : Bool) (operation : Unary) (k : Kind) (x : Typed) (other : Judged Typed) → IsKnownKind scopes k → Comes other → Comes (if b then unary_typed operation k x else other)

@@ -6,7 +6,7 @@ use Rattle.ep_tree.specs.declared.operator.MultiplyingOperator.{MultiplyingOpera
 use Rattle.ep_tree.specs.declared.operator.RelationalOperator.{RelationalOperator}
 use Rattle.ep_tree.specs.declared.operator.Sign.{Sign}
 use Rattle.ep_typed.specs.Trees as tree
-use Rattle.ep_scope.specs.Scopes.{Region, Meant, Declares, Requires, Nothing, depth_in, meant, meant_in}
+use Rattle.ep_scope.specs.Scopes.{Region, Meant, Declares, Requires, FieldOf, Nothing, depth_in, meant, meant_in}
 use Rattle.ep_scope.specs.Scopes as meaning
 use Rattle.ep_scope.specs.declared.kind.Host.TheVariants as host
 use Rattle.ep_scope.specs.declared.kind.Kind.TheVariants as kind
@@ -63,6 +63,7 @@ abbrev pub IsCalled : ℕ → (Typed → Type 0) → Meant → Type 0
 IsCalled depth Q (Declares d) = (gs : List Given) → AreGiven Q gs → Satisfies Q (call_declared depth d d.what gs)
 IsCalled depth Q (meaning.Standard file) = ⊤
 IsCalled depth Q (Requires r) = ⊤
+IsCalled depth Q (FieldOf f) = ⊤
 IsCalled depth Q Nothing = ⊤
 
 -- each rule keeps the property, and what names mean in these scopes has it

@@ -1,5 +1,5 @@
 -- What names stand for is valid under declarations that hold what the scopes declare.
-use Rattle.std.proofs.Common.{ℕ, Bool, true, false, List, [], ◌∷◌, Option, Some, None, refl}
+use Rattle.std.proofs.Common.{◌≡◌, ℕ, Bool, true, false, List, [], ◌∷◌, Option, Some, None, slice_get, refl}
 use Rattle.std.specs.Prelude.{⊤, if◌then◌else◌}
 use Rattle.std.specs.Str.{bytes_eq}
 use Rattle.ep_typed.specs.Valid.{Declarations}
@@ -7,9 +7,11 @@ use Rattle.ep_typed.specs.declared.value.Value.{Value}
 use Rattle.ep_typed.specs.declared.value.Value.TheVariants as value
 use Rattle.ep_typed.specs.Hosts as hosts
 use Rattle.ep_typed.specs.Trees.{Place, Read, Variable}
+use Rattle.ep_scope.specs.Fields.{field_number}
 use Rattle.ep_scope.specs.Required.{look_up, required_of}
-use Rattle.ep_scope.specs.Scopes.{Entries, Region, Meant, Declares, Requires, Nothing, meant, meant_in, look_up_in, look_up_if, as_thing, as_required, or_outside, unless_hidden}
+use Rattle.ep_scope.specs.Scopes.{Entries, OpenField, OpenRecord, Region, Meant, Declares, Requires, FieldOf, Nothing, field_among, field_at, field_if, field_of, field_or, meant, meant_in, or_field, unless_field, look_up_in, look_up_if, as_thing, as_required, or_outside, unless_hidden}
 use Rattle.ep_scope.specs.Scopes as meaning
+use Rattle.ep_scope.specs.declared.structure.FieldType.{FieldType}
 use Rattle.ep_scope.specs.declared.structure.StructuredType.{StructuredType}
 use Rattle.ep_scope.specs.declared.kind.Kind.{Kind}
 use Rattle.ep_scope.specs.declared.kind.Kind.TheVariants as kind
@@ -21,10 +23,10 @@ use Rattle.ep_scope.specs.declared.thing.Declaration.TheVariants as declaration
 use Rattle.ep_scope.specs.declared.thing.Declared.{Declared}
 use Rattle.ep_scope.specs.declared.thing.Thing.{Thing}
 use Rattle.ep_scope.specs.declared.thing.Thing.TheVariants as thing
-use Rattle.ep_check_expr.specs.Agreement.{IsConstantOf, IsStoredIn, IsDeclaration, IsThing, AreThings, AreInterfaces, AgreesBy, TypeValues, IsFormOf}
+use Rattle.ep_check_expr.specs.Agreement.{IsConstantOf, IsStoredIn, IsDeclaration, IsFieldAt, IsOpen, IsThing, AreThings, AreInterfaces, AreOpen, AgreesBy, TypeValues, IsFormOf}
 use Rattle.ep_check_expr.specs.Arguments.{callee_at, own_place}
 use Rattle.ep_check_expr.specs.Hosts.{typed_host}
-use Rattle.ep_check_expr.specs.Names.{call_declared, value_form, value_declared, value_required, value_named}
+use Rattle.ep_check_expr.specs.Names.{call_declared, field_place, value_form, value_declared, value_required, value_named}
 use Rattle.ep_check_expr.specs.Functions.{Given}
 use Rattle.ep_check_expr.specs.Judgements.{Judged, Typed}
 use Rattle.ep_check_expr.proofs.Passing.{IsForm, function_called-fits}
@@ -41,7 +43,37 @@ module _ (declared : Declarations) (types : TypeValues) (structures : List Struc
   IsMeant (Declares d) = IsDeclaration declared types structures depth d d.what
   IsMeant (meaning.Standard file) = ⊤
   IsMeant (Requires r) = ⊤
+  IsMeant (FieldOf f) = IsFieldAt declared types structures depth (field_place f) f.of f.kind
   IsMeant Nothing = ⊤
+
+  -- a field of an open record is a variable
+  abbrev IsFieldIf : Option OpenField → Type 0
+  IsFieldIf None = ⊤
+  IsFieldIf (Some f) = IsMeant (FieldOf f)
+
+  field_if-meant : (r : OpenRecord) (number : ℕ) (o : Option FieldType) → slice_get r.fields number ≡ o → IsOpen declared types structures depth r → IsFieldIf (field_if r number o)
+  field_if-meant r number None e h = tt
+  field_if-meant r number (Some f) e h = h number f e
+
+  field_at-meant : (r : OpenRecord) (o : Option ℕ) → IsOpen declared types structures depth r → IsFieldIf (field_at r o)
+  field_at-meant r None h = tt
+  field_at-meant r (Some number) h = field_if-meant r number (slice_get r.fields number) refl h
+
+  field_or-meant : (f g : Option OpenField) → IsFieldIf f → IsFieldIf g → IsFieldIf (field_or f g)
+  field_or-meant None g p q = q
+  field_or-meant (Some f) g p q = p
+
+  field_among-meant : (rs : List OpenRecord) (name : List ℕ) → AreOpen declared types structures depth rs → IsFieldIf (field_among rs name)
+  field_among-meant [] name h = tt
+  field_among-meant (r ∷ rs) name h = field_or-meant (field_of r name) (field_among rs name) (field_at-meant r (field_number r.fields name) h.0) (field_among-meant rs name h.1)
+
+  or_field-meant : (o : Option OpenField) (m : Meant) → IsFieldIf o → IsMeant m → IsMeant (or_field o m)
+  or_field-meant None m p q = q
+  or_field-meant (Some f) m p q = p
+
+  unless_field-meant : (o : Option OpenField) (m : Meant) → IsMeant m → IsMeant (unless_field o m)
+  unless_field-meant None m q = q
+  unless_field-meant (Some f) m q = tt
 
   found-thing : (b : Bool) (t : Thing) (o : Option Thing) → IsThing declared types structures depth t → IsThingIf o → IsThingIf (if b then Some t else o)
   found-thing true t o h g = h
@@ -86,13 +118,16 @@ module _ (declared : Declarations) (types : TypeValues) (structures : List Struc
 
   pub meant-declared : (scopes : List Region) (name : List ℕ) → AgreesBy declared types structures depth scopes → IsMeant (meant scopes name)
   meant-declared [] name h = as_required-meant (required_of name)
-  meant-declared (r ∷ rs) name h = or_outside-meant (look_up r.entries name) (meant rs name) (look_up-thing r.entries name h.0) (meant-declared rs name h.2)
+  meant-declared (r ∷ rs) name h =
+      or_field-meant (field_among r.records name) (or_outside (look_up r.entries name) (meant rs name)) (field_among-meant r.records name h.3)
+      (or_outside-meant (look_up r.entries name) (meant rs name) (look_up-thing r.entries name h.0) (meant-declared rs name h.2))
 
   pub meant_in-declared : (scopes : List Region) (interface name : List ℕ) → AgreesBy declared types structures depth scopes → IsMeant (meant_in scopes interface name)
   meant_in-declared [] interface name h = tt
   meant_in-declared (r ∷ rs) interface name h =
-      unless_hidden-meant (look_up r.entries interface) (or_outside (look_up_in r interface name) (meant_in rs interface name))
-      (or_outside-meant (look_up_in r interface name) (meant_in rs interface name) (look_up_if-thing (look_up r.qualified interface) name (look_up-things r.qualified interface h.1)) (meant_in-declared rs interface name h.2))
+      unless_field-meant (field_among r.records interface) (unless_hidden (look_up r.entries interface) (or_outside (look_up_in r interface name) (meant_in rs interface name)))
+      (unless_hidden-meant (look_up r.entries interface) (or_outside (look_up_in r interface name) (meant_in rs interface name))
+      (or_outside-meant (look_up_in r interface name) (meant_in rs interface name) (look_up_if-thing (look_up r.qualified interface) name (look_up-things r.qualified interface h.1)) (meant_in-declared rs interface name h.2)))
 
   constant-fits : (k : Kind) (v : Value) → IsConstantOf k v → IsFormOf declared types structures k (Some (value_form v))
   constant-fits (kind.Ordinal h) (value.Word z) s = (s.0, (typed_host h, refl, s.1))
@@ -134,6 +169,7 @@ module _ (declared : Declarations) (types : TypeValues) (structures : List Struc
   value_named-fits name (Declares d) s = value_declared-fits d d.what s
   value_named-fits name (meaning.Standard file) s = (tt, tt)
   value_named-fits name (Requires r) s = value_required-fits r
+  value_named-fits name (FieldOf f) s = (variable-fits (field_place f) f.kind s.0, (field_place f, refl, s.1))
   value_named-fits name Nothing s = tt
 
   call_declared-fits : (d : Declared) (what : Declaration) (gs : List Given) → IsDeclaration declared types structures depth d what → AreGiven (IsForm declared types structures) gs → Holds (call_declared depth d what gs)
@@ -149,4 +185,5 @@ module _ (declared : Declarations) (types : TypeValues) (structures : List Struc
   called-fits (Declares d) s = λ gs p. call_declared-fits d d.what gs s p
   called-fits (meaning.Standard file) s = tt
   called-fits (Requires r) s = tt
+  called-fits (FieldOf f) s = tt
   called-fits Nothing s = tt

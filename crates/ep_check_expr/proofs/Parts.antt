@@ -2,7 +2,7 @@
 use Rattle.std.proofs.Common.{ℕ, pos, List, [], ◌∷◌, ◌++◌, length}
 use Rattle.std.specs.Prelude.{⊤}
 use Rattle.ep_tree.specs.declared.operator.RelationalOperator.{RelationalOperator}
-use Rattle.ep_scope.specs.Scopes.{Region, Meant, Declares, Requires, Nothing, depth_in, meant, meant_in}
+use Rattle.ep_scope.specs.Scopes.{Region, Meant, Declares, Requires, FieldOf, Nothing, depth_in, meant, meant_in}
 use Rattle.ep_scope.specs.Scopes as meaning
 use Rattle.ep_scope.specs.declared.required.Function.{Function}
 use Rattle.ep_scope.specs.declared.required.Required.{Required}
@@ -113,6 +113,7 @@ module _ (Q : Typed → Type 0) where
     call_named-fits depth name (Declares d) gs c p = c gs p
     call_named-fits depth name (meaning.Standard file) gs c p = tt
     call_named-fits depth name (Requires r) gs c p = call_required-fits r gs p
+    call_named-fits depth name (FieldOf f) gs c p = tt
     call_named-fits depth name Nothing gs c p = tt
 
     -- a value with indexes

@@ -6,7 +6,7 @@ use Rattle.ep_tree.specs.declared.expression.Access as syntax
 use Rattle.ep_tree.specs.declared.expression.Argument.{Argument, out-Argument}
 use Rattle.ep_typed.specs.Trees.{Callee, Expr, Field, Indexed, Variable}
 use Rattle.ep_typed.specs.Viewed.{expr_of}
-use Rattle.ep_scope.specs.Scopes.{Region, Meant, Declares, Requires, Nothing, depth_in, meant, meant_in}
+use Rattle.ep_scope.specs.Scopes.{Region, Meant, Declares, Requires, FieldOf, Nothing, depth_in, meant, meant_in}
 use Rattle.ep_scope.specs.Scopes as meaning
 use Rattle.ep_scope.specs.declared.kind.Host.TheVariants as host
 use Rattle.ep_scope.specs.declared.kind.Kind.{Kind}
@@ -32,7 +32,7 @@ use Rattle.ep_check_expr.specs.FieldDesignators.{field_form, field_typed, part_f
 use Rattle.ep_check_expr.specs.Functions.{Given}
 use Rattle.ep_check_expr.specs.Indexing.{component_access, component_depth, component_form, component_typed, element_form}
 use Rattle.ep_check_expr.specs.Judgements.{Judged, Accepts, Breaks, Typed, when_accepted}
-use Rattle.ep_check_expr.specs.Names.{call_declared, value_declared, value_named, value_required}
+use Rattle.ep_check_expr.specs.Names.{call_declared, field_place, value_declared, value_named, value_required}
 use Rattle.ep_check_expr.proofs.Accepted.{accesses-fit, expressions-fit}
 use Rattle.ep_check_expr.proofs.Designated.{field-given}
 use Rattle.ep_check_expr.proofs.Indexed.{index-given}
@@ -79,12 +79,14 @@ named-placed : (depth : ℕ) (name : List ℕ) (m : Meant) → Satisfies IsPlace
 named-placed depth name (Declares d) = declared-placed depth d d.what
 named-placed depth name (meaning.Standard file) = tt
 named-placed depth name (Requires r) = required-placed r
+named-placed depth name (FieldOf f) = (field_place f, refl)
 named-placed depth name Nothing = tt
 
 call-placed : (depth : ℕ) (m : Meant) → IsCalled depth IsPlaced m
 call-placed depth (Declares d) = λ gs p. called-placed depth d d.what gs
 call-placed depth (meaning.Standard file) = tt
 call-placed depth (Requires r) = tt
+call-placed depth (FieldOf f) = tt
 call-placed depth Nothing = tt
 
 -- a component is read of its place where the array is

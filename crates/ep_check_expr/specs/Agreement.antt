@@ -1,9 +1,9 @@
 -- Declarations that hold what scopes declare, under which typed forms are valid.
-use Rattle.std.specs.Prelude.{◌≡◌, ℕ, ℤ, pos, All, List, [], ◌∷◌, ◌++◌, Option, Some, None, IsTrue, int_le, ⊤}
+use Rattle.std.specs.Prelude.{◌≡◌, ℕ, ℤ, pos, All, List, [], ◌∷◌, ◌++◌, slice_get, Option, Some, None, IsTrue, int_le, ⊤}
 use Rattle.ep_typed.specs.Denoters.{ArrayParts, array_of, host_of, record_of, type_of}
 use Rattle.ep_typed.specs.Hosts.{greatest, is_of_host}
 use Rattle.ep_typed.specs.Operations.{maxint}
-use Rattle.ep_typed.specs.Trees.{Denoter, Denoters, Named, no_denoter, next_denoter, Callee, Place, Variable, Expr, Constant, Text, Read, One, Two, Short, Step, Function, IndexedValue, FieldValue, Actual, actuals}
+use Rattle.ep_typed.specs.Trees.{Denoter, Denoters, Named, no_denoter, next_denoter, Callee, Place, Variable, Field, entire, Expr, Constant, Text, Read, One, Two, Short, Step, Function, IndexedValue, FieldValue, Actual, actuals}
 use Rattle.ep_typed.specs.Valid.{Declarations, AreGiven, IsCallee, IsFunction, IsPlace, IsPlaceWhere, IsExpr, IsProcedure, IsStructured, IsTypeOf, IsVariableOf}
 use Rattle.ep_typed.specs.Valid as valid
 use Rattle.ep_typed.specs.Viewed.{denoter_of}
@@ -15,7 +15,7 @@ use Rattle.ep_typed.specs.TypeValues.{ComponentTypes, TypeValue}
 use Rattle.ep_typed.specs.TypeValues as type
 use Rattle.ep_typed.specs.declared.value.Value.{Value}
 use Rattle.ep_typed.specs.declared.value.Value.TheVariants as value
-use Rattle.ep_scope.specs.Scopes.{Entries, Region, depth_in}
+use Rattle.ep_scope.specs.Scopes.{Entries, OpenRecord, Region, depth_in}
 use Rattle.ep_scope.specs.declared.kind.Host.{Host}
 use Rattle.ep_scope.specs.declared.kind.Kind.{Kind}
 use Rattle.ep_scope.specs.declared.kind.Kind.TheVariants as kind
@@ -266,6 +266,10 @@ module _ (declared : Declarations) (types : TypeValues) (structures : List Struc
   IsDeclaration d (declaration.Procedure parameters) = IsProcedureOf declared types (callee_at depth d) parameters
   IsDeclaration d (declaration.Function parameters of kind) = IsFunctionOf declared types structures (callee_at depth d) parameters kind
 
+  -- the place is that of a variable of this type and kind
+  abbrev pub IsFieldAt : Place → TypeName → Kind → Type 0
+  IsFieldAt place of kind = IsStoredIn declared types structures place kind × IsOfType declared types place of
+
   abbrev pub IsThing : Thing → Type 0
   IsThing (thing.Declared d) = IsDeclaration d d.what
   IsThing (thing.Standard file) = ⊤
@@ -278,10 +282,18 @@ module _ (declared : Declarations) (types : TypeValues) (structures : List Struc
   AreInterfaces [] = ⊤
   AreInterfaces (e ∷ es) = AreThings e.1 × AreInterfaces es
 
+  -- the variable that stands for an open record has its fields
+  abbrev pub IsOpen : OpenRecord → Type 0
+  IsOpen r = (number : ℕ) (f : FieldType) → slice_get r.fields number ≡ Some f → IsFieldAt (Field (entire r.variable) number) f.of f.kind
+
+  abbrev pub AreOpen : List OpenRecord → Type 0
+  AreOpen [] = ⊤
+  AreOpen (r ∷ rs) = IsOpen r × AreOpen rs
+
   -- the declarations hold all that the scopes declare
   abbrev pub AgreesBy : List Region → Type 0
   AgreesBy [] = ⊤
-  AgreesBy (r ∷ rs) = AreThings r.entries × AreInterfaces r.qualified × AgreesBy rs
+  AgreesBy (r ∷ rs) = AreThings r.entries × AreInterfaces r.qualified × AgreesBy rs × AreOpen r.records
 
 -- alike, where each type has one type value wherever it is named
 abbrev pub Agrees : Declarations → List Region → Type 0

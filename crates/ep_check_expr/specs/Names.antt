@@ -3,10 +3,10 @@ use Rattle.std.specs.Prelude.{ℕ, pos, nat_eq, Bool, true, false, ◌||◌, Lis
 use Rattle.std.specs.List.{list_any}
 use Rattle.std.specs.Str.{bytes_eq}
 use Rattle.ep_typed.specs.Operations.{maxint, last_char}
-use Rattle.ep_typed.specs.Trees.{Expr, Constant, Text, Read, Variable, Standard}
+use Rattle.ep_typed.specs.Trees.{Expr, Constant, Text, Read, Place, Variable, Standard, Field, entire}
 use Rattle.ep_typed.specs.declared.value.Value.{Value}
 use Rattle.ep_typed.specs.declared.value.Value.TheVariants as value
-use Rattle.ep_scope.specs.Scopes.{Region, Meant, Declares, Requires, Nothing, depth_in, meant, meant_in}
+use Rattle.ep_scope.specs.Scopes.{Region, Meant, OpenField, Declares, Requires, FieldOf, Nothing, depth_in, meant, meant_in}
 use Rattle.ep_scope.specs.Scopes as meaning
 use Rattle.ep_scope.specs.declared.kind.Kind.{Kind}
 use Rattle.ep_scope.specs.declared.kind.Kind.TheVariants as kind
@@ -43,6 +43,14 @@ value_form (value.Text bytes) = Text bytes
 -- the value of a variable stands above its place
 abbrev pub reading : Expr → Kind → Access → Judged Typed
 reading form kind access = Accepts (record { form = Some form; kind = kind; depth = 2; access = access })
+
+-- the place of a field of an open record, which is that of the variable that stands for it (ISO 10206, 6.9.3.10)
+abbrev pub field_place : OpenField → Place
+field_place f = Field (entire f.variable) f.number
+
+-- such a field as a value, which stands above its place and that of the variable
+abbrev pub field_read : OpenField → Judged Typed
+field_read f = Accepts (record { form = Some (Read (field_place f)); kind = f.kind; depth = 3; access = access.Variable f.of f.guarded })
 
 -- what is declared as a value, in code of a depth
 abbrev pub value_declared : ℕ → Declared → Declaration → Judged Typed
@@ -83,6 +91,7 @@ abbrev pub value_named : ℕ → List ℕ → Meant → Judged Typed
 value_named depth name (Declares d) = value_declared depth d d.what
 value_named depth name (meaning.Standard file) = reading (Read (Standard file)) kind.File access.File
 value_named depth name (Requires r) = value_required r
+value_named depth name (FieldOf f) = field_read f
 value_named depth name Nothing = Breaks (undeclared name)
 
 -- what is no function has no arguments
@@ -106,6 +115,7 @@ abbrev pub call_named : ℕ → List ℕ → Meant → List Given → Judged Typ
 call_named depth name (Declares d) gs = call_declared depth d d.what gs
 call_named depth name (meaning.Standard file) gs = Breaks (rule.OTHER_THING ∷ all_faults gs)
 call_named depth name (Requires r) gs = call_required r gs
+call_named depth name (FieldOf f) gs = Breaks (rule.OTHER_THING ∷ all_faults gs)
 call_named depth name Nothing gs = Breaks (undeclared name ++ all_faults gs)
 
 abbrev pub is_nothing : Meant → Bool

@@ -1,6 +1,6 @@
 -- Where the host of an expression comes from: it is a required type, or the host of something that the scopes declare.
 use Rattle.std.specs.Prelude.{◌≡◌, ℕ, List, [], ◌∷◌, ◌⊎◌, ⊤}
-use Rattle.ep_scope.specs.Scopes.{Entries, Region}
+use Rattle.ep_scope.specs.Scopes.{Entries, OpenRecord, Region}
 use Rattle.ep_scope.specs.declared.kind.Host.{Host}
 use Rattle.ep_scope.specs.declared.kind.Host.TheVariants as host
 use Rattle.ep_scope.specs.declared.kind.Kind.{Kind}
@@ -65,9 +65,14 @@ abbrev pub StructuresHaveHost : List StructuredType → Host → Type 0
 StructuresHaveHost [] h = ⊥
 StructuresHaveHost (s ∷ more) h = CompositionHasHost s.composition h ⊎ StructuresHaveHost more h
 
+-- and the fields of some open record
+abbrev pub RecordsHaveHost : List OpenRecord → Host → Type 0
+RecordsHaveHost [] h = ⊥
+RecordsHaveHost (r ∷ more) h = FieldsHaveHost r.fields h ⊎ RecordsHaveHost more h
+
 abbrev pub ScopesHaveHost : List Region → Host → Type 0
 ScopesHaveHost [] h = ⊥
-ScopesHaveHost (r ∷ rs) h = EntriesHaveHost r.entries h ⊎ (InterfacesHaveHost r.qualified h ⊎ (StructuresHaveHost r.structures h ⊎ ScopesHaveHost rs h))
+ScopesHaveHost (r ∷ rs) h = EntriesHaveHost r.entries h ⊎ (InterfacesHaveHost r.qualified h ⊎ (StructuresHaveHost r.structures h ⊎ (ScopesHaveHost rs h ⊎ RecordsHaveHost r.records h)))
 
 -- the host is required, or the scopes declare something that has it
 abbrev pub IsKnownHost : List Region → Host → Type 0

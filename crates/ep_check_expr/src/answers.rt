@@ -12,7 +12,7 @@ use crate::expressions::typed_expression;
 use crate::forms::Refusal;
 use ep_base::Line;
 use ep_built::expression_unbuilt;
-use ep_scope::Scope;
+use ep_scope::View;
 use ep_tree::Expression;
 use ep_typed::{TypedExpr, Value};
 use std::alloc::Global;
@@ -46,7 +46,7 @@ pub enum ExpressionRefusal {
 pub fn expression(
     alloc: Global,
     tree: &Expression,
-    scopes: &[Scope],
+    scopes: &View<'_>,
 ) -> Result<TypedExpr, ExpressionRefusal>
     ensures judged { UnlessUnbuilt (expression_unbuilt tree.now) result
         (AnswersExpression result (out-Expression tree.now).line (judged scopes.now tree.now)) }
@@ -68,7 +68,7 @@ pub fn expression(
 pub fn constant(
     alloc: Global,
     tree: &Expression,
-    scopes: &[Scope],
+    scopes: &View<'_>,
 ) -> Result<Value, ExpressionRefusal>
     ensures judged { UnlessUnbuilt (expression_unbuilt tree.now) result
         (AnswersConstant result (out-Expression tree.now).line (constant_expression scopes.now tree.now)) }

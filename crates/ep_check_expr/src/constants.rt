@@ -10,7 +10,7 @@ use crate::expressions::typed_expression;
 use crate::folding::{Folded, folded_form};
 use crate::forms::{Refusal, Typed};
 use ep_base::Bytes;
-use ep_scope::{Kind, Scope, rule};
+use ep_scope::{Kind, View, rule};
 use ep_tree::{ComponentValue, Expression};
 use ep_typed::{TypedExpr, Value};
 use std::alloc::Global;
@@ -54,7 +54,7 @@ impl ConstantForm {
 pub fn constant_value(
     alloc: Global,
     tree: &ComponentValue,
-    scopes: &[Scope],
+    scopes: &View<'_>,
 ) -> Result<ConstantForm, Refusal>
     requires { component_value_unbuilt tree.now ≡ None }
     ensures form { AnswersJudged (λ c. c) result (constant_judged scopes.now tree.now) }
@@ -69,7 +69,7 @@ pub fn constant_value(
 fn constant_expression_value(
     alloc: Global,
     tree: &Expression,
-    scopes: &[Scope],
+    scopes: &View<'_>,
 ) -> Result<ConstantForm, Refusal>
     requires { expression_unbuilt tree.now ≡ None }
     ensures form { AnswersJudged (λ c. c) result (constant_expression scopes.now tree.now) }
@@ -82,7 +82,7 @@ fn constant_expression_value(
 pub fn bound_value(
     alloc: Global,
     tree: &Expression,
-    scopes: &[Scope],
+    scopes: &View<'_>,
 ) -> Result<ConstantForm, Refusal>
     requires { expression_unbuilt tree.now ≡ None }
     ensures form { AnswersJudged (λ c. c) result (bound_judged scopes.now tree.now) }
@@ -98,7 +98,7 @@ pub fn bound_value(
 pub fn label_value(
     alloc: Global,
     tree: &Expression,
-    scopes: &[Scope],
+    scopes: &View<'_>,
 ) -> Result<ConstantForm, Refusal>
     requires { expression_unbuilt tree.now ≡ None }
     ensures form { AnswersJudged (λ c. c) result (label_judged scopes.now tree.now) }

@@ -25,7 +25,7 @@ use crate::operators::{added, compared, multiplied, negated, signed};
 use crate::shapes::{arguments_first, bare, field_first};
 use ep_base::Name;
 use ep_scope::{
-    Declaration, Declared, FormalParameter, Function, Host, Meaning, Required, Scope, depth_in,
+    Declaration, Declared, FormalParameter, Function, Host, Meaning, Required, View, depth_in,
     meaning_of, rule,
 };
 use ep_tree::{
@@ -41,7 +41,7 @@ use std::alloc::Global;
 pub fn typed_expression(
     alloc: Global,
     tree: &Expression,
-    scopes: &[Scope],
+    scopes: &View<'_>,
 ) -> Result<Typed, Refusal>
     requires built { expression_unbuilt tree.now ≡ None }
     ensures typed { AnswersTyped result (judged scopes.now tree.now) }
@@ -62,7 +62,7 @@ pub fn typed_expression(
 pub fn written_expression(
     alloc: Global,
     tree: &Expression,
-    scopes: &[Scope],
+    scopes: &View<'_>,
 ) -> Result<Typed, Refusal>
     requires { written_value_unbuilt tree.now ≡ None }
     ensures typed { AnswersTyped result (judged scopes.now tree.now) }
@@ -76,7 +76,11 @@ pub fn written_expression(
 /// The typed form of a value that is assigned or defined, or a rule that fails in it. The forms of the value are all built.
 ///
 /// `cvalue = expr | "[" values "]"`
-pub fn typed_value(alloc: Global, tree: &ComponentValue, scopes: &[Scope]) -> Result<Typed, Refusal>
+pub fn typed_value(
+    alloc: Global,
+    tree: &ComponentValue,
+    scopes: &View<'_>,
+) -> Result<Typed, Refusal>
     requires { component_value_unbuilt tree.now ≡ None }
     ensures typed { AnswersTyped result (judged_value scopes.now tree.now) }
 {
@@ -88,7 +92,7 @@ pub fn typed_value(alloc: Global, tree: &ComponentValue, scopes: &[Scope]) -> Re
 
 /// The typed form of an access, as that of what is assigned to, or a rule that fails in it. The forms of the access are all
 /// built. Where it is a variable, it is read of a place.
-pub fn typed_access(alloc: Global, tree: &Access, scopes: &[Scope]) -> Result<Typed, Refusal>
+pub fn typed_access(alloc: Global, tree: &Access, scopes: &View<'_>) -> Result<Typed, Refusal>
     requires { access_unbuilt tree.now ≡ None }
     ensures typed { AnswersTyped result (name_judged scopes.now tree.now) }
     ensures read { IfOk result (λ t. IsReading t.access (option_map expr_of t.form)) }
@@ -98,7 +102,7 @@ pub fn typed_access(alloc: Global, tree: &Access, scopes: &[Scope]) -> Result<Ty
 
 /// `simple = [ sign ] term { adding-operator term }`
 #[cycle(typed)]
-fn simple(alloc: Global, s: &Simple, scopes: &[Scope]) -> Result<Typed, Refusal>
+fn simple(alloc: Global, s: &Simple, scopes: &View<'_>) -> Result<Typed, Refusal>
     requires built { simple_unbuilt s.now ≡ None }
     ensures { AnswersTyped result (simple_judged scopes.now s.now) }
 {
@@ -109,7 +113,7 @@ fn simple(alloc: Global, s: &Simple, scopes: &[Scope]) -> Result<Typed, Refusal>
 
 /// `{ adding-operator term }`, after the terms before it
 #[cycle(typed)]
-fn addends(alloc: Global, first: Typed, all: &[Addend], scopes: &[Scope]) -> Result<Typed, Refusal>
+fn addends(alloc: Global, first: Typed, all: &[Addend], scopes: &View<'_>) -> Result<Typed, Refusal>
     requires operators { all_are_built (map addend_belonging all.now) ≡ true }
     requires operands { lines_in (map addend_belonging all.now) ≡ None }
     ensures { AnswersTyped result (chained added (Accepts (typed_of first)) (map (addend_judged scopes.now) all.now)) }
@@ -124,7 +128,7 @@ fn addends(alloc: Global, first: Typed, all: &[Addend], scopes: &[Scope]) -> Res
 
 /// `term = factor { multiplying-operator factor }`
 #[cycle(typed)]
-fn term(alloc: Global, t: &Term, scopes: &[Scope]) -> Result<Typed, Refusal>
+fn term(alloc: Global, t: &Term, scopes: &View<'_>) -> Result<Typed, Refusal>
     requires built { term_unbuilt t.now ≡ None }
     ensures { AnswersTyped result (term_judged scopes.now t.now) }
 {
@@ -138,7 +142,7 @@ fn multipliers(
     alloc: Global,
     first: Typed,
     all: &[Multiplier],
-    scopes: &[Scope],
+    scopes: &View<'_>,
 ) -> Result<Typed, Refusal>
     requires operators { all_are_built (map multiplier_belonging all.now) ≡ true }
     requires operands { lines_in (map multiplier_belonging all.now) ≡ None }
@@ -155,7 +159,7 @@ fn multipliers(
 
 /// `factor`
 #[cycle(typed)]
-fn factor(alloc: Global, f: &Factor, scopes: &[Scope]) -> Result<Typed, Refusal>
+fn factor(alloc: Global, f: &Factor, scopes: &View<'_>) -> Result<Typed, Refusal>
     requires built { factor_unbuilt f.now ≡ None }
     ensures { AnswersTyped result (factor_judged scopes.now f.now) }
 {
@@ -189,7 +193,7 @@ pub(crate) fn string(alloc: Global, bytes: &[u8]) -> Result<Typed, Refusal>
 
 /// `access`, which is a name, alone or called, with indexes and fields or without
 #[cycle(typed)]
-fn access(alloc: Global, a: &Access, scopes: &[Scope]) -> Result<Typed, Refusal>
+fn access(alloc: Global, a: &Access, scopes: &View<'_>) -> Result<Typed, Refusal>
     requires built { access_unbuilt a.now ≡ None }
     ensures { AnswersTyped result (name_judged scopes.now a.now) }
 {
@@ -215,7 +219,7 @@ fn selected(
     alloc: Global,
     first: Typed,
     all: &[Selector],
-    scopes: &[Scope],
+    scopes: &View<'_>,
 ) -> Result<Typed, Refusal>
     requires selectors { list_all is_component (map form_told (map selector_belonging all.now)) ≡ true }
     requires built { lines_in (map selector_belonging all.now) ≡ None }
@@ -238,7 +242,7 @@ fn with_indexes(
     alloc: Global,
     first: Typed,
     all: &[Expression],
-    scopes: &[Scope],
+    scopes: &View<'_>,
 ) -> Result<Typed, Refusal>
     requires built { first_in (map expression_unbuilt all.now) ≡ None }
     ensures { AnswersTyped result (indexed_all scopes.now (Accepts (typed_of first)) (map (judged scopes.now) all.now)) }
@@ -257,7 +261,7 @@ fn call(
     alloc: Global,
     name: &Name,
     arguments: &[Argument],
-    scopes: &[Scope],
+    scopes: &View<'_>,
 ) -> Result<Typed, Refusal>
     requires built { first_in (map argument_unbuilt arguments.now) ≡ None }
     ensures { AnswersTyped result (call_named (depth_in scopes.now) name.now
@@ -271,6 +275,7 @@ fn call(
         Meaning::Required(_) => Err(Refusal::Rule(rule::OTHER_THING)),
         Meaning::Declared(declared) => designator(alloc, declared, arguments, scopes),
         Meaning::Standard(_) => Err(Refusal::Rule(rule::OTHER_THING)),
+        Meaning::Field(_) => Err(Refusal::Rule(rule::OTHER_THING)),
         Meaning::Nothing => Err(Refusal::Rule(undeclared(name))),
     }
 }
@@ -281,7 +286,7 @@ fn application(
     alloc: Global,
     function: Function,
     arguments: &[Argument],
-    scopes: &[Scope],
+    scopes: &View<'_>,
 ) -> Result<Typed, Refusal>
     requires built { first_in (map written_unbuilt arguments.now) ≡ None }
     ensures { AnswersTyped result (applied function (map (given scopes.now) arguments.now)) }
@@ -309,7 +314,7 @@ fn designator(
     alloc: Global,
     declared: &Declared,
     arguments: &[Argument],
-    scopes: &[Scope],
+    scopes: &View<'_>,
 ) -> Result<Typed, Refusal>
     requires built { first_in (map written_unbuilt arguments.now) ≡ None }
     ensures { AnswersTyped result
@@ -335,7 +340,7 @@ pub fn typed_arguments(
     alloc: Global,
     parameters: &[FormalParameter],
     arguments: &[Argument],
-    scopes: &[Scope],
+    scopes: &View<'_>,
 ) -> Result<Taken, Refusal>
     requires built { first_in (map written_unbuilt arguments.now) ≡ None }
     ensures taken { AnswersJudged taken_of result
@@ -355,7 +360,7 @@ pub fn typed_arguments(
 
 /// `arg`, which is not written
 #[cycle(typed)]
-fn argument(alloc: Global, a: &Argument, scopes: &[Scope]) -> Result<Typed, Refusal>
+fn argument(alloc: Global, a: &Argument, scopes: &View<'_>) -> Result<Typed, Refusal>
     requires built { written_unbuilt a.now ≡ None }
     ensures { AnswersGiven result (given scopes.now a.now) }
 {

@@ -9,7 +9,7 @@ ghost use Rattle.ep_check_expr.specs.FieldDesignators.{designated, field_form, f
 use crate::forms::{Refusal, Typed, above};
 use crate::indexing::component_access;
 use ep_base::{Boxed, Name, NoMemory};
-use ep_scope::{Composition, FieldType, Kind, Scope, field_number, rule, structure_of};
+use ep_scope::{Composition, FieldType, Kind, View, field_number, rule, structure_of};
 use ep_typed::{TypedExpr, TypedPlace};
 use std::alloc::{AllocError, Global};
 
@@ -70,7 +70,7 @@ pub(crate) fn designated(
     alloc: Global,
     name: &Name,
     value: Typed,
-    scopes: &[Scope],
+    scopes: &View<'_>,
 ) -> Result<Typed, Refusal>
     ensures { AnswersTyped result (designated scopes.now name.now (typed_of value)) }
 {

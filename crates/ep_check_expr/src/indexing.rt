@@ -10,7 +10,7 @@ use crate::access::Access;
 use crate::forms::{DEPTH, Refusal, Typed, above};
 use crate::operators::{are_compatible, is_integer};
 use ep_base::{Boxed, NoMemory};
-use ep_scope::{ArrayType, Composition, Host, Kind, Scope, TypeName, rule, structure_of};
+use ep_scope::{ArrayType, Composition, Host, Kind, TypeName, View, rule, structure_of};
 use ep_typed::{TypedExpr, TypedPlace};
 use std::alloc::Global;
 
@@ -117,7 +117,7 @@ pub(crate) fn indexed(
     alloc: Global,
     value: Typed,
     index: Typed,
-    scopes: &[Scope],
+    scopes: &View<'_>,
 ) -> Result<Typed, Refusal>
     ensures { AnswersTyped result (indexed scopes.now (typed_of value) (typed_of index)) }
 {

@@ -2,12 +2,14 @@
 
 ghost use Rattle.std.specs.Prelude.{◌≡◌, IfOk};
 ghost use Rattle.ep_typed.specs.Viewed.{callee_of, place_of};
+ghost use Rattle.ep_scope.specs.Meanings.{field_meant};
 ghost use Rattle.ep_check_expr.specs.Arguments.{callee_at, own_place};
+ghost use Rattle.ep_check_expr.specs.Names.{field_place};
 
-use ep_base::NoMemory;
-use ep_scope::Declared;
+use ep_base::{Boxed, NoMemory};
+use ep_scope::{Declared, OpenField, RecordVariable};
 use ep_typed::{Callee, TypedPlace};
-use std::alloc::Global;
+use std::alloc::{AllocError, Global};
 
 /// The place of a variable of a routine.
 pub fn own_place(depth: u32, d: &Declared) -> TypedPlace
@@ -29,4 +31,18 @@ pub fn callee_at(alloc: Global, depth: u32, d: &Declared) -> Result<Callee, NoMe
         number: d.number,
         levels,
     })
+}
+
+/// The place of a field of an open record. An error comes as well where 32 bits do not hold its number.
+pub fn field_place(alloc: Global, field: OpenField<'_>) -> Result<TypedPlace, NoMemory>
+    ensures { IfOk result (λ place. place_of place ≡ field_place (field_meant field.entry)) }
+{
+    let Ok(number) = u32::try_from(field.number) else {
+        return Err(AllocError);
+    };
+    let whole = match field.variable {
+        RecordVariable::Unit(unit, variable) => TypedPlace::Variable(unit.copy(alloc)?, variable),
+        RecordVariable::Own(variable) => TypedPlace::Own(0, variable),
+    };
+    Ok(TypedPlace::Field(Boxed::new(alloc, whole)?, number))
 }

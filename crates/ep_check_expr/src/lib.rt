@@ -34,5 +34,5 @@ pub use expressions::{
 pub use folding::{Folded, folded_form};
 pub use forms::{DEPTH, Refusal, Typed, greatest, least};
 pub use laws::laws_of_expressions;
-pub use levels::{callee_at, own_place};
+pub use levels::{callee_at, field_place, own_place};
 pub use names::undeclared;

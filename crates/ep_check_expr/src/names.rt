@@ -1,24 +1,24 @@
 //! Names as values.
 
 ghost use Rattle.std.specs.Prelude.{◌≡◌, [], IsTrue};
-ghost use Rattle.ep_scope.specs.Meanings.{meant_by};
+ghost use Rattle.ep_scope.specs.Meanings.{field_meant, meant_by};
 ghost use Rattle.ep_scope.specs.Scopes.{depth_in, meant};
 ghost use Rattle.ep_check_expr.specs.Answers.{AnswersTyped};
 ghost use Rattle.ep_check_expr.specs.Arguments.{callee_at, function_called};
 ghost use Rattle.ep_check_expr.specs.Names as spec;
-ghost use Rattle.ep_check_expr.specs.Names.{value_declared, value_required, constant_required, value_named, qualified_value, is_nothing, undeclared, is_one_of};
+ghost use Rattle.ep_check_expr.specs.Names.{field_read, value_declared, value_required, constant_required, value_named, qualified_value, is_nothing, undeclared, is_one_of};
 
 use crate::access::Access;
 use crate::arguments::Taken;
 use crate::fields::designated;
 use crate::forms::{Refusal, Typed};
-use crate::levels::own_place;
-use ep_base::Name;
+use crate::levels::{field_place, own_place};
+use ep_base::{Boxed, Name};
 use ep_scope::{
-    Declaration, Declared, FormalParameter, Host, Kind, Meaning, Protection, Required,
-    RequiredConstant, Scope, depth_in, meaning_in, meaning_of, rule,
+    Declaration, Declared, FormalParameter, Host, Kind, Meaning, OpenField, Protection, Required,
+    RequiredConstant, View, depth_in, meaning_in, meaning_of, rule,
 };
-use ep_typed::TypedPlace;
+use ep_typed::{TypedExpr, TypedPlace};
 use std::alloc::Global;
 
 /// Whether a name is that of a standard file.
@@ -103,6 +103,22 @@ fn required_value(alloc: Global, required: Required) -> Result<Typed, Refusal>
     }
 }
 
+/// A field of an open record as a value.
+fn field_value(alloc: Global, field: OpenField<'_>) -> Result<Typed, Refusal>
+    ensures { AnswersTyped result (field_read (field_meant field.entry)) }
+{
+    let access = Access::Variable(field.of, field.protection);
+    let place = field_place(alloc, field)?;
+    let form = Some(Boxed::new(alloc, TypedExpr::Read(place))?);
+    Ok(Typed {
+        form,
+        kind: field.kind,
+        // the value, the place of the field and that of the variable
+        depth: 3,
+        access,
+    })
+}
+
 /// A name of this meaning as a value, in code of a depth.
 fn value_of(alloc: Global, depth: u32, name: &Name, meaning: Meaning<'_>) -> Result<Typed, Refusal>
     ensures { AnswersTyped result (value_named depth name.now (meant_by meaning.entry)) }
@@ -114,12 +130,13 @@ fn value_of(alloc: Global, depth: u32, name: &Name, meaning: Meaning<'_>) -> Res
             Typed::read(alloc, place, Kind::File, Access::File)
         }
         Meaning::Required(required) => required_value(alloc, required),
+        Meaning::Field(field) => field_value(alloc, field),
         Meaning::Nothing => Err(Refusal::Rule(undeclared(name))),
     }
 }
 
 /// A name as a value.
-pub(crate) fn named(alloc: Global, name: &Name, scopes: &[Scope]) -> Result<Typed, Refusal>
+pub(crate) fn named(alloc: Global, name: &Name, scopes: &View<'_>) -> Result<Typed, Refusal>
     ensures { AnswersTyped result (value_named (depth_in scopes.now) name.now (meant scopes.now name.now)) }
 {
     value_of(alloc, depth_in(scopes)?, name, meaning_of(scopes, name))
@@ -130,7 +147,7 @@ pub(crate) fn qualified(
     alloc: Global,
     first: &Name,
     second: &Name,
-    scopes: &[Scope],
+    scopes: &View<'_>,
 ) -> Result<Typed, Refusal>
     ensures { AnswersTyped result (qualified_value scopes.now first.now second.now) }
 {

@@ -77,6 +77,7 @@ context =
                 ∷ (codes "c", thing.Declared (declares 1 (declaration.Variable (type_name.Required simple.Char) (kind.Ordinal host.Char)))) ∷ [];
             qualified = [];
             structures = [];
+            records = [];
           } ∷ [];
       output = false;
       results = [];
@@ -201,6 +202,7 @@ rows =
                 ∷ (codes "a", thing.Declared (declares 2 (array 3))) ∷ (codes "b", thing.Declared (declares 3 (array 4))) ∷ (codes "g", thing.Declared (declares 4 guarded)) ∷ [];
             qualified = [];
             structures = row ∷ [];
+            records = [];
           } ∷ [];
     }
 

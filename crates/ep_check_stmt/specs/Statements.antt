@@ -27,7 +27,7 @@ use Rattle.ep_typed.specs.declared.operations.Print.{Print}
 use Rattle.ep_typed.specs.declared.operations.Print.TheVariants as print
 use Rattle.ep_typed.specs.declared.tree.StandardFile.{StandardFile}
 use Rattle.ep_typed.specs.declared.tree.StandardFile.TheVariants as file
-use Rattle.ep_scope.specs.Scopes.{Region, Meant, Declares, Standard, Requires, Nothing, depth_in, meant}
+use Rattle.ep_scope.specs.Scopes.{OpenField, Region, Meant, Declares, Standard, Requires, FieldOf, Nothing, depth_in, meant}
 use Rattle.ep_scope.specs.declared.kind.Host.{Host}
 use Rattle.ep_scope.specs.declared.kind.Host.TheVariants as host
 use Rattle.ep_scope.specs.declared.kind.Kind.{Kind}
@@ -47,7 +47,7 @@ use Rattle.ep_check_expr.specs.Arguments.{arguments_judged, callee_at, given_to,
 use Rattle.ep_check_expr.specs.Hosts.{typed_host}
 use Rattle.ep_check_expr.specs.Judgements.{Judged, Accepts, Breaks, Typed, when_accepted, both}
 use Rattle.ep_check_expr.specs.Functions.{Given}
-use Rattle.ep_check_expr.specs.Names.{undeclared}
+use Rattle.ep_check_expr.specs.Names.{field_place, undeclared}
 use Rattle.ep_check_expr.specs.Operators.{map_both}
 use Rattle.ep_check_expr.specs.Expressions.{given, judged, judged_value, name_judged}
 use Rattle.ep_check_stmt.specs.Cases.{CaseSelector, own_ranges, selector_judged}
@@ -126,6 +126,10 @@ target_rules (required.«Type» t) = rule.OTHER_THING ∷ rule.VARIABLE_NEEDED �
 target_rules (required.Function f) = rule.FUNCTION_ASSIGNED ∷ rule.VARIABLE_NEEDED ∷ []
 target_rules (required.Procedure p) = rule.OTHER_THING ∷ rule.VARIABLE_NEEDED ∷ []
 
+-- a field of an open record, which is protected where the record is (ISO 10206, 6.5.1)
+abbrev pub field_target : OpenField → Judged Target
+field_target f = when_accepted (λ done. Accepts (record { place = Some (field_place f); kind = f.kind })) (unless_protected f.guarded)
+
 -- in code of a depth, of a unit, in the blocks of these functions
 module _ (depth : ℕ) (unit : List ℕ) (results : List FunctionResult) where
   -- a declared name that is assigned to
@@ -142,6 +146,7 @@ module _ (depth : ℕ) (unit : List ℕ) (results : List FunctionResult) where
   place_named name (Declares d) = declared_target d d.what
   place_named name (Standard f) = Accepts (record { place = Some (tree.Standard f); kind = kind.File })
   place_named name (Requires r) = Breaks (target_rules r)
+  place_named name (FieldOf f) = field_target f
   place_named name Nothing = Breaks (undeclared name)
 
 -- What an access with selectors denotes, as what is assigned to: a variable, whose components are protected where it is (6.5.1). No component is a file.
@@ -343,6 +348,7 @@ abbrev pub control_named : Locals → ℕ → List ℕ → Meant → Judged Name
 control_named locals depth name (Declares d) = declared_control locals depth d d.what
 control_named locals depth name (Standard f) = no_control (rule.ORDINAL ∷ [])
 control_named locals depth name (Requires r) = no_control (target_rules r)
+control_named locals depth name (FieldOf f) = no_control []
 control_named locals depth name Nothing = Breaks (undeclared name)
 
 -- a control variable and the host of its type, which is ordinal
@@ -456,6 +462,7 @@ abbrev pub component_rules : List ℕ → Meant → List ℕ
 component_rules name (Declares d) = declared_rules d.what
 component_rules name (Standard f) = rule.OTHER_THING ∷ []
 component_rules name (Requires r) = required_rules r
+component_rules name (FieldOf f) = rule.OTHER_THING ∷ []
 component_rules name Nothing = undeclared name
 
 module _ (context : Context) where
@@ -513,6 +520,7 @@ module _ (context : Context) where
   call_judged line name (Declares d) arguments = declared_called line d d.what arguments
   call_judged line name (Standard f) arguments = Breaks (rule.OTHER_THING ∷ [])
   call_judged line name (Requires r) arguments = required_called line r arguments
+  call_judged line name (FieldOf f) arguments = Breaks (rule.OTHER_THING ∷ [])
   call_judged line name Nothing arguments = Breaks (undeclared name)
 
   abbrev pub name_called : ℕ → List ℕ → Option (List Argument) → Judged (Option Stmt)

@@ -8,7 +8,7 @@ use Rattle.ep_tree.specs.declared.statement.Statement.TheOpen.{Statement-F, Arm-
 use Rattle.ep_tree.specs.declared.statement.Statement.{Statement, fold-Statement}
 use Rattle.ep_tree.specs.declared.statement.Arm.{Arm, fold-Arm}
 use Rattle.ep_tree.specs.declared.statement.Compound.{Compound, fold-Compound}
-use Rattle.ep_typed.specs.Trees.{Entire, OfUnit, OfRoutine, entire, Place, Variable, Own, Standard, Indexed, Field, Expr, Constant, Text, Read, One, Two, Short, Step, Function, IndexedValue, FieldValue, Actual, Evaluated, Accessed, Actuals, no_actual, next_actual, Item, Plain, Wide, Stmt, Stmts, Empty, Assign, If, While, Repeat, For, Procedure, Case, Halt, Write, none, next, Arms, no_arm, next_arm, Other, no_other, otherwise_do}
+use Rattle.ep_typed.specs.Trees.{Entire, OfUnit, OfRoutine, entire, Place, Variable, Own, Standard, Indexed, Field, Expr, Constant, Text, Read, One, Two, Short, Step, Function, IndexedValue, FieldValue, Actual, Evaluated, Accessed, Actuals, no_actual, next_actual, Item, Plain, Wide, Stmt, Stmts, Empty, Assign, If, While, Repeat, For, With, Procedure, Case, Halt, Write, none, next, Arms, no_arm, next_arm, Other, no_other, otherwise_do}
 use Rattle.ep_typed.specs.Trees as tree
 use Rattle.ep_typed.specs.declared.interface.Formal.{Formal}
 use Rattle.ep_typed.specs.declared.interface.FormalMode.{FormalMode}
@@ -77,36 +77,40 @@ module _ (formals_of : List ℕ → ℕ → List Formal) (variable : Entire) whe
   items_threaten [] = false
   items_threaten (i ∷ is) = item_threatens i || items_threaten is
 
+-- by the formal parameters of each routine
+module _ (formals_of : List ℕ → ℕ → List Formal) where
   abbrev mutual
-    -- whether a statement, or one inside of it, assigns to the variable or a component of it, or gives it for a variable parameter that is not protected
-    pub threatens : Stmt → Bool
-    threatens Empty = false
-    threatens (tree.Compound ss) = stmts_threaten ss
-    threatens (Assign line place x) = is_variable variable place || (place_threatens place || expr_threatens x)
-    threatens (If line x a b) = expr_threatens x || (threatens a || threatens b)
-    threatens (While line x s) = expr_threatens x || threatens s
-    threatens (Repeat line ss x) = stmts_threaten ss || expr_threatens x
+    -- whether a statement, or one inside of it, assigns to an entire variable or a component of it, or gives it for a variable parameter that is not protected
+    pub threatens : Entire → Stmt → Bool
+    threatens v Empty = false
+    threatens v (tree.Compound ss) = stmts_threaten v ss
+    threatens v (Assign line place x) = is_variable v place || (place_threatens formals_of v place || expr_threatens formals_of v x)
+    threatens v (If line x a b) = expr_threatens formals_of v x || (threatens v a || threatens v b)
+    threatens v (While line x s) = expr_threatens formals_of v x || threatens v s
+    threatens v (Repeat line ss x) = stmts_threaten v ss || expr_threatens formals_of v x
     -- the control variable of a `for` is threatened by it
-    threatens (For line c x y s) = is_variable variable (entire c.variable) || (expr_threatens x || (expr_threatens y || threatens s))
-    threatens (Procedure line callee given) = actuals_threaten (formals_of callee.unit callee.number) given
-    threatens (Case line x arms other) = expr_threatens x || (arms_threaten arms || other_threatens other)
-    threatens (Halt line) = false
-    threatens (Write line items ends_line) = items_threaten items
+    threatens v (For line c x y s) = is_variable v (entire c.variable) || (expr_threatens formals_of v x || (expr_threatens formals_of v y || threatens v s))
+    -- what threatens the variable that stands for a place threatens that of which the place is a component
+    threatens v (With line stands of place s) = place_threatens formals_of v place || (threatens v s || is_variable v place && threatens stands s)
+    threatens v (Procedure line callee given) = actuals_threaten formals_of v (formals_of callee.unit callee.number) given
+    threatens v (Case line x arms other) = expr_threatens formals_of v x || (arms_threaten v arms || other_threatens v other)
+    threatens v (Halt line) = false
+    threatens v (Write line items ends_line) = items_threaten formals_of v items
 
     -- whether one of these does
-    pub stmts_threaten : Stmts → Bool
-    stmts_threaten none = false
-    stmts_threaten (next s ss) = threatens s || stmts_threaten ss
+    pub stmts_threaten : Entire → Stmts → Bool
+    stmts_threaten v none = false
+    stmts_threaten v (next s ss) = threatens v s || stmts_threaten v ss
 
     -- whether the statement of one of these arms does
-    pub arms_threaten : Arms → Bool
-    arms_threaten no_arm = false
-    arms_threaten (next_arm ranges s arms) = threatens s || arms_threaten arms
+    pub arms_threaten : Entire → Arms → Bool
+    arms_threaten v no_arm = false
+    arms_threaten v (next_arm ranges s arms) = threatens v s || arms_threaten v arms
 
     -- whether one of the statements behind `otherwise` does
-    pub other_threatens : Other → Bool
-    other_threatens no_other = false
-    other_threatens (otherwise_do ss) = stmts_threaten ss
+    pub other_threatens : Entire → Other → Bool
+    other_threatens v no_other = false
+    other_threatens v (otherwise_do ss) = stmts_threaten v ss
 
 -- ---- threats by the routines in a routine, however deep (ISO 10206, 6.9.4)
 

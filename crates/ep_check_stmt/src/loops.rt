@@ -354,6 +354,7 @@ impl<'a> Context<'a> {
             }
             Meaning::Standard(_) => Err(Refusal::Rule(rule::CONTROL_VARIABLE)),
             Meaning::Required(_) => Err(Refusal::Rule(rule::CONTROL_VARIABLE)),
+            Meaning::Field(_) => Err(Refusal::Rule(rule::CONTROL_VARIABLE)),
             Meaning::Nothing => Err(Refusal::Rule(undeclared(name))),
         }
     }

@@ -27,7 +27,7 @@ use ep_check_expr::{
     undeclared,
 };
 use ep_scope::{
-    Declaration, Declared, FormalParameter, Host, Kind, Meaning, Procedure, Required, Scope,
+    Declaration, Declared, FormalParameter, Host, Kind, Meaning, Procedure, Required, View,
     depth_in, meaning_of, rule,
 };
 use ep_tree::{
@@ -68,7 +68,7 @@ pub struct Context<'a> {
     /// The unit.
     pub unit: &'a Name,
     /// The scopes, the innermost first.
-    pub scopes: &'a [Scope],
+    pub scopes: &'a View<'a>,
     /// Whether `output` is a parameter or imported.
     pub output: bool,
     /// The functions in whose blocks it is and whose results have no names, the innermost first.
@@ -210,7 +210,7 @@ fn component_rule(name: &Name, meaning: Meaning<'_>) -> u32
         },
         Meaning::Standard(_) => rule::OTHER_THING,
         Meaning::Required(Required::Function(_) | Required::Procedure(_)) => rule::PROCEDURE,
-        Meaning::Required(_) => rule::OTHER_THING,
+        Meaning::Required(_) | Meaning::Field(_) => rule::OTHER_THING,
         Meaning::Nothing => undeclared(name),
     }
 }
@@ -475,6 +475,7 @@ impl<'a> Context<'a> {
             Meaning::Declared(declared) => self.call_declared(line, declared, arguments),
             Meaning::Standard(_) => Err(Refusal::Rule(rule::OTHER_THING)),
             Meaning::Required(required) => self.call_required(line, *required, arguments),
+            Meaning::Field(_) => Err(Refusal::Rule(rule::OTHER_THING)),
             Meaning::Nothing => Err(Refusal::Rule(undeclared(&access.name))),
         }
     }

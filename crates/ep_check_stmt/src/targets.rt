@@ -3,21 +3,25 @@
 ghost use Rattle.std.specs.Prelude.{◌≡◌, IsTrue, None, map};
 ghost use Rattle.std.specs.Option.{option_map};
 ghost use Rattle.ep_built.specs.Built.{access_unbuilt};
+ghost use Rattle.ep_scope.specs.Meanings.{field_meant};
 ghost use Rattle.ep_scope.specs.Scopes.{depth_in, meant};
 ghost use Rattle.ep_typed.specs.Viewed.{expr_of};
 ghost use Rattle.ep_check_expr.specs.Arguments.{IsReading};
 ghost use Rattle.ep_check_expr.specs.Expressions.{name_judged};
 ghost use Rattle.ep_check_expr.specs.Judgements.{when_accepted};
 ghost use Rattle.ep_check_stmt.specs.Answers.{AnswersForm, context_of, fails_among, result_of, target_of};
-ghost use Rattle.ep_check_stmt.specs.Statements.{declared_target, function_target, has_result, place_named, target_judged, target_rules, variable_target};
+ghost use Rattle.ep_check_stmt.specs.Statements.{declared_target, field_target, function_target, has_result, place_named, target_judged, target_rules, variable_target};
 
 use crate::statements::{Context, FunctionResult};
 use ep_base::Name;
 use ep_check_expr::{
-    Access, Refusal, Typed, own_place, typed_access, undeclared, unless_protected,
+    Access, Refusal, Typed, field_place, own_place, typed_access, undeclared, unless_protected,
 };
-use ep_scope::{Declaration, Declared, Kind, Meaning, Required, depth_in, meaning_of, rule};
+use ep_scope::{
+    Declaration, Declared, Kind, Meaning, OpenField, Required, depth_in, meaning_of, rule,
+};
 use ep_typed::TypedPlace;
+use std::alloc::Global;
 
 /// What is assigned to, and its kind.
 pub(crate) struct Target {
@@ -106,6 +110,16 @@ fn variable_target(variable: Typed) -> Result<Target, Refusal>
     }
 }
 
+/// A field of an open record as what is assigned to.
+fn field_target(alloc: Global, field: OpenField<'_>) -> Result<Target, Refusal>
+    ensures { AnswersForm target_of result (field_target (field_meant field.entry)) }
+{
+    unless_protected(field.protection)?;
+    let kind = field.kind;
+    let place = Some(field_place(alloc, field)?);
+    Ok(Target { place, kind })
+}
+
 impl Context<'_> {
     /// A name that is assigned to, or the variable that an access with selectors denotes.
     pub(crate) fn target(&self, access: &ep_tree::Access) -> Result<Target, Refusal>
@@ -141,6 +155,7 @@ impl Context<'_> {
                 kind: Kind::File,
             }),
             Meaning::Required(required) => Err(Refusal::Rule(required_target(*required))),
+            Meaning::Field(field) => field_target(self.alloc, *field),
             Meaning::Nothing => Err(Refusal::Rule(undeclared(name))),
         }
     }

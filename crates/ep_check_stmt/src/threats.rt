@@ -28,7 +28,17 @@ pub enum Entire<'a> {
     Own(u32, u32),
 }
 
-impl Entire<'_> {
+impl<'a> Entire<'a> {
+    /// A variable whose name is borrowed of it.
+    fn of(variable: &'a EntireVariable) -> Entire<'a>
+        ensures { entire_of result ≡ viewed.entire_of variable.now }
+    {
+        match variable {
+            EntireVariable::Unit(unit, number) => Entire::Variable(unit, *number),
+            EntireVariable::Own(up, number) => Entire::Own(*up, *number),
+        }
+    }
+
     /// The variable with a name of its own.
     pub(crate) fn to_owned(self, alloc: Global) -> Result<EntireVariable, NoMemory>
         ensures { IfOk result (λ variable. viewed.entire_of variable ≡ entire_of self.entry) }
@@ -147,6 +157,12 @@ pub(crate) fn statement_threatens(
                 || expr_threatens(initial.get(), routines, variable)
                 || expr_threatens(last.get(), routines, variable)
                 || statement_threatens(body.get(), routines, variable)
+        }
+        TypedStmt::With(_, stands, _, place, body) => {
+            place_threatens(place, routines, variable)
+                || statement_threatens(body.get(), routines, variable)
+                || is_variable(variable, place)
+                    && statement_threatens(body.get(), routines, Entire::of(stands))
         }
         TypedStmt::Procedure(_, callee, given) => {
             let formals = formals_of(routines, callee.number);

@@ -21,7 +21,7 @@ use Rattle.ep_typed.specs.declared.value.Value.{Value}
 use Rattle.ep_typed.specs.declared.value.Value.TheVariants as value
 use Rattle.ep_scope.specs.Parameters.{protection_of}
 use Rattle.ep_scope.specs.Required.{look_up}
-use Rattle.ep_scope.specs.Scopes.{Meant, Declares, Standard, Requires, Nothing, meant, meant_in}
+use Rattle.ep_scope.specs.Scopes.{Meant, Declares, Standard, Requires, FieldOf, Nothing, meant, meant_in}
 use Rattle.ep_scope.specs.declared.kind.Host.{Host}
 use Rattle.ep_scope.specs.declared.kind.Kind.{Kind}
 use Rattle.ep_scope.specs.declared.kind.Kind.TheVariants as kind
@@ -88,6 +88,7 @@ module _ (n : List ℕ) where
   type_meant-kept : (missing : List ℕ) (m : Meant) (b : Block) → IsOf b → Fits IsIn (type_meant missing m b)
   type_meant-kept missing (Declares d) b h = declared_type-kept d d.what b h
   type_meant-kept missing (Standard f) b h = tt
+  type_meant-kept missing (FieldOf f) b h = tt
   type_meant-kept missing (Requires (required.Constant c)) b h = tt
   type_meant-kept missing (Requires (required.«Type» t)) b h = h
   type_meant-kept missing (Requires (required.Function f)) b h = tt

@@ -26,7 +26,7 @@ use Rattle.ep_typed.specs.declared.value.Value.{Value}
 use Rattle.ep_typed.specs.declared.value.Value.TheVariants as value
 use Rattle.ep_scope.specs.Kinds.{same_host}
 use Rattle.ep_scope.specs.Required.{look_up}
-use Rattle.ep_scope.specs.Scopes.{Region, in_view, with_inner, with_inner_structure, Meant, Declares, Standard, Requires, Nothing, meant, meant_in}
+use Rattle.ep_scope.specs.Scopes.{Region, in_view, with_inner, with_inner_structure, Meant, Declares, Standard, Requires, FieldOf, Nothing, meant, meant_in}
 use Rattle.ep_scope.specs.declared.kind.Host.{Host}
 use Rattle.ep_scope.specs.declared.kind.Host.TheVariants as host
 use Rattle.ep_scope.specs.declared.kind.Kind.{Kind}
@@ -147,6 +147,7 @@ declared_type d _ b = misnamed
 abbrev pub type_meant : List ℕ → Meant → Block → Judged Written
 type_meant missing (Declares d) b = declared_type d d.what b
 type_meant missing (Standard file) b = misnamed
+type_meant missing (FieldOf f) b = misnamed
 type_meant missing (Requires (required.«Type» r)) b = Accepts (record { denoter = denoter.Required r; of = type_name.Required r; kind = kind.Ordinal (required_host r); nodes = 1; block = b })
 type_meant missing (Requires _) b = misnamed
 type_meant missing Nothing b = Breaks missing

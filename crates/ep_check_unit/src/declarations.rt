@@ -58,7 +58,7 @@ impl Block {
         ensures { AnswersBlock result (block_of self.new)
             (constant_definition definition.now (block_of self.old)) }
     {
-        let form = constant_value(alloc, &definition.value, self.scopes.in_view())?;
+        let form = constant_value(alloc, &definition.value, &self.scopes.in_view())?;
         self.add_constant(alloc, &definition.name, form.kind, &form.value)?;
         self.note(form.built, definition.line);
         Ok(())

@@ -251,7 +251,7 @@ impl Block {
             Some(own) => {
                 own.named
                     || {
-                        let meaning = meaning_of(self.scopes.in_view(), name);
+                        let meaning = meaning_of(&self.scopes.in_view(), name);
                         is_that_function(&self.unit, own.function, &meaning)
                     }
             }

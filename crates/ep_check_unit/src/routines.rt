@@ -214,10 +214,11 @@ impl Block {
             Err(refusal) => return Err(refused_at(body.line, refusal)),
         };
         let results = self.assigned_functions(alloc)?;
+        let scopes = self.scopes.in_view();
         let context = Context {
             alloc,
             unit: &self.unit,
-            scopes: self.scopes.in_view(),
+            scopes: &scopes,
             output: self.output,
             results: results.items(),
             locals,

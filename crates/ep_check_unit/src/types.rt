@@ -246,11 +246,11 @@ impl Block {
         let scopes = self.scopes.in_view();
         match &name.second {
             None => {
-                let meaning = meaning_of(scopes, &name.first);
+                let meaning = meaning_of(&scopes, &name.first);
                 type_meant(&meaning, undeclared(&name.first))
             }
             Some(constituent) => {
-                let meaning = meaning_in(scopes, &name.first, constituent);
+                let meaning = meaning_in(&scopes, &name.first, constituent);
                 type_meant(&meaning, rule::UNDECLARED)
             }
         }
@@ -278,8 +278,8 @@ impl Block {
             (bound_judged (scopes_of (block_of self.old)) low.now)
             (bound_judged (scopes_of (block_of self.old)) high.now)) }
     {
-        let least = bound_value(alloc, low, self.scopes.in_view())?;
-        let greatest = bound_value(alloc, high, self.scopes.in_view())?;
+        let least = bound_value(alloc, low, &self.scopes.in_view())?;
+        let greatest = bound_value(alloc, high, &self.scopes.in_view())?;
         let host = common_host(least.kind, greatest.kind)?;
         ordered(&least, &greatest)?;
         let of = self.next_type()?;

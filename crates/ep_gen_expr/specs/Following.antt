@@ -1,7 +1,7 @@
 -- The machine follows expressions and places: wherever their code stands in an image, it does what they mean.
 use Rattle.std.specs.Prelude.{◌≡◌, ℕ, ℤ, ◌+◌, ◌<◌, ◌≤◌, List, length, Some, slice_get, ⊤}
 use Rattle.ep_gen_expr.specs.ExprCode.{IsPlaceCode, IsExprCode}
-use Rattle.ep_object.specs.Activations.{MatchesNames, OwnAreKept}
+use Rattle.ep_object.specs.Activations.{MatchesNames}
 use Rattle.ep_object.specs.Follows.{point, Since, Fragment, Inside, Operands, OnTop, PlaceOnTop}
 use Rattle.ep_object.specs.Matching.{Memory, Injection, Slots, AreAmong, kept_slots, HasType, HasOwnType}
 use Rattle.ep_object.specs.Operands.{Operand}
@@ -29,7 +29,7 @@ least_credit = 32
 -- From every memory of a routine of the unit in which its own variables and those of the routines around it match, with any operands below and up to this number of steps, the machine follows the computation through the code at this place of the object. Behind the code the same routine runs, memory has grown, the slots that are named are untouched, and what held and lasts still does, what the computation gives lies on the operands below, and the credit has risen by this gain.
 abbrev pub IsFollowedThrough : {A : Type 0} → Declarations → Image → Placement → List ℕ → Slots → ℕ → ℕ → List Instr → Computation A → (List Operand → A → Operands) → (A → ℕ) → Type 0
 IsFollowedThrough declared G p unit untouched n at code c Then gain =
-    OwnAreKept declared untouched → (begun : State) (injection : Injection) (memory : Memory) → MatchesNames declared injection begun memory
+    (begun : State) (injection : Injection) (memory : Memory) → MatchesNames declared injection begun memory
     → (below : List Operand) (credit : ℕ) → least_credit ≤ credit → unit_in G memory.frames ≡ unit
     → Fragment declared G (Since untouched injection begun memory) n (point injection memory (p.instructions.before + at) below) c (p.instructions.before + (at + length code)) (λ a. Inside untouched injection memory (Then below a)) credit (λ a. credit + gain a)
 

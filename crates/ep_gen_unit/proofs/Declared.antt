@@ -4,12 +4,13 @@ use Rattle.std.proofs.lemmas.Option.{get_or_from_slice_get, slice_get_within}
 use Rattle.std.proofs.lemmas.Slice.Eq.{bytes_eq-Decides}
 use Rattle.std.specs.Prelude.{All, if◌then◌else◌}
 use Rattle.ep_gen_unit.specs.UnitLaws.{AreDeclared}
+use Rattle.ep_object.proofs.matching.Growing.{slice_get-prefix}
 use Rattle.ep_object.specs.Scene.{HaveValidTypes}
-use Rattle.ep_typed.proofs.Auxiliaries.{auxiliaries_valid}
-use Rattle.ep_typed.specs.Auxiliaries.{auxiliary_variables, first_for}
-use Rattle.ep_typed.specs.Routines.{unit_variables}
+use Rattle.ep_typed.proofs.Auxiliaries.{auxiliaries_valid, withs_denoted}
+use Rattle.ep_typed.specs.Auxiliaries.{auxiliary_variables, first_for, with_variables}
+use Rattle.ep_typed.specs.Routines.{made_by_unit, unit_variables}
 use Rattle.ep_typed.specs.declared.unit.UnitType.{UnitType}
-use Rattle.ep_typed.specs.Valid.{IsDenoter, IsVariable, own}
+use Rattle.ep_typed.specs.Valid.{Declarations, IsDenoter, IsValid, IsVariable, own}
 use Rattle.ep_typed.specs.Viewed.{denoter_of, stmt_of}
 use Rattle.ep_typed.specs.declared.unit.UnitVariable.{UnitVariable}
 use Rattle.ep_typed.specs.declared.unit.Unit.{Unit as TypedUnit}
@@ -50,10 +51,17 @@ variables_valid types vs o valid k v h = either (slice_get-either vs (auxiliary_
     either (inl e) = subst (λ x. IsVariable types x) (get_or_from_slice_get vs k v v e) (valid k v (slice_get_within vs k v e))
     either (inr e) = auxiliaries_valid types o e.0 v e.1
 
+-- those that a unit makes are declared where all of them are
+pub made_declared : (declared : Declarations) (unit : List ℕ) (vs ws : List UnitVariable) → AreDeclared declared unit 0 (vs ++ ws) → AreDeclared declared unit 0 vs
+made_declared declared unit vs ws all i v h = all i v (slice_get-prefix vs (vs ++ ws) i v (record { rest = ws; is = refl }) h)
+
 -- each variable of a unit that declares it has a valid denoter
-pub own_valid : (u : TypedUnit) → All (IsVariable u.types) u.variables → HaveValidTypes (own u)
-own_valid u variables unit k v h =
+pub own_valid : (u : TypedUnit) → IsValid u → HaveValidTypes (own u)
+own_valid u valid unit k v h =
     let w = own_is u unit k v h in
-    let valid : IsVariable u.types v = variables_valid u.types u.variables (first_for (stmt_of u.start)) variables k v w.1 in
     let types : (own u).types unit ≡ u.types = ap (λ n. (own u).types n) (sym w.0) ∙ own_types u in
-    subst (λ ts. IsDenoter ts (denoter_of v.denoter)) (sym types) valid.denoter
+    subst (λ ts. IsDenoter ts (denoter_of v.denoter)) (sym types) (either (slice_get-either (made_by_unit u) (with_variables (stmt_of u.start)) k v w.1))
+  where
+    either : (slice_get (made_by_unit u) k ≡ Some v) ⊎ ((j : ℕ) × (slice_get (with_variables (stmt_of u.start)) j ≡ Some v)) → IsDenoter u.types (denoter_of v.denoter)
+    either (inl e) = (variables_valid u.types u.variables (first_for (stmt_of u.start)) valid.variables k v e).denoter
+    either (inr e) = withs_denoted (own u) u.types refl (own_types u) valid.types (stmt_of u.start) valid.start e.0 v e.1

@@ -25,4 +25,5 @@ pub mod StmtStays
 pub mod TypeForms
 pub mod TypeNames
 pub mod Units
+pub mod WithMoves
 pub mod Writing

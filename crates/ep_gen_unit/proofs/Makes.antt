@@ -38,7 +38,7 @@ use Rattle.ep_typed.specs.declared.unit.UnitVariable.{UnitVariable}
 use Rattle.ep_object.specs.declared.op.TheConstants as op
 
 -- in the frame of the unit, while the same routine runs
-same_frame : {untouched : Slots} (G : Image) (x : ImageUnit) (before after : Frames) → SameRoutine untouched before after
+pub same_frame : {untouched : Slots} (G : Image) (x : ImageUnit) (before after : Frames) → SameRoutine untouched before after
     → RunsInUnit G before x → RunsInUnit G after x
 same_frame G x before after r h = record { calls = no_calls before.calls after.calls r.calls h.calls; unit = ap (λ k. slice_get G.units k) r.unit ∙ h.unit }
 

@@ -1,14 +1,14 @@
 -- The object of a program, from the code of its parts.
-use Rattle.std.proofs.Common.{◌≡◌, ℕ, ℤ, suc, pos, ◌+◌, ◌<◌, List, [], ◌∷◌, ◌++◌, take, length, length-append, get_or, slice_get, ◌⊎◌, inl, inr, Option, None, Some, Result, Ok, Err, IfOk, refl, sym, ap, ◌∙◌, subst, append_assoc, append-nil, arith}
-use Rattle.std.proofs.lemmas.List.{take_more, length-take-le}
+use Rattle.std.proofs.Common.{◌≡◌, ℕ, ℤ, suc, pos, ◌+◌, ◌<◌, List, [], ◌∷◌, ◌++◌, map, take, length, length-append, get_or, slice_get, ◌⊎◌, inl, inr, Option, None, Some, Result, Ok, Err, IfOk, refl, sym, ap, ◌∙◌, subst, append_assoc, append-nil, arith}
+use Rattle.std.proofs.lemmas.List.{take_more, length-map, length-take-le}
 use Rattle.std.proofs.lemmas.Option.{slice_get_within}
 use Rattle.ep_object.proofs.matching.Elements.{slice_get-push}
 use Rattle.ep_object.specs.declared.code.Instr.{Instr}
 use Rattle.ep_object.specs.declared.code.CodeRoutine.{CodeRoutine}
 use Rattle.ep_object.specs.declared.code.Object.{Object}
-use Rattle.ep_typed.specs.Auxiliaries.{auxiliary_variables, first_for}
+use Rattle.ep_typed.specs.Auxiliaries.{auxiliary_variables, first_for, with_variables}
 use Rattle.ep_typed.specs.Trees.{Stmt}
-use Rattle.ep_typed.specs.Routines.{result_variable, unit_variables}
+use Rattle.ep_typed.specs.Routines.{formal_variable, made_by_unit, made_variables, result_variable, unit_variables, variables_of}
 use Rattle.ep_typed.specs.Viewed.{denoter_of, stmt_of}
 use Rattle.ep_typed.specs.declared.unit.Unit.{Unit as TypedUnit}
 use Rattle.ep_typed.specs.declared.unit.UnitRoutine.{UnitRoutine}
@@ -96,13 +96,13 @@ nothing_distinct = λ j k x p q. cc
 
 -- the code of the start and of the stop, from that of their parts
 module _ (u : TypedUnit) {a b c d e : Code} (ts : List UnitType) (types_are : ts ≡ u.types) (vs : List UnitVariable) (variables_are : vs ≡ u.variables) (makes : Follows a b (make_all_code ts 0 (vs ++ auxiliary_variables (first_for (stmt_of u.start))))) (s : AppendsStmt b c (stmt_of u.start)) (r : Grows (record c { line = code.NO_LINE }) d (return_code ∷ [])) (last : Grows d e (bare d.line op.RETURN ∷ [])) (stop_entry : ℕ) (next : IsNextPlace d stop_entry) where
-  m : Follows a b (make_all_code u.types 0 (unit_variables u))
+  m : Follows a b (make_all_code u.types 0 (made_by_unit u))
   m = subst (λ l. Follows a b (make_all_code u.types 0 (l ++ auxiliary_variables (first_for (stmt_of u.start))))) variables_are (subst (λ l. Follows a b (make_all_code l 0 (vs ++ auxiliary_variables (first_for (stmt_of u.start))))) types_are makes)
 
   ends : Follows c e (return_code ∷ return_code ∷ [])
   ends = follows_line c code.NO_LINE (follows_grows (grows_at (λ l. bare l op.RETURN ∷ []) r last))
 
-  made : length b.instructions ≡ length a.instructions + length (make_all_code u.types 0 (unit_variables u))
+  made : length b.instructions ≡ length a.instructions + length (make_all_code u.types 0 (made_by_unit u))
   made = grown_length m
 
   pub appends_start : AppendsStart a e u stop_entry
@@ -165,16 +165,21 @@ block_made {b = b} {c = c} a types first middle behind vs ws ys zs block at is s
       count = omega (arith, count, at, ap length same, ap length is, length-append vs (auxiliary_variables (first_for block)));
     }
 
+-- how many variables a routine has
+pub length_of : (r : UnitRoutine) → length (variables_of r) ≡ length r.formals + length (made_variables r) + length (with_variables (stmt_of r.block))
+length_of r =
+    omega (arith, length-append (map (formal_variable r.line) r.formals) (made_variables r ++ with_variables (stmt_of r.block)), length-map r.formals (formal_variable r.line), length-append (made_variables r) (with_variables (stmt_of r.block)))
+
 -- and all of a routine
-pub makes_own : {b c : Code} (a : Code) (types : List UnitType) (r : UnitRoutine) (vs : List UnitVariable) (first slots : ℕ) → vs ≡ r.variables → MakesResult a b types r first → MakesBlock b c types first vs (stmt_of r.block) slots
-    → MakesOwn a c types r slots
-makes_own {b = b} {c = c} a types r vs first slots variables_are result makes =
+pub makes_own : {b c : Code} (a : Code) (types : List UnitType) (r : UnitRoutine) (vs : List UnitVariable) (first made slots : ℕ) → vs ≡ r.variables → MakesResult a b types r first → MakesBlock b c types first vs (stmt_of r.block) made
+    → slots ≡ made + length (with_variables (stmt_of r.block)) → MakesOwn a c types r slots
+makes_own {b = b} {c = c} a types r vs first made slots variables_are result makes whole_count =
     let results : List UnitVariable = result_variable r.name r.line r.result in
     let more : List UnitVariable = auxiliary_variables (first_for (stmt_of r.block)) in
     let others : Follows b c (make_all_code types (length r.formals + length results) (r.variables ++ more)) = subst (λ n. Follows b c (make_all_code types n (r.variables ++ more))) result.count (subst (λ l. Follows b c (make_all_code types first (l ++ more))) variables_are makes.follows) in
     record {
       follows = subst (λ l. Follows a c l) (sym (make_append types (length r.formals) results (r.variables ++ more))) (follows_then result.follows others);
-      count = omega (arith, makes.count, result.count, ap length variables_are, length-append vs more, length-append r.variables more, length-append results (r.variables ++ more));
+      count = omega (arith, whole_count, makes.count, result.count, ap length variables_are, length-append vs more, length-append r.variables more, length-append results (r.variables ++ more), length_of r);
     }
 
 -- what a function ends with
@@ -304,10 +309,10 @@ module _ (u : TypedUnit) {a b e : Code} (begins : a ≡ empty_code) (name : List
   whole : AppendsStart empty_code b u stop_entry
   whole = subst (λ code. AppendsStart code b u stop_entry) begins appends
 
-  begins_block : 0 + length (make_all_code u.types 0 (unit_variables u)) ≡ length (make_all_code u.types 0 (unit_variables u))
+  begins_block : 0 + length (make_all_code u.types 0 (made_by_unit u)) ≡ length (make_all_code u.types 0 (made_by_unit u))
   begins_block = omega arith
 
-  stops : stop_entry ≡ length (make_all_code u.types 0 (unit_variables u)) + length whole.code + 1
+  stops : stop_entry ≡ length (make_all_code u.types 0 (made_by_unit u)) + length whole.code + 1
   stops = omega (arith, whole.stops)
 
   its_blocks : AreRoutinesCode e.texts e.references e.instructions u.types u.routines entries
@@ -316,13 +321,13 @@ module _ (u : TypedUnit) {a b e : Code} (begins : a ≡ empty_code) (name : List
   pub is_program : slots ≡ length (unit_variables u) → IsProgramCode u o
   is_program n = subst (λ object. IsProgramCode u object) (sym is) (record {
     code = whole.code;
-    is_code = subst (λ at. IsStmtCode e.texts e.references at (stmt_of u.start) whole.code) begins_block (stmt_later (0 + length (make_all_code u.types 0 (unit_variables u))) (stmt_of u.start) whole.code (later_follows more.follows) whole.is_code);
+    is_code = subst (λ at. IsStmtCode e.texts e.references at (stmt_of u.start) whole.code) begins_block (stmt_later (0 + length (make_all_code u.types 0 (made_by_unit u))) (stmt_of u.start) whole.code (later_follows more.follows) whole.is_code);
     others = more.code;
     instructions =
         let first = whole.follows in
         let rest = more.follows in
-        rest.instructions ∙ (ap (λ l. l ++ more.code) first.instructions ∙ (append_assoc (make_all_code u.types 0 (unit_variables u)) (whole.code ++ return_code ∷ return_code ∷ []) more.code
-        ∙ ap (λ l. make_all_code u.types 0 (unit_variables u) ++ l) (append_assoc whole.code (return_code ∷ return_code ∷ []) more.code)));
+        rest.instructions ∙ (ap (λ l. l ++ more.code) first.instructions ∙ (append_assoc (make_all_code u.types 0 (made_by_unit u)) (whole.code ++ return_code ∷ return_code ∷ []) more.code
+        ∙ ap (λ l. make_all_code u.types 0 (made_by_unit u) ++ l) (append_assoc whole.code (return_code ∷ return_code ∷ []) more.code)));
     entries = entries;
     blocks = its_blocks;
     routines = all ∙ ap (λ at. entries ++ plain_at 0 ∷ plain_at at ∷ []) stops;
@@ -336,7 +341,7 @@ module _ (u : TypedUnit) {a b e : Code} (begins : a ≡ empty_code) (name : List
     constant_types = let first = whole.follows in let rest = more.follows in rest.constant_types ∙ first.constant_types;
   })
 
-  both : Follows empty_code e (make_all_code u.types 0 (unit_variables u) ++ (whole.code ++ return_code ∷ return_code ∷ []) ++ more.code)
+  both : Follows empty_code e (make_all_code u.types 0 (made_by_unit u) ++ (whole.code ++ return_code ∷ return_code ∷ []) ++ more.code)
   both = follows_then whole.follows more.follows
 
   pub is_compact : IsTable e.instructions → IsCompact o

@@ -22,7 +22,7 @@ use Rattle.ep_object.specs.State.{State, Frames, End, Running, Stopped, Normal, 
 use Rattle.ep_object.specs.Tells.{Tells, TellsAtEnd, AreClose, spare_ticks}
 use Rattle.ep_object.specs.declared.code.Object.{Object}
 use Rattle.ep_typed.proofs.Steady.{steady_stop, steady_routine_of}
-use Rattle.ep_typed.specs.Routines.{unit_variables}
+use Rattle.ep_typed.specs.Routines.{made_by_unit}
 use Rattle.ep_typed.specs.Events.{Trace}
 use Rattle.ep_typed.specs.Meaning.{routine_of, starts_of, meaning as meaning_of}
 use Rattle.ep_typed.specs.Steps as meaning
@@ -39,7 +39,7 @@ module _ (u : TypedUnit) (o : Object) (is : IsProgramCode u o) where
   start_state = standing 0 [] (first_memory start_frames) []
 
   not_empty : 0 < length o.instructions
-  not_empty = omega (arith, ap length is.instructions, length-append (make_all_code u.types 0 (unit_variables u)) (is.code ++ return_code ∷ return_code ∷ is.others), length-append is.code (return_code ∷ return_code ∷ is.others))
+  not_empty = omega (arith, ap length is.instructions, length-append (make_all_code u.types 0 (made_by_unit u)) (is.code ++ return_code ∷ return_code ∷ is.others), length-append is.code (return_code ∷ return_code ∷ is.others))
 
   -- its start routine is there
   start_there : routine_there (alone o) (moved (first_placement o).routines o.start) ≡ Some (placed_routine (first_placement o) (plain_at 0))

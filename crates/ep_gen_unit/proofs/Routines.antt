@@ -1,10 +1,11 @@
 -- The routines of a unit keep their promises, by induction on the steps: a call spends one.
-use Rattle.std.proofs.Common.{◌⊎◌, inl, inr, append-nil, ◌≡◌, ℕ, zero, suc, pos, ◌+◌, ◌≤◌, ◌<◌, Bool, true, false, if◌then◌else◌, List, [], ◌∷◌, ◌++◌, map, option_map, length, length-append, Option, Some, None, slice_get, bytes_eq, refl, sym, ap, ◌∙◌, subst, arith, ◌*◌}
+use Rattle.std.proofs.Common.{◌⊎◌, inl, inr, append-nil, ◌≡◌, ℕ, zero, suc, pos, ◌+◌, ◌≤◌, ◌<◌, Bool, true, false, if◌then◌else◌, List, [], ◌∷◌, ◌++◌, map, option_map, length, length-append, Option, Some, None, slice_get, bytes_eq, refl, sym, ap, ◌∙◌, subst, arith, ◌*◌, IsTrue}
 use Rattle.std.proofs.lemmas.Option.{same_Some, slice_get_within, slice_get-map, get_or_from_slice_get}
 use Rattle.std.proofs.lemmas.List.{length-map}
 use Rattle.ep_gen_expr.specs.ExprCode.{bare}
 use Rattle.ep_gen_expr.proofs.Following.{place_follows, expression_follows, call_then}
 use Rattle.ep_gen_expr.proofs.Placed.{instr_at}
+use Rattle.ep_typed.proofs.Auxiliaries.{withs_denoted}
 use Rattle.ep_typed.proofs.Denoters.{types_are_instances}
 use Rattle.ep_typed.proofs.Typed.{typed_of_host}
 use Rattle.ep_gen_unit.specs.StmtCode.{IsStmtCode, make_all_code, take_all_code, return_code, result_code, structure_code, function_end, end_code}
@@ -14,17 +15,19 @@ use Rattle.ep_gen_unit.proofs.OwnMakes.{make_all_own_moves, make_sized_moves, ta
 use Rattle.ep_gen_unit.proofs.Parts.{code_stands-parts}
 use Rattle.ep_gen_unit.proofs.Results.{result_moves, structure_moves}
 use Rattle.ep_gen_unit.proofs.StmtMoves.{statement_moves}
+use Rattle.ep_gen_unit.proofs.WithMoves.{own_binds_follow}
 use Rattle.ep_gen_unit.proofs.Units.{of_object, room, routine_there, scene_of, moved_own}
 use Rattle.ep_object.proofs.following.Declaring.{fragment_outside, calls_kept-inside}
 use Rattle.ep_object.proofs.following.Fragments.{fragment_bind, fragment_credit, fragment_cut, fragment_from, fragment_give, fragment_to}
+use Rattle.ep_object.proofs.following.Promising.{lasts_own}
 use Rattle.ep_object.proofs.following.Routines.{begun_memory, grown_begun, parent_of_call, routine_keeps}
 use Rattle.ep_object.proofs.matching.Awaiting.{AreAwaited, Handed, arguments_in, awaited-grown, handed}
-use Rattle.ep_object.proofs.matching.Growing.{among_same, slice_get-prefix, still_routine, unit_in-same, unit_in-still}
+use Rattle.ep_object.proofs.matching.Growing.{slice_get-prefix, still_routine, unit_in-same, unit_in-still}
 use Rattle.ep_object.proofs.matching.Names.{activation_knows}
 use Rattle.ep_object.proofs.matching.OwnVariables.{in_activation-lasts}
 use Rattle.ep_object.specs.Activations.{KnowsNames, IsCallable, InActivation}
 use Rattle.ep_object.specs.Follows.{Facts, Lasts, Since, Fragment, Inside, Bare, point}
-use Rattle.ep_object.specs.Matching.{Memory, Injection, Slots, kept_slots}
+use Rattle.ep_object.specs.Matching.{AreAmong, Memory, Injection, Slots, kept_slots}
 use Rattle.ep_object.specs.Operands.{Operand}
 use Rattle.ep_object.specs.Placing.{Placement, CodeStands, Stands, HasDistinctNames, moved, placement_of, placed_call, placed_routine}
 use Rattle.ep_object.specs.Promises.{Passing, ByValue, ByReference, IsPassed, ArePassed, CallsAt, AreArguments, AreResults, ResultsOnTop, RoutineKeeps, CallsAreKept, credit_of}
@@ -42,7 +45,7 @@ use Rattle.ep_object.specs.declared.state.FrameNumber.{FrameNumber}
 use Rattle.ep_object.specs.declared.state.FrameNumber.TheVariants as frame
 use Rattle.ep_object.specs.declared.op.TheConstants as op
 use Rattle.ep_typed.proofs.Steady.{steady_bind, steady_routine_of, steady_runs_routine, steady_results_given, steady_make_all_own, steady_exec}
-use Rattle.ep_typed.specs.Auxiliaries.{auxiliary_variables, first_for}
+use Rattle.ep_typed.specs.Auxiliaries.{auxiliary_variables, first_for, with_variables}
 use Rattle.ep_typed.specs.Calls.{Argument, Handler}
 use Rattle.ep_typed.specs.Meaning.{weights_of, exec, make_all_own, results_given, Found, found_among, routine_in, runs_routine, routine_does, routine_of}
 use Rattle.ep_typed.specs.Printing.{Result}
@@ -192,7 +195,7 @@ module _ (u : TypedUnit) (o : Object) (is : IsProgramCode u o) (valid : IsValid 
 
   -- the variables of a routine have valid denoters
   variables_typed : (number : ℕ) (r : UnitRoutine) → slice_get u.routines number ≡ Some r → (k : ℕ) (v : UnitVariable) → slice_get (variables_of r) k ≡ Some v → IsDenoter u.types (denoter_of v.denoter)
-  variables_typed number r there k v e = either (slice_get-either (map (formal_variable r.line) r.formals) (made_variables r) k v e)
+  variables_typed number r there k v e = either (slice_get-either (map (formal_variable r.line) r.formals) (made_variables r ++ with_variables (stmt_of r.block)) k v e)
     where
       its : IsRoutine u number r
       its = valid.routines number r there
@@ -201,7 +204,11 @@ module _ (u : TypedUnit) (o : Object) (is : IsProgramCode u o) (valid : IsValid 
       made_typed = made_valid r.name r.line r.result its.result (r.variables ++ auxiliary_variables (first_for (stmt_of r.block)))
           (λ j w q. (variables_valid u.types r.variables (first_for (stmt_of r.block)) its.variables j w q).denoter)
 
-      either : (slice_get (map (formal_variable r.line) r.formals) k ≡ Some v) ⊎ ((j : ℕ) × (slice_get (made_variables r) j ≡ Some v)) → IsDenoter u.types (denoter_of v.denoter)
+      behind_typed : (j : ℕ) (w : UnitVariable) → (slice_get (made_variables r) j ≡ Some w) ⊎ ((i : ℕ) × (slice_get (with_variables (stmt_of r.block)) i ≡ Some w)) → IsDenoter u.types (denoter_of w.denoter)
+      behind_typed j w (inl q) = made_typed j w q
+      behind_typed j w (inr q) = withs_denoted (in_block u number r) u.types refl (own_types u) valid.types (stmt_of r.block) its.block q.0 w q.1
+
+      either : (slice_get (map (formal_variable r.line) r.formals) k ≡ Some v) ⊎ ((j : ℕ) × (slice_get (made_variables r ++ with_variables (stmt_of r.block)) j ≡ Some v)) → IsDenoter u.types (denoter_of v.denoter)
       either (inl at) = of_formal (slice_get r.formals k) refl (sym (slice_get-map (formal_variable r.line) r.formals k) ∙ at)
         where
           of_formal : (y : Option Formal) → slice_get r.formals k ≡ y → option_map (formal_variable r.line) y ≡ Some v → IsDenoter u.types (denoter_of v.denoter)
@@ -209,7 +216,7 @@ module _ (u : TypedUnit) (o : Object) (is : IsProgramCode u o) (valid : IsValid 
           of_formal (Some f) q is =
               let valid_formal : IsFormal u.types f = subst (λ w. IsFormal u.types w) (get_or_from_slice_get r.formals k f f q) (its.formals k f (slice_get_within r.formals k f q)) in
               subst (λ (w : UnitVariable). IsDenoter u.types (denoter_of w.denoter)) (same_Some (formal_variable r.line f) v is) (formal_denoter f.mode u.types (denoter_of f.denoter) valid_formal.denoter)
-      either (inr at) = made_typed at.0 v at.1
+      either (inr at) = behind_typed at.0 v (slice_get-either (made_variables r) (with_variables (stmt_of r.block)) at.0 v at.1)
 
   -- and so have those of the routines around one
   around_typed : (ns : List ℕ) (up k : ℕ) (v : UnitVariable) → slice_get (variables_at (slice_get (levels_of u.routines ns) up)) k ≡ Some v → IsDenoter u.types (denoter_of v.denoter)
@@ -266,15 +273,12 @@ module _ (u : TypedUnit) (o : Object) (is : IsProgramCode u o) (valid : IsValid 
     abbrev variables : List UnitVariable
     variables = variables_of r
 
-    many : length variables ≡ length formals + length (made_variables r)
-    many = omega (arith, length-append (map (formal_variable r.line) formals) (made_variables r), length-map formals (formal_variable r.line))
-
     -- the declarations in its block
     abbrev within : Declarations
     within = in_block u number r
 
     enough_slots : length (variables_up within 0) ≤ image_routine.slots
-    enough_slots = omega (arith, many, ap (λ (c : CodeRoutine). c.slots) x.plain)
+    enough_slots = omega (arith, ap (λ (c : CodeRoutine). c.slots) x.plain)
 
     abbrev found_routine : Found
     found_routine = record { routine = r; types = u.types }
@@ -287,12 +291,13 @@ module _ (u : TypedUnit) (o : Object) (is : IsProgramCode u o) (valid : IsValid 
     formal_is k f e =
         let mapped : slice_get (map (formal_variable r.line) formals) k ≡ Some (formal_variable r.line f) = slice_get-map (formal_variable r.line) formals k ∙ ap (option_map (formal_variable r.line)) e in
         subst (λ i. slice_get variables i ≡ Some (formal_variable r.line f)) {x = k} {y = 0 + k} (omega arith)
-        (slice_get-prefix (map (formal_variable r.line) formals) variables k (formal_variable r.line f) (record { rest = made_variables r; is = refl }) mapped)
+        (slice_get-prefix (map (formal_variable r.line) formals) variables k (formal_variable r.line f) (record { rest = made_variables r ++ with_variables (stmt_of r.block); is = refl }) mapped)
 
     variable_is : (k : ℕ) (v : UnitVariable) → slice_get (made_variables r) k ≡ Some v → slice_get variables (length formals + k) ≡ Some v
     variable_is k v e =
         ap (λ i. slice_get variables (i + k)) (sym (length-map formals (formal_variable r.line)))
-        ∙ (slice_get-behind (map (formal_variable r.line) formals) (made_variables r) k ∙ e)
+        ∙ (slice_get-behind (map (formal_variable r.line) formals) (made_variables r ++ with_variables (stmt_of r.block)) k
+        ∙ slice_get-prefix (made_variables r) (made_variables r ++ with_variables (stmt_of r.block)) k v (record { rest = with_variables (stmt_of r.block); is = refl }) e)
 
     own_types_valid : HaveValidOwnTypes within
     own_types_valid zero k v e = variables_typed number r there k v e
@@ -300,7 +305,7 @@ module _ (u : TypedUnit) (o : Object) (is : IsProgramCode u o) (valid : IsValid 
 
     scene : Scene within G ps p o.texts
     scene =
-        let outer = scene_of u o is G ps p stands valid.variables in
+        let outer = scene_of u o is G ps p stands valid in
         record { texts_stand = outer.texts_stand; variables_stand = outer.variables_stand; types_valid = outer.types_valid; own_types_valid = own_types_valid; own_types_are = own_types u }
 
     in_code : p.instructions.before + p.instructions.own ≤ length G.instructions
@@ -308,6 +313,19 @@ module _ (u : TypedUnit) (o : Object) (is : IsProgramCode u o) (valid : IsValid 
 
     abbrev untouched : Slots
     untouched = kept_slots within G
+
+    -- those that the block leaves as they were: its `with` statements change slots of the call
+    abbrev left : Slots
+    left = record untouched { own = λ k. false }
+
+    left_among : AreAmong left untouched
+    left_among = record { of_units = λ unit k h. h; own = λ k h. cc }
+
+    none_left : (k : ℕ) → IsTrue (left.own k) → ⊥
+    none_left k h = cc
+
+    some_level : within.levels ≡ [] → ⊥
+    some_level h = cc
 
     kept_inside : CallsAreKept within G ps call m
     kept_inside = calls_kept-inside within.levels (own u) kept
@@ -433,7 +451,10 @@ module _ (u : TypedUnit) (o : Object) (is : IsProgramCode u o) (valid : IsValid 
       Here = InActivation within untouched injection begun
 
       lasts : Lasts untouched Here
-      lasts = in_activation-lasts (λ k v e. refl)
+      lasts = in_activation-lasts
+
+      lasts_left : Lasts left Here
+      lasts_left = lasts_own (λ k. false) lasts
 
       knows : KnowsNames within Here
       knows = activation_knows within untouched injection begun
@@ -446,14 +467,14 @@ module _ (u : TypedUnit) (o : Object) (is : IsProgramCode u o) (valid : IsValid 
 
       -- the block, once the arguments are taken and the variables are made
       runs_block : (longer : Injection) (after : Memory) (pushed : List Operand) → unit_in G after.frames ≡ u.name → pushed ≡ below
-          → Fragment within G Here m (point longer after (p.instructions.before + (x.entry.entry + length (own_code u.types r))) pushed) (exec call m u.name (stmt_of r.block)) (p.instructions.before + end) (λ b. Inside untouched longer after (Bare below b)) (63 + more) (λ b. 63 + more)
+          → Fragment within G Here m (point longer after (p.instructions.before + (x.entry.entry + length (own_code u.types r))) pushed) (exec call m u.name (stmt_of r.block)) (p.instructions.before + end) (λ b. Inside left longer after (Bare below b)) (63 + more) (λ b. 63 + more)
       runs_block longer after pushed at_home is_below =
-          subst (λ o. Fragment within G Here m (point longer after (p.instructions.before + (x.entry.entry + length (own_code u.types r))) o) (exec call m u.name (stmt_of r.block)) (p.instructions.before + end) (λ b. Inside untouched longer after (Bare below b)) (63 + more) (λ b. 63 + more)) (sym is_below)
-          (statement_moves lasts ps p o.texts o.references call steady_call m u.name in_code scene
-          (λ x_kind e is_x line at code is_code x_stands inside v1 m1 operands d enough x_home. expression_follows {untouched = untouched} ps p o.texts o.references scene knows call steady_call m u.name in_code lasts among_same m kept_inside x_kind e is_x line at code is_code x_stands inside v1 m1 operands d (omega arith) x_home)
-          (λ q q_valid t has_type line at code is_code x_stands inside v1 m1 operands d enough x_home. place_follows {untouched = untouched} ps p o.texts o.references scene knows call steady_call m u.name in_code lasts among_same m kept_inside q q_valid t has_type line at code is_code x_stands inside v1 m1 operands d (omega arith) x_home)
-          (λ line at to callee k given xs r keeps given_valid is_code is_declared named xs_stands xs_inside v1 m1 operands d enough x_home rest steady behind. call_then {untouched = untouched} ps p o.texts o.references scene knows call steady_call m u.name in_code lasts among_same m kept_inside {to = to} line at callee k given xs r keeps given_valid is_code is_declared named xs_stands xs_inside v1 m1 operands d enough x_home rest steady (λ rs longer after pushed grown routine top. fragment_credit {d = d} {e = λ b. d} (omega arith) (λ b. omega arith) (behind rs longer after pushed grown routine top)))
-          kept_inside (stmt_of r.block) (x.entry.entry + length (own_code u.types r)) x.code its.block x.is_code x.code_stands (omega (arith, x.room_for, end_length u.types line_of (length formals) end r.result)) longer after below (63 + more) (omega arith) at_home)
+          subst (λ o. Fragment within G Here m (point longer after (p.instructions.before + (x.entry.entry + length (own_code u.types r))) o) (exec call m u.name (stmt_of r.block)) (p.instructions.before + end) (λ b. Inside left longer after (Bare below b)) (63 + more) (λ b. 63 + more)) (sym is_below)
+          (statement_moves lasts_left ps p o.texts o.references call steady_call m u.name in_code scene
+          (λ x_kind e is_x line at code is_code x_stands inside v1 m1 operands d enough x_home. expression_follows {untouched = left} ps p o.texts o.references scene knows call steady_call m u.name in_code lasts_left left_among m kept_inside x_kind e is_x line at code is_code x_stands inside v1 m1 operands d (omega arith) x_home)
+          (λ q q_valid t has_type line at code is_code x_stands inside v1 m1 operands d enough x_home. place_follows {untouched = left} ps p o.texts o.references scene knows call steady_call m u.name in_code lasts_left left_among m kept_inside q q_valid t has_type line at code is_code x_stands inside v1 m1 operands d (omega arith) x_home)
+          (λ line at to callee k given xs r keeps given_valid is_code is_declared named xs_stands xs_inside v1 m1 operands d enough x_home rest steady behind. call_then {untouched = left} ps p o.texts o.references scene knows call steady_call m u.name in_code lasts_left left_among m kept_inside {to = to} line at callee k given xs r keeps given_valid is_code is_declared named xs_stands xs_inside v1 m1 operands d enough x_home rest steady (λ rs longer after pushed grown routine top. fragment_credit {d = d} {e = λ b. d} (omega arith) (λ b. omega arith) (behind rs longer after pushed grown routine top)))
+          kept_inside (own_binds_follow ps p o.references call m u.name some_level none_left) (stmt_of r.block) (x.entry.entry + length (own_code u.types r)) x.code its.block x.is_code x.code_stands (omega (arith, x.room_for, end_length u.types line_of (length formals) end r.result)) longer after below (63 + more) (omega arith) at_home)
 
       abbrev gives : Computation (List Result)
       gives = results_given u.name line_of (length formals) r.result
@@ -465,7 +486,7 @@ module _ (u : TypedUnit) (o : Object) (is : IsProgramCode u o) (valid : IsValid 
       blocks : (longer : Injection) (after : Memory) (pushed : List Operand) → unit_in G after.frames ≡ u.name → pushed ≡ below
           → Fragment within G Here m (point longer after (p.instructions.before + (x.entry.entry + length (own_code u.types r))) pushed) (bind (exec call m u.name (stmt_of r.block)) (λ b. gives)) ends.place (λ rs. ResultsOnTop results below rs) (63 + more) (λ rs. 1 + credit_of rs)
       blocks longer after pushed at_home is_below =
-          fragment_bind {middle = p.instructions.before + end} {P = λ b. Inside untouched longer after (Bare below b)} {e = λ b. 63 + more} (λ b. steady_gives)
+          fragment_bind {middle = p.instructions.before + end} {P = λ b. Inside left longer after (Bare below b)} {e = λ b. 63 + more} (λ b. steady_gives)
           (runs_block longer after pushed at_home is_below)
           (λ b last final above i. (still_routine i.routine, subst (λ st. Fragment within G Here m (point last final (p.instructions.before + end) st) gives ends.place (λ rs. ResultsOnTop results below rs) (63 + more) (λ rs. 1 + credit_of rs)) (sym i.operands_are) (ends.moves knows last final below (unit_in-same G i.routine ∙ at_home))))
 

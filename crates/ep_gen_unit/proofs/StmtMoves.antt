@@ -12,6 +12,7 @@ use Rattle.ep_gen_unit.proofs.ForMoves.{for_stands, for_parts}
 use Rattle.ep_gen_unit.proofs.ProcedureMoves.{procedure_moves}
 use Rattle.ep_gen_unit.proofs.CaseMoves.{Selects, arm_parts, fail_parts, otherwise_parts, case_parts}
 use Rattle.ep_gen_unit.proofs.StmtStays.{tests_length}
+use Rattle.ep_gen_unit.proofs.WithMoves.{BindsFollow, with_parts}
 use Rattle.ep_gen_unit.proofs.Writing.{write_moves}
 use Rattle.ep_object.specs.Placing.{Placement, CodeStands}
 use Rattle.ep_object.specs.Promises.{CallsAreKept}
@@ -25,7 +26,7 @@ use Rattle.ep_typed.specs.Steady.{IsSteadyHandler}
 use Rattle.ep_typed.specs.Calls.{Handler}
 use Rattle.ep_typed.proofs.Steady.{steady_exec_all}
 use Rattle.ep_typed.specs.Meaning.{exec, exec_all, exec_arms, exec_other}
-use Rattle.ep_typed.specs.Trees.{Stmt, Stmts, Empty, Compound, Assign, If, While, Repeat, For, Procedure, Halt, Write, none, next, Case, Arms, no_arm, next_arm, Other, no_other, otherwise_do}
+use Rattle.ep_typed.specs.Trees.{Stmt, Stmts, Empty, Compound, Assign, If, While, Repeat, For, With, Procedure, Halt, Write, none, next, Case, Arms, no_arm, next_arm, Other, no_other, otherwise_do}
 use Rattle.ep_typed.specs.Valid.{Declarations, IsStmt, AreStmts, AreArms, IsOther}
 use Rattle.ep_typed.specs.Steps.{Computation}
 use Rattle.ep_typed.specs.Hosts.{Host}
@@ -33,7 +34,7 @@ use Rattle.ep_object.specs.declared.op.TheConstants as op
 
 module _ {declared : Declarations} {G : Image} {untouched : Slots} {Here : Facts} (lasts : Lasts untouched Here) (ps : List Placement) (p : Placement) (texts : List (List ℕ)) (references : List Reference) (call : Handler) (steady_call : IsSteadyHandler call) (n : ℕ) (unit : List ℕ) (room : p.instructions.before + p.instructions.own ≤ length G.instructions) (scene : Scene declared G ps p texts)
     (expressions : ExpressionsFollow declared G untouched Here ps p texts references call n unit) (places : PlacesFollow declared G untouched Here ps p texts references call n unit)
-    (calls_follow : CallsFollow declared G untouched Here ps p texts references call n unit) (kept : CallsAreKept declared G ps call n) where
+    (calls_follow : CallsFollow declared G untouched Here ps p texts references call n unit) (kept : CallsAreKept declared G ps call n) (binds : BindsFollow declared G untouched Here ps p references call n unit) where
   -- The code of a statement does what it means, where more code stands behind it.
   mutual
     pub statement_moves : (s : Stmt) (at : ℕ) (is : List Instr) → IsStmt declared s → IsStmtCode texts references at s is → CodeStands G ps p references at is → at + length is < p.instructions.own → Moves declared G untouched Here ps p texts references call n unit at (at + length is) (exec call n unit s)
@@ -80,6 +81,12 @@ module _ {declared : Declarations} {G : Image} {untouched : Slots} {Here : Facts
         let body_moves = statements_move ss at h.0 valid.0 h.2 first.0 (omega (arith, ends, inside)) in
         subst (λ k. Moves declared G untouched Here ps p texts references call n unit at k (exec call n unit (Repeat line ss x))) ends
         (repeat_parts ps p texts references call steady_call n unit room expressions line at body_end test_end ss x h.1 valid.1 h.3 refl (omega (arith, ends, inside)) (omega arith) second.0 second.1 body_moves)
+    statement_moves (With line v of q s) at is valid h stands inside =
+        let parts = code_stands-parts G ps p references at h.0 h.1 (subst (λ k. CodeStands G ps p references at k) h.4 stands) in
+        let ends : at + length h.0 + length h.1 ≡ at + length is = omega (arith, ap length h.4, length-append h.0 h.1) in
+        let body = statement_moves s (at + length h.0) h.1 valid.1 h.3 parts.1 (omega (arith, ends, inside)) in
+        subst (λ k. Moves declared G untouched Here ps p texts references call n unit at k (exec call n unit (With line v of q s))) ends
+        (with_parts ps p texts references call steady_call n unit scene places binds line at v of q s h.0 (at + length h.0 + length h.1) valid.0 h.2 parts.0 (omega (arith, ends, inside)) body)
     statement_moves (Procedure line callee given) at is valid h stands inside =
         let calls : List Instr = instr op.CALL (pos h.1) callee.levels line ∷ instr op.JUMP (pos (at + length h.0 + 2)) 0 line ∷ [] in
         let ends : at + length h.0 + 2 ≡ at + length is = omega (arith, ap length h.4, length-append h.0 calls) in

@@ -4,7 +4,7 @@ use Rattle.ep_outside.specs.Known.{IsPrefix}
 use Rattle.ep_object.specs.declared.code.Instr.{Instr}
 use Rattle.ep_object.specs.declared.code.Reference.{Reference}
 use Rattle.ep_typed.specs.Controls.{in_order, next_value}
-use Rattle.ep_typed.specs.Trees.{Entire, OfUnit, OfRoutine, entire, Place, Function, Item, Plain, Wide, Stmt, Stmts, Empty, Compound, Assign, If, While, Repeat, Control, For, Read, Expr, Procedure, Halt, Write, none, next, Case, Arms, no_arm, next_arm, Other, no_other, otherwise_do}
+use Rattle.ep_typed.specs.Trees.{Entire, OfUnit, OfRoutine, entire, Place, Function, Item, Plain, Wide, Stmt, Stmts, Empty, Compound, Assign, If, While, Repeat, Control, For, With, Read, Expr, Procedure, Halt, Write, none, next, Case, Arms, no_arm, next_arm, Other, no_other, otherwise_do}
 use Rattle.ep_typed.specs.declared.tree.CaseRange.{CaseRange}
 use Rattle.ep_typed.specs.declared.operations.Print.{Print}
 use Rattle.ep_typed.specs.declared.operations.Print.TheVariants as print
@@ -12,7 +12,7 @@ use Rattle.std.specs.Prelude.{if◌then◌else◌}
 use Rattle.ep_gen_expr.specs.ExprCode.{bare, instr, step_code, two_code, IsPlaceCode, IsExprCode}
 use Rattle.ep_typed.specs.declared.operations.Binary.TheVariants as binary
 use Rattle.ep_gen_expr.proofs.Stays.{place_code_stays, expr_code_stays, place_code_short, expr_code_short}
-use Rattle.ep_gen_unit.specs.StmtCode.{for_code, IsAssignCode, AreBoundsCode, IsFirstCode, IsTestCode, IsUndefineCode, IsItemCode, AreItemsCode, IsStmtCode, AreStmtsCode, AreArmsCode, IsOtherCode, plain_code, before_width, wide_code, test_code, tests_code}
+use Rattle.ep_gen_unit.specs.StmtCode.{for_code, IsAssignCode, AreBoundsCode, IsFirstCode, IsTestCode, IsUndefineCode, IsBindCode, IsItemCode, AreItemsCode, IsStmtCode, AreStmtsCode, AreArmsCode, IsOtherCode, plain_code, before_width, wide_code, test_code, tests_code}
 use Rattle.ep_typed.specs.Nodes.{place_nodes, expr_nodes, item_nodes, items_nodes, stmt_nodes, stmts_nodes, arms_nodes, other_nodes}
 use Rattle.ep_object.specs.declared.op.TheConstants as op
 
@@ -41,6 +41,10 @@ module _ (ts us : List (List ℕ)) (rs ss : List Reference) (a : IsPrefix ts us)
   pub test_code_stays : (line at : ℕ) (c : Control) (is : List Instr) → IsTestCode ts rs line at c is → IsTestCode us ss line at c is
   test_code_stays line at c is h = (h.0, expr_code_stays ts us rs ss line a b (at + 1) (Read (entire c.variable)) h.0 h.1, h.2)
 
+  -- the beginning of a `with`
+  pub bind_code_stays : (line at : ℕ) (v : Entire) (p : Place) (is : List Instr) → IsBindCode ts rs line at v p is → IsBindCode us ss line at v p is
+  bind_code_stays line at v p is h = (h.0, place_code_stays ts us rs ss line a b at p h.0 h.1, h.2)
+
   mutual
     pub stmt_code_stays : (at : ℕ) (s : Stmt) (is : List Instr) → IsStmtCode ts rs at s is → IsStmtCode us ss at s is
     stmt_code_stays at Empty is h = h
@@ -65,6 +69,7 @@ module _ (ts us : List (List ℕ)) (rs ss : List Reference) (a : IsPrefix ts us)
       (h.11.0, place_code_stays ts us rs ss line a b (at + length h.0 + 1 + length h.1 + length h.2 + length h.3 + 1 + length h.4 + 1 + 1) (entire c.variable) h.11.0 h.11.1, h.11.2),
       h.12,
     )
+    stmt_code_stays at (With line v of p s) is h = (h.0, h.1, bind_code_stays line at v p h.0 h.2, stmt_code_stays (at + length h.0) s h.1 h.3, h.4)
     stmt_code_stays at (Procedure line callee given) is h = expr_code_stays ts us rs ss line a b at (Function callee given) is h
     stmt_code_stays at (Case line x arms o) is h =
         (h.0, h.1, h.2, expr_code_stays ts us rs ss line a b at x h.0 h.3, arms_code_stays line (at + length h.0 + 1) (at + length h.0 + 2) arms h.1 h.4, other_code_stays line (at + length h.0 + 2 + length h.1) o h.2 h.5, h.6)
@@ -101,6 +106,9 @@ if_short xs ys zs i j is e k m n p q r = omega (arith, ap length e, length-appen
 
 while_short : (xs ys : List Instr) (i j : Instr) (is : List Instr) → is ≡ xs ++ i ∷ (ys ++ j ∷ []) → (k m : ℕ) → length xs + 8 ≤ 32 * k → length ys + 8 ≤ 32 * m → length is + 8 ≤ 32 * (1 + k + m)
 while_short xs ys i j is e k m p q = omega (arith, ap length e, length-append xs (i ∷ (ys ++ j ∷ [])), length-append ys (j ∷ []), p, q)
+
+with_short : (ps xs ys : List Instr) (i : Instr) (is : List Instr) → xs ≡ ps ++ i ∷ [] → is ≡ xs ++ ys → (k m : ℕ) → length ps ≤ 32 * k → length ys + 8 ≤ 32 * m → length is + 8 ≤ 32 * (1 + k + m)
+with_short ps xs ys i is d e k m p q = omega (arith, ap length d, length-append ps (i ∷ []), ap length e, length-append xs ys, p, q)
 
 repeat_short : (ys xs : List Instr) (i : Instr) (is : List Instr) → is ≡ ys ++ (xs ++ i ∷ []) → (k m : ℕ) → length ys ≤ 32 * k → length xs + 8 ≤ 32 * m → length is + 8 ≤ 32 * (1 + k + m)
 repeat_short ys xs i is e k m p q = omega (arith, ap length e, length-append ys (xs ++ i ∷ []), length-append xs (i ∷ []), p, q)
@@ -250,6 +258,8 @@ module _ (ts : List (List ℕ)) (rs : List Reference) where
           undefine_short line (at + length h.0 + 1 + length h.1 + length h.2 + length h.3 + 1 + length h.4 + 1 + 1) c.variable h.5 h.11,
           entire_one c.variable,
         )
+    stmt_code_room at (With line v of p s) is h =
+        with_short h.2.0 h.0 h.1 _ is h.2.2 h.4 (place_nodes p) (stmt_nodes s) (place_code_short ts rs line at p h.2.0 h.2.1) (stmt_code_room (at + length h.0) s h.1 h.3)
     stmt_code_room at (Procedure line callee given) is h = expr_code_short ts rs line at (Function callee given) is h
     stmt_code_room at (Case line x arms o) is h =
         case_short h.0 h.1 h.2 _ _ is h.6 (expr_nodes x) (arms_nodes arms) (other_nodes o)

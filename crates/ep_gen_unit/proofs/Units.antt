@@ -1,16 +1,16 @@
 -- The routines of a unit whose object stands in an image simulate the start and the stop of the unit.
 use Rattle.std.proofs.Common.{◌≡◌, ℕ, ◌+◌, ◌≤◌, ◌<◌, List, [], ◌∷◌, ◌++◌, length, length-append, append_assoc, IsTrue, false, Some, slice_get, refl, sym, ap, ◌∙◌, subst, arith}
-use Rattle.std.specs.Prelude.{All}
 use Rattle.std.proofs.lemmas.Bool.{lt-ltb}
 use Rattle.std.proofs.lemmas.Option.{slice_get_within, same_Some}
 use Rattle.ep_gen_expr.proofs.Following.{place_follows, expression_follows, call_then}
 use Rattle.ep_gen_unit.specs.StmtCode.{make_all_code, return_code}
 use Rattle.ep_gen_unit.specs.UnitCode.{IsProgramCode, plain_at}
 use Rattle.ep_gen_unit.specs.UnitLaws.{AreDeclared, idle_stop}
-use Rattle.ep_gen_unit.proofs.Declared.{own_is, own_declared, own_types, own_valid}
-use Rattle.ep_gen_unit.proofs.Makes.{VariablesAreFree, make_all_moves}
+use Rattle.ep_gen_unit.proofs.Declared.{own_is, own_declared, own_types, own_valid, made_declared}
+use Rattle.ep_gen_unit.proofs.Makes.{VariablesAreFree, make_all_moves, same_frame}
 use Rattle.ep_gen_unit.proofs.Parts.{code_stands-parts}
 use Rattle.ep_gen_unit.proofs.Starts.{MakesFollow, body_follows}
+use Rattle.ep_gen_unit.proofs.WithMoves.{BindsFollow, unit_binds_follow}
 use Rattle.ep_object.proofs.following.Bind.{follows_less, follows_post, follows_from, follows_give}
 use Rattle.ep_object.proofs.following.Fragments.{fragment_to, fragment_credit}
 use Rattle.ep_object.proofs.rows.MakeRow.{RunsInUnit}
@@ -18,7 +18,8 @@ use Rattle.ep_object.proofs.matching.Names.{none_named}
 use Rattle.ep_object.proofs.matching.Growing.{among_same, inside_here, no_calls, since_here, since_lasts}
 use Rattle.ep_object.specs.Effects.{Returns, light}
 use Rattle.ep_object.specs.Table.{obey}
-use Rattle.ep_typed.specs.Routines.{unit_variables}
+use Rattle.ep_typed.specs.Routines.{made_by_unit, unit_variables}
+use Rattle.ep_typed.specs.Auxiliaries.{with_variables}
 use Rattle.ep_typed.specs.Events.{Trace}
 use Rattle.ep_object.specs.Activations.{KnowsNames}
 use Rattle.ep_object.specs.Follows.{Facts, Lasts, Since, Bare}
@@ -34,6 +35,7 @@ use Rattle.ep_object.specs.State.{State, Frames}
 use Rattle.ep_object.specs.declared.code.CodeRoutine.{CodeRoutine}
 use Rattle.ep_object.specs.declared.code.Image.{Image}
 use Rattle.ep_object.specs.declared.code.ImageRoutine.{ImageRoutine}
+use Rattle.ep_object.specs.declared.code.ImageUnit.{ImageUnit}
 use Rattle.ep_object.specs.declared.code.Instr.{Instr}
 use Rattle.ep_object.specs.declared.code.Object.{Object}
 use Rattle.ep_object.specs.declared.code.Reference.{Reference}
@@ -42,7 +44,7 @@ use Rattle.ep_typed.specs.Calls.{Handler}
 use Rattle.ep_typed.specs.Meaning.{make_all, exec, start_of}
 use Rattle.ep_typed.specs.Steps.{Computation, bind, give}
 use Rattle.ep_typed.specs.Steps as meaning
-use Rattle.ep_typed.specs.Valid.{variables_up, Declarations, IsVariable, IsStmt, IsValid, own}
+use Rattle.ep_typed.specs.Valid.{variables_up, Declarations, IsStmt, IsValid, own}
 use Rattle.ep_typed.specs.Viewed.{stmt_of}
 use Rattle.ep_typed.specs.declared.unit.UnitVariable.{UnitVariable}
 use Rattle.ep_typed.specs.declared.unit.Unit.{Unit as TypedUnit}
@@ -75,7 +77,7 @@ none_declared (y ∷ xs) e k x is = absurd cc
 module _ (u : TypedUnit) (o : Object) (is : IsProgramCode u o) (G : Image) (ps : List Placement) (p : Placement) (stands : Stands G ps p o) where
   -- the instructions behind the making of the variables
   abbrev begins_block : ℕ
-  begins_block = length (make_all_code u.types 0 (unit_variables u))
+  begins_block = length (make_all_code u.types 0 (made_by_unit u))
 
   -- the place of the `Return` of the start, in the object
   abbrev ends_block : ℕ
@@ -87,18 +89,18 @@ module _ (u : TypedUnit) (o : Object) (is : IsProgramCode u o) (G : Image) (ps :
   pub instructions_own : p.instructions.own ≡ ends_block + 2 + length is.others
   instructions_own =
       let whole = of_object in
-      omega (arith, whole.instructions, ap length is.instructions, length-append (make_all_code u.types 0 (unit_variables u)) (is.code ++ return_code ∷ return_code ∷ is.others), length-append is.code (return_code ∷ return_code ∷ is.others))
+      omega (arith, whole.instructions, ap length is.instructions, length-append (make_all_code u.types 0 (made_by_unit u)) (is.code ++ return_code ∷ return_code ∷ is.others), length-append is.code (return_code ∷ return_code ∷ is.others))
 
-  all_stands : CodeStands G ps p o.references 0 (make_all_code u.types 0 (unit_variables u) ++ (is.code ++ return_code ∷ return_code ∷ is.others))
+  all_stands : CodeStands G ps p o.references 0 (make_all_code u.types 0 (made_by_unit u) ++ (is.code ++ return_code ∷ return_code ∷ is.others))
   all_stands = subst (λ k. CodeStands G ps p o.references 0 k) is.instructions stands.code
 
-  makes_stand : CodeStands G ps p o.references 0 (make_all_code u.types 0 (unit_variables u))
-  makes_stand = let parts = code_stands-parts G ps p o.references 0 (make_all_code u.types 0 (unit_variables u)) (is.code ++ return_code ∷ return_code ∷ is.others) all_stands in parts.0
+  makes_stand : CodeStands G ps p o.references 0 (make_all_code u.types 0 (made_by_unit u))
+  makes_stand = let parts = code_stands-parts G ps p o.references 0 (make_all_code u.types 0 (made_by_unit u)) (is.code ++ return_code ∷ return_code ∷ is.others) all_stands in parts.0
 
   -- the two `Return`s stand behind the block
   returns_stand : CodeStands G ps p o.references ends_block (return_code ∷ return_code ∷ is.others)
   returns_stand =
-      let parts = code_stands-parts G ps p o.references 0 (make_all_code u.types 0 (unit_variables u)) (is.code ++ return_code ∷ return_code ∷ is.others) all_stands in
+      let parts = code_stands-parts G ps p o.references 0 (make_all_code u.types 0 (made_by_unit u)) (is.code ++ return_code ∷ return_code ∷ is.others) all_stands in
       let block = code_stands-parts G ps p o.references (0 + begins_block) is.code (return_code ∷ return_code ∷ is.others) parts.1 in
       subst (λ k. CodeStands G ps p o.references k (return_code ∷ return_code ∷ is.others)) {x = 0 + begins_block + length is.code} {y = ends_block} (omega arith) block.1
 
@@ -169,7 +171,7 @@ module _ (u : TypedUnit) (o : Object) (is : IsProgramCode u o) (G : Image) (ps :
             }));
       }
 
-  module _ (declared : Declarations) (types : declared.types u.name ≡ u.types) (are_declared : AreDeclared declared u.name 0 (unit_variables u)) (valid : IsStmt declared (stmt_of u.start)) (distinct : HasDistinctNames G) (scene : Scene declared G ps p o.texts) (call : Handler) (steady_call : IsSteadyHandler call) (n : ℕ) (kept : CallsAreKept declared G ps call n) (no_routine : declared.levels ≡ []) where
+  module _ (declared : Declarations) (types : declared.types u.name ≡ u.types) (are_declared : AreDeclared declared u.name 0 (unit_variables u)) (valid : IsStmt declared (stmt_of u.start)) (distinct : HasDistinctNames G) (scene : Scene declared G ps p o.texts) (call : Handler) (steady_call : IsSteadyHandler call) (n : ℕ) (kept : CallsAreKept declared G ps call n) (no_routine : declared.levels ≡ []) (of_unit : declared.routine_unit ≡ u.name) where
     -- the slots of the variables are not hidden
     free : VariablesAreFree declared G (kept_slots declared G) (placed_object_unit p o)
     free unit there k v is_declared hidden = not_hidden (subst IsTrue (ap (λ x. is_hidden_in declared x k) there ∙ ap is_undeclared is_declared) hidden)
@@ -182,7 +184,22 @@ module _ (u : TypedUnit) (o : Object) (is : IsProgramCode u o) (G : Image) (ps :
         → MakesFollow declared G (kept_slots declared G) Here p call n u
     makes {Here = Here} lasts injection memory below d enough home framed =
         let there : RunsInUnit G memory.frames (placed_object_unit p o) = record { calls = framed.calls; unit = ap (slice_get G.units) framed.unit ∙ stands.unit } in
-        fragment_to {to = p.instructions.before + (0 + begins_block)} (omega arith) (make_all_moves declared G (kept_slots declared G) Here lasts ps p o.references call steady_call n (placed_object_unit p o) free distinct scene.types_valid u.name is.name u.types types n 0 0 (unit_variables u) are_declared (omega (arith, is.unit_slots)) makes_stand injection memory below d enough there)
+        fragment_to {to = p.instructions.before + (0 + begins_block)} (omega arith) (make_all_moves declared G (kept_slots declared G) Here lasts ps p o.references call steady_call n (placed_object_unit p o) free distinct scene.types_valid u.name is.name u.types types n 0 0 (made_by_unit u) (made_declared declared u.name (made_by_unit u) (with_variables (stmt_of u.start)) are_declared) (omega (arith, is.unit_slots, length-append (made_by_unit u) (with_variables (stmt_of u.start)))) makes_stand injection memory below d enough there)
+
+    -- each variable of the unit has a slot of its frame
+    its_slot : (k : ℕ) (v : UnitVariable) → declared.variables (placed_object_unit p o).name k ≡ Some v → k < (placed_object_unit p o).slots
+    its_slot k v h =
+        let x = scene.variables_stand (placed_object_unit p o).name k v h in
+        let same : x.number ≡ p.unit = distinct x.number p.unit x.image_unit (placed_object_unit p o) x.there stands.unit x.named in
+        let one : x.image_unit ≡ placed_object_unit p o = same_Some x.image_unit (placed_object_unit p o) (sym x.there ∙ (ap (slice_get G.units) same ∙ stands.unit)) in
+        subst (λ (y : ImageUnit). k < y.slots) one x.within
+
+    -- the machine follows the `Bind` of the variable of a `with`
+    binds : (injection : Injection) (s : meaning.State) (memory : Memory) → memory.frames.calls ≡ [] → memory.frames.unit ≡ p.unit
+        → BindsFollow declared G (kept_slots declared G) (Since (kept_slots declared G) injection s memory) ps p o.references call n u.name
+    binds injection s memory alone at_home =
+        unit_binds_follow since_lasts ps p o.references call n u.name no_routine (placed_object_unit p o) (is.name ∙ sym of_unit) free distinct its_slot
+        (λ longer t after since. same_frame G (placed_object_unit p o) memory.frames after.frames since.routine (record { calls = alone; unit = ap (slice_get G.units) at_home ∙ stands.unit }))
 
     -- the start makes the variables and runs the block
     pub start_simulates : Simulates declared G p.unit (moved p.routines o.start) n (start_of call n u) Bare
@@ -191,7 +208,7 @@ module _ (u : TypedUnit) (o : Object) (is : IsProgramCode u o) (G : Image) (ps :
           image_routine = placed_routine p (plain_at 0);
           there = routine_there o.start (plain_at 0) start_is;
           of_unit = refl;
-          body = bind (make_all call n u.name u.types 0 (unit_variables u)) (λ a. exec call n u.name (stmt_of u.start));
+          body = bind (make_all call n u.name u.types 0 (made_by_unit u)) (λ a. exec call n u.name (stmt_of u.start));
           called = refl;
           follows = λ m le injection memory below s k enters.
               let whole = of_object in
@@ -200,7 +217,7 @@ module _ (u : TypedUnit) (o : Object) (is : IsProgramCode u o) (G : Image) (ps :
               (λ x_kind x is_x line at code is_code x_stands inside v1 m1 operands d enough x_home. expression_follows ps p o.texts o.references scene knows call steady_call n u.name room since_lasts among_same n kept x_kind x is_x line at code is_code x_stands inside v1 m1 operands d (omega arith) x_home)
               (λ q q_valid t has_type line at code is_code x_stands inside v1 m1 operands d enough x_home. place_follows ps p o.texts o.references scene knows call steady_call n u.name room since_lasts among_same n kept q q_valid t has_type line at code is_code x_stands inside v1 m1 operands d (omega arith) x_home)
               (λ line at to callee k given xs r keeps given_valid is_code is_declared named xs_stands xs_inside v1 m1 operands d enough x_home rest steady behind. call_then ps p o.texts o.references scene knows call steady_call n u.name room since_lasts among_same n kept {to = to} line at callee k given xs r keeps given_valid is_code is_declared named xs_stands xs_inside v1 m1 operands d enough x_home rest steady (λ rs longer after pushed grown routine top. fragment_credit {d = d} {e = λ b. d} (omega arith) (λ b. omega arith) (behind rs longer after pushed grown routine top)))
-              kept valid (makes since_lasts) injection memory below routine_credit (omega arith) (home o.start (plain_at 0) start_is memory.frames enters.without_calls enters.runs) (record { calls = enters.without_calls; unit = enters.in_unit }) in
+              kept (binds injection s memory enters.without_calls enters.in_unit) valid (makes since_lasts) injection memory below routine_credit (omega arith) (home o.start (plain_at 0) start_is memory.frames enters.without_calls enters.runs) (record { calls = enters.without_calls; unit = enters.in_unit }) in
               follows_from (at_entry o.start (plain_at 0) start_is (omega (arith, instructions_own)) enters)
               (follows_less {n = n} (omega arith) (follows_post (λ a t l lands. record { place = p.instructions.before + ends_block; instruction = return_code; stands = returns_stand.0; returns = (let routine = lands.post.routine in subst (λ (x : State). obey G return_code x ≡ light Returns) (sym lands.is) (returns_from (p.instructions.before + ends_block) lands.operands lands.memory t.trace (no_calls memory.frames.calls lands.memory.frames.calls routine.calls enters.without_calls))); lands = lands }) (body.by s enters.matches (since_here injection s memory))));
         }
@@ -223,17 +240,17 @@ module _ (u : TypedUnit) (o : Object) (is : IsProgramCode u o) (G : Image) (ps :
       }
 
   -- what the code of the unit needs of the image is there
-  pub scene_of : All (IsVariable u.types) u.variables → Scene (own u) G ps p o.texts
-  scene_of variables =
+  pub scene_of : IsValid u → Scene (own u) G ps p o.texts
+  scene_of valid =
       let whole = of_object in
       record {
         texts_stand = λ k bytes h. let within = slice_get_within o.texts k bytes h in record { own = lt-ltb k p.texts.own (omega (arith, whole.texts, within)); there = stands.texts k bytes h };
         variables_stand = variable_stands;
-        types_valid = own_valid u variables;
+        types_valid = own_valid u valid;
         own_types_valid = λ up k v is. absurd (none_declared (variables_up (own u) up) refl k v is);
         own_types_are = own_types u;
       }
 
   pub unit_simulates : IsValid u → HasDistinctNames G → (call : Handler) → IsSteadyHandler call → (n : ℕ) → CallsAreKept (own u) G ps call n
       → Simulates (own u) G p.unit (moved p.routines o.start) n (start_of call n u) Bare
-  unit_simulates valid distinct call steady_call n kept = start_simulates (own u) (own_types u) (own_declared u) valid.start distinct (scene_of valid.variables) call steady_call n kept refl
+  unit_simulates valid distinct call steady_call n kept = start_simulates (own u) (own_types u) (own_declared u) valid.start distinct (scene_of valid) call steady_call n kept refl refl

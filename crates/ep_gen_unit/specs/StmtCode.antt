@@ -8,7 +8,7 @@ use Rattle.ep_gen_expr.specs.declared.code.TheConstants as code
 use Rattle.ep_gen_unit.specs.TypeCode.{type_code}
 use Rattle.ep_object.specs.declared.code.Instr.{Instr}
 use Rattle.ep_object.specs.declared.code.Reference.{Reference}
-use Rattle.ep_typed.specs.Trees.{Place, Expr, Read, Function, Item, Plain, Wide, Stmt, Stmts, Empty, Compound, Assign, If, While, Repeat, Control, For, Procedure, Halt, Write, none, next, Case, Arms, no_arm, next_arm, Other, no_other, otherwise_do, Entire, entire}
+use Rattle.ep_typed.specs.Trees.{Place, Expr, Read, Function, Item, Plain, Wide, Stmt, Stmts, Empty, Compound, Assign, If, While, Repeat, Control, For, With, Procedure, Halt, Write, none, next, Case, Arms, no_arm, next_arm, Other, no_other, otherwise_do, Entire, OfUnit, OfRoutine, entire}
 use Rattle.ep_typed.specs.Denoters.{host_of}
 use Rattle.ep_typed.specs.Hosts.{Host}
 use Rattle.ep_typed.specs.Viewed.{denoter_of}
@@ -66,6 +66,11 @@ module _ (line : ℕ) where
   tests_code body at [] = []
   tests_code body at (r ∷ rs) = test_code body at r ++ tests_code body (at + 6) rs
 
+-- the slot of an entire variable of the block, which has its number
+abbrev pub slot_of : Entire → ℕ
+slot_of (OfUnit unit number) = number
+slot_of (OfRoutine levels number) = number
+
 -- The code of a `for` that begins at this place, by its parts: what is before the turns, the first value, the body, the test behind it, the next value, and the end.
 abbrev pub for_code : ℕ → ℕ → List Instr → List Instr → List Instr → List Instr → List Instr → List Instr → List Instr
 for_code line at bounds first body test step ends =
@@ -109,6 +114,10 @@ module _ (texts : List (List ℕ)) (references : List Reference) where
   abbrev pub IsUndefineCode : ℕ → ℕ → Entire → List Instr → Type 0
   IsUndefineCode line at v is = (ps : List Instr) × IsPlaceCode texts references line at (entire v) ps × (is ≡ ps ++ bare line op.UNDEFINE ∷ [])
 
+  -- the beginning of a `with`: the place, which goes into the slot of the variable that stands for it
+  abbrev pub IsBindCode : ℕ → ℕ → Entire → Place → List Instr → Type 0
+  IsBindCode line at v p is = (ps : List Instr) × IsPlaceCode texts references line at p ps × (is ≡ ps ++ instr op.BIND (pos (slot_of v)) 0 line ∷ [])
+
   abbrev mutual
     -- the code of a statement that begins at this place
     pub IsStmtCode : ℕ → Stmt → List Instr → Type 0
@@ -128,6 +137,7 @@ module _ (texts : List (List ℕ)) (references : List Reference) where
         × IsStmtCode (at + length bounds + 1 + length first) s body × IsTestCode line (at + length bounds + 1 + length first + length body) c test
         × IsAssignCode line (at + length bounds + 1 + length first + length body + length test + 1) (entire c.variable) (next_value c) step × IsUndefineCode line (at + length bounds + 1 + length first + length body + length test + 1 + length step + 1 + 1) c.variable ends
         × (is ≡ for_code line at bounds first body test step ends)
+    IsStmtCode at (With line v of p s) is = (xs ys : List Instr) × IsBindCode line at v p xs × IsStmtCode (at + length xs) s ys × (is ≡ xs ++ ys)
     -- that of a function designator: the jump behind the call has the tick for the step that the statement spends when the call is done
     IsStmtCode at (Procedure line callee given) is = IsExprCode texts references line at (Function callee given) is
     IsStmtCode at (Case line x arms o) is =

@@ -4,7 +4,7 @@ use Rattle.ep_gen_expr.specs.ExprCode.{IsExprCode, instr}
 use Rattle.ep_gen_expr.specs.Growth.{TableGrows, Grows, IsTable, AreDistinct}
 use Rattle.ep_gen_expr.specs.Jumps.{landed}
 use Rattle.ep_gen_expr.specs.declared.code.Code.{Code}
-use Rattle.ep_gen_unit.specs.StmtCode.{IsItemCode, AreItemsCode, IsStmtCode, AreStmtsCode, AreBoundsCode, IsFirstCode, IsTestCode, IsUndefineCode, make_all_code, return_code, end_code, AreArmsCode, IsOtherCode, tests_code}
+use Rattle.ep_gen_unit.specs.StmtCode.{IsItemCode, AreItemsCode, IsStmtCode, AreStmtsCode, AreBoundsCode, IsFirstCode, IsTestCode, IsUndefineCode, IsBindCode, make_all_code, return_code, end_code, AreArmsCode, IsOtherCode, tests_code}
 use Rattle.ep_gen_unit.specs.UnitCode.{AreRoutinesCode, own_code, entry_of, its_end}
 use Rattle.ep_object.specs.declared.code.CodeRoutine.{CodeRoutine}
 use Rattle.ep_object.specs.declared.code.Instr.{Instr}
@@ -12,14 +12,14 @@ use Rattle.ep_object.specs.declared.code.Object.{Object}
 use Rattle.ep_object.specs.declared.op.TheConstants as op
 use Rattle.ep_typed.specs.Auxiliaries.{auxiliary_variables, first_for}
 use Rattle.ep_typed.specs.Nodes.{stmt_nodes}
-use Rattle.ep_typed.specs.Routines.{made_variables, result_variable, unit_variables}
+use Rattle.ep_typed.specs.Routines.{made_by_unit, made_variables, result_variable, variables_of}
 use Rattle.ep_typed.specs.Viewed.{stmt_of}
 use Rattle.ep_typed.specs.declared.unit.Unit.{Unit as TypedUnit}
 use Rattle.ep_typed.specs.declared.unit.UnitRoutine.{UnitRoutine}
 use Rattle.ep_typed.specs.declared.unit.UnitType.{UnitType}
 use Rattle.ep_typed.specs.declared.unit.UnitVariable.{UnitVariable}
 use Rattle.ep_object.specs.declared.code.Reference.{Reference}
-use Rattle.ep_typed.specs.Trees.{Control, Entire, Item, Stmt, Stmts, Expr, Arms, Other}
+use Rattle.ep_typed.specs.Trees.{Control, Entire, Item, Place, Stmt, Stmts, Expr, Arms, Other}
 use Rattle.ep_typed.specs.declared.tree.CaseRange.{CaseRange}
 
 -- these instructions are appended, the line is any, and all else is as before but for new items of the two tables
@@ -67,6 +67,10 @@ AppendsTest line old new c = AppendsPart (λ texts references at is. IsTestCode 
 abbrev pub AppendsUndefine : ℕ → Code → Code → Entire → Type 0
 AppendsUndefine line old new v = AppendsPart (λ texts references at is. IsUndefineCode texts references line at v is) old new
 
+-- the beginning of a `with` on this line
+abbrev pub AppendsBind : ℕ → Code → Code → Entire → Place → Type 0
+AppendsBind line old new v p = AppendsPart (λ texts references at is. IsBindCode texts references line at v p is) old new
+
 -- the code of the statements is appended
 pub record AppendsStmts (old new : Code) (ss : Stmts) : Type 0 where
   pub code : List Instr
@@ -111,9 +115,9 @@ AppendsTests old new ranges = Grows old new (tests_code old.line (length old.ins
 pub record AppendsStart (old new : Code) (u : TypedUnit) (stop_entry : ℕ) : Type 0 where
   -- the code of the block
   pub code : List Instr
-  pub is_code : IsStmtCode new.texts new.references (length old.instructions + length (make_all_code u.types 0 (unit_variables u))) (stmt_of u.start) code
-  pub follows : Follows old new (make_all_code u.types 0 (unit_variables u) ++ (code ++ return_code ∷ return_code ∷ []))
-  pub stops : stop_entry ≡ length old.instructions + length (make_all_code u.types 0 (unit_variables u)) + length code + 1
+  pub is_code : IsStmtCode new.texts new.references (length old.instructions + length (make_all_code u.types 0 (made_by_unit u))) (stmt_of u.start) code
+  pub follows : Follows old new (make_all_code u.types 0 (made_by_unit u) ++ (code ++ return_code ∷ return_code ∷ []))
+  pub stops : stop_entry ≡ length old.instructions + length (make_all_code u.types 0 (made_by_unit u)) + length code + 1
   pub small : IsTable new.instructions
 
 -- the code of a routine of a unit with these types is appended: what makes its variables, its block, and its end
@@ -156,10 +160,10 @@ assembled name code routines start slots = record {
 }
 
 -- The code that makes the variables of a routine's own is appended, of a unit with these types, and the routine has so many
--- slots.
+-- slots, with those of the variables that are not made.
 pub record MakesOwn (old new : Code) (types : List UnitType) (r : UnitRoutine) (slots : ℕ) : Type 0 where
   pub follows : Follows old new (make_all_code types (length r.formals) (made_variables r))
-  pub count : slots ≡ (length r.formals + length (made_variables r))
+  pub count : slots ≡ length (variables_of r)
 
 -- The code that makes these variables of a unit with these types, and the auxiliary ones of its block, is appended, from
 -- this number on, and the first number behind them is that.

@@ -6,7 +6,7 @@ use Rattle.ep_object.specs.declared.code.CodeRoutine.{CodeRoutine}
 use Rattle.ep_object.specs.declared.code.Instr.{Instr}
 use Rattle.ep_object.specs.declared.code.Object.{Object}
 use Rattle.ep_object.specs.declared.code.Reference.{Reference}
-use Rattle.ep_typed.specs.Routines.{made_variables, unit_variables}
+use Rattle.ep_typed.specs.Routines.{made_by_unit, made_variables, unit_variables, variables_of}
 use Rattle.ep_typed.specs.Viewed.{stmt_of}
 use Rattle.ep_typed.specs.declared.unit.Unit.{Unit as TypedUnit}
 use Rattle.ep_typed.specs.declared.unit.UnitRoutine.{UnitRoutine}
@@ -35,7 +35,7 @@ own_code types r =
 
 -- the entry of a routine, with an argument for each formal parameter and a slot for each variable
 abbrev pub entry_of : ℕ → UnitRoutine → CodeRoutine
-entry_of entry r = routine_at entry (length r.formals) (length r.formals + length (made_variables r))
+entry_of entry r = routine_at entry (length r.formals) (length (variables_of r))
 
 -- the code with which a routine of a unit with these types ends, at this place
 abbrev pub its_end : List UnitType → ℕ → UnitRoutine → List Instr
@@ -61,13 +61,13 @@ pub record AreRoutinesCode (texts : List (List ℕ)) (references : List Referenc
 pub record IsProgramCode (u : TypedUnit) (o : Object) : Type 0 where
   -- the code of the block
   pub code : List Instr
-  pub is_code : IsStmtCode o.texts o.references (length (make_all_code u.types 0 (unit_variables u))) (stmt_of u.start) code
+  pub is_code : IsStmtCode o.texts o.references (length (make_all_code u.types 0 (made_by_unit u))) (stmt_of u.start) code
   -- the code of the routines
   pub others : List Instr
-  pub instructions : o.instructions ≡ make_all_code u.types 0 (unit_variables u) ++ (code ++ return_code ∷ return_code ∷ others)
+  pub instructions : o.instructions ≡ make_all_code u.types 0 (made_by_unit u) ++ (code ++ return_code ∷ return_code ∷ others)
   pub entries : List CodeRoutine
   pub blocks : AreRoutinesCode o.texts o.references o.instructions u.types u.routines entries
-  pub routines : o.routines ≡ entries ++ plain_at 0 ∷ plain_at (length (make_all_code u.types 0 (unit_variables u)) + length code + 1) ∷ []
+  pub routines : o.routines ≡ entries ++ plain_at 0 ∷ plain_at (length (make_all_code u.types 0 (made_by_unit u)) + length code + 1) ∷ []
   pub start : o.start ≡ length u.routines
   pub stop : o.stop ≡ length u.routines + 1
   pub unit_slots : o.unit_slots ≡ length (unit_variables u)

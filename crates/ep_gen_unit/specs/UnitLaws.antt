@@ -36,10 +36,10 @@ StartsAreSimulated =
     → (call : Handler) → IsSteadyHandler call → (n : ℕ) → CallsAreKept (own u) G ps call n
     → Simulates (own u) G p.unit (moved p.routines o.start) n (start_of call n u) Bare
 
--- The same under any declarations that have the types and the variables of the unit, where all that is declared stands in the image and the block is valid under them.
+-- The same under any declarations of the unit's own block that have its types and its variables, where all that is declared stands in the image and the block is valid under them.
 abbrev pub StartsAreSimulatedUnder : Type 0
 StartsAreSimulatedUnder =
-    (declared : Declarations) (u : TypedUnit) (o : Object) → IsProgramCode u o → declared.types u.name ≡ u.types → declared.levels ≡ []
+    (declared : Declarations) (u : TypedUnit) (o : Object) → IsProgramCode u o → declared.types u.name ≡ u.types → declared.levels ≡ [] → declared.routine_unit ≡ u.name
     → AreDeclared declared u.name 0 (unit_variables u) → IsStmt declared (stmt_of u.start)
     → (G : Image) (ps : List Placement) (p : Placement) → Stands G ps p o → HasDistinctNames G
     → Scene declared G ps p o.texts

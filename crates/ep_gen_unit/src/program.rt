@@ -4,7 +4,7 @@ ghost use Rattle.std.specs.Prelude.{◌≡◌, ◌+◌, ◌<◌, ◌^◌, OnOk, 
 ghost use Rattle.ep_gen_expr.specs.Growth.{Grows};
 ghost use Rattle.ep_gen_unit.specs.StmtCode.{function_end, result_code, make_code, make_all_code, value_code, place_taken, take_code, take_all_code};
 ghost use Rattle.ep_gen_unit.specs.StmtGrowth.{AppendsEnd, AppendsStart, AppendsRoutine, AppendsRoutines, Follows, IsCompact, MakesBlock, MakesOwn, MakesResult, assembled};
-ghost use Rattle.ep_typed.specs.Auxiliaries.{auxiliary_variables, first_for};
+ghost use Rattle.ep_typed.specs.Auxiliaries.{auxiliary_variables, first_for, with_variables};
 ghost use Rattle.ep_typed.specs.Denoters.{host_of};
 ghost use Rattle.ep_typed.specs.Viewed.{denoter_of, stmt_of};
 ghost use Rattle.ep_gen_unit.specs.UnitCode.{IsProgramCode, routine_at};
@@ -16,7 +16,7 @@ use ep_gen_expr::{Code, NO_LINE, emit, field_number, next_place};
 use ep_object::{CodeRoutine, CodeRoutines, Object, op};
 use ep_typed::{
     Denoter, Formal, FormalMode, TypedStmt, Unit, UnitRoutine, UnitType, UnitVariable,
-    auxiliary_variables, first_for, run_error,
+    auxiliary_variables, first_for, run_error, with_count,
 };
 use std::alloc::{AllocError, Global};
 
@@ -27,7 +27,8 @@ pub fn program_code(alloc: Global, u: &Unit) -> Result<Object, NoMemory>
     ensures compact { IfOk result (λ o. IsCompact o) }
 {
     let name = u.name.copy(alloc)?;
-    let unit_slots = field_sum(u.variables.items().len(), auxiliary_count(&u.start))?;
+    let made = field_sum(u.variables.items().len(), auxiliary_count(&u.start))?;
+    let unit_slots = with_slots(made, &u.start)?;
     let mut code = Code::new(alloc, u);
     let stop_entry = start_code(alloc, u, &mut code)?;
     let mut routines = routines_code(alloc, u.types.items(), u.routines.items(), &mut code)?;
@@ -107,7 +108,7 @@ fn routine_code(
 }
 
 /// Appends the code that makes the variables of a routine's own, of which the one that has its result is the first, and
-/// answers how many slots the routine has.
+/// answers how many slots the routine has, with those of its `with` statements.
 fn make_own(
     alloc: Global,
     types: &[UnitType],
@@ -118,14 +119,15 @@ fn make_own(
 {
     let variables = routine.variables.items();
     let first = make_result(types, routine, code)?;
-    make_block(
+    let made = make_block(
         alloc,
         types,
         first as usize,
         variables,
         &routine.block,
         code,
-    )
+    )?;
+    with_slots(made, &routine.block)
 }
 
 /// Appends the code that makes these variables and the auxiliary ones of a block, from this number on, and answers the first
@@ -148,7 +150,14 @@ fn make_block(
     Ok(behind)
 }
 
-/// How many auxiliary variables a block has.
+/// The slots of so many variables that are made, and of those of a block's `with` statements.
+fn with_slots(made: u32, block: &TypedStmt) -> Result<u32, NoMemory>
+    ensures { IfOk result (λ slots. slots ≡ made + length (with_variables (stmt_of block.now))) }
+{
+    field_sum(made as usize, with_count(block))
+}
+
+/// How many auxiliary variables of `for` a block has.
 fn auxiliary_count(block: &TypedStmt) -> usize
     ensures { result ≡ length (auxiliary_variables (first_for (stmt_of block.now))) }
 {

@@ -2,10 +2,11 @@
 //!
 //! A statement sets the line, so it is set again after a part that is a statement.
 
-ghost use Rattle.std.specs.Prelude.{OnOk, map, IfOk, ◌<◌, length, [], ◌∷◌};
+ghost use Rattle.std.specs.Prelude.{◌≡◌, OnOk, map, IfOk, ◌<◌, length, [], ◌∷◌};
 ghost use Rattle.ep_typed.specs.Trees.{Compound, Assign, If, While, Repeat, For, Procedure, Halt, Write, stmts};
-ghost use Rattle.ep_typed.specs.Viewed.{expr_of, actual_of, callee_of, control_of, item_of, place_of, stmt_of, arm_of};
-ghost use Rattle.ep_gen_unit.specs.StmtGrowth.{AppendsStmt, AppendsStmts, AppendsArms, ClosesCase, OpensCase};
+ghost use Rattle.ep_typed.specs.Viewed.{expr_of, actual_of, callee_of, control_of, entire_of, item_of, place_of, stmt_of, arm_of};
+ghost use Rattle.ep_gen_unit.specs.StmtCode.{slot_of};
+ghost use Rattle.ep_gen_unit.specs.StmtGrowth.{AppendsBind, AppendsStmt, AppendsStmts, AppendsArms, ClosesCase, OpensCase};
 ghost use Rattle.ep_typed.specs.Trees as tree;
 
 use crate::items::items_code;
@@ -17,7 +18,8 @@ use ep_gen_expr::{
 };
 use ep_object::op;
 use ep_typed::{
-    Actual, Callee, CaseArm, ForControl, TypedExpr, TypedPlace, TypedStmt, WriteItem, run_error,
+    Actual, Callee, CaseArm, EntireVariable, ForControl, TypedExpr, TypedPlace, TypedStmt,
+    WriteItem, run_error,
 };
 use std::alloc::Global;
 
@@ -59,6 +61,10 @@ pub fn statement_code(alloc: Global, s: &TypedStmt, code: &mut Code) -> Result<(
                 body.get(),
                 code,
             )
+        }
+        TypedStmt::With(line, variable, _, place, body) => {
+            bind_code(alloc, *line, variable, place, code)?;
+            statement_code(alloc, body.get(), code)
         }
         TypedStmt::Procedure(line, callee, given) => {
             procedure_code(alloc, *line, callee, given.items(), code)
@@ -199,6 +205,31 @@ fn for_code(
     emit(code, op::DROP, 0, 0)?;
     land(code, leave, op::JUMP_FALSE, line)?;
     undefine_code(alloc, line, &control.variable, code)
+}
+
+/// Appends the beginning of the code of a `with`: the place, which goes into the slot of the variable that stands for it.
+fn bind_code(
+    alloc: Global,
+    line: Line,
+    variable: &EntireVariable,
+    place: &TypedPlace,
+    code: &mut Code,
+) -> Result<(), NoMemory>
+    ensures { OnOk result (AppendsBind line code.old code.new (entire_of variable.now) (place_of place.now)) }
+{
+    code.line = line;
+    place_code(alloc, place, code)?;
+    let slot = slot_of(variable);
+    emit(code, op::BIND, slot as i64, 0)
+}
+
+/// The slot of an entire variable of a block.
+fn slot_of(variable: &EntireVariable) -> u32
+    ensures { result ≡ slot_of (entire_of variable.now) }
+{
+    match variable {
+        EntireVariable::Unit(_, number) | EntireVariable::Own(_, number) => *number,
+    }
 }
 
 /// Appends the code of a procedure statement, which is a call. The jump behind the call takes the tick for the step that

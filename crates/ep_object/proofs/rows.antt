@@ -1,5 +1,6 @@
 pub mod ArgumentRows
 pub mod Answers
+pub mod BindRow
 pub mod ChangeRows
 pub mod FieldRow
 pub mod FrameRows

@@ -1,5 +1,5 @@
 -- What a routine that was called knows while it runs: where its variables and those of the routines around it are, and what was made in its call.
-use Rattle.std.specs.Prelude.{◌≡◌, ℕ, zero, suc, ◌+◌, ◌<◌, IsTrue, List, [], ◌∷◌, length, Option, Some, slice_get, ⊤}
+use Rattle.std.specs.Prelude.{◌≡◌, ℕ, zero, suc, ◌+◌, ◌<◌, List, [], ◌∷◌, length, Option, Some, slice_get, ⊤}
 use Rattle.ep_object.specs.Follows.{Facts, StillRuns}
 use Rattle.ep_object.specs.Frames.{level_slots}
 use Rattle.ep_object.specs.Matching.{Memory, Injection, IsIn, Describes, MatchesSlot, own_slot, HasOwnType, Slots, Grown}
@@ -28,11 +28,6 @@ pub record OwnSlot (declared : Declarations) (injection : Injection) (s : meanin
 abbrev pub MatchesOwn : Declarations → Facts
 MatchesOwn declared injection s memory =
     (k : ℕ) (v : UnitVariable) → slice_get (variables_up declared 0) k ≡ Some v → OwnSlot declared injection s memory k v
-
--- the slots of its variables are among those that are untouched
-abbrev pub OwnAreKept : Declarations → Slots → Type 0
-OwnAreKept declared untouched =
-    (k : ℕ) (v : UnitVariable) → slice_get (variables_up declared 0) k ≡ Some v → IsTrue (untouched.own k)
 
 -- ---- the routines around
 

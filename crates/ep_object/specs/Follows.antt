@@ -172,11 +172,13 @@ pub record IsNotLeft (before now : Frames) : Type 0 where
   pub is : now.calls ≡ over ++ own
   pub runs : StillRuns before (record now { calls = own })
 
--- The calls under way are the same, memory has grown and these slots are untouched, and the same routine runs.
+-- The calls under way are the same on both sides, with the slots of the innermost one, memory has grown and these slots are
+-- untouched, and the same routine runs.
 pub record HasGrown (untouched : Slots) (injection : Injection) (s : meaning.State) (memory : Memory)
     (longer : Injection) (t : meaning.State) (after : Memory) : Type 0 where
   pub grown : Grown untouched injection memory longer after
   pub routine : SameRoutine untouched memory.frames after.frames
+  pub own : (k : ℕ) → own_slot after.frames k ≡ own_slot memory.frames k
   pub calls : t.calls ≡ s.calls
 
 -- facts that go on holding where memory has grown so

@@ -70,13 +70,13 @@ module _ (interface name : List ℕ) (thing : Thing) where
 
   -- a name is entered among those of an interface that is there
   pub entered_in : (es : List (Vec ℕ × Entries)) (entries : Entries) (structures : List StructuredType) (old new : Entries) (result : Result (Unit {0}) EntryRefusal) → lookup is_interface es ≡ Some old → AnswersEntry old name thing result new
-      → AnswersEntryIn (record { entries = entries; qualified = by_bytes es; structures = structures }) interface name thing result (record { entries = entries; qualified = by_bytes (set_value is_interface es new); structures = structures })
+      → AnswersEntryIn (record { entries = entries; qualified = by_bytes es; structures = structures; records = [] }) interface name thing result (record { entries = entries; qualified = by_bytes (set_value is_interface es new); structures = structures; records = [] })
   entered_in es entries structures old new (Ok done) found a =
-      (rw (← lookup-by_bytes interface es, found) a.0, rw a.1 (ap (λ q. record { entries = entries; qualified = q; structures = structures }) (set_value-constituent es old found)))
+      (rw (← lookup-by_bytes interface es, found) a.0, rw a.1 (ap (λ q. record { entries = entries; qualified = q; structures = structures; records = [] }) (set_value-constituent es old found)))
   entered_in es entries structures old new (Err There) found a =
-      (rw (← lookup-by_bytes interface es, found) a.0, rw a.1 (ap (λ q. record { entries = entries; qualified = by_bytes q; structures = structures }) (set_value-same es old found)))
+      (rw (← lookup-by_bytes interface es, found) a.0, rw a.1 (ap (λ q. record { entries = entries; qualified = by_bytes q; structures = structures; records = [] }) (set_value-same es old found)))
   entered_in es entries structures old new (Err NoMemory) found a =
-      (rw (← lookup-by_bytes interface es, found) a.0, rw a.1 (ap (λ q. record { entries = entries; qualified = by_bytes q; structures = structures }) (set_value-same es old found)))
+      (rw (← lookup-by_bytes interface es, found) a.0, rw a.1 (ap (λ q. record { entries = entries; qualified = by_bytes q; structures = structures; records = [] }) (set_value-same es old found)))
 
   -- an interface that is not there goes last
   with_constituent-new : (es : List (List ℕ × Entries)) → look_up es interface ≡ None → with_constituent es interface name thing ≡ es ++ (interface, (name, thing) ∷ []) ∷ []

@@ -4,5 +4,6 @@ pub mod Keys
 pub mod Kinds
 pub mod Meanings
 pub mod Parameters
+pub mod Records
 pub mod Required
 pub mod Scopes

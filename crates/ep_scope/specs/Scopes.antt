@@ -1,10 +1,16 @@
 -- What names stand for: lists of declarations, and what a name means in them.
-use Rattle.std.specs.Prelude.{ℕ, ◌==◌, List, [], ◌∷◌, ◌++◌, length, Option, Some, None, if◌then◌else◌}
+use Rattle.std.specs.Prelude.{ℕ, ◌==◌, List, [], ◌∷◌, ◌++◌, length, slice_get, Option, Some, None, if◌then◌else◌}
 use Rattle.std.specs.Str.{bytes_eq}
+use Rattle.ep_typed.specs.Trees.{Entire}
 use Rattle.ep_typed.specs.declared.tree.StandardFile.{StandardFile}
+use Rattle.ep_scope.specs.Fields.{field_number}
 use Rattle.ep_scope.specs.Required.{look_up, required_of}
 use Rattle.ep_scope.specs.declared.required.Required.{Required}
+use Rattle.ep_scope.specs.declared.kind.Kind.{Kind}
+use Rattle.ep_scope.specs.declared.parameter.Protection.{Protection}
+use Rattle.ep_scope.specs.declared.parameter.TypeName.{TypeName}
 use Rattle.ep_scope.specs.declared.structure.Composition.{Composition}
+use Rattle.ep_scope.specs.declared.structure.FieldType.{FieldType}
 use Rattle.ep_scope.specs.declared.structure.StructuredType.{StructuredType}
 use Rattle.ep_scope.specs.declared.thing.Declared.{Declared}
 use Rattle.ep_scope.specs.declared.thing.Thing.{Thing}
@@ -14,16 +20,32 @@ use Rattle.ep_scope.specs.declared.thing.Thing.TheVariants as thing
 abbrev pub Entries : Type 0
 Entries = List (List ℕ × Thing)
 
--- what a scope has under names, what its interfaces have (ISO 10206, 6.2.2 and 6.11.3), and the structured types
--- that are written in it
+-- A record that is open by `with` (ISO 10206, 6.9.3.10): the variable that stands for it, whether it is protected, and its
+-- fields, whose names stand for those of the variable.
+pub record OpenRecord : Type 0 where
+  pub variable : Entire
+  pub guarded : Protection
+  pub fields : List FieldType
+
+-- one of its fields, by its number
+pub record OpenField : Type 0 where
+  pub variable : Entire
+  pub guarded : Protection
+  pub number : ℕ
+  pub of : TypeName
+  pub kind : Kind
+
+-- what a scope has under names, what its interfaces have (ISO 10206, 6.2.2 and 6.11.3), the structured types that are
+-- written in it, and the records that are open in it, the innermost first
 pub record Region : Type 0 where
   pub entries : Entries
   pub qualified : List (List ℕ × Entries)
   pub structures : List StructuredType
+  pub records : List OpenRecord
 
 -- no name yet
 abbrev pub empty_region : Region
-empty_region = record { entries = []; qualified = []; structures = [] }
+empty_region = record { entries = []; qualified = []; structures = []; records = [] }
 
 -- one name more
 abbrev pub with_entry : Region → List ℕ → Thing → Region
@@ -70,7 +92,36 @@ pub data Meant : Type 0 where
   Declares : (declared : Declared) → Meant
   Standard : (file : StandardFile) → Meant
   Requires : (required : Required) → Meant
+  -- a field of a record that is open
+  FieldOf : (field : OpenField) → Meant
   Nothing : Meant
+
+-- the field of this number
+abbrev pub field_if : OpenRecord → ℕ → Option FieldType → Option OpenField
+field_if r number None = None
+field_if r number (Some f) = Some (record { variable = r.variable; guarded = r.guarded; number = number; of = f.of; kind = f.kind })
+
+abbrev pub field_at : OpenRecord → Option ℕ → Option OpenField
+field_at r None = None
+field_at r (Some number) = field_if r number (slice_get r.fields number)
+
+-- the field of this name
+abbrev pub field_of : OpenRecord → List ℕ → Option OpenField
+field_of r name = field_at r (field_number r.fields name)
+
+abbrev pub field_or : Option OpenField → Option OpenField → Option OpenField
+field_or None outside = outside
+field_or (Some f) outside = Some f
+
+-- that of the innermost of these records which has one (ISO 10206, 6.2.2.5)
+abbrev pub field_among : List OpenRecord → List ℕ → Option OpenField
+field_among [] name = None
+field_among (r ∷ rs) name = field_or (field_of r name) (field_among rs name)
+
+-- a field hides what its name means else
+abbrev pub or_field : Option OpenField → Meant → Meant
+or_field None outside = outside
+or_field (Some f) outside = FieldOf f
 
 abbrev pub as_thing : Thing → Meant
 as_thing (thing.Declared declared) = Declares declared
@@ -84,10 +135,11 @@ abbrev pub or_outside : Option Thing → Meant → Meant
 or_outside None outside = outside
 or_outside (Some thing) outside = as_thing thing
 
--- the innermost scope that has the name (ISO 10206, 6.2.2.5), or the required identifier (6.2.2.10)
+-- The innermost scope that has the name (ISO 10206, 6.2.2.5), or the required identifier (6.2.2.10). The records that are
+-- open in a scope are inside of it.
 abbrev pub meant : List Region → List ℕ → Meant
 meant [] name = as_required (required_of name)
-meant (r ∷ rs) name = or_outside (look_up r.entries name) (meant rs name)
+meant (r ∷ rs) name = or_field (field_among r.records name) (or_outside (look_up r.entries name) (meant rs name))
 
 -- how many routines are around code that sees these scopes, of which the outermost is that of a unit's block
 abbrev pub depth_in : List Region → ℕ
@@ -99,10 +151,25 @@ abbrev pub unless_hidden : Option Thing → Meant → Meant
 unless_hidden None inside = inside
 unless_hidden (Some thing) inside = Nothing
 
--- `i.a`: the innermost scope whose interface i has the name a, where neither it nor a scope inside of it has i itself (own)
+abbrev pub unless_field : Option OpenField → Meant → Meant
+unless_field None inside = inside
+unless_field (Some f) inside = Nothing
+
+-- `i.a`: the innermost scope whose interface i has the name a, where neither it nor a scope or an open record inside of it has i itself (own)
 abbrev pub meant_in : List Region → List ℕ → List ℕ → Meant
 meant_in [] interface name = Nothing
-meant_in (r ∷ rs) interface name = unless_hidden (look_up r.entries interface) (or_outside (look_up_in r interface name) (meant_in rs interface name))
+meant_in (r ∷ rs) interface name =
+    unless_field (field_among r.records interface) (unless_hidden (look_up r.entries interface) (or_outside (look_up_in r interface name) (meant_in rs interface name)))
+
+-- the scopes in view where this record is open inside of all of them
+abbrev pub within : OpenRecord → List Region → List Region
+within r [] = record empty_region { records = r ∷ [] } ∷ []
+within r (g ∷ gs) = record g { records = r ∷ g.records } ∷ gs
+
+-- where these are, the innermost first
+abbrev pub within_all : List OpenRecord → List Region → List Region
+within_all [] scopes = scopes
+within_all (r ∷ rs) scopes = within r (within_all rs scopes)
 
 -- ---- the scopes in view at a place of a text
 

@@ -10,23 +10,25 @@ mod entries;
 mod kind;
 mod meaning;
 mod parameter;
+mod record;
 mod required;
 pub mod rule;
 mod scope;
 mod scopes;
 mod structure;
 mod thing;
+mod view;
 
 pub use kind::{Enumeration, Host, Kind, same_host};
-pub use meaning::{Meaning, meaning_in, meaning_of};
+pub use meaning::Meaning;
 pub use parameter::{
     FormalParameter, FormalParameters, Protection, TypeName, copied_parameters, protection_of,
     same_parameters, same_type,
 };
+pub use record::{OpenField, OpenRecord, RecordVariable};
 pub use required::{Function, Procedure, Required, RequiredConstant, required_identifier};
 pub use scope::{Scope, ScopeRefusal};
-pub use scopes::{Scopes, depth_in};
-pub use structure::{
-    ArrayType, Composition, FieldType, FieldTypes, StructuredType, field_number, structure_of,
-};
+pub use scopes::Scopes;
+pub use structure::{ArrayType, Composition, FieldType, FieldTypes, StructuredType, field_number};
 pub use thing::{Declaration, Declared, Thing};
+pub use view::{Inner, View, depth_in, meaning_in, meaning_of, structure_of};

@@ -4,6 +4,7 @@ ghost use Rattle.std.specs.Prelude.{◌≡◌};
 ghost use Rattle.ep_scope.specs.Meanings.{meant_by};
 ghost use Rattle.ep_scope.specs.Scopes.{as_thing, meant, meant_in};
 
+use crate::record::OpenField;
 use crate::required::{Required, required_identifier};
 use crate::scope::Scope;
 use crate::thing::{Declared, Thing};
@@ -19,6 +20,8 @@ pub enum Meaning<'a> {
     Standard(StandardFile),
     /// A required identifier.
     Required(Required),
+    /// A field of a record that is open by `with`.
+    Field(OpenField<'a>),
     /// Nothing.
     Nothing,
 }
@@ -33,8 +36,8 @@ fn meaning_of_thing<'a>(thing: &'a Thing) -> Meaning<'a>
     }
 }
 
-/// What a name means in these scopes, of which the innermost comes first. It takes no memory.
-pub fn meaning_of<'a>(scopes: &'a [Scope], name: &Name) -> Meaning<'a>
+/// What a name means in these scopes, of which the innermost comes first.
+pub(crate) fn meaning_among<'a>(scopes: &'a [Scope], name: &Name) -> Meaning<'a>
     ensures { meant_by result ≡ meant scopes.now name.now }
 {
     for scope in scopes {
@@ -48,8 +51,8 @@ pub fn meaning_of<'a>(scopes: &'a [Scope], name: &Name) -> Meaning<'a>
     }
 }
 
-/// What a name means after the name of an interface and a dot. It takes no memory.
-pub fn meaning_in<'a>(scopes: &'a [Scope], interface: &Name, name: &Name) -> Meaning<'a>
+/// What a name means after the name of an interface and a dot.
+pub(crate) fn meaning_after<'a>(scopes: &'a [Scope], interface: &Name, name: &Name) -> Meaning<'a>
     ensures { meant_by result ≡ meant_in scopes.now interface.now name.now }
 {
     for scope in scopes {

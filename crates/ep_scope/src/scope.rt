@@ -1,6 +1,6 @@
 //! Scopes: the names that one part of a text declares or imports.
 
-ghost use Rattle.std.specs.Prelude.{◌≡◌, None, OnOk, OnErr};
+ghost use Rattle.std.specs.Prelude.{◌≡◌, [], None, OnOk, OnErr};
 ghost use Rattle.std.specs.Option.{option_copied};
 ghost use Rattle.ep_scope.specs.Required.{look_up};
 ghost use Rattle.ep_scope.specs.Scopes.{empty_region, look_up_in, structure_among, with_interface, with_structure};
@@ -24,12 +24,13 @@ pub struct Scope {
 }
 
 impl Model for Scope {
+    ghost use Rattle.std.specs.Prelude.{[]};
     ghost use Rattle.ep_scope.specs.Scopes.{Region};
     ghost use Rattle.ep_scope.specs.Keys.{by_bytes};
 
     ghost Value = { Region };
 
-    ghost view = { λ s. record { entries = s.entries; qualified = by_bytes s.qualified.entries; structures = s.structures.items } };
+    ghost view = { λ s. record { entries = s.entries; qualified = by_bytes s.qualified.entries; structures = s.structures.items; records = [] } };
 }
 
 impl Drop for Scope {
@@ -160,7 +161,8 @@ impl Scope {
 
     /// What a name stands for. `None` comes exactly where the scope does not have it. It takes no memory.
     pub fn find(&self, name: &Name) -> Option<&Thing>
-        ensures { option_copied result ≡ look_up self.now.entries name.now }
+        ensures found { option_copied result ≡ look_up self.now.entries name.now }
+        ensures closed { self.now.records ≡ [] }
     {
         self.entries.find(name)
     }

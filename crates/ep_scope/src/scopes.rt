@@ -3,14 +3,15 @@
 ghost use Rattle.std.specs.Prelude.{◌≡◌, [], IfOk, OnOk, OnErr};
 ghost use Rattle.std.specs.Option.{option_copied};
 ghost use Rattle.ep_scope.specs.Required.{look_up};
-ghost use Rattle.ep_scope.specs.Scopes.{closed, depth_in, empty_region, in_view, opened, row_of, with_inner_structure};
+ghost use Rattle.ep_scope.specs.Scopes.{closed, empty_region, in_view, opened, row_of, with_inner_structure};
 ghost use Rattle.ep_scope.specs.Entering.{AnswersInner};
 
 use crate::scope::{Scope, ScopeRefusal};
 use crate::structure::StructuredType;
 use crate::thing::Thing;
+use crate::view::View;
 use ep_base::{Name, NoMemory};
-use std::alloc::{AllocError, Global};
+use std::alloc::Global;
 use std::marker::Model;
 
 /// The scopes in view, of which there is always one: the innermost one, and those around it.
@@ -36,17 +37,6 @@ impl Drop for Scopes {
     }
 }
 
-/// How many routines are around code that sees these scopes, of which the outermost is that of a unit's block. It takes no
-/// memory; an error comes where 32 bits do not hold the number.
-pub fn depth_in(scopes: &[Scope]) -> Result<u32, NoMemory>
-    ensures { IfOk result (λ depth. depth ≡ depth_in scopes.now) }
-{
-    match u32::try_from(scopes.len().saturating_sub(1)) {
-        Ok(depth) => Ok(depth),
-        Err(_) => Err(AllocError),
-    }
-}
-
 impl Scopes {
     /// One scope without names.
     pub fn new(alloc: Global) -> Result<Scopes, NoMemory>
@@ -57,11 +47,11 @@ impl Scopes {
         Ok(Scopes { alloc, all })
     }
 
-    /// All scopes in view, the innermost first. It takes no memory.
-    pub fn in_view(&self) -> &[Scope]
-        ensures { result.now ≡ in_view self.now }
+    /// All scopes in view, where no record is open. It takes no memory.
+    pub fn in_view(&self) -> View<'_>
+        ensures { result ≡ in_view self.now }
     {
-        self.all.as_slice()
+        View::of(self.all.as_slice())
     }
 
     /// What a name stands for in the innermost scope. `None` comes exactly where it does not have it. It takes no memory.

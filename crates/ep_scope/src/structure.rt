@@ -78,9 +78,8 @@ impl Drop for FieldType {
 /// The fields of a record type, in order.
 pub type FieldTypes = List<FieldType>;
 
-/// What the structured type of this number is made of in these scopes. `None` comes exactly where none of them has it. It
-/// takes no memory.
-pub fn structure_of(scopes: &[Scope], number: u32) -> Option<&Composition>
+/// What the structured type of this number is made of in these scopes. `None` comes exactly where none of them has it.
+pub(crate) fn structure_among(scopes: &[Scope], number: u32) -> Option<&Composition>
     ensures { option_copied result ≡ structure_in scopes.now number }
 {
     for scope in scopes {

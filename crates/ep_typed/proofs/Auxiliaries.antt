@@ -1,15 +1,25 @@
--- Auxiliary variables are valid integers.
-use Rattle.std.proofs.Common.{◌≡◌, ℕ, suc, zero, List, Option, Some, None, slice_get, refl, ap, subst, sym}
-use Rattle.ep_typed.specs.Auxiliaries.{auxiliary_variable, auxiliary_variables}
-use Rattle.ep_typed.specs.Denoters.{host_of, required_type}
+-- Auxiliary variables are valid: those of `for` are integers, and those of `with` are of record types of the unit.
+use Rattle.std.specs.Prelude.{All}
+use Rattle.std.proofs.Common.{◌≡◌, ◌∙◌, ◌+◌, ℕ, suc, zero, List, [], ◌∷◌, ◌++◌, length, map, Option, Some, None, slice_get, refl, ap, subst, sym, arith}
+use Rattle.std.proofs.lemmas.List.{length-map}
+use Rattle.std.proofs.lemmas.Option.{get_or_from_slice_get, same_Some, slice_get_within}
+use Rattle.ep_typed.specs.Auxiliaries.{auxiliary_variable, auxiliary_variables, with_variable, with_variables, with_variables_of, with_variables_in, with_variables_other}
+use Rattle.ep_typed.specs.Denoters.{definition_of, host_of, required_type, type_of}
 use Rattle.ep_typed.specs.Hosts as host
-use Rattle.ep_typed.specs.Trees.{Required}
-use Rattle.ep_typed.specs.Valid.{required, IsDenoter, IsVariable}
-use Rattle.ep_typed.specs.Viewed.{denoter_of}
+use Rattle.ep_typed.specs.Hosts.{Host}
+use Rattle.ep_typed.specs.Routines.{first_with, formal_variable, made_by_unit, made_variables, unit_variables, variables_of}
+use Rattle.ep_typed.specs.Trees.{Required, Named, Place, Entire, OfUnit, OfRoutine, entire, Stmt, Stmts, Empty, Compound, Assign, If, While, Repeat, For, With, Procedure, Halt, Write, none, next, Case, Arms, no_arm, next_arm, Other, no_other, otherwise_do}
+use Rattle.ep_typed.specs.TypeValues.{TypeValue, Record}
+use Rattle.ep_typed.specs.Valid.{required, named, Declarations, IsDenoter, IsPlaceWhere, IsStmt, AreStmts, AreArms, IsOther, IsType, IsTyped, IsUnmade, IsVariable, IsWith}
+use Rattle.ep_typed.specs.Viewed.{denoter_of, stmt_of}
 use Rattle.ep_typed.specs.declared.denoter.RequiredType.TheVariants as simple
+use Rattle.ep_typed.specs.declared.unit.Unit.{Unit as TypedUnit}
+use Rattle.ep_typed.specs.declared.unit.UnitRoutine.{UnitRoutine}
 use Rattle.ep_typed.specs.declared.unit.UnitType.{UnitType}
 use Rattle.ep_typed.specs.declared.unit.UnitVariable.{UnitVariable}
-use Rattle.ep_typed.proofs.Forms.{required_is}
+use Rattle.ep_typed.proofs.Denoters.{is_of, instances_are_one, types_are_instances}
+use Rattle.ep_typed.proofs.Forms.{named_is, required_is}
+use Rattle.ep_typed.proofs.Typed.{typed_instance}
 
 integer_valid : (types : List UnitType) → IsDenoter types (Required simple.Integer)
 integer_valid types = record { type_value = required_type simple.Integer; has_type = refl; typed = required simple.Integer }
@@ -26,3 +36,79 @@ auxiliaries_valid types None k v h = cc
 auxiliaries_valid types (Some line) zero v h = let e : auxiliary_variable line ≡ v = cc in subst (λ w. IsVariable types w) e (auxiliary_valid types line)
 auxiliaries_valid types (Some line) (suc zero) v h = let e : auxiliary_variable line ≡ v = cc in subst (λ w. IsVariable types w) e (auxiliary_valid types line)
 auxiliaries_valid types (Some line) (suc (suc k)) v h = cc
+
+-- ---- `with`
+
+-- what stands behind a list
+stands_behind : {A : Type 0} (xs ys : List A) (k : ℕ) → slice_get (xs ++ ys) (length xs + k) ≡ slice_get ys k
+stands_behind [] ys k = ap (slice_get ys) {x = 0 + k} {y = k} (omega arith)
+stands_behind (x ∷ xs) ys k = ap (slice_get (x ∷ (xs ++ ys))) {x = suc (length xs) + k} {y = suc (length xs + k)} (omega arith) ∙ stands_behind xs ys k
+
+-- the variables of the `with` statements of a routine are those from the first number on that no code makes
+pub withs_of_routine : (r : UnitRoutine) (k : ℕ) → slice_get (variables_of r) (first_with r + k) ≡ slice_get (with_variables (stmt_of r.block)) k
+withs_of_routine r k =
+    let formals : List UnitVariable = map (formal_variable r.line) r.formals in
+    let made : List UnitVariable = made_variables r in
+    let at : first_with r + k ≡ length formals + (length made + k) = omega (arith, length-map r.formals (formal_variable r.line)) in
+    ap (slice_get (variables_of r)) at ∙ (stands_behind formals (made ++ with_variables (stmt_of r.block)) (length made + k) ∙ stands_behind made (with_variables (stmt_of r.block)) k)
+
+-- and so are those of the start of a unit
+pub withs_of_unit : (u : TypedUnit) (k : ℕ) → slice_get (unit_variables u) (length (made_by_unit u) + k) ≡ slice_get (with_variables (stmt_of u.start)) k
+withs_of_unit u k = stands_behind (made_by_unit u) (with_variables (stmt_of u.start)) k
+
+module _ (declared : Declarations) (types : List UnitType) (own_types : declared.routine_types ≡ types) (unit_types : declared.types declared.routine_unit ≡ types) (valid : All (IsType types) types) where
+  -- the variables have valid denoters
+  abbrev pub AreDenoted : List UnitVariable → Type 0
+  AreDenoted vs = (k : ℕ) (v : UnitVariable) → slice_get vs k ≡ Some v → IsDenoter types (denoter_of v.denoter)
+
+  both_denoted : (vs ws : List UnitVariable) → AreDenoted vs → AreDenoted ws → AreDenoted (vs ++ ws)
+  both_denoted [] ws p q k v e = q k v e
+  both_denoted (w ∷ vs) ws p q zero v e = p zero v e
+  both_denoted (w ∷ vs) ws p q (suc k) v e = both_denoted vs ws (λ j x d. p (suc j) x d) q k v e
+
+  -- a name that has a type value is that of a valid type
+  named_valid : (of : ℕ) (t : TypeValue) → type_of types (Named of []) ≡ Some t → IsDenoter types (Named of [])
+  named_valid of t e =
+      let x = is_of types (Named of []) t (types_are_instances types (Named of []) t e) in
+      let its : IsType types x.0 = subst (λ u. IsType types u) (get_or_from_slice_get types of x.0 x.0 x.1) (valid of x.0 (slice_get_within types of x.0 x.1)) in
+      let d : IsDenoter types (definition_of x.0) = its.denoter in
+      let same : d.type_value ≡ t = instances_are_one types (definition_of x.0) d.type_value t (typed_instance types (definition_of x.0) d.type_value d.typed) x.2 in
+      record { type_value = t; has_type = e; typed = named of x.0 x.1 (subst (λ u. IsTyped types (definition_of x.0) u) same d.typed) }
+
+  -- the type value of the variable that stands for a place
+  its_type : (v : Entire) (of : ℕ) (t : TypeValue) → IsUnmade declared v → IsPlaceWhere declared (λ ts d. (d ≡ Named of []) × (type_of ts d ≡ Some t)) (entire v) → type_of types (Named of []) ≡ Some t
+  its_type (OfUnit unit k) of t (no_level, unit_is, unmade) (w, there, is) = ap (λ ts. type_of ts (Named of [])) (sym (ap declared.types unit_is ∙ unit_types)) ∙ (ap (type_of (declared.types unit)) (sym is.0) ∙ is.1)
+  its_type (OfRoutine zero k) of t unmade (w, there, is) = ap (λ ts. type_of ts (Named of [])) (sym own_types) ∙ (ap (type_of declared.routine_types) (sym is.0) ∙ is.1)
+  its_type (OfRoutine (suc up) k) of t unmade is = absurd unmade
+
+  one_denoted : (line of : ℕ) (v : Entire) (p : Place) → IsWith declared v of p → IsDenoter types (denoter_of (with_variable line of).denoter)
+  one_denoted line of v p h = subst (λ d. IsDenoter types d) (sym (named_is of [])) (named_valid of (Record h.components) (its_type v of (Record h.components) h.unmade h.variable))
+
+  mutual
+    -- the variables of the `with` statements in a valid statement have valid denoters
+    pub withs_denoted : (s : Stmt) → IsStmt declared s → AreDenoted (with_variables s)
+    withs_denoted Empty h k v e = cc
+    withs_denoted (Compound ss) h k v e = withs_of_denoted ss h k v e
+    withs_denoted (Assign line p x) h k v e = cc
+    withs_denoted (If line x a b) h k v e = both_denoted (with_variables a) (with_variables b) (withs_denoted a h.1) (withs_denoted b h.2) k v e
+    withs_denoted (While line x s) h k v e = withs_denoted s h.1 k v e
+    withs_denoted (Repeat line ss x) h k v e = withs_of_denoted ss h.0 k v e
+    withs_denoted (For line c x y s) h k v e = withs_denoted s h.1 k v e
+    withs_denoted (With line w of p s) h zero v e = subst (λ (u : UnitVariable). IsDenoter types (denoter_of u.denoter)) (same_Some (with_variable line of) v e) (one_denoted line of w p h.0)
+    withs_denoted (With line w of p s) h (suc k) v e = withs_denoted s h.1 k v e
+    withs_denoted (Procedure line callee given) h k v e = cc
+    withs_denoted (Case line x arms o) h k v e = both_denoted (with_variables_in arms) (with_variables_other o) (withs_in_denoted (h.0).0 arms (h.0).2) (withs_other_denoted o h.1) k v e
+    withs_denoted (Halt line) h k v e = cc
+    withs_denoted (Write line items ends_line) h k v e = cc
+
+    withs_of_denoted : (ss : Stmts) → AreStmts declared ss → AreDenoted (with_variables_of ss)
+    withs_of_denoted none h k v e = cc
+    withs_of_denoted (next s ss) h k v e = both_denoted (with_variables s) (with_variables_of ss) (withs_denoted s h.0) (withs_of_denoted ss h.1) k v e
+
+    withs_in_denoted : (host : Host) (arms : Arms) → AreArms declared host arms → AreDenoted (with_variables_in arms)
+    withs_in_denoted host no_arm h k v e = cc
+    withs_in_denoted host (next_arm ranges s arms) h k v e = both_denoted (with_variables s) (with_variables_in arms) (withs_denoted s h.2) (withs_in_denoted host arms h.3) k v e
+
+    withs_other_denoted : (o : Other) → IsOther declared o → AreDenoted (with_variables_other o)
+    withs_other_denoted no_other h k v e = cc
+    withs_other_denoted (otherwise_do ss) h k v e = withs_of_denoted ss h k v e

@@ -71,7 +71,7 @@ same_ordinal l h m k e = (cc, cc)
 
 module _ (types : List UnitType) where
   -- what a type value of a denoter of each form comes from
-  abbrev IsOf : Denoter → TypeValue → Type 0
+  abbrev pub IsOf : Denoter → TypeValue → Type 0
   IsOf (Required r) v = required_type r ≡ v
   IsOf (Named index []) v = (t : UnitType) × (slice_get types index ≡ Some t) × IsInstance types (definition_of t) v
   IsOf (Named index (b ∷ bs)) v = ⊥
@@ -87,7 +87,7 @@ module _ (types : List UnitType) where
   AreOf no_denoter ts = type.no_component ≡ ts
   AreOf (next_denoter d ds) ts = (u : TypeValue) × (us : ComponentTypes) × (type.next_component u us ≡ ts) × IsInstance types d u × AreInstances types ds us
 
-  is_of : (d : Denoter) (v : TypeValue) → IsInstance types d v → IsOf d v
+  pub is_of : (d : Denoter) (v : TypeValue) → IsInstance types d v → IsOf d v
   is_of d v (required r) = refl
   is_of d v (named index t at h) = (t, at, h)
   is_of d v (subrange host low high) = refl

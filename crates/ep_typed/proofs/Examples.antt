@@ -1,9 +1,9 @@
 -- The meaning computes the answers of small programs.
 use Rattle.std.proofs.Common.{◌≡◌, ℕ, ℤ, pos, negsuc, Bool, true, false, Some, None, [], ◌∷◌, refl, codes}
 use Rattle.ep_typed.specs.Events.{Trace, Write}
-use Rattle.ep_typed.specs.Trees.{Variable, OfUnit, Indexed, Expr, Constant, Function, Evaluated, no_actual, next_actual, Read, One, Two, Plain, Wide, Stmt, Compound, Assign, While, Repeat, For, Case, Short, Write, stmts, none, next, Other, no_other, otherwise_do, arms}
+use Rattle.ep_typed.specs.Trees.{Variable, OfUnit, Indexed, Field, Expr, Constant, Function, Evaluated, no_actual, next_actual, Read, One, Two, Plain, Wide, Stmt, Compound, Assign, While, Repeat, For, With, Case, Short, Write, stmts, none, next, Other, no_other, otherwise_do, arms}
 use Rattle.ep_typed.specs.Trees as tree
-use Rattle.ep_typed.specs.TypeValues.{TypeValue, Array, component_type, size_of}
+use Rattle.ep_typed.specs.TypeValues.{TypeValue, Array, Record, no_component, next_component, component_type, size_of}
 use Rattle.ep_typed.specs.Steps.{State, End, Normal, Halted, Error, Outcome, Gives, Ends, Cut, give, spend, state_of, made, first_state}
 use Rattle.ep_typed.specs.Calls.{Handler}
 use Rattle.ep_typed.specs.Meaning.{eval, exec, routine_of}
@@ -184,3 +184,38 @@ outside_type = refl
 -- an assignment to an element spends a step for its variable, two for each index, one for the value and one of its own
 steps_of_an_element : end_of (exec (routine_of [] 0) 7 (codes "p") (Compound (next (Assign 3 (element 2 1) (Constant (pos 1))) (next (tree.Halt 4) none))) 7 (made (codes "p") 0 matrix first_state)) ≡ Halted
 steps_of_an_element = refl
+
+-- ---- `with`
+
+-- a variable a of type array [1..2] of records of one character, an index i behind it, and the variable of a `with` behind both
+abbrev points : TypeValue
+points = Array (pos 1) (pos 2) (Record (next_component (Ordinal (pos 0) (pos 255)) no_component))
+
+abbrev i : tree.Place
+i = Variable (codes "p") 1
+
+abbrev in_points : Stmt → Outcome (Unit {0})
+in_points s = exec (routine_of [] 0) 200 (codes "p") s 200 (made (codes "p") 1 (Ordinal (pos 1) (pos 2)) (made (codes "p") 0 points first_state))
+
+-- the field of the variable that a `with` accesses, and that of the element at an index
+abbrev accessed : tree.Place
+accessed = Field (Variable (codes "p") 2) 0
+
+abbrev at_index : Expr → tree.Place
+at_index e = Field (Indexed a e) 0
+
+abbrev shows_element : ℕ → Stmt
+shows_element n = tree.Write 9 (Plain print.Char (Read (at_index (Constant (pos n)))) ∷ []) false
+
+-- The place is found once: a[i] stays a[1] though i becomes 2.
+found_once : trace_of (in_points (Compound (next (Assign 3 i (Constant (pos 1))) (next (With 4 (OfUnit (codes "p") 2) 0 (Indexed a (Read i)) (Compound (next (Assign 5 i (Constant (pos 2))) (next (Assign 6 accessed (Constant (pos 120))) none)))) (next (shows_element 1) none)))))
+    ≡ Write (codes "x") ∷ []
+found_once = refl
+
+-- an error in the place has the line of the statement
+no_such_element : end_of (in_points (With 4 (OfUnit (codes "p") 2) 0 (Indexed a (Constant (pos 3))) (Assign 6 accessed (Constant (pos 120))))) ≡ Error run_error.INDEX (codes "p") 4
+no_such_element = refl
+
+-- it spends the steps of its place, and one of its own
+steps_of_with : end_of (exec (routine_of [] 0) 4 (codes "p") (With 4 (OfUnit (codes "p") 2) 0 (Indexed a (Constant (pos 2))) (tree.Halt 5)) 4 (made (codes "p") 0 points first_state)) ≡ Halted
+steps_of_with = refl

@@ -3,18 +3,18 @@ use Rattle.std.proofs.Common.{slice_get, ◌≡◌, ℕ, ℤ, pos, negsuc, zero,
 use Rattle.std.specs.Prelude.{if◌then◌else◌}
 use Rattle.ep_typed.specs.Controls.{in_order, next_value}
 use Rattle.ep_typed.specs.Denoters.{definition_of, required_type, subrange_type, enumeration_type, array_type}
-use Rattle.ep_typed.specs.Meaning.{argument, arguments, one_result, weights_of, results_given, initialized, takes_by, takes_all, elaborate, elaborate_each, answered, indexed, selected, part, place, eval, write_piece, write_wide, write_item, write_items, assign, turns, turns_until, assigns, undefines, turns_to, counts, exec, exec_all, elaborated, elaborated_where, elaborated_found, elaborate_step, elaborate_within, make, make_all, make_own, make_all_own, start_of, starts_of, Found, routine_in, activation, runs_routine, routine_does, routine_of, read, assign_living, tried, exec_arms, exec_other}
+use Rattle.ep_typed.specs.Meaning.{argument, arguments, one_result, weights_of, results_given, initialized, takes_by, takes_all, elaborate, elaborate_each, answered, indexed, selected, part, place, eval, write_piece, write_wide, write_item, write_items, assign, turns, turns_until, assigns, undefines, turns_to, counts, names, exec, exec_all, elaborated, elaborated_where, elaborated_found, elaborate_step, elaborate_within, make, make_all, make_own, make_all_own, start_of, starts_of, Found, routine_in, activation, runs_routine, routine_does, routine_of, read, assign_living, tried, exec_arms, exec_other}
 use Rattle.ep_typed.specs.Operations.{Answer, Number, Fault, is_same, is_true, decides, is_in}
 use Rattle.ep_typed.specs.Printing.{Result, number_of, plain_text, wide_text, piece_events}
 use Rattle.ep_typed.specs.Printing as result
 use Rattle.ep_typed.specs.Calls.{Argument, Value, Handler, entered, given_back, in_call}
 use Rattle.ep_typed.specs.Calls as argument_is
 use Rattle.ep_typed.specs.Steady.{Grows, Steady, IsSteadyHandler}
-use Rattle.ep_typed.specs.Steps.{Call, End, Normal, Halted, Error, Undefined, State, Outcome, Gives, Ends, Cut, state_of, Computation, give, cut, stop, go_on, bind, spend, change, found, fetch, assigned, type_at, Component, component, whole, size_of, with_type, counted, made, made_own, allocate, allocate_own, newest_assigned, with_own_bound, standard_file, first_state, using, has_ended, own_variable}
+use Rattle.ep_typed.specs.Steps.{Call, End, Normal, Halted, Error, Undefined, State, Outcome, Gives, Ends, Cut, state_of, Computation, give, cut, stop, go_on, bind, spend, change, found, fetch, assigned, type_at, Component, component, whole, size_of, with_type, counted, made, made_own, allocate, allocate_own, newest_assigned, with_bound, with_own_bound, standard_file, first_state, using, has_ended, own_variable}
 use Rattle.ep_typed.specs.Steps.{Value as ValueOf}
 use Rattle.ep_typed.specs.Results.{misfit, result_of, suits, value_of, weight_of}
-use Rattle.ep_typed.specs.Trees.{Array, Enumeration, Subrange, Named, Record, Required, Denoter, Denoters, no_denoter, next_denoter, Callee, Place, Variable, Own, Standard, Indexed, Field, Expr, Constant, Text, Read, One, Two, Short, Step, Function, IndexedValue, FieldValue, Actual, Evaluated, Accessed, Actuals, no_actual, next_actual, Item, Plain, Wide, Stmt, Stmts, Empty, Compound, Assign, If, While, Repeat, Control, For, Procedure, Halt, Write, none, next, Case, Arms, no_arm, next_arm, Other, no_other, otherwise_do, entire}
-use Rattle.ep_typed.specs.Routines.{made_variables, unit_variables}
+use Rattle.ep_typed.specs.Trees.{Array, Enumeration, Subrange, Named, Record, Required, Denoter, Denoters, no_denoter, next_denoter, Callee, Place, Variable, Own, Standard, Indexed, Field, Expr, Constant, Text, Read, One, Two, Short, Step, Function, IndexedValue, FieldValue, Actual, Evaluated, Accessed, Actuals, no_actual, next_actual, Item, Plain, Wide, Stmt, Stmts, Empty, Compound, Assign, If, While, Repeat, Control, For, With, Procedure, Halt, Write, none, next, Case, Arms, no_arm, next_arm, Other, no_other, otherwise_do, Entire, OfUnit, OfRoutine, entire}
+use Rattle.ep_typed.specs.Routines.{made_variables, made_by_unit}
 use Rattle.ep_typed.specs.Viewed.{denoter_of, stmt_of}
 use Rattle.ep_typed.specs.declared.interface.Formal.{Formal}
 use Rattle.ep_typed.specs.declared.interface.FormalMode.{FormalMode}
@@ -261,6 +261,12 @@ module _ (call other : Handler) (lasts : IsLastingHandler call other) (g j : ℕ
   lasting_counts line c x =
       lasting_bind (lasting_eval line (Read (entire c.last))) (λ b. lasting_bind (lasting_assigns line (entire c.variable) (Read (entire c.last))) (λ _. lasting_bind (lasting_assigns line (entire c.variable) (Read (entire c.initial))) (λ _. lasting_turns_to g line c (number_of b) x)))
 
+  -- the variable of a `with`
+  lasting_names : (v : Entire) (c : Component) → Lasting (names call g unit v c) (names other (g + j) unit v c)
+  lasting_names (OfUnit u k) c = lasting_spend 1 (lasting_change (λ s. grows_quiet s (with_bound u k c s) refl refl))
+  lasting_names (OfRoutine zero k) c = lasting_spend 1 (lasting_change (λ s. grows_quiet s (with_own_bound k c s) refl refl))
+  lasting_names (OfRoutine (suc up) k) c = lasting_cut
+
   mutual
     lasting_exec : (x : Stmt) → Lasting (exec call g unit x) (exec other (g + j) unit x)
     lasting_exec Empty = lasting_give tt
@@ -274,6 +280,7 @@ module _ (call other : Handler) (lasts : IsLastingHandler call other) (g j : ℕ
         lasting_bind (lasting_assigns line (entire c.initial) x) (λ _. lasting_bind (lasting_assigns line (entire c.last) y) (λ _.
         lasting_bind (lasting_bind (lasting_eval line (in_order c)) (λ r. lasting_if (is_true (number_of r)) (lasting_counts line c (lasting_exec s)) (lasting_give tt))) (λ _.
         lasting_bind (lasting_undefines line (entire c.variable)) (λ _. lasting_spend 1 (lasting_give tt)))))
+    lasting_exec (With line v of p s) = lasting_bind (lasting_place line p) (λ c. lasting_bind (lasting_names v c) (λ _. lasting_exec s))
     lasting_exec (Procedure line callee given) =
         lasting_bind (lasting_arguments line given) (λ xs. lasting_bind (lasts.by unit line callee xs) (λ results. lasting_spend 1 (lasting_give tt)))
     lasting_exec (Case line x arms o) = lasting_bind (lasting_eval line x) (λ r. lasting_exec_arms (number_of r) arms (lasting_exec_other line o))
@@ -361,7 +368,7 @@ module _ (call other : Handler) (lasts : IsLastingHandler call other) (g j : ℕ
 
 -- the start of a unit
 lasting_start_of : (call other : Handler) → IsLastingHandler call other → (g j : ℕ) (u : TypedUnit) → Lasting (start_of call g u) (start_of other (g + j) u)
-lasting_start_of call other lasts g j u = lasting_spend 1 (lasting_bind (lasting_make_all call other lasts g j u.name u.types 0 (unit_variables u)) (λ _. lasting_exec call other lasts g j u.name (stmt_of u.start)))
+lasting_start_of call other lasts g j u = lasting_spend 1 (lasting_bind (lasting_make_all call other lasts g j u.name u.types 0 (made_by_unit u)) (λ _. lasting_exec call other lasts g j u.name (stmt_of u.start)))
 
 -- the starts of units
 lasting_starts_of : (call other : Handler) → IsLastingHandler call other → (g j : ℕ) (us : List TypedUnit) → Lasting (starts_of call g us) (starts_of other (g + j) us)

@@ -6,18 +6,18 @@ use Rattle.ep_outside.specs.Known.{IsPrefix}
 use Rattle.ep_typed.specs.Controls.{in_order, next_value}
 use Rattle.ep_typed.specs.Denoters.{definition_of, required_type, subrange_type, enumeration_type, array_type}
 use Rattle.ep_typed.specs.Events.{Trace}
-use Rattle.ep_typed.specs.Meaning.{argument, arguments, one_result, weights_of, result_at, results_given, initialized, takes_by, takes_all, elaborate, elaborate_each, answered, indexed, selected, part, place, eval, write_piece, write_wide, write_item, write_items, assign, turns, turns_until, assigns, undefines, turns_to, counts, exec, exec_all, elaborated, elaborated_where, elaborated_found, elaborate_step, elaborate_within, make, make_all, make_own, make_all_own, start_of, starts_of, Found, routine_in, activation, runs_routine, routine_does, routine_of, read, assign_living, tried, exec_arms, exec_other}
+use Rattle.ep_typed.specs.Meaning.{argument, arguments, one_result, weights_of, result_at, results_given, initialized, takes_by, takes_all, elaborate, elaborate_each, answered, indexed, selected, part, place, eval, write_piece, write_wide, write_item, write_items, assign, turns, turns_until, assigns, undefines, turns_to, counts, names, exec, exec_all, elaborated, elaborated_where, elaborated_found, elaborate_step, elaborate_within, make, make_all, make_own, make_all_own, start_of, starts_of, Found, routine_in, activation, runs_routine, routine_does, routine_of, read, assign_living, tried, exec_arms, exec_other}
 use Rattle.ep_typed.specs.Operations.{Answer, Number, Fault, is_same, is_true, decides, is_in}
 use Rattle.ep_typed.specs.Printing.{Result, number_of, plain_text, wide_text, piece_events}
 use Rattle.ep_typed.specs.Printing as result
 use Rattle.ep_typed.specs.Calls.{Argument, Value, Handler, entered, given_back, in_call}
 use Rattle.ep_typed.specs.Calls as argument_is
 use Rattle.ep_typed.specs.Steady.{Grows, Steady, IsSteadyHandler}
-use Rattle.ep_typed.specs.Steps.{Call, End, Normal, Halted, Error, Undefined, State, Outcome, Gives, Ends, Cut, state_of, Computation, give, cut, stop, go_on, bind, spend, change, found, fetch, with_events, assigned, type_at, Component, component, whole, size_of, same_type, Resources, watched, words_of_type, sized, met, with_type, counted, made, made_own, allocate, allocate_own, newest_assigned, with_own_bound, standard_file, using, has_ended, own_variable}
+use Rattle.ep_typed.specs.Steps.{Call, End, Normal, Halted, Error, Undefined, State, Outcome, Gives, Ends, Cut, state_of, Computation, give, cut, stop, go_on, bind, spend, change, found, fetch, with_events, assigned, type_at, Component, component, whole, size_of, same_type, Resources, watched, words_of_type, sized, met, with_type, counted, made, made_own, allocate, allocate_own, newest_assigned, with_bound, with_own_bound, standard_file, using, has_ended, own_variable}
 use Rattle.ep_typed.specs.Steps.{Value as ValueOf}
 use Rattle.ep_typed.specs.Results.{misfit, result_of, suits, value_of, weight_of}
-use Rattle.ep_typed.specs.Trees.{Array, Enumeration, Subrange, Named, Record, Required, Denoter, Denoters, no_denoter, next_denoter, Callee, Place, Variable, Own, Standard, Indexed, Field, Expr, Constant, Text, Read, One, Two, Short, Step, Function, IndexedValue, FieldValue, Actual, Evaluated, Accessed, Actuals, no_actual, next_actual, Item, Plain, Wide, Stmt, Stmts, Empty, Compound, Assign, If, While, Repeat, Control, For, Procedure, Halt, Write, none, next, Case, Arms, no_arm, next_arm, Other, no_other, otherwise_do, entire}
-use Rattle.ep_typed.specs.Routines.{made_variables, unit_variables}
+use Rattle.ep_typed.specs.Trees.{Array, Enumeration, Subrange, Named, Record, Required, Denoter, Denoters, no_denoter, next_denoter, Callee, Place, Variable, Own, Standard, Indexed, Field, Expr, Constant, Text, Read, One, Two, Short, Step, Function, IndexedValue, FieldValue, Actual, Evaluated, Accessed, Actuals, no_actual, next_actual, Item, Plain, Wide, Stmt, Stmts, Empty, Compound, Assign, If, While, Repeat, Control, For, With, Procedure, Halt, Write, none, next, Case, Arms, no_arm, next_arm, Other, no_other, otherwise_do, Entire, OfUnit, OfRoutine, entire}
+use Rattle.ep_typed.specs.Routines.{made_variables, made_by_unit}
 use Rattle.ep_typed.specs.Viewed.{denoter_of, stmt_of}
 use Rattle.ep_typed.specs.declared.interface.Formal.{Formal}
 use Rattle.ep_typed.specs.declared.interface.FormalMode.{FormalMode}
@@ -292,6 +292,12 @@ module _ (call : Handler) (steady : IsSteadyHandler call) (g : ℕ) (unit : List
   steady_counts line c x =
       steady_bind (steady_eval line (Read (entire c.last))) (λ b. steady_bind (steady_assigns line (entire c.variable) (Read (entire c.last))) (λ _. steady_bind (steady_assigns line (entire c.variable) (Read (entire c.initial))) (λ _. steady_turns_to g line c (number_of b) x)))
 
+  -- the variable of a `with`
+  pub steady_names : (v : Entire) (c : Component) → Steady (names call g unit v c)
+  steady_names (OfUnit u k) c = steady_spend 1 (steady_change (λ s. grows_quiet s (with_bound u k c s) refl refl))
+  steady_names (OfRoutine zero k) c = steady_spend 1 (steady_change (λ s. grows_quiet s (with_own_bound k c s) refl refl))
+  steady_names (OfRoutine (suc up) k) c = steady_cut
+
   mutual
     pub steady_exec : (x : Stmt) → Steady (exec call g unit x)
     steady_exec Empty = steady_give tt
@@ -305,6 +311,7 @@ module _ (call : Handler) (steady : IsSteadyHandler call) (g : ℕ) (unit : List
         steady_bind (steady_assigns line (entire c.initial) x) (λ _. steady_bind (steady_assigns line (entire c.last) y) (λ _.
         steady_bind (steady_bind (steady_eval line (in_order c)) (λ r. steady_if (is_true (number_of r)) (steady_counts line c (steady_exec s)) (steady_give tt))) (λ _.
         steady_bind (steady_undefines line (entire c.variable)) (λ _. steady_spend 1 (steady_give tt)))))
+    steady_exec (With line v of p s) = steady_bind (steady_place line p) (λ c. steady_bind (steady_names v c) (λ _. steady_exec s))
     steady_exec (Procedure line callee given) =
         steady_bind (steady_arguments line given) (λ xs. steady_bind (steady unit line callee xs) (λ results. steady_spend 1 (steady_give tt)))
     steady_exec (Case line x arms o) = steady_bind (steady_eval line x) (λ r. steady_exec_arms (number_of r) arms (steady_exec_other line o))
@@ -382,7 +389,7 @@ module _ (call : Handler) (steady : IsSteadyHandler call) (g : ℕ) (unit : List
 
 -- the start of a unit
 pub steady_start_of : (call : Handler) → IsSteadyHandler call → (g : ℕ) (u : TypedUnit) → Steady (start_of call g u)
-steady_start_of call steady g u = steady_spend 1 (steady_bind (steady_make_all call steady g u.name u.types 0 (unit_variables u)) (λ _. steady_exec call steady g u.name (stmt_of u.start)))
+steady_start_of call steady g u = steady_spend 1 (steady_bind (steady_make_all call steady g u.name u.types 0 (made_by_unit u)) (λ _. steady_exec call steady g u.name (stmt_of u.start)))
 
 -- the starts of units
 pub steady_starts_of : (call : Handler) → IsSteadyHandler call → (g : ℕ) (us : List TypedUnit) → Steady (starts_of call g us)

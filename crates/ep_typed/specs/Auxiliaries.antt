@@ -1,8 +1,9 @@
--- The auxiliary variables of `for` statements (ISO 10206, 6.9.3.9.2). A block with a `for` has two of them, which all its
--- `for` statements share, and they are made behind the variables that it declares.
-use Rattle.std.specs.Prelude.{codes, ℕ, false, List, [], ◌∷◌, Option, Some, None}
+-- The auxiliary variables of statements. A block with a `for` has two (ISO 10206, 6.9.3.9.2), which all its `for` statements
+-- share, and they are made behind the variables that it declares. Each `with` has one (ISO 10206, 6.9.3.10), behind all of
+-- those, in the order of the text; it is never made, but is the variable that is accessed, once that is found.
+use Rattle.std.specs.Prelude.{codes, ℕ, false, List, [], ◌∷◌, ◌++◌, Option, Some, None}
 use Rattle.std.specs.Option.{option_or}
-use Rattle.ep_typed.specs.Trees.{Stmt, Stmts, Empty, Compound, Assign, If, While, Repeat, For, Procedure, Halt, Write, none, next, Case, Arms, no_arm, next_arm, Other, no_other, otherwise_do}
+use Rattle.ep_typed.specs.Trees.{Stmt, Stmts, Empty, Compound, Assign, If, While, Repeat, For, With, Procedure, Halt, Write, none, next, Case, Arms, no_arm, next_arm, Other, no_other, otherwise_do}
 use Rattle.ep_typed.specs.declared.denoter.Denoter.TheVariants as denoter
 use Rattle.ep_typed.specs.declared.denoter.RequiredType.TheVariants as simple
 use Rattle.ep_typed.specs.declared.unit.UnitVariable.{UnitVariable}
@@ -17,6 +18,7 @@ abbrev mutual
   first_for (While line x s) = first_for s
   first_for (Repeat line ss x) = first_for_of ss
   first_for (For line c x y s) = Some line
+  first_for (With line v of p s) = first_for s
   first_for (Procedure line callee given) = None
   first_for (Case line x arms o) = option_or (first_for_arms arms) (first_for_other o)
   first_for (Halt line) = None
@@ -42,3 +44,35 @@ auxiliary_variable line = record { name = codes "for"; line = line; declaration 
 abbrev pub auxiliary_variables : Option ℕ → List UnitVariable
 auxiliary_variables None = []
 auxiliary_variables (Some line) = auxiliary_variable line ∷ auxiliary_variable line ∷ []
+
+-- The variable of a `with` on a line, for a variable of the record type of this number, has the name of no other one.
+abbrev pub with_variable : ℕ → ℕ → UnitVariable
+with_variable line of = record { name = codes "with"; line = line; declaration = 0; denoter = denoter.Named of []; tuple = []; parameter = false }
+
+abbrev mutual
+  -- those of the `with` statements in a statement, in the order of the text
+  pub with_variables : Stmt → List UnitVariable
+  with_variables Empty = []
+  with_variables (Compound ss) = with_variables_of ss
+  with_variables (Assign line p x) = []
+  with_variables (If line x a b) = with_variables a ++ with_variables b
+  with_variables (While line x s) = with_variables s
+  with_variables (Repeat line ss x) = with_variables_of ss
+  with_variables (For line c x y s) = with_variables s
+  with_variables (With line v of p s) = with_variable line of ∷ with_variables s
+  with_variables (Procedure line callee given) = []
+  with_variables (Case line x arms o) = with_variables_in arms ++ with_variables_other o
+  with_variables (Halt line) = []
+  with_variables (Write line items ends_line) = []
+
+  pub with_variables_of : Stmts → List UnitVariable
+  with_variables_of none = []
+  with_variables_of (next s ss) = with_variables s ++ with_variables_of ss
+
+  pub with_variables_in : Arms → List UnitVariable
+  with_variables_in no_arm = []
+  with_variables_in (next_arm ranges s arms) = with_variables s ++ with_variables_in arms
+
+  pub with_variables_other : Other → List UnitVariable
+  with_variables_other no_other = []
+  with_variables_other (otherwise_do ss) = with_variables_of ss

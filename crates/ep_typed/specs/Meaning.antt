@@ -5,10 +5,10 @@ use Rattle.ep_typed.specs.Calls.{Argument, Value, Handler, in_call}
 use Rattle.ep_typed.specs.Calls as argument_is
 use Rattle.ep_typed.specs.Controls.{in_order, next_value}
 use Rattle.ep_typed.specs.Denoters.{required_type, subrange_type, enumeration_type, array_type, definition_of}
-use Rattle.ep_typed.specs.Trees.{Denoter, Required, Named, Subrange, Enumeration, Array, Record, Denoters, no_denoter, next_denoter, Callee, Place, Variable, Own, Standard, Indexed, Field, Expr, Constant, Text, Read, One, Two, Short, Step, Function, IndexedValue, FieldValue, Actual, Evaluated, Accessed, Actuals, no_actual, next_actual, Item, Plain, Wide, Stmt, Stmts, Empty, Compound, Assign, If, While, Repeat, Control, For, Procedure, Halt, Write, none, next, Case, Arms, no_arm, next_arm, Other, no_other, otherwise_do, entire}
-use Rattle.ep_typed.specs.Routines.{made_variables, unit_variables}
+use Rattle.ep_typed.specs.Trees.{Denoter, Required, Named, Subrange, Enumeration, Array, Record, Denoters, no_denoter, next_denoter, Callee, Place, Variable, Own, Standard, Indexed, Field, Expr, Constant, Text, Read, One, Two, Short, Step, Function, IndexedValue, FieldValue, Actual, Evaluated, Accessed, Actuals, no_actual, next_actual, Item, Plain, Wide, Stmt, Stmts, Empty, Compound, Assign, If, While, Repeat, Control, For, With, Procedure, Halt, Write, none, next, Case, Arms, no_arm, next_arm, Other, no_other, otherwise_do, Entire, OfUnit, OfRoutine, entire}
+use Rattle.ep_typed.specs.Routines.{made_variables, made_by_unit}
 use Rattle.ep_typed.specs.Viewed.{denoter_of, stmt_of}
-use Rattle.ep_typed.specs.Steps.{Call, Normal, Halted, Error, Undefined, Outcome, Computation, give, cut, stop, bind, spend, change, fetch, with_events, assigned, type_at, whole, Component, component, component_number, with_type, allocate, allocate_own, own_variable, newest_assigned, with_own_bound, standard_file, first_state, using}
+use Rattle.ep_typed.specs.Steps.{Call, Normal, Halted, Error, Undefined, Outcome, Computation, give, cut, stop, bind, spend, change, fetch, with_events, assigned, type_at, whole, Component, component, component_number, with_type, allocate, allocate_own, own_variable, newest_assigned, with_bound, with_own_bound, standard_file, first_state, using}
 use Rattle.ep_typed.specs.Operations.{Answer, Number, Fault, unary_answer, binary_answer, step_answer, is_same, is_true, decides, is_in}
 use Rattle.ep_typed.specs.Printing.{Result, Bytes, number_of, line_end, plain_text, wide_text, piece_events}
 use Rattle.ep_typed.specs.Printing as result
@@ -160,6 +160,13 @@ module _ (call : Handler) (g : ℕ) (unit : List ℕ) where
   tried z [] fits fails = fails
   tried z (r ∷ rs) fits fails = spend 1 (if is_in r z then fits else tried z rs fits fails)
 
+  -- The variable of a `with` is this one from here on (ISO 10206, 6.9.3.10), which spends a step. It is one of the unit or
+  -- of the routine that runs; what is none has no meaning.
+  abbrev pub names : Entire → Component → Computation (Unit {0})
+  names (OfUnit u k) c = spend 1 (change (with_bound u k c))
+  names (OfRoutine zero k) c = spend 1 (change (with_own_bound k c))
+  names (OfRoutine (suc up) k) c = cut
+
   abbrev mutual
     -- a statement spends a step when it is done; the empty and the compound one spend none
     pub exec : Stmt → Computation (Unit {0})
@@ -174,6 +181,8 @@ module _ (call : Handler) (g : ℕ) (unit : List ℕ) where
         bind (assigns line (entire c.initial) x) (λ _. bind (assigns line (entire c.last) y) (λ _.
         bind (bind (eval line (in_order c)) (λ r. if is_true (number_of r) then counts line c (exec s) else give tt)) (λ _.
         bind (undefines line (entire c.variable)) (λ _. spend 1 (give tt)))))
+    -- the place is found once, and the body is done with what was found
+    exec (With line v of p s) = bind (place line p) (λ c. bind (names v c) (λ _. exec s))
     exec (Procedure line callee given) =
         bind (arguments line given) (λ xs. bind (call unit line callee xs) (λ results. spend 1 (give tt)))
     exec (Case line x arms o) = bind (eval line x) (λ r. exec_arms (number_of r) arms (exec_other line o))
@@ -249,9 +258,9 @@ module _ (call : Handler) (g : ℕ) (unit : List ℕ) where
   make_all_own types number [] = give tt
   make_all_own types number (v ∷ vs) = bind (make_own types number v) (λ _. make_all_own types (suc number) vs)
 
--- The start of a unit spends the step of a call, makes its variables, and runs its block.
+-- The start of a unit spends the step of a call, makes the variables that it makes, and runs its block.
 abbrev pub start_of : Handler → ℕ → TypedUnit → Computation (Unit {0})
-start_of call g u = spend 1 (bind (make_all call g u.name u.types 0 (unit_variables u)) (λ _. exec call g u.name (stmt_of u.start)))
+start_of call g u = spend 1 (bind (make_all call g u.name u.types 0 (made_by_unit u)) (λ _. exec call g u.name (stmt_of u.start)))
 
 -- the starts of units in order
 abbrev pub starts_of : Handler → ℕ → List TypedUnit → Computation (Unit {0})
@@ -314,7 +323,7 @@ results_given unit line number None = give []
 results_given unit line number (Some r) = result_at unit line number
 
 -- What a routine does in its activation: its formal parameters take the arguments, it makes the variable that has its
--- result, where it has one, those that it declares, and the auxiliary ones, runs its block, and gives its result. An error in taking arguments
+-- result, where it has one, those that it declares, and the auxiliary ones of `for`, runs its block, and gives its result. An error in taking arguments
 -- or in giving the result is on the line of the declaration (own).
 abbrev pub runs_routine : Handler → ℕ → List ℕ → Found → List Argument → Computation (List Result)
 runs_routine call g unit f xs =

@@ -1,6 +1,6 @@
 -- How many typed nodes a unit has: its expressions, places, statements, ranges of `case` statements, imports, routines, formals, variables, denoters, bounds and values. An expression that is a constant or a text counts one, and its value one more.
 use Rattle.std.specs.Prelude.{ℕ, ◌+◌, ◌*◌, List, [], ◌∷◌, length, map, sum, Option, Some, None}
-use Rattle.ep_typed.specs.Trees.{Denoter, Required, Named, Subrange, Enumeration, Array, Record, Denoters, no_denoter, next_denoter, Place, Variable, Own, Standard, Indexed, Field, Expr, Constant, Text, Read, One, Two, Short, Step, Function, IndexedValue, FieldValue, Actual, Evaluated, Accessed, Actuals, no_actual, next_actual, Item, Plain, Wide, Stmt, Stmts, Empty, Compound, Assign, If, While, Repeat, For, Procedure, Case, Halt, Write, none, next, Arm, Arms, no_arm, next_arm, Other, no_other, otherwise_do, entire}
+use Rattle.ep_typed.specs.Trees.{Denoter, Required, Named, Subrange, Enumeration, Array, Record, Denoters, no_denoter, next_denoter, Place, Variable, Own, Standard, Indexed, Field, Expr, Constant, Text, Read, One, Two, Short, Step, Function, IndexedValue, FieldValue, Actual, Evaluated, Accessed, Actuals, no_actual, next_actual, Item, Plain, Wide, Stmt, Stmts, Empty, Compound, Assign, If, While, Repeat, For, With, Procedure, Case, Halt, Write, none, next, Arm, Arms, no_arm, next_arm, Other, no_other, otherwise_do, entire}
 use Rattle.ep_typed.specs.Viewed.{denoter_of, expr_of, stmt_of}
 use Rattle.ep_typed.specs.declared.interface.ConstantEntry.{ConstantEntry}
 use Rattle.ep_typed.specs.declared.interface.Formal.{Formal}
@@ -78,6 +78,8 @@ abbrev mutual
   stmt_nodes (Repeat line ss x) = 1 + stmts_nodes ss + expr_nodes x
   -- the auxiliary variables are no nodes
   stmt_nodes (For line c x y s) = 1 + place_nodes (entire c.variable) + expr_nodes x + expr_nodes y + stmt_nodes s
+  -- and neither is the variable that stands for the place
+  stmt_nodes (With line v of p s) = 1 + place_nodes p + stmt_nodes s
   stmt_nodes (Procedure line callee given) = 1 + actuals_nodes given
   stmt_nodes (Case line x arms o) = 1 + expr_nodes x + arms_nodes arms + other_nodes o
   stmt_nodes (Halt line) = 1

@@ -1,6 +1,6 @@
--- The variables of routines, by number: the formal parameters, the result of a function, those that it declares, and the auxiliary ones; and those of units.
-use Rattle.std.specs.Prelude.{ℕ, false, List, [], ◌∷◌, ◌++◌, map, Option, Some, None}
-use Rattle.ep_typed.specs.Auxiliaries.{auxiliary_variables, first_for}
+-- The variables of routines, by number: the formal parameters, the result of a function, those that it declares, and the auxiliary ones of `for` and of `with`; and those of units.
+use Rattle.std.specs.Prelude.{ℕ, ◌+◌, false, List, [], ◌∷◌, ◌++◌, length, map, Option, Some, None}
+use Rattle.ep_typed.specs.Auxiliaries.{auxiliary_variables, first_for, with_variables}
 use Rattle.ep_typed.specs.Viewed.{stmt_of}
 use Rattle.ep_typed.specs.declared.interface.Formal.{Formal}
 use Rattle.ep_typed.specs.declared.interface.RoutineEntry.{RoutineEntry}
@@ -28,14 +28,22 @@ result_variable name line None = []
 result_variable name line (Some r) =
     record { name = result_name name r.name; line = line; declaration = 0; denoter = r.denoter; tuple = []; parameter = false } ∷ []
 
--- the variables that a routine makes: the one that has its result, those that it declares, and the auxiliary ones of its block
+-- the variables that a routine makes: the one that has its result, those that it declares, and the auxiliary ones of `for` in its block
 abbrev pub made_variables : UnitRoutine → List UnitVariable
 made_variables r = result_variable r.name r.line r.result ++ (r.variables ++ auxiliary_variables (first_for (stmt_of r.block)))
 
--- the variables that a unit makes: those that it declares, and the auxiliary ones of its start
-abbrev pub unit_variables : TypedUnit → List UnitVariable
-unit_variables u = u.variables ++ auxiliary_variables (first_for (stmt_of u.start))
+-- the variables that a unit makes: those that it declares, and the auxiliary ones of `for` in its start
+abbrev pub made_by_unit : TypedUnit → List UnitVariable
+made_by_unit u = u.variables ++ auxiliary_variables (first_for (stmt_of u.start))
 
--- the variables of a routine: its formal parameters, and those that it makes
+-- the variables of a unit: those that it makes, and those of `with` in its start
+abbrev pub unit_variables : TypedUnit → List UnitVariable
+unit_variables u = made_by_unit u ++ with_variables (stmt_of u.start)
+
+-- the first number of those of `with` in a routine
+abbrev pub first_with : UnitRoutine → ℕ
+first_with r = length r.formals + length (made_variables r)
+
+-- the variables of a routine: its formal parameters, those that it makes, and those of `with` in its block
 abbrev pub variables_of : UnitRoutine → List UnitVariable
-variables_of r = map (formal_variable r.line) r.formals ++ made_variables r
+variables_of r = map (formal_variable r.line) r.formals ++ (made_variables r ++ with_variables (stmt_of r.block))

@@ -276,6 +276,10 @@ taken n r = watched (record r { allocated = r.allocated + n })
 abbrev pub bound : List ℕ → ℕ → Component → (List ℕ → ℕ → Option Component) → List ℕ → ℕ → Option Component
 bound unit number c variables u k = if bytes_eq unit u && (nat_le number k && nat_le k number) then Some c else variables u k
 
+-- a variable of a unit is one that there is
+abbrev pub with_bound : List ℕ → ℕ → Component → State → State
+with_bound unit number c s = record s { variables = bound unit number c s.variables }
+
 -- the words of a variable of a type, and one more, are counted
 abbrev pub counted : TypeValue → State → State
 counted t s = record s { resources = taken (size_of t + 1) s.resources }

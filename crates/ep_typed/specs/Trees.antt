@@ -124,6 +124,8 @@ mutual
     Repeat : (line : ℕ) (body : Stmts) (condition : Expr) → Stmt
     -- the control, the initial and the final value, and the body
     For : (line : ℕ) (control : Control) (initial last : Expr) (body : Stmt) → Stmt
+    -- the variable that stands for the place, the number of its record type, the place, and the body
+    With : (line : ℕ) (variable : Entire) (of : ℕ) (place : Place) (body : Stmt) → Stmt
     -- the procedure is called with these parameters
     Procedure : (line : ℕ) (callee : Callee) (given : Actuals) → Stmt
     -- the selector, the arms, and what is done where no range of theirs has its value

@@ -1,13 +1,14 @@
 -- Which typed trees the static rules give: each form has parts of the kinds, types and numbers that it asks for.
-use Rattle.std.specs.Prelude.{◌≡◌, ℕ, ℤ, pos, zero, suc, ◌<◌, Bool, true, false, All, List, [], ◌∷◌, ◌++◌, map, slice_get, drop, length, Option, Some, None, IsTrue, int_le, ⊤, if◌then◌else◌}
+use Rattle.std.specs.Prelude.{◌≡◌, ℕ, ℤ, pos, zero, suc, ◌<◌, ◌≤◌, Bool, true, false, All, List, [], ◌∷◌, ◌++◌, map, slice_get, drop, length, Option, Some, None, IsTrue, int_le, ⊤, if◌then◌else◌}
 use Rattle.std.specs.Str.{bytes_eq}
 use Rattle.ep_typed.specs.Denoters.{ArrayParts, array_of, definition_of, denoter_at, record_of, required_type, type_of, host_of}
 use Rattle.ep_typed.specs.Hosts.{Host, least, greatest, is_of_host}
 use Rattle.ep_typed.specs.Hosts as host
 use Rattle.ep_typed.specs.Operations.{is_integer, is_apart}
 use Rattle.ep_typed.specs.Steps.{is_within}
-use Rattle.ep_typed.specs.Trees.{Fixed, Denoter, Required, Named, Subrange, Enumeration, Array, Record, Denoters, no_denoter, next_denoter, Callee, Place, Variable, Own, Standard, Indexed, Field, Expr, Constant, Text, Read, One, Two, Short, Step, Function, IndexedValue, FieldValue, Actual, Evaluated, Accessed, Actuals, no_actual, next_actual, Item, Plain, Wide, Stmt, Stmts, Empty, Compound, Assign, If, While, Repeat, Control, For, Procedure, Halt, Write, none, next, Case, Arms, no_arm, next_arm, Other, no_other, otherwise_do, entire}
+use Rattle.ep_typed.specs.Trees.{Fixed, Denoter, Required, Named, Subrange, Enumeration, Array, Record, Denoters, no_denoter, next_denoter, Callee, Place, Variable, Own, Standard, Indexed, Field, Expr, Constant, Text, Read, One, Two, Short, Step, Function, IndexedValue, FieldValue, Actual, Evaluated, Accessed, Actuals, no_actual, next_actual, Item, Plain, Wide, Stmt, Stmts, Empty, Compound, Assign, If, While, Repeat, Control, For, With, Procedure, Halt, Write, none, next, Case, Arms, no_arm, next_arm, Other, no_other, otherwise_do, Entire, OfUnit, OfRoutine, entire}
 pub use Rattle.ep_typed.specs.Routines.{heading_of, formal_variable, variables_of, unit_variables}
+use Rattle.ep_typed.specs.Routines.{first_with, made_by_unit}
 use Rattle.ep_typed.specs.Viewed.{denoter_of, stmt_of}
 use Rattle.ep_typed.specs.declared.operations.Unary.{Unary}
 use Rattle.ep_typed.specs.declared.operations.Unary.TheVariants as unary
@@ -64,10 +65,11 @@ IsTypeOfKind (Ordinal h) t = IsTypeOf h t
 IsTypeOfKind Bytes t = ⊥
 IsTypeOfKind (Structured u) t = (u ≡ t) × IsStructured u
 
--- a routine by its number, with its variables
+-- a routine by its number, with its variables, and the first number of those that no code makes
 pub record Level : Type 0 where
   pub number : ℕ
   pub variables : List UnitVariable
+  pub first_with : ℕ
 
 -- what the units whose declarations may be named declare, by the unit's name
 pub record Declarations : Type 0 where
@@ -79,10 +81,12 @@ pub record Declarations : Type 0 where
   pub routines : List ℕ → List RoutineEntry
   -- the routines around the routine of this number of the unit, the innermost first
   pub around : List ℕ → ℕ → List Level
-  -- the routine in whose block they may be named and the ones around it, the innermost first, and their unit and its types
+  -- The routine in whose block they may be named and the ones around it, the innermost first, and their unit and its types,
+  -- and the first number of the variables of that unit that no code makes. Without routines they may be named in its start.
   pub levels : List Level
   pub routine_unit : List ℕ
   pub routine_types : List UnitType
+  pub first_with : ℕ
 
 -- the same declarations in the block of a routine of the unit, by its levels
 abbrev pub in_routine : List Level → Declarations → Declarations
@@ -95,6 +99,12 @@ variables_at (Some level) = level.variables
 -- the variables of the routine so many levels up
 abbrev pub variables_up : Declarations → ℕ → List UnitVariable
 variables_up declared up = variables_at (slice_get declared.levels up)
+
+-- the variable is one of the routine, or else of the unit, in whose block it is named, and no code makes it
+abbrev pub IsUnmade : Declarations → Entire → Type 0
+IsUnmade declared (OfUnit unit number) = (declared.levels ≡ []) × (unit ≡ declared.routine_unit) × (declared.first_with ≤ number)
+IsUnmade declared (OfRoutine zero number) = (level : Level) × (slice_get declared.levels 0 ≡ Some level) × (level.first_with ≤ number)
+IsUnmade declared (OfRoutine (suc up) number) = ⊥
 
 -- A routine is declared so: 0 says that it is one of the unit, and other numbers that the routine in which it is declared
 -- is the one so many levels less one up from the one in which code stands.
@@ -255,6 +265,14 @@ module _ (declared : Declarations) where
     pub low : c.low ≡ least h
     pub high : c.high ≡ greatest h
 
+  -- The variable that stands for the place is one that no code makes, of the record type of this number, which the place
+  -- has too (ISO 10206, 6.9.3.10).
+  pub record IsWith (v : Entire) (of : ℕ) (p : Place) : Type 0 where
+    pub components : ComponentTypes
+    pub unmade : IsUnmade declared v
+    pub variable : IsPlaceWhere (λ types d. (d ≡ Named of []) × (type_of types d ≡ Some (type.Record components))) (entire v)
+    pub place : IsVariableOf (type.Record components) p
+
   abbrev mutual
     pub IsStmt : Stmt → Type 0
     IsStmt Empty = ⊤
@@ -264,6 +282,7 @@ module _ (declared : Declarations) where
     IsStmt (While line x s) = IsExpr (Ordinal host.Boolean) x × IsStmt s
     IsStmt (Repeat line ss x) = AreStmts ss × IsExpr (Ordinal host.Boolean) x
     IsStmt (For line c x y s) = ((h : Host) × IsControl h c × IsExpr (Ordinal h) x × IsExpr (Ordinal h) y) × IsStmt s
+    IsStmt (With line v of p s) = IsWith v of p × IsStmt s
     IsStmt (Procedure line callee given) =
         (r : RoutineEntry) × IsCallee declared callee r × IsProcedure r × AreGiven (declared.types callee.unit) r.formals given
     IsStmt (Case line x arms o) = ((h : Host) × IsExpr (Ordinal h) x × AreArms h arms) × IsOther o × AreApart (ranges_of arms)
@@ -361,10 +380,14 @@ abbrev pub variables_in : Option UnitRoutine → List UnitVariable
 variables_in None = []
 variables_in (Some r) = variables_of r
 
+abbrev pub first_with_in : Option UnitRoutine → ℕ
+first_with_in None = 0
+first_with_in (Some r) = first_with r
+
 -- the routines of these numbers
 abbrev pub levels_of : List UnitRoutine → List ℕ → List Level
 levels_of routines [] = []
-levels_of routines (n ∷ ns) = record { number = n; variables = variables_in (slice_get routines n) } ∷ levels_of routines ns
+levels_of routines (n ∷ ns) = record { number = n; variables = variables_in (slice_get routines n); first_with = first_with_in (slice_get routines n) } ∷ levels_of routines ns
 
 abbrev pub around_in : List UnitRoutine → Option UnitRoutine → List Level
 around_in routines None = []
@@ -382,11 +405,12 @@ own u =
       levels = [];
       routine_unit = u.name;
       routine_types = u.types;
+      first_with = length (made_by_unit u);
     }
 
 -- the same in the block of the routine of this number
 abbrev pub in_block : TypedUnit → ℕ → UnitRoutine → Declarations
-in_block u number r = in_routine (record { number = number; variables = variables_of r } ∷ levels_of u.routines r.around) (own u)
+in_block u number r = in_routine (record { number = number; variables = variables_of r; first_with = first_with r } ∷ levels_of u.routines r.around) (own u)
 
 -- a value parameter is of a kind that values have, and a variable parameter of any type
 abbrev pub IsFormalBy : FormalMode → List UnitType → Denoter → Type 0

@@ -102,6 +102,7 @@ stmt_step (stmt.If line condition then_part else_part) = tree.If line (expr_of c
 stmt_step (stmt.While line condition body) = tree.While line (expr_of condition) body
 stmt_step (stmt.Repeat line body condition) = tree.Repeat line (tree.stmts body) (expr_of condition)
 stmt_step (stmt.For line control initial last body) = tree.For line (control_of control) (expr_of initial) (expr_of last) body
+stmt_step (stmt.With line variable of place body) = tree.With line (entire_of variable) of (place_of place) body
 stmt_step (stmt.Procedure line callee given) = tree.Procedure line (callee_of callee) (tree.actuals (map actual_of given))
 stmt_step (stmt.Case line selector arms other) = tree.Case line (expr_of selector) (tree.arms arms) (tree.other other)
 stmt_step (stmt.Halt line) = tree.Halt line

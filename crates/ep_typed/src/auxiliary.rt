@@ -1,6 +1,6 @@
-//! The auxiliary variables of `for` statements, as specs/Auxiliaries.antt says.
+//! The auxiliary variables of `for` and `with` statements, as specs/Auxiliaries.antt says.
 
-ghost use Rattle.std.specs.Prelude.{◌≡◌, IfOk, codes, map};
+ghost use Rattle.std.specs.Prelude.{◌≡◌, IfOk, codes, length, map, min};
 ghost use Rattle.ep_typed.specs.Auxiliaries as spec;
 ghost use Rattle.ep_typed.specs.Trees as tree;
 ghost use Rattle.ep_typed.specs.Trees.{stmts};
@@ -62,6 +62,7 @@ pub fn first_for(s: &TypedStmt) -> Option<Line>
         TypedStmt::While(_, _, body) => first_for(body.get()),
         TypedStmt::Repeat(_, all, _) => first_for_of(all.items()),
         TypedStmt::For(line, _, _, _, _) => Some(*line),
+        TypedStmt::With(_, _, _, _, body) => first_for(body.get()),
         TypedStmt::Case(_, _, arms, other) => {
             let rest = match other {
                 None => None,
@@ -101,4 +102,55 @@ fn first_for_arms(all: &[CaseArm]) -> Option<Line>
         }
     }
     None
+}
+
+/// How many `with` statements are in a statement, each of which has a variable of its own, at most the greatest `usize`.
+#[cycle(with_statements)]
+pub fn with_count(s: &TypedStmt) -> usize
+    ensures { result ≡ min (length (spec.with_variables (stmt_of s.now))) usize.MAX }
+{
+    match s {
+        TypedStmt::Compound(all) => with_count_of(all.items()),
+        TypedStmt::If(_, _, then_part, else_part) => {
+            with_count(then_part.get()).saturating_add(with_count(else_part.get()))
+        }
+        TypedStmt::While(_, _, body) => with_count(body.get()),
+        TypedStmt::Repeat(_, all, _) => with_count_of(all.items()),
+        TypedStmt::For(_, _, _, _, body) => with_count(body.get()),
+        TypedStmt::With(_, _, _, _, body) => with_count(body.get()).saturating_add(1),
+        TypedStmt::Case(_, _, arms, other) => {
+            let rest = match other {
+                None => 0,
+                Some(all) => with_count_of(all.items()),
+            };
+            with_count_in(arms.items()).saturating_add(rest)
+        }
+        TypedStmt::Empty
+        | TypedStmt::Assign(_, _, _)
+        | TypedStmt::Procedure(_, _, _)
+        | TypedStmt::Halt(_)
+        | TypedStmt::Write(_, _, _) => 0,
+    }
+}
+
+#[cycle(with_statements)]
+fn with_count_of(all: &[TypedStmt]) -> usize
+    ensures { result ≡ min (length (spec.with_variables_of (stmts (map stmt_of all.now)))) usize.MAX }
+{
+    let mut total = 0;
+    for s in all {
+        total = with_count(s).saturating_add(total);
+    }
+    total
+}
+
+#[cycle(with_statements)]
+fn with_count_in(all: &[CaseArm]) -> usize
+    ensures { result ≡ min (length (spec.with_variables_in (tree.arms (map arm_of all.now)))) usize.MAX }
+{
+    let mut total = 0;
+    for arm in all {
+        total = with_count(arm.body.get()).saturating_add(total);
+    }
+    total
 }

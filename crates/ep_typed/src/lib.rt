@@ -17,7 +17,7 @@ mod tree;
 mod unit;
 mod value;
 
-pub use auxiliary::{auxiliary_variables, first_for};
+pub use auxiliary::{auxiliary_variables, first_for, with_count};
 pub use denoter::{Bound, Bounds, Denoter, RecordField, RecordFields, RequiredType};
 pub use interface::{
     ConstantEntries, ConstantEntry, Constituent, ConstituentKind, Constituents, ExportEntries,

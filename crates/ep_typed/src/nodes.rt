@@ -200,6 +200,11 @@ fn statement(s: &TypedStmt) -> u64
                 .saturating_add(statement(body.get()))
                 .saturating_add(1)
         }
+        TypedStmt::With(_, _, _, p, body) => {
+            place(p)
+                .saturating_add(statement(body.get()))
+                .saturating_add(1)
+        }
         TypedStmt::Case(_, selector, all, other) => {
             let otherwise = match other {
                 None => 0,

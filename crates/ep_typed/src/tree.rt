@@ -192,6 +192,9 @@ pub enum TypedStmt {
     Repeat(Line, TypedStmts, Boxed<TypedExpr>),
     /// `for`: what it counts with, the initial and the final value, and the statement.
     For(Line, ForControl, Boxed<TypedExpr>, Boxed<TypedExpr>, Boxed<TypedStmt>),
+    /// `with` of one variable (ISO 10206, 6.9.3.10): the variable of the block that stands for it, which is its alone, the
+    /// number of its record type in the unit's list of types, the place that it accesses, and the statement.
+    With(Line, EntireVariable, u32, TypedPlace, Boxed<TypedStmt>),
     /// A procedure statement: the procedure, and what it is given for its parameters (ISO 10206, 6.9.2.3).
     Procedure(Line, Callee, Actuals),
     /// `case`: the selector, the arms in order, and the statements where no range of theirs has its value.

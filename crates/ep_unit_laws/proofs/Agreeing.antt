@@ -7,8 +7,8 @@ use Rattle.ep_typed.specs.Denoters.{host_of, type_of}
 use Rattle.ep_typed.specs.Trees as tree
 use Rattle.ep_typed.specs.TypeValues.{TypeValue}
 use Rattle.ep_typed.specs.Valid.{Declarations, IsCallee, IsDeclaredUp, IsPlace, around_in, heading_of, in_routine, levels_of, own}
-use Rattle.ep_typed.specs.Auxiliaries.{auxiliary_variables, first_for}
-use Rattle.ep_typed.specs.Routines.{unit_variables}
+use Rattle.ep_typed.specs.Auxiliaries.{auxiliary_variables, first_for, with_variables}
+use Rattle.ep_typed.specs.Routines.{made_by_unit, unit_variables}
 use Rattle.ep_typed.specs.Viewed.{denoter_of, stmt_of}
 use Rattle.ep_typed.specs.declared.interface.Formal.{Formal}
 use Rattle.ep_typed.specs.declared.interface.RoutineEntry.{RoutineEntry}
@@ -30,7 +30,7 @@ use Rattle.ep_scope.specs.declared.thing.Declaration.TheVariants as declaration
 use Rattle.ep_scope.specs.declared.thing.Declared.{Declared}
 use Rattle.ep_scope.specs.declared.thing.Thing.{Thing}
 use Rattle.ep_scope.specs.declared.thing.Thing.TheVariants as thing
-use Rattle.ep_check_expr.specs.Agreement.{Agrees, AgreesBy, AreFields, AreInterfaces, AreParameters, AreThings, Arrays, HasKind, HoldsStructure, IsDeclaration, IsDenoterOf, IsKind, IsMadeOf, Records, Structure, IsFunctionWith, IsOfType, IsStoredIn, IsThing, structures_of}
+use Rattle.ep_check_expr.specs.Agreement.{Agrees, AgreesBy, AreFields, AreInterfaces, AreOpen, AreParameters, AreThings, Arrays, HasKind, HoldsStructure, IsDeclaration, IsDenoterOf, IsKind, IsMadeOf, Records, Structure, IsFunctionWith, IsOfType, IsStoredIn, IsThing, structures_of}
 use Rattle.ep_check_expr.specs.Arguments.{callee_at, callee_levels}
 use Rattle.ep_check_expr.specs.Hosts.{typed_host}
 use Rattle.ep_check_unit.specs.Declarations.{scopes_of, type_denoter}
@@ -147,7 +147,9 @@ module _ (u : TypedUnit) where
 
   -- one that is declared is there, before the auxiliary ones
   declared_own : (unit : List ℕ) (number : ℕ) (v : UnitVariable) → unit ≡ u.name → slice_get u.variables number ≡ Some v → (own u).variables unit number ≡ Some v
-  declared_own unit number v e at = variables_own unit number e ∙ slice_get-front u.variables (auxiliary_variables (first_for (stmt_of u.start))) number v at
+  declared_own unit number v e at =
+      variables_own unit number e
+      ∙ slice_get-front (made_by_unit u) (with_variables (stmt_of u.start)) number v (slice_get-front u.variables (auxiliary_variables (first_for (stmt_of u.start))) number v at)
 
   own_place : (es : List Enclosing) (i level number : ℕ) (of : TypeName) (h : Host) → i ≤ length u.types → HoldsOwn u es i level number of (kind.Ordinal h) → IsPlace (in_routine (levels_at u.routines es) (own u)) (typed_host h) (tree.Own (length es - level) number)
   own_place es i level number of h le x = (x.variable, x.at, x.denotes.1.has_host (suc (length u.types)) (omega (arith, le)))
@@ -275,7 +277,12 @@ module _ (u : TypedUnit) (es : List Enclosing) where
 
     scopes_hold : (i : ℕ) (rs : List Region) → i ≤ length u.types → HoldsScopes u es i rs → AgreesBy within (type_values u) structures (length es) rs
     scopes_hold i [] le x = tt
-    scopes_hold i (r ∷ rs) le x = (things_hold i r.entries le x.0, subst (AreInterfaces within (type_values u) structures (length es)) (sym x.1) tt, scopes_hold i rs le x.3)
+    scopes_hold i (r ∷ rs) le x = (
+      things_hold i r.entries le x.0,
+      subst (AreInterfaces within (type_values u) structures (length es)) (sym x.1.0) tt,
+      scopes_hold i rs le x.3,
+      subst (AreOpen within (type_values u) structures (length es)) (sym x.1.1) tt,
+    )
 
   -- the variable of a result is there
   result_placed : (i level variable : ℕ) (of : TypeName) (k : Kind) → i ≤ length u.types → HoldsOwn u es i level variable of k → IsResultAt within (type_values u) k (tree.Own (length es - level) variable)

@@ -6,7 +6,7 @@ use Rattle.ep_typed.specs.Denoters.{ArrayParts, definition_of, type_of}
 use Rattle.ep_typed.specs.Hosts as typed
 use Rattle.ep_typed.specs.Hosts.{is_of_host}
 use Rattle.ep_typed.specs.Trees as tree
-use Rattle.ep_typed.specs.Valid.{IsAround, IsConstant, IsFormal, IsFormalBy, IsProcedure, IsResult, IsStmt, IsType, IsVariable, Level, heading_of, in_routine, levels_of, own, variables_at, variables_in}
+use Rattle.ep_typed.specs.Valid.{IsAround, IsConstant, IsFormal, IsFormalBy, IsProcedure, IsResult, IsStmt, IsType, IsVariable, Level, first_with_in, heading_of, in_routine, levels_of, own, variables_at, variables_in}
 use Rattle.ep_typed.specs.Viewed.{denoter_of}
 use Rattle.ep_typed.specs.declared.denoter.Denoter.TheVariants as denoter
 use Rattle.ep_typed.proofs.Forms.{required_is, named_is}
@@ -42,7 +42,7 @@ use Rattle.ep_scope.specs.declared.thing.Thing.{Thing}
 use Rattle.ep_scope.specs.declared.thing.Thing.TheVariants as thing
 use Rattle.ep_check_expr.specs.Agreement.{Arrays, HasStructure, IsConstantOf, IsHost, IsKind, IsValueMadeOf, Records, Structure, TypeValues}
 use Rattle.ep_check_expr.specs.Hosts.{typed_host}
-use Rattle.ep_check_expr.specs.Origins.{IsKnownHost, IsKnownKind, IsRequiredHost, HasHost, DeclaresHost, ThingHasHost, CompositionHasHost, FieldsHaveHost, StructuresHaveHost, EntriesHaveHost, InterfacesHaveHost, ScopesHaveHost}
+use Rattle.ep_check_expr.specs.Origins.{IsKnownHost, IsKnownKind, IsRequiredHost, HasHost, DeclaresHost, ThingHasHost, CompositionHasHost, FieldsHaveHost, StructuresHaveHost, EntriesHaveHost, InterfacesHaveHost, RecordsHaveHost, ScopesHaveHost}
 use Rattle.ep_check_unit.specs.Declarations.{host_denoter, scopes_of, type_denoter}
 use Rattle.ep_check_unit.specs.Routines.{formal_of}
 use Rattle.ep_check_unit.specs.Blocks.{Block, RoutineForm, around_of}
@@ -76,6 +76,10 @@ pub routine_there : (rs : List UnitRoutine) (n : ℕ) (e : RoutineEntry) (around
 routine_there [] n e around at = cc
 routine_there (r ∷ rs) zero e around at = let same : head_of r ≡ (e, around) = cc in (r, refl, ap (λ (h : Head). h.1) same)
 routine_there (r ∷ rs) (suc n) e around at = routine_there rs n e around at
+
+-- a block has no interface, and no record is open where things are declared
+abbrev pub IsPlain : Region → Type 0
+IsPlain r = (r.qualified ≡ []) × (r.records ≡ [])
 
 -- ---- levels
 
@@ -385,7 +389,7 @@ module _ (u : TypedUnit) where
     lists = x.lists;
     inside = omega (arith, x.inside);
     variable = x.variable;
-    at = ap (λ l. slice_get (variables_at l) number) (deeper (record { number = e.number; variables = variables_in (slice_get u.routines e.number) }) (levels_at u.routines es) (length es) level x.inside) ∙ x.at;
+    at = ap (λ l. slice_get (variables_at l) number) (deeper (record { number = e.number; variables = variables_in (slice_get u.routines e.number); first_with = first_with_in (slice_get u.routines e.number) }) (levels_at u.routines es) (length es) level x.inside) ∙ x.at;
     denotes = x.denotes;
   }
 
@@ -502,10 +506,10 @@ module _ (u : TypedUnit) (es : List Enclosing) where
   HoldsThings i [] = ⊤
   HoldsThings i (x ∷ xs) = HoldsThing i x.1 × HoldsThings i xs
 
-  -- the names and structured types of scopes; a block has no interface
+  -- the names and structured types of scopes of blocks
   abbrev pub HoldsScopes : ℕ → List Region → Type 0
   HoldsScopes i [] = ⊤
-  HoldsScopes i (r ∷ rs) = HoldsThings i r.entries × (r.qualified ≡ []) × All (HoldsStructuredType u i) r.structures × HoldsScopes i rs
+  HoldsScopes i (r ∷ rs) = HoldsThings i r.entries × IsPlain r × All (HoldsStructuredType u i) r.structures × HoldsScopes i rs
 
   -- ---- among more types
 
@@ -556,9 +560,10 @@ module _ (u : TypedUnit) (es : List Enclosing) where
   scopes_listed : (i : ℕ) (rs : List Region) (h : Host) → HoldsScopes i rs → ScopesHaveHost rs h → Lists u i h
   scopes_listed i [] h x e = absurd e
   scopes_listed i (r ∷ rs) h x (inl e) = things_listed i r.entries h x.0 e
-  scopes_listed i (r ∷ rs) h x (inr (inl e)) = absurd (subst (λ q. InterfacesHaveHost q h) x.1 e)
+  scopes_listed i (r ∷ rs) h x (inr (inl e)) = absurd (subst (λ q. InterfacesHaveHost q h) x.1.0 e)
   scopes_listed i (r ∷ rs) h x (inr (inr (inl e))) = structures_listed u i r.structures h x.2 e
-  scopes_listed i (r ∷ rs) h x (inr (inr (inr e))) = scopes_listed i rs h x.3 e
+  scopes_listed i (r ∷ rs) h x (inr (inr (inr (inl e)))) = scopes_listed i rs h x.3 e
+  scopes_listed i (r ∷ rs) h x (inr (inr (inr (inr e)))) = absurd (subst (λ q. RecordsHaveHost q h) x.1.1 e)
 
 -- ---- what holds around a routine holds in it too
 
@@ -590,7 +595,7 @@ module _ (u : TypedUnit) where
   pub record Holds (i : ℕ) (b : Block) : Type 0 where
     pub unit : b.unit ≡ u.name
     pub things : HoldsThings u b.own.enclosing i b.scopes.inner.entries
-    pub plain : b.scopes.inner.qualified ≡ []
+    pub plain : IsPlain b.scopes.inner
     pub structures : All (HoldsStructuredType u i) b.scopes.inner.structures
     pub outer : HoldsScopes u b.own.enclosing i b.scopes.outer
     pub types : All (IsType u.types) b.types

@@ -4,7 +4,7 @@ use Rattle.std.specs.Prelude.{⊤, if◌then◌else◌}
 use Rattle.std.specs.Str.{bytes_eq}
 use Rattle.ep_typed.specs.declared.unit.Unit.{Unit as TypedUnit}
 use Rattle.ep_scope.specs.Required.{look_up, required_of}
-use Rattle.ep_scope.specs.Scopes.{Entries, Region, Meant, Declares, Standard, Requires, Nothing, as_required, as_thing, look_up_if, meant, meant_in, or_outside, unless_hidden}
+use Rattle.ep_scope.specs.Scopes.{Entries, Region, Meant, Declares, Standard, Requires, FieldOf, Nothing, as_required, as_thing, field_among, look_up_if, meant, meant_in, or_field, or_outside, unless_field, unless_hidden}
 use Rattle.ep_scope.specs.declared.required.Required.{Required}
 use Rattle.ep_scope.specs.declared.thing.Thing.{Thing}
 use Rattle.ep_scope.specs.declared.thing.Thing.TheVariants as thing
@@ -19,6 +19,7 @@ module _ (u : TypedUnit) (es : List Enclosing) (i : ℕ) where
   HoldsMeant (Declares d) = (d.unit ≡ u.name) × HoldsDeclaration u es i d d.what
   HoldsMeant (Standard file) = ⊤
   HoldsMeant (Requires r) = ⊤
+  HoldsMeant (FieldOf f) = ⊥
   HoldsMeant Nothing = ⊤
 
   abbrev pub HoldsIf : Option Thing → Type 0
@@ -47,7 +48,9 @@ module _ (u : TypedUnit) (es : List Enclosing) (i : ℕ) where
 
   scopes_meant : (rs : List Region) (name : List ℕ) → HoldsScopes u es i rs → HoldsMeant (meant rs name)
   scopes_meant [] name h = required_meant (required_of name)
-  scopes_meant (r ∷ rs) name h = outside_meant (look_up r.entries name) (meant rs name) (look_up_holds r.entries name h.0) (scopes_meant rs name h.3)
+  scopes_meant (r ∷ rs) name h =
+      subst (λ records. HoldsMeant (or_field (field_among records name) (or_outside (look_up r.entries name) (meant rs name)))) (sym h.1.1)
+      (outside_meant (look_up r.entries name) (meant rs name) (look_up_holds r.entries name h.0) (scopes_meant rs name h.3))
 
   hidden_meant : (other : Option Thing) (m : Meant) → HoldsMeant m → HoldsMeant (unless_hidden other m)
   hidden_meant None m h = h
@@ -56,8 +59,9 @@ module _ (u : TypedUnit) (es : List Enclosing) (i : ℕ) where
   scopes_meant_in : (rs : List Region) (interface name : List ℕ) → HoldsScopes u es i rs → HoldsMeant (meant_in rs interface name)
   scopes_meant_in [] interface name h = tt
   scopes_meant_in (r ∷ rs) interface name h =
-      hidden_meant (look_up r.entries interface) (or_outside (look_up_if (look_up r.qualified interface) name) (meant_in rs interface name))
-      (subst (λ q. HoldsMeant (or_outside (look_up_if (look_up q interface) name) (meant_in rs interface name))) (sym h.1) (scopes_meant_in rs interface name h.3))
+      subst (λ records. HoldsMeant (unless_field (field_among records interface) (unless_hidden (look_up r.entries interface) (or_outside (look_up_if (look_up r.qualified interface) name) (meant_in rs interface name))))) (sym h.1.1)
+      (hidden_meant (look_up r.entries interface) (or_outside (look_up_if (look_up r.qualified interface) name) (meant_in rs interface name))
+      (subst (λ q. HoldsMeant (or_outside (look_up_if (look_up q interface) name) (meant_in rs interface name))) (sym h.1.0) (scopes_meant_in rs interface name h.3)))
 
 module _ (u : TypedUnit) (i : ℕ) where
   -- a name of the block

@@ -11,7 +11,7 @@ use Rattle.ep_tree.specs.declared.routine.RoutineBody.{RoutineBody, map-RoutineB
 use Rattle.ep_tree.specs.declared.routine.RoutineStart.{RoutineStart}
 use Rattle.ep_tree.specs.declared.statement.Compound.{Compound}
 use Rattle.ep_outside.specs.Known.{IsPrefix}
-use Rattle.ep_typed.specs.Auxiliaries.{auxiliary_variables, first_for, first_for_of}
+use Rattle.ep_typed.specs.Auxiliaries.{auxiliary_variables, first_for, first_for_of, with_variables, with_variables_of}
 use Rattle.ep_typed.specs.Operations.{maxint}
 use Rattle.ep_typed.specs.Routines.{result_name, result_variable}
 use Rattle.ep_typed.specs.Trees as tree
@@ -44,7 +44,7 @@ use Rattle.ep_unit_laws.proofs.Auxiliaries.{own_auxiliaries}
 use Rattle.ep_unit_laws.proofs.Denoting.{DenotesKind}
 use Rattle.ep_unit_laws.proofs.Headings.{HeadsOn, HoldsHeaded, IsResultOf, after_heading, forward_leads, front_get, headed_leads}
 use Rattle.ep_unit_laws.proofs.Agreeing.{holds_agrees, holds_results, within}
-use Rattle.ep_unit_laws.proofs.Holds.{Head, Holds, HoldsStructuredType, HoldsOwn, HoldsOwnResult, HoldsParameter, HoldsResult, HoldsResultOf, HoldsRoutine, HoldsRoutines, HoldsScopes, HoldsThings, head_of, holds_more, innermost, levels_at, name_denotes, own_innermost, results_deeper, scopes_deeper}
+use Rattle.ep_unit_laws.proofs.Holds.{Head, Holds, HoldsStructuredType, HoldsOwn, HoldsOwnResult, HoldsParameter, HoldsResult, HoldsResultOf, HoldsRoutine, HoldsRoutines, HoldsScopes, HoldsThings, IsPlain, head_of, holds_more, innermost, levels_at, name_denotes, own_innermost, results_deeper, scopes_deeper}
 use Rattle.ep_unit_laws.proofs.Items.{LeadsOn, constants_lead, further, line_leads, then_leads, type_definitions-leads, variables_lead}
 use Rattle.ep_unit_laws.proofs.Leading.{Extends, Grows, Leads, entered_leads, extends_before, head_in, leads_on, leads_refl, length_push, prefix_length, prefix_trans, result_in, variables_in, waits_some}
 use Rattle.ep_unit_laws.proofs.Open as around
@@ -131,6 +131,10 @@ result_at line name (p ∷ ps) r vs = result_at line name ps r vs
 seam_behind : {A : Type 0} (xs ys zs ws : List A) → (xs ++ (ys ++ zs)) ++ ws ≡ xs ++ (ys ++ (zs ++ ws))
 seam_behind xs ys zs ws = append_assoc xs (ys ++ zs) ws ∙ ap (λ l. xs ++ l) (append_assoc ys zs ws)
 
+-- the last two of five lists
+two_behind : {A : Type 0} (xs ys zs vs ws : List A) → xs ++ ((ys ++ (zs ++ vs)) ++ ws) ≡ (xs ++ (ys ++ zs)) ++ (vs ++ ws)
+two_behind xs ys zs vs ws = ap (λ l. xs ++ l) (append_assoc ys (zs ++ vs) ws ∙ ap (λ l. ys ++ l) (append_assoc zs vs ws)) ∙ sym (seam_behind xs ys zs (vs ++ ws))
+
 -- the name of the variable that has the result of a routine
 abbrev result_called : List ℕ → Option RoutineResult → List ℕ
 result_called name None = []
@@ -149,7 +153,7 @@ result_same line called result number variable (Some r) e =
 
 -- the variables of a routine, by its form
 abbrev form_variables : RoutineForm → List UnitVariable
-form_variables f = map (formal_variable f.line) f.formals ++ (result_variable f.name f.line f.result ++ (f.variables ++ auxiliary_variables (first_for f.block)))
+form_variables f = map (formal_variable f.line) f.formals ++ ((result_variable f.name f.line f.result ++ (f.variables ++ auxiliary_variables (first_for f.block))) ++ with_variables f.block)
 
 given_variables : (rs : List UnitRoutine) (n : ℕ) (f : RoutineForm) → slice_get (map routine_form rs) n ≡ Some f → given.variables_in (slice_get rs n) ≡ form_variables f
 given_variables [] n f e = cc
@@ -237,7 +241,7 @@ module _ (u : TypedUnit) (few : length u.constants ≤ maxint) (statements : Sta
     opened_held i held ext x = record {
       unit = x.unit;
       things = tt;
-      plain = refl;
+      plain = (refl, refl);
       structures = All-nil (HoldsStructuredType u i);
       outer = scopes_deeper u Inner Around i (scopes_of h.block) (x.things, x.plain, x.structures, x.outer);
       types = x.types;
@@ -366,13 +370,13 @@ module _ (u : TypedUnit) (few : length u.constants ≤ maxint) (statements : Sta
               ∙ (ap (λ n. result_in line n (own_result h.number (length h.parameters) h.result)) (sym (ap variable_name at)) ∙ ap (result_in line Called) (sym inside.grows.result))
 
           -- so the unit gives it the variables of the block, and the auxiliary ones behind them
-          its_variables : innermost (levels_at u.routines (Inner ∷ Around)) ≡ variables_in line Called c.own ++ auxiliary_variables (first_for_of ss)
+          its_variables : innermost (levels_at u.routines (Inner ∷ Around)) ≡ variables_in line Called c.own ++ (auxiliary_variables (first_for_of ss) ++ with_variables_of ss)
           its_variables =
               let r = found.0 in
               given_variables u.routines h.number (Given r) (e.bodies h.number (Given r) (pushed_there h.number c.bodies) (to_same c.routines h.number Given r found.1))
-              ∙ (ap (λ fs. map (formal_variable line) fs ++ (result_variable r.name line r.result ++ (c.own.variables ++ auxiliary_variables (first_for_of ss)))) (formals_same r found.1)
-              ∙ (ap (λ rs. map (formal_variable line) (map formal_of c.own.parameters) ++ (rs ++ (c.own.variables ++ auxiliary_variables (first_for_of ss)))) (result_there r found.1)
-              ∙ sym (seam_behind (map (formal_variable line) (map formal_of c.own.parameters)) (result_in line Called c.own.result) c.own.variables (auxiliary_variables (first_for_of ss)))))
+              ∙ (ap (λ fs. map (formal_variable line) fs ++ ((result_variable r.name line r.result ++ (c.own.variables ++ auxiliary_variables (first_for_of ss))) ++ with_variables_of ss)) (formals_same r found.1)
+              ∙ (ap (λ rs. map (formal_variable line) (map formal_of c.own.parameters) ++ ((rs ++ (c.own.variables ++ auxiliary_variables (first_for_of ss))) ++ with_variables_of ss)) (result_there r found.1)
+              ∙ two_behind (map (formal_variable line) (map formal_of c.own.parameters)) (result_in line Called c.own.result) c.own.variables (auxiliary_variables (first_for_of ss)) (with_variables_of ss)))
 
           there : Extends u c
           there = record {
@@ -381,7 +385,7 @@ module _ (u : TypedUnit) (few : length u.constants ≤ maxint) (statements : Sta
             variables = e.variables;
             line = line;
             name = Called;
-            own = subst (λ es. IsPrefix (variables_in line Called c.own) (innermost (levels_at u.routines es))) (sym inside.grows.enclosing) (record { rest = auxiliary_variables (first_for_of ss); is = its_variables });
+            own = subst (λ es. IsPrefix (variables_in line Called c.own) (innermost (levels_at u.routines es))) (sym inside.grows.enclosing) (record { rest = auxiliary_variables (first_for_of ss) ++ with_variables_of ss; is = its_variables });
             headings = headings_there;
             bodies = λ n r has at. e.bodies n r (pushed_kept n h.number c.bodies has) (ended_others n r (another under n has) at);
           }
@@ -399,7 +403,7 @@ module _ (u : TypedUnit) (few : length u.constants ≤ maxint) (statements : Sta
           auxiliaries : (at : ℕ) → first_for_of ss ≡ Some at → AuxiliariesAreThere (within u c.own.enclosing) (locals_of c)
           auxiliaries at has =
               subst (λ es. AuxiliariesAreThere (within u es) (locals_in c es)) (sym inside.grows.enclosing)
-              (own_auxiliaries u Inner Around c line at Called (its_variables ∙ ap (λ o. variables_in line Called c.own ++ auxiliary_variables o) has))
+              (own_auxiliaries u Inner Around c line at Called (with_variables_of ss) (its_variables ∙ ap (λ o. variables_in line Called c.own ++ (auxiliary_variables o ++ with_variables_of ss)) has))
 
           -- what the routine does is valid
           block_valid : AreStmts (within u (Inner ∷ Around)) ss
@@ -425,7 +429,7 @@ module _ (u : TypedUnit) (few : length u.constants ≤ maxint) (statements : Sta
               record {
                 unit = c_held.unit;
                 things = subst (λ s. HoldsThings u Around (length c.types) s.inner.entries) (sym scopes_again) z.things;
-                plain = subst (λ s. s.inner.qualified ≡ []) (sym scopes_again) z.plain;
+                plain = subst (λ s. IsPlain s.inner) (sym scopes_again) z.plain;
                 structures = subst (λ s. All (HoldsStructuredType u (length c.types)) s.inner.structures) (sym scopes_again) z.structures;
                 outer = subst (λ s. HoldsScopes u Around (length c.types) s.outer) (sym scopes_again) z.outer;
                 types = c_held.types;

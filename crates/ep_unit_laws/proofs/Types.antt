@@ -24,7 +24,7 @@ use Rattle.ep_typed.specs.TypeValues.{Ordinal as Range}
 use Rattle.ep_typed.specs.declared.value.Value.{Value}
 use Rattle.ep_typed.specs.declared.value.Value.TheVariants as value
 use Rattle.ep_scope.specs.Kinds.{same_host}
-use Rattle.ep_scope.specs.Scopes.{Meant, Declares, Standard, Requires, Nothing, meant, meant_in}
+use Rattle.ep_scope.specs.Scopes.{Meant, Declares, Standard, Requires, FieldOf, Nothing, meant, meant_in}
 use Rattle.ep_scope.specs.declared.kind.Enumeration.{Enumeration}
 use Rattle.ep_scope.specs.declared.kind.Host.{Host}
 use Rattle.ep_scope.specs.declared.kind.Host.TheVariants as host
@@ -96,6 +96,7 @@ module _ (u : TypedUnit) where
   meant_names : (missing : List ℕ) (m : Meant) (b : Block) → HeldThroughout b m → Fits (Names b) (type_meant missing m b)
   meant_names missing (Declares d) b held = declared_names d d.what b (λ i x. (held i x).1)
   meant_names missing (Standard file) b held = tt
+  meant_names missing (FieldOf f) b held = tt
   meant_names missing (Requires (required.Constant c)) b held = tt
   meant_names missing (Requires (required.«Type» r)) b held = record { same = refl; holds = λ i x. required_names i r }
   meant_names missing (Requires (required.Function f)) b held = tt

@@ -95,7 +95,7 @@ routine_valid u number r at held = record {
   result = held.result;
   variables = held.variables;
   around = held.around;
-  block = subst (λ o. IsStmt (in_routine (record { number = number; variables = given.variables_in o } ∷ levels_of u.routines r.around) (own u)) (stmt_of r.block)) at held.block;
+  block = subst (λ o. IsStmt (in_routine (record { number = number; variables = given.variables_in o; first_with = given.first_with_in o } ∷ levels_of u.routines r.around) (own u)) (stmt_of r.block)) at held.block;
 }
 
 routines_valid : (u : TypedUnit) → HoldsRoutines u (map routine_form u.routines) → (number : ℕ) (r : UnitRoutine) → slice_get u.routines number ≡ Some r → IsRoutine u number r
@@ -136,7 +136,7 @@ module _ (statements : StatementsAreSound) (constants : ConstantsAreSound) (boun
         bodies = λ n r has at. subst (λ rs. slice_get rs n ≡ Some r) (sym is.routines) at;
       })
       made.waits
-      (record { unit = sym is.name; things = tt; plain = refl; structures = All-nil (HoldsStructuredType u 0); outer = tt; types = All-nil (IsType u.types); constants = All-nil (IsConstant u.types); variables = All-nil (IsVariable u.types); parameters = All-nil (HoldsParameter u 0); result = tt; owned = All-nil (IsVariable u.types); headed = tt; results = tt; routines = λ n r at. cc })
+      (record { unit = sym is.name; things = tt; plain = (refl, refl); structures = All-nil (HoldsStructuredType u 0); outer = tt; types = All-nil (IsType u.types); constants = All-nil (IsConstant u.types); variables = All-nil (IsVariable u.types); parameters = All-nil (HoldsParameter u 0); result = tt; owned = All-nil (IsVariable u.types); headed = tt; results = tt; routines = λ n r at. cc })
 
   program_valid : (p : Program) (u : TypedUnit) → IsTypedProgram p u → length u.constants ≤ maxint → IsValid u
   program_valid p u t few =

@@ -7,7 +7,7 @@ use Rattle.ep_typed.specs.Trees as tree
 use Rattle.ep_typed.specs.Trees.{Entire, Expr, Place, Stmt}
 use Rattle.ep_typed.specs.Valid as valid
 use Rattle.ep_typed.specs.Valid.{Declarations, IsControl, IsExpr, IsPlace}
-use Rattle.ep_scope.specs.Scopes.{Region, Meant, Declares, Standard, Requires, Nothing, depth_in, meant}
+use Rattle.ep_scope.specs.Scopes.{Region, Meant, Declares, Standard, Requires, FieldOf, Nothing, depth_in, meant}
 use Rattle.ep_scope.specs.declared.kind.Host.{Host}
 use Rattle.ep_scope.specs.declared.kind.Kind.{Kind}
 use Rattle.ep_scope.specs.declared.kind.Kind.TheVariants as kind
@@ -64,6 +64,7 @@ module _ (declared : Declarations) (scopes : List Region) (agrees : Agrees decla
   named_fits locals name (Declares d) x = declared_fits locals d d.what x
   named_fits locals name (Standard f) x = tt
   named_fits locals name (Requires r) x = tt
+  named_fits locals name (FieldOf f) x = tt
   named_fits locals name Nothing x = tt
 
   abbrev IsCounted : Counted → Type 0

@@ -26,7 +26,7 @@ use Rattle.ep_typed.specs.Valid.{AreItems, Declarations, IsExpr, IsItem, IsOfKin
 use Rattle.ep_typed.specs.declared.operations.Print.{Print}
 use Rattle.ep_typed.specs.declared.tree.StandardFile.{StandardFile}
 use Rattle.ep_typed.specs.declared.tree.StandardFile.TheVariants as file
-use Rattle.ep_scope.specs.Scopes.{Region, Meant, Declares, Standard, Requires, Nothing, depth_in, meant}
+use Rattle.ep_scope.specs.Scopes.{Region, Meant, Declares, Standard, Requires, FieldOf, Nothing, depth_in, meant}
 use Rattle.ep_scope.specs.declared.structure.StructuredType.{StructuredType}
 use Rattle.ep_scope.specs.declared.kind.Host.{Host}
 use Rattle.ep_scope.specs.declared.kind.Host.TheVariants as host
@@ -47,6 +47,7 @@ use Rattle.ep_check_expr.specs.Arguments.{Taken, arguments_judged, callee_at, gi
 use Rattle.ep_check_expr.specs.Expressions.{given, judged, judged_value, name_judged}
 use Rattle.ep_check_expr.specs.Functions.{Given}
 use Rattle.ep_check_expr.specs.Hosts.{typed_host}
+use Rattle.ep_check_expr.specs.Names.{field_place}
 use Rattle.ep_check_expr.specs.Judgements.{Judged, Accepts, Breaks, Typed, both, when_accepted}
 use Rattle.ep_check_expr.specs.Laws.{ArgumentsAreSound, ExpressionsAreSound, LabelsAreSound, ValuesAreSound, VariablesAreSound}
 use Rattle.ep_check_expr.specs.Operators.{map_both}
@@ -217,6 +218,8 @@ module _ (declared : Declarations) (expressions : ExpressionsAreSound) (passed :
     place_fits name (Declares d) x = declared_fits d d.what x
     place_fits name (Standard f) x = tt
     place_fits name (Requires r) x = tt
+    place_fits name (FieldOf f) x =
+        fits_then Any (λ t. IsTarget t.kind t.place) (λ done. Accepts (record { place = Some (field_place f); kind = f.kind })) (unless_protected f.guarded) (fits_any (unless_protected f.guarded)) (λ a i. variable_fits (field_place f) f.kind x.0)
     place_fits name Nothing x = tt
 
   access_fits : (a : syntax.Access) → Fits (λ t. IsTarget t.kind t.place) (when_accepted (λ t. variable_target t.access t.form t.kind) (name_judged scopes a))
@@ -498,6 +501,7 @@ module _ (declared : Declarations) (expressions : ExpressionsAreSound) (passed :
   call_fits c is line name (Declares d) arguments x = declared_call_fits c is line d d.what arguments x
   call_fits c is line name (Standard f) arguments x = tt
   call_fits c is line name (Requires r) arguments x = required_fits c is line r arguments
+  call_fits c is line name (FieldOf f) arguments x = tt
   call_fits c is line name Nothing arguments x = tt
 
   called_fits : (c : Context) → c.scopes ≡ scopes → (line : ℕ) (name : List ℕ) (arguments : Option (List Argument)) → Fits (IfForm (IsStmt declared)) (name_called c line name arguments)

@@ -1,7 +1,7 @@
 -- Calls of a routine that keeps its promise: what the caller follows, and what runs from a call do.
-use Rattle.std.proofs.Common.{◌≡◌, ℕ, suc, ◌+◌, ◌≤◌, ◌<◌, ◌⊎◌, inl, inr, List, refl, sym, ap, ◌∙◌, subst, arith}
+use Rattle.std.proofs.Common.{◌≡◌, ℕ, suc, ◌+◌, ◌≤◌, ◌<◌, ◌⊎◌, inl, inr, Bool, List, refl, sym, ap, ◌∙◌, subst, arith}
 use Rattle.ep_object.specs.Activations.{IsCallable}
-use Rattle.ep_object.specs.Follows.{end_of, Facts, Since, Lasts, Fragment, After, Lands, Reaches, EndsToo, RunsOn, GivesUp, IsNotLeft, SameRoutine, Inside, Operands, point, state_at}
+use Rattle.ep_object.specs.Follows.{end_of, Facts, HasGrown, Since, Lasts, Fragment, After, Lands, Reaches, EndsToo, RunsOn, GivesUp, IsNotLeft, SameRoutine, Inside, Operands, point, state_at}
 use Rattle.ep_object.specs.Laws.{IsRunning}
 use Rattle.ep_object.specs.Matching.{Memory, Injection, Slots, AreAmong, Grown, kept_slots}
 use Rattle.ep_object.specs.Operands.{Operand}
@@ -53,7 +53,22 @@ same_routine-fewer among r = record { turn = r.turn; routine = r.routine; unit =
 pub lasts_more : {untouched fewer : Slots} {Here : Facts}
     → AreAmong fewer untouched → Lasts fewer Here
     → Lasts untouched Here
-lasts_more among lasts = record { by = λ injection longer s t memory after g held. lasts.by injection longer s t memory after (record { grown = grown_fewer among g.grown; routine = same_routine-fewer among g.routine; calls = g.calls }) held }
+lasts_more among lasts = record { by = λ injection longer s t memory after g held. lasts.by injection longer s t memory after (record { grown = grown_fewer among g.grown; routine = same_routine-fewer among g.routine; own = g.own; calls = g.calls }) held }
+
+-- Facts that last with all slots of the call untouched last whichever of them are named, since memory grows without changing any.
+pub lasts_own : {untouched : Slots} {Here : Facts} (own : ℕ → Bool) → Lasts untouched Here → Lasts (record untouched { own = own }) Here
+lasts_own {untouched = untouched} own lasts = record { by = λ injection longer s t memory after g held. lasts.by injection longer s t memory after (of g) held }
+  where
+    of : {injection longer : Injection} {s t : meaning.State} {memory after : Memory} → HasGrown (record untouched { own = own }) injection s memory longer t after → HasGrown untouched injection s memory longer t after
+    of h =
+        let g = h.grown in
+        let r = h.routine in
+        record {
+          grown = record { larger = g.larger; types = g.types; segments = g.segments; hidden = g.hidden; others = g.others; allocated = g.allocated; slots = g.slots; typed = g.typed; ended = g.ended };
+          routine = record { turn = r.turn; routine = r.routine; unit = r.unit; calls = r.calls; slots = λ k kept. h.own k };
+          own = h.own;
+          calls = h.calls;
+        }
 
 -- A caller that knows what lasts and names hidden slots alone follows the call, and knows it again behind it.
 pub call_follows : {declared : Declarations} {G : Image} {untouched : Slots} {Here : Facts} {routine n : ℕ} {types : List UnitType} {around : List Level} {formals : List Passing} {results : List Kind} {called : Called}

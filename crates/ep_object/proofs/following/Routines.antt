@@ -9,7 +9,7 @@ use Rattle.ep_object.specs.Calls.{parent_by, top_of, call_limit, new_frame, call
 use Rattle.ep_object.specs.Frames.{level_slots}
 use Rattle.ep_object.specs.Effects.{Jumps, Fails}
 use Rattle.ep_object.specs.Follows.{Since, HasGrown, Follows, Fragment, Lands, Inside, IsStillCall, StillRuns, SameRoutine, IsNotLeft, point}
-use Rattle.ep_object.specs.Matching.{Memory, Injection, Matches, Slots, every_slot, Grown, at}
+use Rattle.ep_object.specs.Matching.{Memory, Injection, Matches, Slots, every_slot, Grown, at, own_slot}
 use Rattle.ep_object.specs.Operands.{Operand}
 use Rattle.ep_object.specs.Promises.{CallsAt, ResultsOnTop, credit_of}
 use Rattle.ep_object.specs.Routines.{routine_of}
@@ -219,6 +219,7 @@ module _ (declared : Declarations) (G : Image) (routine : ℕ) (r : ImageRoutine
       does : outcome G (at ret operands after t.trace) ≡ record { weight = 0; to = Running 0 (at (place + 1) operands later t.trace) }
       grown : Grown untouched injection memory longer later
       same : SameRoutine untouched memory.frames later.frames
+      own : (k : ℕ) → own_slot later.frames k ≡ own_slot memory.frames k
       matches : Matches declared G longer (left_from s t) later
 
     -- what was made in the call ends on both sides, and the caller goes on
@@ -245,6 +246,7 @@ module _ (declared : Declarations) (G : Image) (routine : ℕ) (r : ImageRoutine
               ∙ ap (λ cs. record { weight = 0; to = Running 0 (at (place + 1) operands (left_memory frame.made cs after) t.trace) }) still.3);
           grown = grown;
           same = record { turn = runs.turn; routine = runs.routine; unit = runs.unit; calls = same_call-refl memory.frames.calls; slots = λ k kept. refl };
+          own = λ k. refl;
           matches = subst (λ ns. Matches declared G longer (back_in s (with_all_ended ns t)) later) (sym made) (matches_left grown old old.depth under);
         }
 
@@ -306,7 +308,7 @@ module _ (declared : Declarations) (G : Image) (routine : ℕ) (r : ImageRoutine
                   operands = lands.operands;
                   is = refl;
                   matches = out.matches;
-                  here = record { grown = grown_trans since.grown out.grown; routine = same_routine-trans since.routine out.same; calls = since.calls };
+                  here = record { grown = grown_trans since.grown out.grown; routine = same_routine-trans since.routine out.same; own = λ k. out.own k ∙ since.own k; calls = since.calls };
                   post = record { grown = out.grown; routine = out.same; operands_are = results_anywhere lands.injection lands.memory out.later out.types lands.operands results below rs lands.post };
                 },
               ),

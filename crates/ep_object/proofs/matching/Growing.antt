@@ -260,12 +260,12 @@ inside_later g r h = record { grown = grown_trans g h.grown; routine = same_rout
 -- memory has grown so since now
 pub since_here : {untouched : Slots} (injection : Injection) (s : meaning.State) (memory : Memory)
     → HasGrown untouched injection s memory injection s memory
-since_here injection s memory = record { grown = grown_refl injection memory; routine = same_routine-refl memory.frames; calls = refl }
+since_here injection s memory = record { grown = grown_refl injection memory; routine = same_routine-refl memory.frames; own = λ k. refl; calls = refl }
 
 -- and that lasts
 pub since_lasts : {untouched : Slots} {injection : Injection} {s : meaning.State} {memory : Memory}
     → Lasts untouched (Since untouched injection s memory)
-since_lasts = record { by = λ longer last t u after final more h. record { grown = grown_trans h.grown more.grown; routine = same_routine-trans h.routine more.routine; calls = more.calls ∙ h.calls } }
+since_lasts = record { by = λ longer last t u after final more h. record { grown = grown_trans h.grown more.grown; routine = same_routine-trans h.routine more.routine; own = λ k. more.own k ∙ h.own k; calls = more.calls ∙ h.calls } }
 
 -- Whatever lasts and held then holds where memory has grown so since.
 pub since_holds : {untouched : Slots} {Here : Facts} {injection longer : Injection} {s t : meaning.State} {memory after : Memory}

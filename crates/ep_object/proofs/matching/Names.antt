@@ -1,6 +1,6 @@
 -- What code of a routine knows of the variables that it names: it lasts, and by it a call finds what is around its routine.
 use Rattle.std.proofs.Common.{◌≡◌, ℕ, zero, suc, ◌+◌, ◌<◌, List, [], ◌∷◌, None, Some, length, length-drop, drop, slice_get, refl, sym, ap, ◌∙◌, subst, arith}
-use Rattle.ep_object.specs.Activations.{OwnSlot, LevelSlot, OwnAreKept, LevelMatches, IsUnderWay, MatchesNames, KnowsNames, IsCallable, InActivation}
+use Rattle.ep_object.specs.Activations.{OwnSlot, LevelSlot, LevelMatches, IsUnderWay, MatchesNames, KnowsNames, IsCallable, InActivation}
 use Rattle.ep_object.specs.Follows.{IsSameCall, HasGrown, Lasts, Since}
 use Rattle.ep_object.specs.Frames.{slots_over}
 use Rattle.ep_object.specs.Matching.{Memory, Injection, Slots, MatchesSlot, slot_of_frame}
@@ -26,9 +26,9 @@ under_way-lasts {s = s} {t = t} {memory = memory} {after = after} g h =
     by_calls (c ∷ below) [] e l same = absurd same
     by_calls (c ∷ below) (d ∷ more) e l same = record { frame = d; below = more; frames = l; call = h.call; others = h.others; calls = g.calls ∙ h.calls }
 
-pub names-last : {untouched : Slots} (declared : Declarations) → OwnAreKept declared untouched → Lasts untouched (MatchesNames declared)
-names-last {untouched = untouched} declared kept =
-    let own = matches_own-lasts {untouched = untouched} {declared = declared} kept in
+pub names-last : {untouched : Slots} (declared : Declarations) → Lasts untouched (MatchesNames declared)
+names-last {untouched = untouched} declared =
+    let own = matches_own-lasts {untouched = untouched} {declared = declared} in
     let around = around-lasts {untouched = untouched} declared in
     record {
       by = λ injection longer s t memory after g h. record {
@@ -40,9 +40,9 @@ names-last {untouched = untouched} declared kept =
 
 -- where memory has grown since they matched, they match
 pub since_knows-names : {untouched : Slots} (declared : Declarations) {injection : Injection} {s : meaning.State} {memory : Memory}
-    → OwnAreKept declared untouched → MatchesNames declared injection s memory → KnowsNames declared (Since untouched injection s memory)
-since_knows-names {untouched = untouched} declared {injection = injection} {s = s} {memory = memory} kept names longer t after since =
-    let lasts = names-last {untouched = untouched} declared kept in
+    → MatchesNames declared injection s memory → KnowsNames declared (Since untouched injection s memory)
+since_knows-names {untouched = untouched} declared {injection = injection} {s = s} {memory = memory} names longer t after since =
+    let lasts = names-last {untouched = untouched} declared in
     lasts.by injection longer s t memory after since names
 
 -- a routine knows so much in its activation

@@ -32,7 +32,7 @@ use Rattle.ep_typed.specs.declared.unit.UnitVariable.{UnitVariable}
 -- ---- what is bound
 
 -- two names are the same or not
-same_name : (a b : List ℕ) → (a ≡ b) ⊎ (a ≡ b → ⊥)
+pub same_name : (a b : List ℕ) → (a ≡ b) ⊎ (a ≡ b → ⊥)
 same_name a b = go (bytes_eq a b) refl
   where
     go : (t : Bool) → bytes_eq a b ≡ t → (a ≡ b) ⊎ (a ≡ b → ⊥)

@@ -1,11 +1,11 @@
 -- What a routine knows of its own variables goes on holding, and a variable of its own is made.
-use Rattle.std.proofs.Common.{◌≡◌, ℕ, suc, ◌≤◌, ◌<◌, Bool, true, false, ◌&&◌, IsTrue, List, [], ◌∷◌, ◌++◌, length, Option, Some, slice_get, slice_set, refl, sym, ap, ◌∙◌, subst, arith}
+use Rattle.std.proofs.Common.{◌≡◌, ℕ, suc, ◌≤◌, ◌<◌, Bool, true, false, ◌&&◌, List, [], ◌∷◌, ◌++◌, length, Option, Some, slice_get, slice_set, refl, sym, ap, ◌∙◌, subst, arith}
 use Rattle.std.specs.Prelude.{nat_le, if◌then◌else◌}
 use Rattle.std.proofs.lemmas.Bool.Decides.{nat_tests}
 use Rattle.std.proofs.lemmas.Option.{same_Some}
 use native.Mathlib.Decide.{ℕ_discrete}
 use Rattle.ep_outside.specs.Known.{IsPrefix}
-use Rattle.ep_object.specs.Activations.{OwnSlot, MatchesOwn, MatchesAround, OwnAreKept, AreMade, InActivation}
+use Rattle.ep_object.specs.Activations.{OwnSlot, MatchesOwn, MatchesAround, AreMade, InActivation}
 use Rattle.ep_object.specs.Follows.{IsSameCall, IsStillCall, StillRuns, HasGrown, Lasts}
 use Rattle.ep_object.specs.Matching.{Memory, Injection, IsIn, Describes, Slots, own_slot, MatchesSlot, HasOwnType, Matches, Grown}
 use Rattle.ep_object.specs.State.{Frame, Frames}
@@ -26,16 +26,15 @@ use Rattle.ep_typed.specs.TypeValues.{TypeValue}
 
 -- ---- what lasts
 
-pub matches_own-lasts : {untouched : Slots} {declared : Declarations} → OwnAreKept declared untouched → Lasts untouched (MatchesOwn declared)
-matches_own-lasts {untouched = untouched} {declared = declared} kept = record { by = λ injection longer s t memory after g h k v is. go injection longer s t memory after g k v (kept k v is) (h k v is) }
+pub matches_own-lasts : {untouched : Slots} {declared : Declarations} → Lasts untouched (MatchesOwn declared)
+matches_own-lasts {untouched = untouched} {declared = declared} = record { by = λ injection longer s t memory after g h k v is. go injection longer s t memory after g k v (h k v is) }
   where
     go : (injection longer : Injection) (s t : meaning.State) (memory after : Memory) → HasGrown untouched injection s memory longer t after
-        → (k : ℕ) (v : UnitVariable) → IsTrue (untouched.own k) → OwnSlot declared injection s memory k v → OwnSlot declared longer t after k v
-    go injection longer s t memory after g k v own h =
-        let r = g.routine in
+        → (k : ℕ) (v : UnitVariable) → OwnSlot declared injection s memory k v → OwnSlot declared longer t after k v
+    go injection longer s t memory after g k v h =
         record {
           slot = h.slot;
-          is = r.slots k own ∙ h.is;
+          is = g.own k ∙ h.is;
           matches = subst (λ o. MatchesSlot longer after.types o h.slot) (sym (ap (λ cs. own_in cs 0 k) g.calls)) (slot-grown (own_variable 0 k s) h.slot g.grown h.matches);
           described = λ place t is has_type. describes-grown place.type_number t g.grown (h.described place t is has_type);
         }
@@ -71,16 +70,16 @@ innermost c below (b ∷ before) (d ∷ later) e h =
     let rest : before ≡ below = cc in
     record { frame = d; is = ap (λ l. d ∷ l) (h.3 ∙ rest); made = h.5 ∙ ap (λ (x : Frame). x.made) same }
 
-pub in_activation-lasts : {untouched : Slots} {declared : Declarations} {injection : Injection} {memory : Memory} → OwnAreKept declared untouched
+pub in_activation-lasts : {untouched : Slots} {declared : Declarations} {injection : Injection} {memory : Memory}
     → Lasts untouched (InActivation declared untouched injection memory)
-in_activation-lasts {untouched = untouched} {declared = declared} {injection = injection} {memory = memory} kept = record { by = λ longer last s t after final more h. go longer last s t after final more h }
+in_activation-lasts {untouched = untouched} {declared = declared} {injection = injection} {memory = memory} = record { by = λ longer last s t after final more h. go longer last s t after final more h }
   where
     go : (longer last : Injection) (s t : meaning.State) (after final : Memory) → HasGrown untouched longer s after last t final
         → InActivation declared untouched injection memory longer s after → InActivation declared untouched injection memory last t final
     go longer last s t after final more h =
         let r = more.routine in
         let inner = innermost h.frame h.below after.frames.calls final.frames.calls h.frames r.calls in
-        let own_lasts = matches_own-lasts {untouched = untouched} {declared = declared} kept in
+        let own_lasts = matches_own-lasts {untouched = untouched} {declared = declared} in
         let around_last = around-lasts {untouched = untouched} declared in
         let g = more.grown in
         record {

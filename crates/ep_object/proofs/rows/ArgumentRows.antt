@@ -55,7 +55,7 @@ abbrev pub with_slot : ℕ → Place → Frame → Frame
 with_slot k p frame = record frame { slots = slice_set frame.slots k (Some p) }
 
 -- memory has not grown by it
-grown_innermost : {untouched : Slots} (injection : Injection) (memory : Memory) (frame : Frame) (others : List Frame)
+pub grown_innermost : {untouched : Slots} (injection : Injection) (memory : Memory) (frame : Frame) (others : List Frame)
     → Grown untouched injection memory injection (with_innermost frame others memory)
 grown_innermost {untouched = untouched} injection memory frame others =
     let g = grown_refl {untouched = untouched} injection memory in
@@ -121,13 +121,13 @@ module _ (declared : Declarations) (G : Image) (untouched : Slots) (first : Inje
   -- ---- a variable that is given
 
   -- `Bind` of a place
-  bind_outcome : (p : Place) (trace : Trace) → slice_get G.instructions place ≡ Some (instr op.BIND (pos k) 0 line) → k < length frame.slots
+  pub bind_outcome : (p : Place) (trace : Trace) → slice_get G.instructions place ≡ Some (instr op.BIND (pos k) 0 line) → k < length frame.slots
       → outcome G (at place (operand.Place p ∷ below) memory trace) ≡ record { weight = 0; to = Running 0 (at (place + 1) below (with_innermost (with_slot k p frame) others memory) trace) }
   bind_outcome p trace has within =
       outcome_at G (instr op.BIND (pos k) 0 line) place (operand.Place p ∷ below) memory trace has ∙ rw (frames, lt-ltb k (length frame.slots) within) refl
 
   -- the variable of the routine is the allocation at the place
-  knows_bound : (s : meaning.State) (n : Component) (p : Place) (t : TypeValue) → InActivation declared untouched first start injection s memory → k < length frame.slots
+  pub knows_bound : (s : meaning.State) (n : Component) (p : Place) (t : TypeValue) → InActivation declared untouched first start injection s memory → k < length frame.slots
       → IsSpot injection memory.types n p → Describes memory.types p.type_number t
       → ((v : UnitVariable) → slice_get (variables_up declared 0) k ≡ Some v → HasOwnType declared v t)
       → InActivation declared untouched first start injection (with_own_bound k n s) (with_innermost (with_slot k p frame) others memory)

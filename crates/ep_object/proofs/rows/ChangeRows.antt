@@ -85,7 +85,7 @@ module _ (declared : Declarations) (G : Image) (place line : ℕ) (below : List 
         operands = below;
         does = go r.type_number r.words w.0 (slice_get-prefix first_types memory.types 3 text_entry types.first refl) r.stands w.1 ∙ ap (λ events. record { weight = length bytes; to = Running 0 (at (place + 1) below memory (s.trace ++ events)) }) (written-same bytes);
         matches = matches_events (piece_events bytes) matches;
-        here = lasts.by injection injection s (with_events (piece_events bytes) s) memory memory (record { grown = grown_refl injection memory; routine = same_routine-refl memory.frames; calls = refl }) here;
+        here = lasts.by injection injection s (with_events (piece_events bytes) s) memory memory (record { grown = grown_refl injection memory; routine = same_routine-refl memory.frames; own = λ k. refl; calls = refl }) here;
         post = inside_here refl;
       }
     where
@@ -140,7 +140,7 @@ module _ (declared : Declarations) (G : Image) (place line : ℕ) (below : List 
           operands = below;
           does = store_outcome memory s.trace p low high z r.type_number r.words old.0 true has described r.stands old.1 inside;
           matches = matches_assigned matches v.allocation p.segment a spot.is_in here.is here.lives r words v.path (meaning.Word z) (length-set r.words p.offset z) holds;
-          here = lasts.by injection injection s (assigned v (meaning.Word z) s) memory (storing memory p.segment r.type_number words) (record { grown = grown_storing matches v.allocation p.segment a spot.is_in here.is here.lives r words; routine = same_routine-refl memory.frames; calls = refl }) known;
+          here = lasts.by injection injection s (assigned v (meaning.Word z) s) memory (storing memory p.segment r.type_number words) (record { grown = grown_storing matches v.allocation p.segment a spot.is_in here.is here.lives r words; routine = same_routine-refl memory.frames; own = λ k. refl; calls = refl }) known;
           post = record { grown = grown_storing matches v.allocation p.segment a spot.is_in here.is here.lives r words; routine = same_routine-refl memory.frames; operands_are = refl };
         }
 
@@ -220,7 +220,7 @@ module _ (declared : Declarations) (G : Image) (place line : ℕ) (below : List 
           operands = below;
           does = structure_outcome memory s.trace p t n ws r.type_number r.words structured has described same r.stands fits;
           matches = matches_assigned matches v.allocation p.segment a spot.is_in there.is there.lives r words v.path value (replaced_length r.words ws p.offset fits) now;
-          here = lasts.by injection injection s (assigned v value s) memory (storing memory p.segment r.type_number words) (record { grown = grown_storing matches v.allocation p.segment a spot.is_in there.is there.lives r words; routine = same_routine-refl memory.frames; calls = refl }) known;
+          here = lasts.by injection injection s (assigned v value s) memory (storing memory p.segment r.type_number words) (record { grown = grown_storing matches v.allocation p.segment a spot.is_in there.is there.lives r words; routine = same_routine-refl memory.frames; own = λ k. refl; calls = refl }) known;
           post = record { grown = grown_storing matches v.allocation p.segment a spot.is_in there.is there.lives r words; routine = same_routine-refl memory.frames; operands_are = refl };
         }
 
@@ -327,6 +327,6 @@ module _ (declared : Declarations) (G : Image) (place line : ℕ) (below : List 
         operands = below;
         does = undefine_outcome memory s.trace p low high r.type_number r.words old.0 has described r.stands old.1;
         matches = matches_assigned matches v.allocation p.segment a spot.is_in x.is x.lives r words v.path Undefined (length-set r.words p.offset undefined) holds;
-        here = lasts.by injection injection s (assigned v Undefined s) memory (storing memory p.segment r.type_number words) (record { grown = grown_storing matches v.allocation p.segment a spot.is_in x.is x.lives r words; routine = same_routine-refl memory.frames; calls = refl }) known;
+        here = lasts.by injection injection s (assigned v Undefined s) memory (storing memory p.segment r.type_number words) (record { grown = grown_storing matches v.allocation p.segment a spot.is_in x.is x.lives r words; routine = same_routine-refl memory.frames; own = λ k. refl; calls = refl }) known;
         post = record { grown = grown_storing matches v.allocation p.segment a spot.is_in x.is x.lives r words; routine = same_routine-refl memory.frames; operands_are = refl };
       }

@@ -99,7 +99,7 @@ make_does {untouched = untouched} {Here = Here} declared G place line below t nu
           operands = below;
           does = leads true e;
           matches = matches_making matches t number described valid x k home.unit within declared_so distinct;
-          here = lasts.by injection (with_segment t injection memory) s (made x.name k t (counted t s)) memory (with_variable t number (with_place number k frame.slots memory) memory) (record { grown = grown_making t injection memory number (with_place number k frame.slots memory) kept; routine = record { turn = refl; routine = refl; unit = refl; calls = same_call-refl memory.frames.calls; slots = λ j kept. refl }; calls = refl }) known;
+          here = lasts.by injection (with_segment t injection memory) s (made x.name k t (counted t s)) memory (with_variable t number (with_place number k frame.slots memory) memory) (record { grown = grown_making t injection memory number (with_place number k frame.slots memory) kept; routine = record { turn = refl; routine = refl; unit = refl; calls = same_call-refl memory.frames.calls; slots = λ j kept. refl }; own = λ j. refl; calls = refl }) known;
           post = record { grown = grown_making t injection memory number (with_place number k frame.slots memory) kept; routine = record { turn = refl; routine = refl; unit = refl; calls = same_call-refl memory.frames.calls; slots = λ j kept. refl }; operands_are = refl };
         })
     go false e =

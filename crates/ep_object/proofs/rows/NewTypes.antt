@@ -4,7 +4,7 @@ use Rattle.std.specs.Prelude.{int_le, ◌&&◌, ⊤}
 use Rattle.std.proofs.lemmas.Bool.{lt-ltb}
 use Rattle.std.proofs.lemmas.Bool.Decides.{nat_tests}
 use Rattle.std.proofs.lemmas.Option.{slice_get_within}
-use Rattle.ep_object.specs.Matching.{Memory, at, Injection, DescribeEach, Describes, MatchesCounts, Matches, Slots, Grown}
+use Rattle.ep_object.specs.Matching.{Memory, at, Injection, DescribeEach, Describes, MatchesCounts, Matches, Slots, own_slot, Grown}
 use Rattle.ep_object.specs.Follows.{GivesUp, SameRoutine, Facts, Lasts, Inside}
 use Rattle.ep_object.specs.Operands.{Operand, Word}
 use Rattle.ep_object.specs.Runs.{Outcome, outcome, outcome_of, after}
@@ -47,6 +47,7 @@ pub record Elaborates (untouched : Slots) (declared : Declarations) (G : Image) 
   pub described : Describes final.types number t
   pub grown : Grown untouched injection memory injection final
   pub routine : SameRoutine untouched memory.frames final.frames
+  pub own : (k : ℕ) → own_slot final.frames k ≡ own_slot memory.frames k
 
 -- what an instruction leads to that makes a type of this entry
 abbrev interns : Image → Instr → State → TypeEntry → List Operand → Option ℕ → Going
@@ -110,6 +111,7 @@ elaborates {untouched} {declared} {G} {injection} {memory} weight place i operan
           described = entry_describes (memory.types ++ e ∷ []) (length memory.types) t e (slice_get-pushed memory.types e) (entry-longer memory.types (memory.types ++ e ∷ []) t e (record { rest = e ∷ []; is = refl }) is);
           grown = grown-types injection memory (memory.types ++ e ∷ []) (memory.live + words_of_kind e.kind) (record { rest = e ∷ []; is = refl });
           routine = same_routine-refl memory.frames;
+          own = λ k. refl;
         })
     added false full none =
         inr (gives_up (leads_as None none ∙ ap (λ b. record { weight = weight; to = adds G i (at place operands memory s.trace) e below b }) full) (inl refl) (is_prefix s.trace)
@@ -126,6 +128,7 @@ elaborates {untouched} {declared} {G} {injection} {memory} weight place i operan
           described = described-found t e n m.types is found;
           grown = grown_refl injection memory;
           routine = same_routine-refl memory.frames;
+          own = λ k. refl;
         })
     by_number None none = added (fits_one_more (at place operands memory s.trace) e) refl none
 
@@ -158,7 +161,7 @@ elaborated {below = below} {t = t} lasts injection memory s known (inl x) =
       operands = Word (pos x.number) ∷ below;
       does = x.does;
       matches = x.matches;
-      here = lasts.by injection injection s (with_type t s) memory x.final (record { grown = x.grown; routine = x.routine; calls = refl }) known;
+      here = lasts.by injection injection s (with_type t s) memory x.final (record { grown = x.grown; routine = x.routine; own = x.own; calls = refl }) known;
       post = record { grown = x.grown; routine = x.routine; operands_are = record { type_is = refl; number = x.number; is = refl; described = x.described } };
     })
 elaborated lasts injection memory s known (inr x) = inr x

@@ -1,4 +1,4 @@
-use Rattle.std.proofs.Common.{◌≡◌, None, ◌∙◌, sym}
+use Rattle.std.proofs.Common.{◌≡◌, [], None, ◌∙◌, sym}
 use Rattle.ep_scope.proofs.Found.{absent_in, entered_in, opened_in, lookup-by_bytes}
 use Rattle.ep_scope.proofs.scope.Scope.constituent.Goals as goal
 use Rattle.ep_scope.specs.Keys.{by_bytes}
@@ -21,4 +21,4 @@ returns-in-Ok c =
 pub returns-in-Err : goal.returns-in-Err
 returns-in-Err c =
     let absent : look_up (by_bytes c.self.inside.qualified.entries) c.args.interface.now ≡ None = rw (← c.bytes.ensures.bytes) (sym (lookup-by_bytes c.bytes.result.now c.self.inside.qualified.entries) ∙ sym c.in-None.ensures.value) in
-    rw (← c.self.view_is) (absent_in c.args.interface.now c.args.name.now c.args.thing (record { entries = c.self.inside.entries; qualified = by_bytes c.self.inside.qualified.entries; structures = c.self.inside.structures.items }) absent, rw c.get_mut.follows.holds-at-none at c.in-Err.ensures.unchanged)
+    rw (← c.self.view_is) (absent_in c.args.interface.now c.args.name.now c.args.thing (record { entries = c.self.inside.entries; qualified = by_bytes c.self.inside.qualified.entries; structures = c.self.inside.structures.items; records = [] }) absent, rw c.get_mut.follows.holds-at-none at c.in-Err.ensures.unchanged)

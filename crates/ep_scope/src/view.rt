@@ -1,0 +1,130 @@
+//! The scopes that code sees, with the records that are open there.
+
+ghost use Rattle.std.specs.Prelude.{◌≡◌, IfOk};
+ghost use Rattle.std.specs.Option.{option_copied};
+ghost use Rattle.ep_scope.specs.Meanings.{meant_by};
+ghost use Rattle.ep_scope.specs.Records.{open_of};
+ghost use Rattle.ep_scope.specs.Scopes.{depth_in, meant, meant_in, structure_in, within};
+
+use crate::meaning::{Meaning, meaning_after, meaning_among};
+use crate::record::{OpenRecord, field_among, one_more};
+use crate::scope::Scope;
+use crate::structure::{Composition, structure_among};
+use ep_base::{List, Name, NoMemory};
+use std::alloc::{AllocError, Global};
+use std::marker::Model;
+
+/// The scopes in view, the innermost first, and the records that are open inside of them, alike.
+#[derive(Drop)]
+pub struct View<'a> {
+    records: &'a [OpenRecord<'a>],
+    scopes: &'a [Scope],
+}
+
+impl<'a> Model for View<'a> {
+    ghost use Rattle.std.specs.Prelude.{List, map};
+    ghost use Rattle.ep_scope.specs.Records.{open_of};
+    ghost use Rattle.ep_scope.specs.Scopes.{Region, within_all};
+
+    ghost Value = { List Region };
+
+    ghost view = { λ v. within_all (map open_of v.records.now) v.scopes.now };
+}
+
+impl<'a> View<'a> {
+    /// These scopes, where no record is open.
+    pub fn of(scopes: &'a [Scope]) -> View<'a>
+        ensures { result ≡ scopes.now }
+    {
+        View {
+            records: &[],
+            scopes,
+        }
+    }
+
+    /// The same, where this record is open inside of all that are.
+    pub fn within(&self, alloc: Global, opened: OpenRecord<'a>) -> Result<Inner<'a>, NoMemory>
+        ensures { IfOk result (λ inner. inner ≡ within (open_of opened.entry) self.now) }
+    {
+        Ok(Inner {
+            records: one_more(alloc, opened, self.records)?,
+            scopes: self.scopes,
+        })
+    }
+}
+
+/// The scopes in view in the statement of a `with`, whose record is open inside of them.
+pub struct Inner<'a> {
+    records: List<OpenRecord<'a>>,
+    scopes: &'a [Scope],
+}
+
+impl<'a> Model for Inner<'a> {
+    ghost use Rattle.std.specs.Prelude.{List, map};
+    ghost use Rattle.ep_scope.specs.Records.{open_of};
+    ghost use Rattle.ep_scope.specs.Scopes.{Region, within_all};
+
+    ghost Value = { List Region };
+
+    ghost view = { λ v. within_all (map open_of v.records) v.scopes.now };
+}
+
+impl<'a> Drop for Inner<'a> {
+    fn drop(self) {
+        let Inner {
+            records: _,
+            scopes: _,
+        } = self;
+    }
+}
+
+impl<'a> Inner<'a> {
+    /// What code there sees.
+    pub fn view(&self) -> View<'_>
+        ensures { result ≡ self.now }
+    {
+        View {
+            records: self.records.items(),
+            scopes: self.scopes,
+        }
+    }
+}
+
+/// How many routines are around code that sees these scopes, of which the outermost is that of a unit's block. It takes no
+/// memory; an error comes where 32 bits do not hold the number.
+pub fn depth_in(view: &View<'_>) -> Result<u32, NoMemory>
+    ensures { IfOk result (λ depth. depth ≡ depth_in view.now) }
+{
+    match u32::try_from(view.scopes.len().saturating_sub(1)) {
+        Ok(depth) => Ok(depth),
+        Err(_) => Err(AllocError),
+    }
+}
+
+/// What a name means in these scopes: the field of an open record, or else what the scopes say. It takes no memory.
+pub fn meaning_of<'a>(view: &View<'a>, name: &Name) -> Meaning<'a>
+    ensures { meant_by result ≡ meant view.now name.now }
+{
+    match field_among(view.records, name) {
+        Some(field) => Meaning::Field(field),
+        None => meaning_among(view.scopes, name),
+    }
+}
+
+/// What a name means after the name of an interface and a dot. It takes no memory.
+pub fn meaning_in<'a>(view: &View<'a>, interface: &Name, name: &Name) -> Meaning<'a>
+    ensures { meant_by result ≡ meant_in view.now interface.now name.now }
+{
+    match field_among(view.records, interface) {
+        Some(_) => Meaning::Nothing,
+        None => meaning_after(view.scopes, interface, name),
+    }
+}
+
+/// What the structured type of this number is made of in these scopes. `None` comes exactly where none of them has it. It
+/// takes no memory.
+pub fn structure_of<'a>(view: &View<'a>, number: u32) -> Option<&'a Composition>
+    ensures { option_copied result ≡ structure_in view.now number }
+{
+    structure_among(view.scopes, number)
+}
