@@ -499,6 +499,103 @@ Push:2 Push:0 TArr Make:0 Slot:0 Load Field:0=|broken at 6|11\n\
 Push:0 Push:2 TRec:2 Make:0 Slot:0 Load Push:0 Index=|broken at 7|14\n\
 Push:0 Push:2 TRec:2 Make:0 Slot:0 Load Field:2=|broken at 6|13";
 
+/// Sets and what is made of them. No member is less than 0 or greater than 255.
+const SETS: &str = "\
+Unit:-1:1 SetNone Card Form Put Return=0|normal|8\n\
+Unit:-1:1 SetNone Push:3 SetAdd Push:255 SetAdd Push:3 SetAdd Card Form Put Return=2|normal|14\n\
+SetNone Push:256 SetAdd=|error 23 at 3|3\n\
+SetNone Push:-1 SetAdd=|error 23 at 3|3\n\
+Unit:-1:1 SetNone Push:30 Push:34 SetSpan Card Form Put Return=5|normal|11\n\
+Unit:-1:1 SetNone Push:300 Push:299 SetSpan Card Form Put Return=0|normal|11\n\
+Unit:-1:1 SetNone Push:0 Push:255 SetSpan Card Form Put Return=256|normal|15\n\
+SetNone Push:0 Push:256 SetSpan=|error 23 at 4|4\n\
+SetNone Push:-1 Push:5 SetSpan=|error 23 at 4|4\n\
+Unit:-1:1 Push:32 SetNone Push:30 Push:34 SetSpan In Form Put Return=1|normal|12\n\
+Unit:-1:1 Push:35 SetNone Push:30 Push:34 SetSpan In Form Put Return=0|normal|12\n\
+Unit:-1:1 Push:62 SetNone Push:30 Push:34 SetSpan In Form Put Return=0|normal|12\n\
+Unit:-1:1 Push:288 SetNone Push:30 Push:34 SetSpan In Form Put Return=0|normal|12\n\
+Unit:-1:1 Push:-9223372036854775807 SetNone Push:30 Push:34 SetSpan In Form Put Return=0|normal|12\n\
+Unit:-1:1 Push:31 SetNone Push:5 SetAdd Push:200 SetAdd Next Form Put Return=200|normal|17\n\
+Unit:-1:1 Push:200 SetNone Push:5 SetAdd Push:200 SetAdd Next Form Put Return=200|normal|17\n\
+Unit:-1:1 Push:201 SetNone Push:5 SetAdd Push:200 SetAdd Next Form Put Return=-1|normal|15\n\
+Unit:-1:1 Push:-7 SetNone Push:5 SetAdd Push:200 SetAdd Next Form Put Return=5|normal|13\n\
+Unit:-1:1 Push:0 SetNone Push:1 SetAdd Push:2 SetAdd SetNone Push:2 SetAdd Push:3 SetAdd \
+SetOp:1 Next Form Put Return=1|normal|19\n\
+Unit:-1:1 Push:0 SetNone Push:1 SetAdd Push:2 SetAdd SetNone Push:2 SetAdd Push:3 SetAdd \
+SetOp:2 Next Form Put Return=2|normal|19\n\
+Unit:-1:1 Push:2 SetNone Push:1 SetAdd Push:2 SetAdd SetNone Push:2 SetAdd Push:3 SetAdd \
+SetOp:3 In Form Put Return=0|normal|19\n\
+Unit:-1:1 SetNone Push:1 SetAdd Push:2 SetAdd SetNone Push:2 SetAdd Push:3 SetAdd SetOp Card \
+Form Put Return=3|normal|18\n\
+Unit:-1:1 SetNone Push:1 SetAdd Push:2 SetAdd SetNone Push:2 SetAdd Push:3 SetAdd SetOp:1 Card \
+Form Put Return=1|normal|18\n\
+Unit:-1:1 SetNone Push:1 SetAdd Push:2 SetAdd SetNone Push:2 SetAdd Push:3 SetAdd SetOp:2 Card \
+Form Put Return=1|normal|18\n\
+Unit:-1:1 SetNone Push:1 SetAdd Push:2 SetAdd SetNone Push:2 SetAdd Push:3 SetAdd SetOp:3 Card \
+Form Put Return=2|normal|18\n\
+SetNone SetNone SetOp:4=|broken at 2|3\n\
+SetNone SetNone SetOp:-1=|broken at 2|3\n\
+Unit:-1:1 SetNone Push:1 SetAdd SetNone Push:1 SetAdd Push:2 SetAdd SetCmp Form Put \
+Return=0|normal|15\n\
+Unit:-1:1 SetNone Push:1 SetAdd SetNone Push:1 SetAdd Push:2 SetAdd SetCmp:1 Form Put \
+Return=1|normal|15\n\
+Unit:-1:1 SetNone Push:1 SetAdd SetNone Push:1 SetAdd Push:2 SetAdd SetCmp:4 Form Put \
+Return=1|normal|15\n\
+Unit:-1:1 SetNone Push:1 SetAdd SetNone Push:1 SetAdd Push:2 SetAdd SetCmp:5 Form Put \
+Return=0|normal|15\n\
+Unit:-1:1 SetNone Push:40 SetAdd SetNone Push:40 SetAdd SetCmp Form Put Return=1|normal|13\n\
+Unit:-1:1 SetNone Push:40 SetAdd SetNone Push:40 SetAdd SetCmp:1 Form Put Return=0|normal|13\n\
+Unit:-1:1 SetNone Push:40 SetAdd SetNone Push:40 SetAdd SetCmp:5 Form Put Return=1|normal|13\n\
+SetNone SetNone SetCmp:2=|broken at 2|3\n\
+SetNone SetNone SetCmp:3=|broken at 2|3\n\
+SetNone SetNone SetCmp:6=|broken at 2|3\n\
+Unit:-1:1 SetNone Push:3 SetAdd Dup SetCmp Form Put Return=1|normal|11\n\
+SetNone Drop Halt=|halt|3\n\
+SetNone Like=|broken at 1|2\n\
+SetNone Form=|broken at 1|2\n\
+Unit:-1:1 SetNone Push:9 SetAdd Call:1 Form Put Return Routine:1 Arg:0 Card Return=1|normal|13\n\
+Push:1 SetAdd=|broken at 1|2\n\
+SetNone SetAdd=|broken at 1|2\n\
+SetNone Push:1 In=|broken at 2|3\n\
+SetNone In=|broken at 1|2\n\
+Card=|broken at 0|1\n\
+SetNone:1=|broken at 0|1\n\
+SetNone SetNone SetOp:0:1=|broken at 2|3";
+
+/// Set types and their variables, which have eight words. The first set type is type 5.
+const SET_VARIABLES: &str = "\
+Unit:-1:1 Push:1 TSet Form Put Return=5|normal|8\n\
+Unit:-1:1 Push:1 TSet Drop Push:1 TSet Form Put Return=5|normal|11\n\
+Unit:-1:1 Push:1 TSet Drop Push:2 TSet Form Put Return=6|normal|11\n\
+Push:0 TSet=|error 5 at 2|2\n\
+Push:-1 Push:5 TOrd TSet=|error 5 at 4|4\n\
+Push:0 Push:256 TOrd TSet=|error 5 at 4|4\n\
+Push:3 TSet=|broken at 1|2\n\
+Push:4 TSet=|broken at 1|2\n\
+Push:5 TSet=|broken at 1|2\n\
+Push:1 TSet TSet=|broken at 2|3\n\
+Push:1 TSet:1=|broken at 1|2\n\
+SetNone TSet=|broken at 1|2\n\
+Push:1 TSet Make:0 Slot:0 Load=|error 1 at 5|13\n\
+Unit:-1:1 Push:1 TSet Make:0 Slot:0 SetNone Push:97 SetAdd Push:255 SetAdd Push:0 SetAdd Store \
+Slot:0 Load Card Form Put Return=3|normal|29\n\
+Push:1 Push:5 TOrd TSet Make:0 Slot:0 SetNone Push:6 SetAdd Store=|error 23 at 10|18\n\
+Push:1 Push:5 TOrd TSet Make:0 Slot:0 SetNone Push:0 SetAdd Store=|error 23 at 10|18\n\
+Push:1 Push:5 TOrd TSet Make:0 Slot:0 SetNone Push:1 Push:5 SetSpan Store Halt=|halt|20\n\
+Push:1 TSet Make:0 Slot:0 SetNone Store Slot:0 Undefine Slot:0 Load=|error 1 at 10|26\n\
+Push:1 TSet New Dup Deref Bind:0 Dispose Slot:0 Load=|error 11 at 9|17\n\
+Push:1 Push:5 TOrd TSet New Dup Deref Bind:0 Dispose Slot:0 SetNone Push:6 SetAdd Store=|error \
+11 at 14|22\n\
+Push:1 TSet New Dup Deref Bind:0 Dispose Slot:0 Undefine=|error 11 at 9|25\n\
+Push:1 TSet Make:0 Slot:0 Push:1 Store=|broken at 5|14\n\
+Push:0 Make:0 Slot:0 SetNone Store=|broken at 4|6\n\
+Push:1 TSet Make:0 Slot:0 Defined=|broken at 4|13\n\
+Unit:-1:1 Push:0 Push:1 TSet TRec:2 Make:0 Slot:0 Field:1 SetNone Push:7 SetAdd Store Slot:0 \
+Field:1 Load Card Form Put Return=1|normal|32\n\
+Unit:-1:1 Push:1 TSet TRec:1 Make:0 Slot:0 Field:0 SetNone Push:7 SetAdd Store Slot:0 Load \
+Field:0 Card Form Put Return=1|normal|45\n\
+Push:1 TSet TRec:1 Make:0 Slot:0 Load Field:0=|error 1 at 7|32";
+
 /// What is printed.
 const PRINTS: &str = "\
 Unit:-1:1 Push:65 Chars Put Return=A|normal|7\n\
@@ -533,6 +630,8 @@ fn each_row_comes_to_what_the_table_of_instructions_says(rt: HostRuntime) -> Res
         COMPONENTS,
         VALUES,
         PARTS,
+        SETS,
+        SET_VARIABLES,
         PRINTS,
     ] {
         let differing = differing(rt.alloc(), table)?;

@@ -1,4 +1,6 @@
 mod CallEntry
 mod CallFrames
+mod Kept
+mod SetTops
 mod Tops
 mod Words

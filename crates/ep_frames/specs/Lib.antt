@@ -1,4 +1,5 @@
 pub mod Calls
 pub mod Forms
+pub mod Members
 pub mod Stacks
 pub mod Stored

@@ -8,6 +8,7 @@ ghost use Rattle.std.specs.Prelude.{◌+◌};
 ghost use Rattle.ep_frames.specs.Calls.{innermost_routine, innermost_slots, innermost_parent, IsSlot, bound, placed, first, innermost_made, innermost_back, rest_of, argument_of, argument_among, operand_of, place_of, operands_in, StartsWith, without};
 ghost use Rattle.ep_object.specs.Operands.{weight};
 
+use crate::members::Members;
 use crate::stack::Stack;
 use ep_base::Bytes;
 use ep_object::{FrameNumber, ImageRoutine, Place};
@@ -25,6 +26,8 @@ pub enum Argument {
     Text(Bytes),
     /// A value of many words, with the number of its type.
     Value(u32, Vec<i64>),
+    /// A set.
+    Set(Members),
 }
 
 impl Argument {
@@ -36,7 +39,7 @@ impl Argument {
         match self {
             Argument::Text(bytes) => bytes.items().len() as u64,
             Argument::Value(_, words) => words.len() as u64,
-            Argument::Word(_) | Argument::Place(_) => 0,
+            Argument::Word(_) | Argument::Place(_) | Argument::Set(_) => 0,
         }
     }
 

@@ -6,7 +6,7 @@ ghost use Rattle.ep_frames.specs.Stacks.{cell_weights};
 use ep_object::Place;
 
 /// An operand. Of a text and of a value of many words only the length stands here, and its bytes or words stand on a
-/// stack of their own, so that every cell is small and none owns memory.
+/// stack of their own, as the sets do, so that every cell is small and none owns memory.
 #[derive(Clone, Copy, Drop)]
 pub enum Cell {
     /// A word.
@@ -17,6 +17,8 @@ pub enum Cell {
     Text(usize),
     /// A value of the type of this number, of so many words.
     Value(u32, u32),
+    /// A set.
+    Set,
 }
 
 impl Cell {
@@ -27,7 +29,7 @@ impl Cell {
         match self {
             Cell::Text(bytes) => *bytes as u64,
             Cell::Value(_, words) => u64::from(*words),
-            Cell::Word(_) | Cell::Place(_) => 0,
+            Cell::Word(_) | Cell::Place(_) | Cell::Set => 0,
         }
     }
 }

@@ -29,6 +29,7 @@ pub fn push(argument: &Argument, stack: &mut Stack) -> Step
         Argument::Place(place) => stack.push_place(*place),
         Argument::Text(bytes) => stack.push_text(bytes.items()),
         Argument::Value(type_number, words) => stack.push_value(*type_number, words),
+        Argument::Set(set) => stack.push_set(*set),
     };
     if done { Step::Next } else { Step::NoMemory }
 }

@@ -41,6 +41,7 @@ fn is_text(types: &[TypeEntry], type_number: u32) -> Option<bool>
             Kind::Pointer => Some(false),
             Kind::Array(_, _, _) => Some(false),
             Kind::Record(_) => Some(false),
+            Kind::Set(_, _) => Some(false),
         },
         None => None,
     }

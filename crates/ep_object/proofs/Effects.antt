@@ -119,6 +119,14 @@ module _ (Holds : State → Type 0) where
     op_keeps G i (Some table.Between) = kept _
     op_keeps G i (Some table.Check) = kept _
     op_keeps G i (Some table.Step) = kept _
+    op_keeps G i (Some table.SetNone) = kept _
+    op_keeps G i (Some table.SetAdd) = kept _
+    op_keeps G i (Some table.SetSpan) = kept _
+    op_keeps G i (Some table.SetOp) = kept _
+    op_keeps G i (Some table.SetCmp) = kept _
+    op_keeps G i (Some table.In) = kept _
+    op_keeps G i (Some table.Card) = kept _
+    op_keeps G i (Some table.Next) = kept _
     op_keeps G i (Some table.Text) = kept _
     op_keeps G i (Some table.Drop) = kept _
     op_keeps G i (Some table.Dup) = kept _
@@ -141,6 +149,7 @@ module _ (Holds : State → Type 0) where
     op_keeps G i (Some table.Deref) = kept _
     op_keeps G i (Some table.Store) = mapped_keeps (in_segments s) segments _
     op_keeps G i (Some table.TOrd) = mapped_keeps (with_typing s) types _
+    op_keeps G i (Some table.TSet) = mapped_keeps (with_typing s) types _
     op_keeps G i (Some table.TArr) = mapped_keeps (with_typing s) types _
     op_keeps G i (Some table.TRec) = mapped_keeps (with_typing s) types _
     op_keeps G i (Some table.Put) = mapped_keeps (with_events s) events _

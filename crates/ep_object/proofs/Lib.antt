@@ -6,6 +6,7 @@ pub mod Grows
 pub mod Limits
 pub mod matching
 pub mod rows
+pub mod Sets
 mod Spinning
 pub mod Tells
 pub mod Ticks

@@ -16,6 +16,8 @@ pub mod Promises
 pub mod Routines
 pub mod Runs
 pub mod Scene
+pub mod SetRows
+pub mod Sets
 pub mod Simulates
 pub mod State
 pub mod Table

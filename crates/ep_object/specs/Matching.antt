@@ -15,6 +15,7 @@ use Rattle.ep_typed.specs.TypeValues as type
 use Rattle.ep_typed.specs.declared.unit.UnitVariable.{UnitVariable}
 use Rattle.ep_object.specs.Frames.{slots_over}
 use Rattle.ep_object.specs.Operands.{Operand}
+use Rattle.ep_object.specs.Sets.{set_size}
 use Rattle.ep_object.specs.State.{Frames, Segments, TypeTable, State, text_entry, first_types, undefined}
 use Rattle.ep_object.specs.Types.{ordinal_entry, array_entry, record_entry}
 use Rattle.ep_object.specs.declared.code.Image.{Image}
@@ -252,6 +253,7 @@ HasSize types kind.Pointer size = size ≡ 1
 HasSize types kind.Text size = size ≡ 1
 HasSize types (kind.Array low high c) size = (e : TypeEntry) × (slice_get types c ≡ Some e) × (size ≡ count_of low high * e.size)
 HasSize types (kind.Record ps) size = HaveSize types 0 ps size
+HasSize types (kind.Set low high) size = size ≡ set_size
 
 -- The types: the table begins with the first ones, each entry has the size that its kind gives, none stands twice, and one
 -- describes each type value that was elaborated. Which others there are is left open.

@@ -19,5 +19,5 @@ pub use code::{
 pub use laws::{laws_of_calls, laws_of_runs, laws_of_simulations};
 pub use state::{
     FIRST_LIVE_WORDS, FrameNumber, INPUT_SEGMENT, Kind, OUTPUT_SEGMENT, Place, RecordPart,
-    RecordParts, Segment, TEXT_TYPE, TypeEntry,
+    RecordParts, SET_MEMBERS, SET_WORDS, Segment, TEXT_TYPE, TypeEntry, WORD_MEMBERS,
 };

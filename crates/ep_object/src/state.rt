@@ -12,6 +12,15 @@ pub const INPUT_SEGMENT: u64 = 1;
 /// The segment of `output`.
 pub const OUTPUT_SEGMENT: u64 = 2;
 
+/// How many ordinals may be members of a set, from 0 on.
+pub const SET_MEMBERS: u32 = 256;
+
+/// How many words a set takes.
+pub const SET_WORDS: u32 = 8;
+
+/// Of how many ordinals each word of a set tells whether they are members.
+pub const WORD_MEMBERS: u32 = 32;
+
 /// How many words of `input` and `output` live.
 pub const FIRST_LIVE_WORDS: u64 = 4;
 
@@ -69,6 +78,8 @@ pub enum Kind {
     Array(i64, i64, u32),
     /// A record type with its components in order.
     Record(RecordParts),
+    /// A set type with the bounds of its base type.
+    Set(i64, i64),
 }
 
 /// An entry of the type table.

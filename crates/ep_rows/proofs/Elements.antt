@@ -3,7 +3,7 @@ use Rattle.std.proofs.Common.{◌≡◌, ℕ, ℤ, ◌+◌, ◌<◌, List, [], �
 use Rattle.std.proofs.lemmas.Bool.{lt-leb}
 use Rattle.ep_frames.specs.Stacks.{value_under_word, word_top}
 use Rattle.ep_object.specs.Effects.{Breaks, light}
-use Rattle.ep_object.specs.Operands.{Operand, Word, Place, Text, Value}
+use Rattle.ep_object.specs.Operands.{Operand, Word, Place, Text, Value, Set}
 use Rattle.ep_object.specs.Parts.{element_of, part_at, value_element}
 use Rattle.ep_object.specs.State.{TypeTable}
 use Rattle.ep_object.specs.declared.state.Kind.TheVariants.{Array}
@@ -29,6 +29,7 @@ under_word (Word w ∷ []) z n ws e f = cc
 under_word (Word w ∷ Word v ∷ st) z n ws e f = cc
 under_word (Word w ∷ Place p ∷ st) z n ws e f = cc
 under_word (Word w ∷ Text bytes ∷ st) z n ws e f = cc
+under_word (Word w ∷ Set ms ∷ st) z n ws e f = cc
 under_word (Word w ∷ Value m us ∷ st) z n ws e f =
     let pair : ◌≡◌ {A = ℕ × List ℤ} (n, ws) (m, us) = cc in
     let number : n ≡ m = ap (λ p. p.0) pair in
@@ -37,3 +38,4 @@ under_word (Word w ∷ Value m us ∷ st) z n ws e f =
 under_word (Place p ∷ st) z n ws e f = cc
 under_word (Text bytes ∷ st) z n ws e f = cc
 under_word (Value m us ∷ st) z n ws e f = cc
+under_word (Set ms ∷ st) z n ws e f = cc

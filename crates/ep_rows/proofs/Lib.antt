@@ -4,4 +4,5 @@ mod IndexTypes
 mod Indexing
 mod Making
 mod RecordTypes
+mod SetBits
 mod WordRows

@@ -3,7 +3,7 @@ use Rattle.std.proofs.Common.{◌≡◌, ◌≢◌, ℕ, ℤ, pos, zero, suc, �
 use Rattle.std.proofs.Math.Seq.{take-suc, drop-cons}
 use Rattle.std.proofs.lemmas.List.{reverse-append}
 use Rattle.ep_object.specs.Effects.{Work, weighing, having_weighed}
-use Rattle.ep_object.specs.Operands.{Operand, Word, Place, Text, Value, word}
+use Rattle.ep_object.specs.Operands.{Operand, Word, Place, Text, Value, Set, word}
 use Rattle.ep_object.specs.State.{TypeTable, size_limit}
 use Rattle.ep_object.specs.Types.{Numbered, lowest_first, and_numbered, entry_of, entries_of, words_behind, record_of, rec_row, same_parts}
 use Rattle.ep_object.specs.declared.state.RecordPart.{RecordPart}
@@ -29,6 +29,7 @@ one_taken left ws w (Word v ∷ st) rest h =
 one_taken left ws w (Place p ∷ st) rest h = cc
 one_taken left ws w (Text bytes ∷ st) rest h = cc
 one_taken left ws w (Value n words ∷ st) rest h = cc
+one_taken left ws w (Set members ∷ st) rest h = cc
 
 none_taken : (left : ℕ) (ws : List ℤ) (st : List Operand) → word st ≡ None → lowest_first (suc left) ws st ≡ None
 none_taken left ws [] h = refl
@@ -36,6 +37,7 @@ none_taken left ws (Word v ∷ st) h = cc
 none_taken left ws (Place p ∷ st) h = refl
 none_taken left ws (Text bytes ∷ st) h = refl
 none_taken left ws (Value n words ∷ st) h = refl
+none_taken left ws (Set members ∷ st) h = refl
 
 pub more_taken : (count i : ℕ) (ws : List ℤ) (w : ℤ) (st rest : List Operand) → i < count → word st ≡ Some (w, rest)
     → lowest_first (count - i) (reverse ws) st ≡ lowest_first (count - (i + 1)) (reverse (ws ++ w ∷ [])) rest
@@ -69,6 +71,7 @@ pushed_over (suc n) taken ws (Word w ∷ st) rest h = pushed_over n (w ∷ taken
 pushed_over (suc n) taken ws (Place p ∷ st) rest h = cc
 pushed_over (suc n) taken ws (Text bytes ∷ st) rest h = cc
 pushed_over (suc n) taken ws (Value m words ∷ st) rest h = cc
+pushed_over (suc n) taken ws (Set members ∷ st) rest h = cc
 
 -- the words that were taken off give the operands again
 taken_again : (n : ℕ) (ws : List ℤ) (st rest : List Operand) → lowest_first n [] st ≡ Some (ws, rest) → pushed ws rest ≡ st

@@ -1,3 +1,4 @@
+pub mod Members
 pub mod Parts
 pub mod Printing
 pub mod Records

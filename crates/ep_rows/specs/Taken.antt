@@ -2,7 +2,8 @@
 use Rattle.std.specs.Prelude.{◌≤◌, ℕ, ℤ, ◌+◌, List, ◌∷◌, length, Option, Some, None, ⊤}
 use Rattle.ep_object.specs.Effects.{Breaks, Continues, Fails, Work, having, having_weighed, light, weighing}
 use Rattle.ep_object.specs.Operands.{Operand, Value}
-use Rattle.ep_object.specs.Places.{loaded, words_at}
+use Rattle.ep_object.specs.Places.{loaded, set_defined, words_at}
+use Rattle.ep_frames.specs.Members.{set_of}
 use Rattle.ep_rows.specs.declared.parts.AtIndex.{AtIndex}
 use Rattle.ep_rows.specs.declared.parts.AtIndex.TheVariants as at_index
 use Rattle.ep_rows.specs.declared.parts.Found.{Found}
@@ -13,6 +14,7 @@ use Rattle.ep_typed.specs.declared.run_error.TheConstants as run_error
 -- what comes of a component with the type of this number whose words begin at an offset in those of a value
 abbrev pub part_told : List ℤ → ℕ → ℕ → Part → List Operand → Work (List Operand)
 part_told ws offset n (part.Word w) st = weighing (length ws) (having w (λ x. loaded x st))
+part_told ws offset n (part.Set w m) st = weighing (length ws) (having w (λ x. set_defined x (set_of m) st))
 part_told ws offset n (part.Words size) st = having_weighed (words_at ws offset size) (λ us. weighing (length ws + length us) (Continues (Value n us ∷ st)))
 
 -- what comes of one that was found, or of broken code in its place
@@ -29,6 +31,7 @@ element_told ws (at_index.There f) st = found_told ws (Some f) st
 -- as many words as the component has are there, from the offset on
 abbrev pub IsThere : List ℤ → ℕ → Part → Type 0
 IsThere ws offset (part.Word w) = ⊤
+IsThere ws offset (part.Set w m) = ⊤
 IsThere ws offset (part.Words size) = offset + size ≤ length ws
 
 -- where an element is found it is there
@@ -40,4 +43,5 @@ OnThere ws (at_index.There f) = IsThere ws f.offset f.part
 -- the ticks that a component spends that is taken out of a value of so many words
 abbrev pub weight_of : ℕ → Part → ℕ
 weight_of size (part.Word w) = size
+weight_of size (part.Set w m) = size
 weight_of size (part.Words kept) = size + kept

@@ -8,11 +8,13 @@
 
 mod bounds;
 pub mod control;
+mod members;
 pub mod parts;
 pub mod places;
 pub mod pointers;
 pub mod records;
 pub mod segments;
+pub mod sets;
 mod step;
 pub mod texts;
 pub mod types;

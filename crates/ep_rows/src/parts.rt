@@ -14,8 +14,8 @@ use crate::bounds::component_at;
 use crate::control::spend;
 use crate::step::Step;
 use crate::values::words_at;
-use crate::{places, words};
-use ep_frames::{Stack, Stored};
+use crate::{members, places, sets, words};
+use ep_frames::{Members, Stack, Stored};
 use ep_object::{Kind, TypeEntry};
 use ep_typed::run_error;
 
@@ -26,6 +26,8 @@ pub(crate) enum Part {
     Word(Option<i64>),
     /// So many of its words, those of an array or a record.
     Words(u32),
+    /// The first word of a set, where it has one, and the set.
+    Set(Option<i64>, Members),
 }
 
 /// A component of a value.
@@ -60,6 +62,7 @@ fn part_of(words: &[i64], offset: usize, type_number: u32, types: &[TypeEntry]) 
         Kind::Text => return None,
         Kind::Ord(_, _) | Kind::Pointer => Part::Word(value.first().copied()),
         Kind::Array(_, _, _) | Kind::Record(_) => Part::Words(entry.size),
+        Kind::Set(_, _) => Part::Set(value.first().copied(), members::read(value)),
     };
     Some(Found {
         type_number,
@@ -143,7 +146,7 @@ fn spend_part(part: Part, size: usize, limit: u64, ticks: &mut u64) -> bool
     ensures within { ticks.new < limit }
 {
     match part {
-        Part::Word(_) => spend(limit, ticks, size as u64),
+        Part::Word(_) | Part::Set(_, _) => spend(limit, ticks, size as u64),
         Part::Words(kept) => match (size as u64).checked_add(u64::from(kept)) {
             Some(weight) => spend(limit, ticks, weight),
             None => false,
@@ -160,6 +163,10 @@ fn put(found: Found, stack: &mut Stack) -> Step
         Part::Word(word) => {
             stack.pop();
             push_defined(word, stack)
+        }
+        Part::Set(first, set) => {
+            stack.pop();
+            sets::push_defined(first, set, stack)
         }
         Part::Words(kept) => {
             if stack.keep_part(found.type_number, found.offset, kept) {

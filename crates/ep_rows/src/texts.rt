@@ -5,7 +5,7 @@ ghost use Rattle.std.specs.Fmt.{signed_decimal};
 ghost use Rattle.ep_object.specs.Effects.{Continues};
 ghost use Rattle.ep_object.specs.Control.{dup_row};
 ghost use Rattle.ep_object.specs.Texts.{text_row, chars_row, form_row, form_width_row, formed as formed_of, cut, padded, boolean_text as text_of_boolean};
-ghost use Rattle.ep_object.specs.Operands.{Text, Word};
+ghost use Rattle.ep_object.specs.Operands.{Text, Word, set};
 ghost use Rattle.ep_decode.specs.Operations.{print_number};
 ghost use Rattle.ep_frames.specs.Stacks.{place_top, value_top, word_top};
 ghost use Rattle.ep_rows.specs.Printing.{printed_top, IsRestored};
@@ -13,7 +13,7 @@ ghost use Rattle.ep_rows.specs.Steps.{IsDone, IsStep};
 
 use crate::control::{spend, top_weight};
 use crate::step::Step;
-use crate::{places, values, words};
+use crate::{places, sets, values, words};
 use ep_base::{Bytes, List};
 use ep_decode::Print;
 use ep_frames::Stack;
@@ -74,6 +74,7 @@ fn dup_text(alloc: Global, limit: u64, ticks: &mut u64, stack: &mut Stack) -> St
     requires no_value { value_top stack.old ≡ None }
     requires no_word { word_top stack.old ≡ None }
     requires no_place { place_top stack.old ≡ None }
+    requires no_set { set stack.old ≡ None }
     ensures within { ticks.new < limit }
     ensures done { IsDone limit (dup_row stack.old) result ticks.old ticks.new stack.old stack.new }
 {
@@ -109,6 +110,9 @@ pub fn dup(alloc: Global, limit: u64, ticks: &mut u64, stack: &mut Stack) -> Ste
             return Step::NoMemory;
         };
         return values::dup(type_number, &copy, limit, ticks, stack);
+    }
+    if let Some(set) = stack.pop_set() {
+        return sets::push_twice(set, stack);
     }
     dup_text(alloc, limit, ticks, stack)
 }

@@ -1,14 +1,14 @@
 //! The rows that make types. Equal types have one number.
 
 ghost use Rattle.std.specs.Prelude.{◌≡◌, ◌<◌, ◌≤◌, ◌+◌, ◌*◌, ◌^◌, suc, length, Option, Some, None, MatchOption};
-ghost use Rattle.ep_object.specs.Types.{same_kind as is_same, same_parts as are_same, kind_number as number_of, words_of_kind as words_of, ord_row, ordinal_entry as ordinal, added, interned, entry_of as type_of, bounds_of as kind_bounds, arr_row};
+ghost use Rattle.ep_object.specs.Types.{same_kind as is_same, same_parts as are_same, kind_number as number_of, words_of_kind as words_of, ord_row, ordinal_entry as ordinal, set_entry as set_type, set_row, added, interned, entry_of as type_of, bounds_of as kind_bounds, arr_row};
 ghost use Rattle.ep_rows.specs.Steps.{IsStep};
 ghost use Rattle.ep_rows.specs.Parts.{typing};
 
 use crate::step::Step;
-use crate::{bounds, places, words};
+use crate::{bounds, places, sets, words};
 use ep_frames::Stack;
-use ep_object::{Kind, RecordPart, TypeEntry, limit};
+use ep_object::{Kind, RecordPart, SET_WORDS, TypeEntry, limit};
 use ep_typed::run_error;
 
 /// Whether components have the same types at the same places, one for one.
@@ -38,6 +38,7 @@ fn same_kind(a: &Kind, b: &Kind) -> bool
         (Kind::Pointer, Kind::Pointer) => true,
         (Kind::Text, Kind::Text) => true,
         (Kind::Array(lo, hi, c), Kind::Array(l, h, d)) => lo == l && hi == h && c == d,
+        (Kind::Set(lo, hi), Kind::Set(l, h)) => lo == l && hi == h,
         (Kind::Record(parts), Kind::Record(others)) => same_parts(parts.items(), others.items()),
         _ => false,
     }
@@ -60,6 +61,7 @@ fn words_of_kind(kind: &Kind) -> u64
         Kind::Ord(_, _) => 1,
         Kind::Pointer => 1,
         Kind::Text => 1,
+        Kind::Set(_, _) => 1,
         Kind::Array(_, _, _) => 2,
         Kind::Record(parts) => parts.items().len() as u64 + 1,
     }
@@ -149,6 +151,36 @@ fn bounds_of(kind: &Kind) -> Option<(i64, i64)>
         Kind::Ord(lo, hi) => Some((*lo, *hi)),
         _ => None,
     }
+}
+
+/// The set type whose base type has these bounds.
+fn set_entry(lo: i64, hi: i64) -> TypeEntry
+    ensures { result ≡ set_type lo hi }
+{
+    TypeEntry {
+        kind: Kind::Set(lo, hi),
+        size: SET_WORDS,
+    }
+}
+
+/// The set type whose base type has the number on top.
+pub fn set(types: &mut Vec<TypeEntry>, live: &mut u64, stack: &mut Stack) -> Step
+    ensures { IsStep (set_row (typing stack.old types.old.items live.old)) result
+        (typing stack.new types.new.items live.new) }
+{
+    let Some(base) = stack.pop_word() else {
+        return Step::Broken;
+    };
+    let Some((_, base_type)) = entry_of(types, base) else {
+        return Step::Broken;
+    };
+    let Some((lo, hi)) = bounds_of(&base_type.kind) else {
+        return Step::Broken;
+    };
+    if !sets::is_ordinal(lo) || !sets::is_ordinal(hi) {
+        return Step::Error(run_error::OUTSIDE_DOMAIN);
+    }
+    intern(set_entry(lo, hi), types, live, stack)
 }
 
 /// The array type with the index type and the component type of these numbers.

@@ -4,13 +4,14 @@ ghost use Rattle.std.specs.Prelude.{◌≡◌, ◌<◌, ◌∷◌, List, Some, N
 ghost use Rattle.ep_frames.specs.Stacks.{value_top, word_top};
 ghost use Rattle.ep_object.specs.Control.{dup_row};
 ghost use Rattle.ep_object.specs.Effects.{Continues};
-ghost use Rattle.ep_object.specs.Operands.{Operand, Place as PlaceOperand, Value};
-ghost use Rattle.ep_object.specs.Places.{load_row, load_value, living, store_row, words_at};
+ghost use Rattle.ep_object.specs.Operands.{Operand, Place as PlaceOperand, Value, set};
+ghost use Rattle.ep_object.specs.Places.{load_by, load_row, load_value, living, store_row, words_at};
 ghost use Rattle.ep_rows.specs.Steps.{IsDone, IsStep};
 ghost use Rattle.ep_rows.specs.Values.{has_many_words, value_loaded, words_stored_in};
 
 use crate::control::spend;
 use crate::places::{load_word, store_word};
+use crate::sets;
 use crate::step::Step;
 use ep_frames::{Stack, Stored};
 use ep_object::{Kind, Place, TypeEntry};
@@ -22,7 +23,7 @@ fn is_structured(kind: &Kind) -> bool
 {
     match kind {
         Kind::Array(_, _, _) | Kind::Record(_) => true,
-        Kind::Ord(_, _) | Kind::Pointer | Kind::Text => false,
+        Kind::Ord(_, _) | Kind::Pointer | Kind::Text | Kind::Set(_, _) => false,
     }
 }
 
@@ -111,6 +112,37 @@ fn load_value(
     push_value(p.type_number, value, stack)
 }
 
+/// The value of a variable of this type, whose place is on top.
+fn load_typed(
+    limit: u64,
+    ticks: &mut u64,
+    p: Place,
+    entry: &TypeEntry,
+    segments: &[Stored],
+    stack: &mut Stack,
+) -> Step
+    requires { ticks.old < limit }
+    ensures within { ticks.new < limit }
+    ensures done { (st : List Operand) → stack.old ≡ PlaceOperand p ∷ st
+        → IsDone limit (load_by entry.now.kind entry.now.size segments.now p st) result ticks.old ticks.new
+        stack.old stack.new }
+{
+    match &entry.kind {
+        Kind::Text => Step::Broken,
+        Kind::Ord(_, _) | Kind::Pointer => {
+            stack.pop();
+            load_word(p, segments, stack)
+        }
+        Kind::Set(_, _) => {
+            stack.pop();
+            sets::load(p, segments, stack)
+        }
+        Kind::Array(_, _, _) | Kind::Record(_) => {
+            load_value(limit, ticks, p, entry.size, segments, stack)
+        }
+    }
+}
+
 /// The value of a variable.
 pub fn load(
     limit: u64,
@@ -130,16 +162,7 @@ pub fn load(
     let Some(entry) = types.get(p.type_number as usize) else {
         return Step::Broken;
     };
-    match &entry.kind {
-        Kind::Text => Step::Broken,
-        Kind::Ord(_, _) | Kind::Pointer => {
-            stack.pop();
-            load_word(p, segments, stack)
-        }
-        Kind::Array(_, _, _) | Kind::Record(_) => {
-            load_value(limit, ticks, p, entry.size, segments, stack)
-        }
-    }
+    load_typed(limit, ticks, p, entry, segments, stack)
 }
 
 /// The words of a value take the place of those of a variable, which has to be of the same type.
@@ -178,6 +201,7 @@ fn store_value(
 ) -> Step
     requires room { ticks.old < limit }
     requires no_word { word_top stack.old ≡ None }
+    requires no_set { set stack.old ≡ None }
     ensures within { ticks.new < limit }
     ensures done { IsDone limit (store_row types.now segments.old.items stack.old) result ticks.old ticks.new
         (stack.old, segments.old.items) (stack.new, segments.new.items) }
@@ -204,7 +228,7 @@ fn store_value(
 }
 
 /// A variable takes a value.
-#[tactic(auto, using(crate::proofs::WordRows::word_stores))]
+#[tactic(auto, using(crate::proofs::WordRows::word_stores, crate::proofs::WordRows::set_stores))]
 pub fn store(
     limit: u64,
     ticks: &mut u64,
@@ -220,6 +244,9 @@ pub fn store(
     if let Some(w) = stack.word_top() {
         stack.pop();
         return store_word(w, types, segments, stack);
+    }
+    if let Some(set) = stack.pop_set() {
+        return sets::store(set, types, segments, stack);
     }
     store_value(limit, ticks, types, segments, stack)
 }

@@ -7,7 +7,7 @@ use Rattle.ep_object.specs.State.{Frames, TypeTable, empty_slots, first_segments
 use Rattle.ep_object.specs.declared.code.Image.{Image}
 use Rattle.ep_object.specs.declared.state.Place.{Place}
 use Rattle.ep_object.specs.declared.state.Kind.{Kind}
-use Rattle.ep_object.specs.declared.state.Kind.TheVariants.{Ord, Pointer, Text, Array, Record}
+use Rattle.ep_object.specs.declared.state.Kind.TheVariants.{Ord, Pointer, Text, Array, Record, Set}
 use Rattle.ep_object.specs.declared.state.TypeEntry.{TypeEntry}
 use Rattle.ep_object.proofs.Grows.{is_prefix}
 use Rattle.ep_typed.specs.Steps.{Component, Allocation, Resources}
@@ -63,6 +63,7 @@ spot_kind Text = 3
 spot_kind Pointer = 4
 spot_kind (Array low high c) = 5
 spot_kind (Record ps) = 5
+spot_kind (Set low high) = 5
 
 place_is : (n : ℕ) (entry : TypeEntry) → slice_get first_types n ≡ Some entry → spot_kind entry.kind ≡ n
 place_is zero e h = let f : integer_entry ≡ e = cc in subst (λ x. spot_kind x.kind ≡ 0) f refl

@@ -93,6 +93,7 @@ one_size types (kind.Array low high c) size other a b =
     let same : a.0 ≡ b.0 = same_Some a.0 b.0 (sym a.1 ∙ b.1) in
     a.2 ∙ (ap (λ (e : TypeEntry). count_of low high * e.size) same ∙ sym b.2)
 one_size types (kind.Record ps) size other a b = one_size_behind types 0 ps size other a b
+one_size types (kind.Set low high) size other a b = a ∙ sym b
 
 -- in a longer table too
 have_size-longer : (types longer : TypeTable) (before : ℕ) (ps : List RecordPart) (size : ℕ)
@@ -110,6 +111,7 @@ has_size-longer types longer kind.Pointer size keeps h = h
 has_size-longer types longer kind.Text size keeps h = h
 has_size-longer types longer (kind.Array low high c) size keeps h = (h.0, keeps c h.0 h.1, h.2)
 has_size-longer types longer (kind.Record ps) size keeps h = have_size-longer types longer 0 ps size keeps h
+has_size-longer types longer (kind.Set low high) size keeps h = h
 
 -- ---- a number is that of one type value, and a type value has one number
 

@@ -11,7 +11,7 @@ use Rattle.ep_object.specs.Runs.{after}
 use Rattle.ep_object.specs.State.{Segments, TypeTable, integer_entry, char_entry, boolean_entry, text_entry, pointer_entry, first_types}
 use Rattle.ep_object.specs.Types.{same_kind, same_parts, kind_number, words_of_kind}
 use Rattle.ep_object.specs.declared.state.Kind.{Kind}
-use Rattle.ep_object.specs.declared.state.Kind.TheVariants.{Ord, Pointer, Text, Array, Record}
+use Rattle.ep_object.specs.declared.state.Kind.TheVariants.{Ord, Pointer, Text, Array, Record, Set}
 use Rattle.ep_object.specs.declared.state.RecordPart.{RecordPart}
 use Rattle.ep_object.specs.declared.state.TypeEntry.{TypeEntry}
 use Rattle.ep_object.proofs.Grows.{prefix_then}
@@ -64,20 +64,24 @@ kinds_are (Ord lo hi) Pointer t = cc
 kinds_are (Ord lo hi) Text t = cc
 kinds_are (Ord lo hi) (Record qs) t = cc
 kinds_are (Ord lo hi) (Array l h d) t = cc
+kinds_are (Ord lo hi) (Set l h) t = cc
 kinds_are Pointer (Ord l h) t = cc
 kinds_are Pointer Pointer t = refl
 kinds_are Pointer Text t = cc
 kinds_are Pointer (Record qs) t = cc
 kinds_are Pointer (Array l h d) t = cc
+kinds_are Pointer (Set l h) t = cc
 kinds_are Text (Ord l h) t = cc
 kinds_are Text Pointer t = cc
 kinds_are Text Text t = refl
 kinds_are Text (Record qs) t = cc
 kinds_are Text (Array l h d) t = cc
+kinds_are Text (Set l h) t = cc
 kinds_are (Array lo hi c) (Ord l h) t = cc
 kinds_are (Array lo hi c) Pointer t = cc
 kinds_are (Array lo hi c) Text t = cc
 kinds_are (Array lo hi c) (Record qs) t = cc
+kinds_are (Array lo hi c) (Set l h) t = cc
 kinds_are (Array lo hi c) (Array l h d) t =
     let p = both (same_bounds lo hi l h) (c == d) t in
     let e = bounds_are l h lo hi p.0 in
@@ -88,6 +92,13 @@ kinds_are (Record ps) Pointer t = cc
 kinds_are (Record ps) Text t = cc
 kinds_are (Record ps) (Array l h d) t = cc
 kinds_are (Record ps) (Record qs) t = ap Record (parts_are ps qs t)
+kinds_are (Record ps) (Set l h) t = cc
+kinds_are (Set lo hi) (Ord l h) t = cc
+kinds_are (Set lo hi) Pointer t = cc
+kinds_are (Set lo hi) Text t = cc
+kinds_are (Set lo hi) (Array l h d) t = cc
+kinds_are (Set lo hi) (Record qs) t = cc
+kinds_are (Set lo hi) (Set l h) t = let e = bounds_are l h lo hi t in λ i. Set (e.0 i) (e.1 i)
 
 -- a kind is the same as itself
 both_true : (a b : Bool) → IsTrue a → IsTrue b → IsTrue (a && b)
@@ -111,6 +122,7 @@ kind-refl Pointer = refl
 kind-refl Text = refl
 kind-refl (Array lo hi c) = both_true (same_bounds lo hi lo hi) (c == c) (bounds-refl lo hi) (count-refl c)
 kind-refl (Record ps) = parts-refl ps
+kind-refl (Set lo hi) = bounds-refl lo hi
 
 -- a number that was found is that of the type value
 pub described-found : {elaborated : List TypeValue} {types : TypeTable} (t : TypeValue) (e : TypeEntry) (n : ℕ)

@@ -1,0 +1,266 @@
+//! The rows on sets.
+
+ghost use Rattle.std.specs.Prelude.{◌≡◌, ◌<◌, ◌≤◌, ◌+◌, ◌^◌, suc, ◌∷◌, List, Option, Some, None, MatchOption, length};
+ghost use Rattle.ep_decode.specs.Operations.{combination_number, inclusion_number};
+ghost use Rattle.ep_frames.specs.Members.{set_of};
+ghost use Rattle.ep_object.specs.Control.{dup_row};
+ghost use Rattle.ep_object.specs.Effects.{Continues, having};
+ghost use Rattle.ep_object.specs.Operands.{Operand, Place as PlaceOperand, Set};
+ghost use Rattle.ep_object.specs.Places.{load_set, set_defined, undefine_row, undefine_set};
+ghost use Rattle.ep_object.specs.SetRows.{card_row, in_row, next_row, set_add_row, set_cmp_row, set_none_row, set_op_row, set_span_row, span_added, is_ordinal as may_be_member, sets_compared};
+ghost use Rattle.ep_rows.specs.Steps.{IsDone, IsStep};
+ghost use Rattle.ep_rows.specs.Values.{set_stored_at};
+
+use crate::control::spend;
+use crate::step::Step;
+use crate::values::words_at;
+use crate::{members, words};
+use ep_decode::{Combination, Inclusion};
+use ep_frames::{Members, Stack, Stored};
+use ep_object::{Kind, Place, SET_MEMBERS, SET_WORDS, TypeEntry};
+use ep_typed::run_error;
+
+/// One more set.
+fn push_set(set: Members, stack: &mut Stack) -> Step
+    ensures { IsStep (Continues (Set (set_of set) ∷ stack.old)) result stack.new }
+{
+    if stack.push_set(set) {
+        Step::Next
+    } else {
+        Step::NoMemory
+    }
+}
+
+/// A set twice.
+pub(crate) fn push_twice(set: Members, stack: &mut Stack) -> Step
+    ensures { IsStep (Continues (Set (set_of set) ∷ Set (set_of set) ∷ stack.old)) result stack.new }
+{
+    if !stack.push_set(set) {
+        return Step::NoMemory;
+    }
+    push_set(set, stack)
+}
+
+/// The empty set.
+pub fn none(stack: &mut Stack) -> Step
+    ensures { IsStep (set_none_row stack.old) result stack.new }
+{
+    push_set(members::none(), stack)
+}
+
+/// Whether the number may be a member of a set.
+pub(crate) fn is_ordinal(number: i64) -> bool
+    ensures { result ≡ may_be_member number }
+{
+    number >= 0 && number < i64::from(SET_MEMBERS)
+}
+
+/// A set with one member more.
+pub fn add(stack: &mut Stack) -> Step
+    ensures { IsStep (set_add_row stack.old) result stack.new }
+{
+    let Some(number) = stack.pop_word() else {
+        return Step::Broken;
+    };
+    let Some(set) = stack.pop_set() else {
+        return Step::Broken;
+    };
+    match words::index(SET_MEMBERS, number) {
+        Some(member) => push_set(members::with(set, member), stack),
+        None => Step::Error(run_error::SET_MEMBER),
+    }
+}
+
+/// The set with the members from one number to another besides, or an error where one of them may be no member.
+fn push_span(lo: i64, hi: i64, set: Members, stack: &mut Stack) -> Step
+    ensures { IsStep (span_added lo hi (set_of set) stack.old) result stack.new }
+{
+    if hi < lo {
+        return push_set(set, stack);
+    }
+    if lo < 0 || hi >= i64::from(SET_MEMBERS) {
+        return Step::Error(run_error::SET_MEMBER);
+    }
+    push_set(members::with_span(set, lo as u32, hi as u32), stack)
+}
+
+/// A set with the members from one number to another besides.
+pub fn span(stack: &mut Stack) -> Step
+    ensures { IsStep (set_span_row stack.old) result stack.new }
+{
+    let Some((lo, hi)) = words::pop_two_words(stack) else {
+        return Step::Broken;
+    };
+    let Some(set) = stack.pop_set() else {
+        return Step::Broken;
+    };
+    push_span(lo, hi, set, stack)
+}
+
+/// What is made of two sets.
+pub fn combine(combination: Combination, stack: &mut Stack) -> Step
+    ensures { IsStep (set_op_row (combination_number combination) stack.old) result stack.new }
+{
+    let Some(upper) = stack.pop_set() else {
+        return Step::Broken;
+    };
+    let Some(lower) = stack.pop_set() else {
+        return Step::Broken;
+    };
+    push_set(members::combined(combination, lower, upper), stack)
+}
+
+/// Whether two sets compare so.
+fn compared(inclusion: Inclusion, lower: Members, upper: Members) -> bool
+    ensures { Some result ≡ sets_compared (inclusion_number inclusion) (set_of lower) (set_of upper) }
+{
+    match inclusion {
+        Inclusion::Equal => members::is_subset(lower, upper) && members::is_subset(upper, lower),
+        Inclusion::Unequal => {
+            !(members::is_subset(lower, upper) && members::is_subset(upper, lower))
+        }
+        Inclusion::Within => members::is_subset(lower, upper),
+        Inclusion::Around => members::is_subset(upper, lower),
+    }
+}
+
+/// 1 where two sets compare so, else 0.
+pub fn compare(inclusion: Inclusion, stack: &mut Stack) -> Step
+    ensures { IsStep (set_cmp_row (inclusion_number inclusion) stack.old) result stack.new }
+{
+    let Some(upper) = stack.pop_set() else {
+        return Step::Broken;
+    };
+    let Some(lower) = stack.pop_set() else {
+        return Step::Broken;
+    };
+    words::push_word(stack, i64::from(compared(inclusion, lower, upper)))
+}
+
+/// 1 where a number is a member of a set, else 0.
+pub fn has(stack: &mut Stack) -> Step
+    ensures { IsStep (in_row stack.old) result stack.new }
+{
+    let Some(set) = stack.pop_set() else {
+        return Step::Broken;
+    };
+    let Some(number) = stack.pop_word() else {
+        return Step::Broken;
+    };
+    words::push_word(stack, i64::from(members::has_number(number, set)))
+}
+
+/// How many members a set has.
+pub fn count(stack: &mut Stack) -> Step
+    ensures { IsStep (card_row stack.old) result stack.new }
+{
+    match stack.pop_set() {
+        Some(set) => words::push_word(stack, i64::from(members::count(set))),
+        None => Step::Broken,
+    }
+}
+
+/// The least member of a set from a number on, and -1 where there is none.
+pub fn next(stack: &mut Stack) -> Step
+    ensures { IsStep (next_row stack.old) result stack.new }
+{
+    let Some(set) = stack.pop_set() else {
+        return Step::Broken;
+    };
+    let Some(from) = stack.pop_word() else {
+        return Step::Broken;
+    };
+    words::push_word(stack, members::next(from, set))
+}
+
+/// One more set, where its first word is defined.
+pub(crate) fn push_defined(first: Option<i64>, set: Members, stack: &mut Stack) -> Step
+    ensures { IsStep (having first (λ w. set_defined w (set_of set) stack.old)) result stack.new }
+{
+    match first {
+        None => Step::Broken,
+        Some(w) => {
+            if w > i64::MIN {
+                push_set(set, stack)
+            } else {
+                Step::Error(run_error::UNDEFINED_VALUE)
+            }
+        }
+    }
+}
+
+/// The set of a variable at a place.
+pub(crate) fn load(p: Place, segments: &[Stored], stack: &mut Stack) -> Step
+    ensures { IsStep (load_set segments.now p stack.old) result stack.new }
+{
+    let Some(segment) = segments.get(p.segment as usize) else {
+        return Step::Broken;
+    };
+    let Some(words) = segment.words() else {
+        return Step::Error(run_error::DISPOSED);
+    };
+    let Some(words) = words_at(words, p.offset as usize, SET_WORDS as usize) else {
+        return Step::Broken;
+    };
+    push_defined(words.first().copied(), members::read(words), stack)
+}
+
+/// A variable whose place is on top takes a set.
+pub(crate) fn store(
+    set: Members,
+    types: &[TypeEntry],
+    segments: &mut Vec<Stored>,
+    stack: &mut Stack,
+) -> Step
+    ensures { IsStep (set_stored_at types.now segments.old.items (set_of set) stack.old) result
+        (stack.new, segments.new.items) }
+{
+    let Some(p) = stack.pop_place() else {
+        return Step::Broken;
+    };
+    let Some(entry) = types.get(p.type_number as usize) else {
+        return Step::Broken;
+    };
+    let Kind::Set(lo, hi) = entry.kind else {
+        return Step::Broken;
+    };
+    let at = p.segment as usize;
+    if at >= segments.len() {
+        return Step::Broken;
+    }
+    let Some(words) = segments[at].words() else {
+        return Step::Error(run_error::DISPOSED);
+    };
+    if words_at(words, p.offset as usize, SET_WORDS as usize).is_none() {
+        return Step::Broken;
+    }
+    if !members::is_between(lo, hi, set) {
+        return Step::Error(run_error::SET_MEMBER);
+    }
+    if p.offset as u64 + u64::from(SET_WORDS) > u64::from(u32::MAX) {
+        return Step::NoMemory;
+    }
+    segments[at].put(p.offset, &members::written(set));
+    Step::Next
+}
+
+/// A variable of a set type becomes undefined, whose place is on top.
+pub(crate) fn undefine(p: Place, segments: &mut Vec<Stored>) -> Step
+    ensures { (st : List Operand) → IsStep (undefine_set segments.old.items p st) result (st, segments.new.items) }
+{
+    let at = p.segment as usize;
+    if at >= segments.len() {
+        return Step::Broken;
+    }
+    let Some(words) = segments[at].words() else {
+        return Step::Error(run_error::DISPOSED);
+    };
+    if words_at(words, p.offset as usize, SET_WORDS as usize).is_none() {
+        return Step::Broken;
+    }
+    if p.offset as u64 + u64::from(SET_WORDS) > u64::from(u32::MAX) {
+        return Step::NoMemory;
+    }
+    segments[at].put(p.offset, &[i64::MIN; 8]);
+    Step::Next
+}
