@@ -3,4 +3,3 @@ mod CallFrames
 mod Kept
 mod SetTops
 mod Tops
-mod Words

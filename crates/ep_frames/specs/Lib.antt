@@ -1,5 +1,3 @@
 pub mod Calls
-pub mod Forms
 pub mod Members
 pub mod Stacks
-pub mod Stored

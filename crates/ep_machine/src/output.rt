@@ -10,11 +10,12 @@ ghost use Rattle.ep_typed.specs.Events.{Write};
 ghost use Rattle.ep_machine.specs.Outputs.{OnNoMemory, IsRefusal, UnlessDone, IsPut, OnFault, IsOfWriting, IsWriting, text_kind_in};
 
 use crate::step::Outward;
-use ep_frames::{Stack, Stored};
+use ep_frames::Stack;
+use ep_memory::{Cell, Memory};
 use ep_object::{Kind, OUTPUT_SEGMENT, Place, TypeEntry};
 use ep_outside::{Sink, WriteAnswer};
-use ep_rows::Step;
 use ep_rows::control::spend;
+use ep_rows::{Step, segments};
 use ep_typed::run_error;
 
 /// Writes a text, if it is not empty.
@@ -48,23 +49,15 @@ fn is_text(types: &[TypeEntry], type_number: u32) -> Option<bool>
 }
 
 /// How the row ends where no text can go to the file at a place.
-fn refusal(segments: &[Stored], p: Place) -> Option<Step>
-    ensures refused { IsRefusal segments.now p result }
+fn refusal(store: &Memory, p: Place) -> Option<Step>
+    ensures refused { IsRefusal store.now.segments p result }
     ensures kind { IfSome result IsOfWriting }
 {
-    let Some(segment) = segments.get(p.segment as usize) else {
-        return Some(Step::Broken);
-    };
-    let Some(words) = segment.words() else {
-        return Some(Step::Error(run_error::DISPOSED));
-    };
-    if p.offset as usize >= words.len() {
-        return Some(Step::Broken);
-    }
-    if p.segment == OUTPUT_SEGMENT && p.offset == 0 {
-        None
-    } else {
-        Some(Step::Error(run_error::FILE_STATE))
+    match store.load(p.segment, u64::from(p.offset)) {
+        Cell::Gone => Some(segments::gone(p.segment, store)),
+        Cell::Outside => Some(Step::Broken),
+        Cell::Word(_) if p.segment == OUTPUT_SEGMENT && p.offset == 0 => None,
+        Cell::Word(_) => Some(Step::Error(run_error::FILE_STATE)),
     }
 }
 
@@ -72,7 +65,7 @@ fn refusal(segments: &[Stored], p: Place) -> Option<Step>
 #[tactic(auto, using(crate::proofs::Outputs::putting))]
 pub fn put<O: Sink>(
     types: &[TypeEntry],
-    segments: &[Stored],
+    store: &Memory,
     limit: u64,
     ticks: &mut u64,
     stack: &mut Stack,
@@ -84,7 +77,7 @@ pub fn put<O: Sink>(
     ensures fault { OnFault result (O.faults output.old < O.faults output.new) }
     ensures kind { IsWriting result }
     ensures quiet { OnNoMemory result (Keeps (O.held output.old) (O.held output.new)) }
-    ensures done { IsPut limit (put_row types.now segments.now stack.old) result ticks.old ticks.new
+    ensures done { IsPut limit (put_row types.now store.now.segments stack.old) result ticks.old ticks.new
         stack.old stack.new (O.held output.old) (O.held output.new) }
 {
     let Some(p) = stack.place_under_text() else {
@@ -99,7 +92,7 @@ pub fn put<O: Sink>(
     if !spend(limit, ticks, text.len() as u64) {
         return Outward::Row(Step::Full);
     }
-    if let Some(step) = refusal(segments, p) {
+    if let Some(step) = refusal(store, p) {
         return Outward::Row(step);
     }
     match write_text(output, text) {

@@ -3,6 +3,7 @@
 ghost use Rattle.std.specs.Prelude.{◌≡◌, ◌≢◌, ◌⊎◌, ℕ, ◌<◌, ◌≤◌, ◌+◌, ◌^◌, length, List, [], Option, Some, None, IsTrue, IfOk, MatchOption};
 ghost use Rattle.ep_object.specs.Runs.{begin as beginning, timed};
 ghost use Rattle.ep_typed.specs.Events.{Trace, DoesFront, DoesPart, Outside};
+ghost use Rattle.ep_memory.specs.Stores.{live};
 ghost use Rattle.ep_object.specs.State.{State};
 ghost use Rattle.ep_machine.specs.Answers.{Answers, UnlessStopped, OnNoMemoryEnd, OnWriteFaultEnd, IsEnd, outside};
 ghost use Rattle.ep_machine.specs.Turns.{ended_at};
@@ -15,6 +16,7 @@ use crate::start;
 use crate::state::Configuration;
 use ep_base::NoMemory;
 use ep_decode::Code;
+use ep_memory::Memory;
 use ep_object::Image;
 use ep_outside::{Files, Sink, Source};
 use std::alloc::{AllocError, Global};
@@ -29,7 +31,7 @@ pub struct Machine<'a> {
 }
 
 impl<'a> Machine<'a> {
-    ghost use Rattle.ep_machine.specs.Machines.{image_of, ticks_of, ended_of, standing, GoesOnTo, events_within};
+    ghost use Rattle.ep_machine.specs.Machines.{image_of, ticks_of, ended_of, standing, state_in, GoesOnTo, events_within};
 
     /// A machine before the first instruction of an image. An image of 2^32 or more instructions is refused as if
     /// memory were wanting.
@@ -114,6 +116,14 @@ impl<'a> Machine<'a> {
             }
             end => end,
         }
+    }
+
+    /// The memory with the segments and the live words of the state in which it is.
+    pub fn memory(&self) -> &Memory
+        ensures segments { (trace : Trace) → (state_in self.now trace).segments ≡ result.now.segments }
+        ensures live { (trace : Trace) → (state_in self.now trace).live ≡ live result.now }
+    {
+        &self.state.memory.store
     }
 
     /// The ticks that it has spent.

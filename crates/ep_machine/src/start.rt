@@ -2,13 +2,14 @@
 
 ghost use Rattle.std.specs.Prelude.{◌≡◌, List, [], map, take, IfOk};
 ghost use Rattle.ep_machine.specs.Views.{state_at};
+ghost use Rattle.ep_memory.specs.Stores.{live};
 ghost use Rattle.ep_object.specs.declared.code.Image.{Image};
-ghost use Rattle.ep_object.specs.State.{first_state, empty_slots, first_types, first_segments, integer_entry, char_entry, boolean_entry, text_entry, pointer_entry};
+ghost use Rattle.ep_object.specs.State.{first_live, first_state, empty_slots, first_types, first_segments, integer_entry, char_entry, boolean_entry, text_entry, pointer_entry};
 
 use crate::state::{Configuration, Memory};
 use ep_base::List;
-use ep_frames::{Calls, Stack, Stored};
-use ep_object::{FIRST_LIVE_WORDS, ImageUnit, Kind, Place, TEXT_TYPE, TypeEntry};
+use ep_frames::{Calls, Stack};
+use ep_object::{ImageUnit, Kind, Place, TEXT_TYPE, TypeEntry};
 use std::alloc::{AllocError, Global};
 
 /// The slots of the frames of all units, which hold no place yet.
@@ -42,15 +43,17 @@ fn types(alloc: Global) -> Result<Vec<TypeEntry>, AllocError>
     Ok(types)
 }
 
-/// The segments from the start.
-fn segments(alloc: Global) -> Result<Vec<Stored>, AllocError>
-    ensures { IfOk result (λ v. v.items ≡ first_segments) }
+/// The segments from the start, which are `input` and `output`.
+fn store(alloc: Global) -> Result<ep_memory::Memory, AllocError>
+    ensures { IfOk result (λ m. (m.segments ≡ first_segments) × (live m ≡ first_live)) }
 {
-    let mut segments = Vec::new(alloc);
-    segments.push(Stored::ended())?;
-    segments.push(Stored::fresh(alloc, TEXT_TYPE, 1)?)?;
-    segments.push(Stored::fresh(alloc, TEXT_TYPE, 1)?)?;
-    Ok(segments)
+    let mut store = ep_memory::Memory::new(alloc);
+    let input = store.make(TEXT_TYPE, &[i64::MIN]);
+    let output = store.make(TEXT_TYPE, &[i64::MIN]);
+    match (input, output) {
+        (Ok(_), Ok(_)) => Ok(store),
+        _ => Err(AllocError),
+    }
 }
 
 /// The state before the first start.
@@ -62,7 +65,7 @@ pub fn state(alloc: Global, units: &[ImageUnit]) -> Result<Configuration, AllocE
 {
     let units = frames(alloc, units)?;
     let types = types(alloc)?;
-    let segments = segments(alloc)?;
+    let store = store(alloc)?;
     let memory = Memory {
         turn: 0,
         routine: 0,
@@ -70,8 +73,7 @@ pub fn state(alloc: Global, units: &[ImageUnit]) -> Result<Configuration, AllocE
         units,
         calls: Calls::new(alloc),
         types,
-        segments,
-        live: FIRST_LIVE_WORDS,
+        store,
     };
     Ok(Configuration {
         place: 0,

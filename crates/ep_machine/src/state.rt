@@ -2,13 +2,14 @@
 
 ghost use Rattle.ep_object.specs.Calls.{ended, parent_by, words_of};
 ghost use Rattle.ep_frames.specs.Calls.{made_in, rest_of};
+ghost use Rattle.ep_memory.specs.Stores.{live};
 ghost use Rattle.std.specs.Prelude.{◌≡◌, ◌-◌, suc, option_map, length};
 ghost use Rattle.ep_object.specs.Frames.{routine_in, slots_of, frame_above, frame_over, frame_up, parent_of as parent_of_frame, slots_up};
 ghost use Rattle.ep_machine.specs.Views.{frames_of, routines_of, HasSlot, IsPlaced, IsBound};
 ghost use Rattle.std.specs.Bool.{OnTrue};
 
 use ep_base::List;
-use ep_frames::{Calls, Stack, Stored};
+use ep_frames::{Calls, Stack};
 use ep_object::{FrameNumber, ImageRoutine, Place, TypeEntry};
 use ep_rows::segments;
 use std::alloc::Global;
@@ -28,10 +29,8 @@ pub struct Memory {
     pub calls: Calls,
     /// The types by number.
     pub types: Vec<TypeEntry>,
-    /// The segments by number.
-    pub segments: Vec<Stored>,
-    /// How many words live.
-    pub live: u64,
+    /// The segments, and how many words live.
+    pub store: ep_memory::Memory,
 }
 
 impl Memory {
@@ -67,9 +66,8 @@ impl Memory {
         ensures frames { OnTrue result (IsPlaced (slots_of (frames_of self.old))
             (frames_of self.old) slot place (frames_of self.new)) }
         ensures routines { routines_of self.new ≡ routines_of self.old }
-        ensures segments { self.new.segments ≡ self.old.segments }
+        ensures store { self.new.store ≡ self.old.store }
         ensures types { self.new.types ≡ self.old.types }
-        ensures live { self.new.live ≡ self.old.live }
     {
         if self.calls.count() > 0 {
             return self.calls.place(slot, place, place.segment);
@@ -92,9 +90,8 @@ impl Memory {
         requires { HasSlot (slots_of (frames_of self.old)) slot }
         ensures frames { OnTrue result (IsBound (slots_of (frames_of self.old)) (frames_of self.old) slot place (frames_of self.new)) }
         ensures routines { routines_of self.new ≡ routines_of self.old }
-        ensures segments { self.new.segments ≡ self.old.segments }
+        ensures store { self.new.store ≡ self.old.store }
         ensures types { self.new.types ≡ self.old.types }
-        ensures live { self.new.live ≡ self.old.live }
     {
         if self.calls.count() > 0 {
             return self.calls.bind(slot, place);
@@ -114,18 +111,17 @@ impl Memory {
     #[tactic(auto, using(crate::proofs::CallRows::made_innermost))]
     pub fn leave(&mut self)
         ensures calls { self.new.calls ≡ rest_of self.old.calls }
-        ensures segments { self.new.segments.items
-            ≡ ended (made_in self.old.calls) self.old.segments.items }
-        ensures live { self.new.live
-            ≡ self.old.live - words_of (made_in self.old.calls) self.old.segments.items }
+        ensures segments { self.new.store.segments
+            ≡ ended (made_in self.old.calls) self.old.store.segments }
+        ensures live { live self.new.store
+            ≡ live self.old.store - words_of (made_in self.old.calls) self.old.store.segments }
         ensures rest { self.new ≡ record self.old {
           calls = self.new.calls;
-          segments = self.new.segments;
-          live = self.new.live;
+          store = self.new.store;
         } }
     {
         if let Some(made) = self.calls.made() {
-            segments::end(made, &mut self.segments, &mut self.live);
+            segments::end(made, &mut self.store);
         }
         self.calls.leave();
     }

@@ -1,8 +1,19 @@
 -- Segments that end, one after another.
-use Rattle.std.proofs.Common.{◌≡◌, ℕ, ◌<◌, ◌+◌, ◌-◌, take, get_or, length, add-one, List, [], ◌∷◌, ◌++◌, None, slice_get, slice_set, refl, arith}
+use Rattle.std.proofs.Common.{◌≡◌, ℕ, ◌<◌, ◌+◌, ◌-◌, take, get_or, length, add-one, List, [], ◌∷◌, ◌++◌, Option, Some, None, slice_get, slice_set, refl, arith}
 use Rattle.std.proofs.Math.Seq.{take-suc}
+use Rattle.ep_memory.specs.Stores.{Store, living, segment_at, weight_in}
 use Rattle.ep_object.specs.Calls.{ended, words_in, words_of}
 use Rattle.ep_object.specs.State.{Segments}
+use Rattle.ep_object.specs.declared.state.Segment.{Segment}
+
+weight_of : (o : Option (Option Segment)) → weight_in (living o) ≡ words_in o
+weight_of None = refl
+weight_of (Some None) = refl
+weight_of (Some (Some s)) = refl
+
+-- what a segment counts is what the machine counts of it
+pub weight_at : (m : Store) (n : ℕ) → weight_in (segment_at m n) ≡ words_in (slice_get m.segments n)
+weight_at m n = weight_of (slice_get m.segments n)
 
 ended_next : (ns : List ℕ) (n : ℕ) (segments : Segments) → ended (ns ++ n ∷ []) segments ≡ slice_set (ended ns segments) n None
 ended_next [] n segments = refl

@@ -1,6 +1,7 @@
 -- Components of arrays, for the contract of `component`.
 use Rattle.std.proofs.Common.{◌≡◌, ℕ, ℤ, List, Option, Some, None, ◌<◌, true, ltb, length, get_or, slice_get, option_map, refl, rules}
 use Rattle.std.proofs.lemmas.Option.{slice_get_read}
+use Rattle.ep_memory.specs.Stores.{living}
 use Rattle.ep_object.specs.Operands.{Operand, word_on_place}
 use Rattle.ep_object.specs.Places.{index_row, component_of}
 use Rattle.ep_object.specs.State.{Segments, TypeTable}
@@ -17,12 +18,13 @@ found xs i x less is =
 
 -- what Index does where an array stands at a place below an index, in a segment with these words
 module _ (types : TypeTable) (segments : Segments) (st : List Operand) (w : ℤ) (p : Place) (rest : List Operand) (lo hi : ℤ) (c : ℕ) (array of : TypeEntry) (words : List ℤ) where
-  pub index_is : (segment : Option Segment)
+  pub index_is : (segment : Option (Option Segment))
       → word_on_place st ≡ Some (w, p, rest) → slice_get types p.type_number ≡ Some array → array.kind ≡ Array lo hi c
-      → slice_get types c ≡ Some of → slice_get segments p.segment ≡ Some segment → option_map (λ s. s.words) segment ≡ Some words
+      → slice_get types c ≡ Some of → slice_get segments p.segment ≡ segment → option_map (λ s. s.words) (living segment) ≡ Some words
       → index_row types segments st ≡ component_of (record { type_number = 0; words = words }) p c of.size (component_at lo hi w) rest
   index_is None operands entry kind component there words = cc
-  index_is (Some s) operands entry kind component there same =
+  index_is (Some None) operands entry kind component there words = cc
+  index_is (Some (Some s)) operands entry kind component there same =
       let has : s.words ≡ words = cc in
       let e : component_of s p c of.size (component_at lo hi w) rest ≡ component_of (record { type_number = 0; words = words }) p c of.size (component_at lo hi w) rest = by_number s (component_at lo hi w) has in
       rw (operands, entry, kind, component, there) e

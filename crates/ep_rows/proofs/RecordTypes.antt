@@ -3,6 +3,7 @@ use Rattle.std.proofs.Common.{◌≡◌, ◌≢◌, ℕ, ℤ, pos, zero, suc, �
 use Rattle.std.proofs.Math.Seq.{take-suc, drop-cons}
 use Rattle.std.proofs.lemmas.List.{reverse-append}
 use Rattle.ep_object.specs.Effects.{Work, weighing, having_weighed}
+use Rattle.ep_memory.specs.Stores.{Store}
 use Rattle.ep_object.specs.Operands.{Operand, Word, Place, Text, Value, Set, word}
 use Rattle.ep_object.specs.State.{TypeTable, size_limit}
 use Rattle.ep_object.specs.Types.{Numbered, lowest_first, and_numbered, entry_of, entries_of, words_behind, record_of, rec_row, same_parts}
@@ -97,10 +98,10 @@ next_fits types numbers i before d n less within same there =
 
 -- ---- the row where the limit has no room, for `rec`
 
-row_weight : (types : TypeTable) (live n size : ℕ) (st rest : List Operand) (ws : List ℤ) → lowest_first n [] st ≡ Some (ws, rest) → words_of_all types ws ≡ Some size → (rec_row (pos n) (typing st types live)).weight ≡ n
-row_weight types live n size st rest ws taken all = rw taken (go (entries_of types ws) all)
+row_weight : (types : TypeTable) (m : Store) (n size : ℕ) (st rest : List Operand) (ws : List ℤ) → lowest_first n [] st ≡ Some (ws, rest) → words_of_all types ws ≡ Some size → (rec_row (pos n) (typing st types m)).weight ≡ n
+row_weight types m n size st rest ws taken all = rw taken (go (entries_of types ws) all)
   where
-    go : (o : Option (List Numbered)) → option_map (words_behind 0) o ≡ Some size → (having_weighed o (λ ns. weighing n (record_of ns rest (typing st types live)))).weight ≡ n
+    go : (o : Option (List Numbered)) → option_map (words_behind 0) o ≡ Some size → (having_weighed o (λ ns. weighing n (record_of ns rest (typing st types m)))).weight ≡ n
     go None h = cc
     go (Some ns) h = refl
 
@@ -108,16 +109,16 @@ not_begun : {A : Type 0} (limit ticks ticks2 n : ℕ) (w : Work A) (old new : A)
 not_begun limit ticks ticks2 n w old new weight full spent same = rw (weight, full) (refl, spent, same)
 
 -- the words are put back, and nothing is done
-pub nothing_done : (limit ticks ticks2 : ℕ) (types : TypeTable) (live n size : ℕ) (st rest st2 : List Operand) (ws : List ℤ) (r : Step) → lowest_first n [] st ≡ Some (ws, rest) → words_of_all types ws ≡ Some size
-    → leb (ticks + suc n) limit ≡ false → ticks2 ≡ ticks → IsPutBack r ws rest st2 → IsDone limit (rec_row (pos n) (typing st types live)) r ticks ticks2 (typing st types live) (typing st2 types live)
-nothing_done limit ticks ticks2 types live n size st rest st2 ws Full taken all full spent back =
-    not_begun limit ticks ticks2 n (rec_row (pos n) (typing st types live)) (typing st types live) (typing st2 types live) (row_weight types live n size st rest ws taken all) full spent (ap (λ o. typing o types live) (back ∙ taken_again n ws st rest taken))
-nothing_done limit ticks ticks2 types live n size st rest st2 ws NoMemory taken all full spent back = tt
-nothing_done limit ticks ticks2 types live n size st rest st2 ws Next taken all full spent back = absurd back
-nothing_done limit ticks ticks2 types live n size st rest st2 ws (Goto to) taken all full spent back = absurd back
-nothing_done limit ticks ticks2 types live n size st rest st2 ws (Error k) taken all full spent back = absurd back
-nothing_done limit ticks ticks2 types live n size st rest st2 ws Broken taken all full spent back = absurd back
-nothing_done limit ticks ticks2 types live n size st rest st2 ws Rare taken all full spent back = absurd back
+pub nothing_done : (limit ticks ticks2 : ℕ) (types : TypeTable) (m : Store) (n size : ℕ) (st rest st2 : List Operand) (ws : List ℤ) (r : Step) → lowest_first n [] st ≡ Some (ws, rest) → words_of_all types ws ≡ Some size
+    → leb (ticks + suc n) limit ≡ false → ticks2 ≡ ticks → IsPutBack r ws rest st2 → IsDone limit (rec_row (pos n) (typing st types m)) r ticks ticks2 (typing st types m) (typing st2 types m)
+nothing_done limit ticks ticks2 types m n size st rest st2 ws Full taken all full spent back =
+    not_begun limit ticks ticks2 n (rec_row (pos n) (typing st types m)) (typing st types m) (typing st2 types m) (row_weight types m n size st rest ws taken all) full spent (ap (λ o. typing o types m) (back ∙ taken_again n ws st rest taken))
+nothing_done limit ticks ticks2 types m n size st rest st2 ws NoMemory taken all full spent back = tt
+nothing_done limit ticks ticks2 types m n size st rest st2 ws Next taken all full spent back = absurd back
+nothing_done limit ticks ticks2 types m n size st rest st2 ws (Goto to) taken all full spent back = absurd back
+nothing_done limit ticks ticks2 types m n size st rest st2 ws (Error k) taken all full spent back = absurd back
+nothing_done limit ticks ticks2 types m n size st rest st2 ws Broken taken all full spent back = absurd back
+nothing_done limit ticks ticks2 types m n size st rest st2 ws Rare taken all full spent back = absurd back
 
 -- ---- components one for one, for `same_parts`
 

@@ -1,12 +1,17 @@
 -- The rows on variables, by their kinds.
-use Rattle.std.proofs.Common.{◌≡◌, ℕ, ℤ, true, List, [], ◌∷◌, Option, Some, None, refl}
-use Rattle.ep_object.specs.Effects.{having, having_weighed, light, provided}
+use Rattle.std.proofs.Common.{◌≡◌, ℕ, ℤ, true, List, [], ◌∷◌, Option, Some, None, slice_get, refl}
+use Rattle.std.proofs.lemmas.Bool.{lt-ltb}
+use Rattle.std.proofs.lemmas.Option.{slice_get_within}
+use Rattle.ep_memory.specs.Stores.{Store, cell_in, segment_at, with_word_at}
+use Rattle.ep_memory.specs.declared.answers.Cell.TheVariants as cell
+use Rattle.ep_object.specs.Effects.{Continues, having, having_weighed, light, provided}
 use Rattle.ep_object.specs.Operands.{Operand, Word, Place, Text, Value, Set}
-use Rattle.ep_object.specs.Places.{is_word_kind, kind_of, load_by, load_of, store_by, store_of, store_row}
+use Rattle.ep_object.specs.Places.{is_within, is_word_kind, kind_of, load_by, load_of, store_by, store_of, store_row}
 use Rattle.ep_object.specs.State.{Segments, TypeTable}
 use Rattle.ep_object.specs.declared.state.Kind.{Kind}
 use Rattle.ep_object.specs.declared.state.Kind.TheVariants as kind
 use Rattle.ep_object.specs.declared.state.Place.{Place as PlaceOf}
+use Rattle.ep_object.specs.declared.state.Segment.{Segment}
 use Rattle.ep_rows.specs.Values.{set_stored_at, set_stored_by, word_stored}
 
 -- a variable of one word gives it in one tick
@@ -53,3 +58,26 @@ set_stores types segments ms (Place p ∷ st) = set_by_kind (kind_of types p.typ
 set_stores types segments ms (Text bytes ∷ st) = refl
 set_stores types segments ms (Value n ws ∷ st) = refl
 set_stores types segments ms (Set ns ∷ st) = refl
+
+-- a variable that has a word takes one that it may have
+module _ (kind : Kind) (m : Store) (p : PlaceOf) (w x : ℤ) (st : List Operand) (there : cell.Word x ≡ cell_in (segment_at m p.segment) p.offset) (within : is_within kind w ≡ true) where
+  pub word_put : store_of kind m.segments p w st ≡ Continues (st, (with_word_at p.segment p.offset w m).segments)
+  word_put = by_segment (slice_get m.segments p.segment) refl
+    where
+      by_word : (s : Segment) (o : Option ℤ) → slice_get m.segments p.segment ≡ Some (Some s) → slice_get s.words p.offset ≡ o → store_of kind m.segments p w st ≡ Continues (st, (with_word_at p.segment p.offset w m).segments)
+      by_word s None e f = absurd (gone (rw (e, f) at there))
+        where
+          gone : cell.Word x ≡ cell.Outside → ⊥
+          gone h = cc
+      by_word s (Some y) e f = rw (e, f, within, lt-ltb _ _ (slice_get_within s.words p.offset y f)) refl
+
+      by_segment : (o : Option (Option Segment)) → slice_get m.segments p.segment ≡ o → store_of kind m.segments p w st ≡ Continues (st, (with_word_at p.segment p.offset w m).segments)
+      by_segment None e = absurd (gone (rw e at there))
+        where
+          gone : cell.Word x ≡ cell.Gone → ⊥
+          gone h = cc
+      by_segment (Some None) e = absurd (gone (rw e at there))
+        where
+          gone : cell.Word x ≡ cell.Gone → ⊥
+          gone h = cc
+      by_segment (Some (Some s)) e = by_word s (slice_get s.words p.offset) e refl

@@ -1,8 +1,7 @@
 -- What is loaded and stored of variables of many words, and of words alone.
-use Rattle.std.specs.Prelude.{Bool, true, false, ℕ, ℤ, List, ◌∷◌, length, Option, Some, None, Result, Ok, Err}
-use Rattle.std.specs.Borrow.{Bor}
-use Rattle.ep_object.specs.Effects.{Effect, Continues, Fails, Breaks, Work, having, light, provided, weighing}
-use Rattle.ep_object.specs.Operands.{Operand, Value, place}
+use Rattle.std.specs.Prelude.{Bool, true, false, ℕ, ℤ, List}
+use Rattle.ep_object.specs.Effects.{Effect, Breaks, having, provided}
+use Rattle.ep_object.specs.Operands.{Operand, place}
 use Rattle.ep_object.specs.Places.{is_word_kind, kind_of, store_of, store_set, words_stored}
 use Rattle.ep_object.specs.State.{Segments, TypeTable}
 use Rattle.ep_object.specs.declared.state.Kind.{Kind}
@@ -22,12 +21,6 @@ set_stored_by _ segments ms p st = Breaks
 -- so does one whose place is on top
 abbrev pub set_stored_at : TypeTable → Segments → List ℕ → List Operand → Effect (List Operand × Segments)
 set_stored_at types segments ms st = having (place st) (λ p. having (kind_of types p.0.type_number) (λ k. set_stored_by k segments ms p.0 p.1))
-
--- what comes of words that are found, or of an error or broken code in their place
-abbrev pub value_loaded : Place → Result (Bor (List ℤ)) (Option ℕ) → List Operand → Work (List Operand)
-value_loaded p (Ok words) st = weighing (length words.now) (Continues (Value p.type_number words.now ∷ st))
-value_loaded p (Err (Some number)) st = light (Fails number)
-value_loaded p (Err None) st = light Breaks
 
 -- whether variables of the kind have any number of words, which are loaded and stored at once
 abbrev pub has_many_words : Kind → Bool

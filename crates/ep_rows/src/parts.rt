@@ -15,7 +15,8 @@ use crate::control::spend;
 use crate::step::Step;
 use crate::values::words_at;
 use crate::{members, places, sets, words};
-use ep_frames::{Members, Stack, Stored};
+use ep_frames::{Members, Stack};
+use ep_memory::Memory;
 use ep_object::{Kind, TypeEntry};
 use ep_typed::run_error;
 
@@ -213,16 +214,16 @@ pub fn field(
     limit: u64,
     ticks: &mut u64,
     types: &[TypeEntry],
-    segments: &[Stored],
+    memory: &Memory,
     stack: &mut Stack,
 ) -> Step
     requires { ticks.old < limit }
     ensures within { ticks.new < limit }
-    ensures done { IsDone limit (field_any_row types.now segments.now (pos number) stack.old) result ticks.old ticks.new
+    ensures done { IsDone limit (field_any_row types.now memory.now.segments (pos number) stack.old) result ticks.old ticks.new
         stack.old stack.new }
 {
     let Some((whole, words)) = stack.value_top() else {
-        return places::field_at(number, types, segments, stack);
+        return places::field_at(number, types, memory, stack);
     };
     let Some(found) = field_found(number, types, whole, words) else {
         return Step::Broken;
@@ -250,16 +251,16 @@ pub fn element(
     limit: u64,
     ticks: &mut u64,
     types: &[TypeEntry],
-    segments: &[Stored],
+    memory: &Memory,
     stack: &mut Stack,
 ) -> Step
     requires { ticks.old < limit }
     ensures within { ticks.new < limit }
-    ensures done { IsDone limit (index_any_row types.now segments.now stack.old) result ticks.old ticks.new
+    ensures done { IsDone limit (index_any_row types.now memory.now.segments stack.old) result ticks.old ticks.new
         stack.old stack.new }
 {
     let Some((array, words)) = stack.value_under_word() else {
-        return places::component_at_index(types, segments, stack);
+        return places::component_at_index(types, memory, stack);
     };
     let Some(index) = stack.word_top() else {
         return Step::Broken;

@@ -9,26 +9,23 @@ use crate::control::spend;
 use crate::places::{allocate, has_room, index, push_place};
 use crate::segments;
 use crate::step::Step;
-use ep_frames::{Stack, Stored};
+use ep_frames::Stack;
+use ep_memory::Memory;
 use ep_object::{INPUT_SEGMENT, OUTPUT_SEGMENT, Place, TypeEntry};
 use ep_typed::run_error;
-use std::alloc::Global;
 
 /// A new variable of the type on top, in the place of which comes its number.
 pub fn new(
-    alloc: Global,
     limit: u64,
     ticks: &mut u64,
     types: &[TypeEntry],
-    segments: &mut Vec<Stored>,
-    live: &mut u64,
+    memory: &mut Memory,
     stack: &mut Stack,
 ) -> Step
     requires { ticks.old < limit }
     ensures within { ticks.new < limit }
-    ensures done { IsDone limit (new_row types.now (storage stack.old segments.old.items live.old))
-        result ticks.old ticks.new (storage stack.old segments.old.items live.old)
-        (storage stack.new segments.new.items live.new) }
+    ensures done { IsDone limit (new_row types.now (storage stack.old memory.old))
+        result ticks.old ticks.new (storage stack.old memory.old) (storage stack.new memory.new) }
 {
     let Some(t) = stack.word_top() else {
         return Step::Broken;
@@ -37,24 +34,26 @@ pub fn new(
         return Step::Broken;
     };
     let size = types[type_number].size;
-    if !has_room(*live, size as u64 + 1) {
+    if !has_room(memory, size as u64 + 1) {
         return Step::Error(run_error::STORAGE_LIMIT);
     }
     if !spend(limit, ticks, size as u64) {
         return Step::Full;
     }
-    let number = segments.len();
-    if allocate(alloc, type_number, size, segments, live).is_none() {
+    let Some(place) = allocate(type_number, size, memory) else {
         return Step::NoMemory;
-    }
-    stack.replace_word(number as i64);
+    };
+    let Ok(number) = i64::try_from(place.segment) else {
+        return Step::NoMemory;
+    };
+    stack.replace_word(number);
     Step::Next
 }
 
 /// The variable ends that the word on top numbers.
-pub fn dispose(segments: &mut [Stored], live: &mut u64, stack: &mut Stack) -> Step
-    ensures { IsStep (dispose_row (storage stack.old segments.old live.old)) result
-        (storage stack.new segments.new live.new) }
+pub fn dispose(memory: &mut Memory, stack: &mut Stack) -> Step
+    ensures { IsStep (dispose_row (storage stack.old memory.old)) result
+        (storage stack.new memory.new) }
 {
     let Some(w) = stack.pop_word() else {
         return Step::Broken;
@@ -65,23 +64,22 @@ pub fn dispose(segments: &mut [Stored], live: &mut u64, stack: &mut Stack) -> St
     if w == 0 {
         return Step::Error(run_error::NIL);
     }
-    let Some(number) = index(segments.len(), w) else {
+    let Ok(number) = u64::try_from(w) else {
         return Step::Broken;
     };
-    if segments[number].words().is_none() {
-        return Step::Error(run_error::DISPOSED);
+    if memory.type_of(number).is_none() {
+        return segments::gone(number, memory);
     }
-    let number = number as u64;
     if number == INPUT_SEGMENT || number == OUTPUT_SEGMENT {
         return Step::Broken;
     }
-    segments::end_one(number, segments, live);
+    memory.release(number);
     Step::Next
 }
 
 /// The place of the variable that the word on top numbers.
-pub fn deref(segments: &[Stored], stack: &mut Stack) -> Step
-    ensures { IsStep (deref_row segments.now stack.old) result stack.new }
+pub fn deref(memory: &Memory, stack: &mut Stack) -> Step
+    ensures { IsStep (deref_row memory.now.segments stack.old) result stack.new }
 {
     let Some(w) = stack.pop_word() else {
         return Step::Broken;
@@ -92,14 +90,14 @@ pub fn deref(segments: &[Stored], stack: &mut Stack) -> Step
     if w == 0 {
         return Step::Error(run_error::NIL);
     }
-    let Some(number) = index(segments.len(), w) else {
+    let Ok(number) = u64::try_from(w) else {
         return Step::Broken;
     };
-    let Some(type_number) = segments[number].type_number() else {
-        return Step::Error(run_error::DISPOSED);
+    let Some(type_number) = memory.type_of(number) else {
+        return segments::gone(number, memory);
     };
     let place = Place {
-        segment: number as u64,
+        segment: number,
         offset: 0,
         type_number,
     };

@@ -12,6 +12,7 @@ use crate::step::Step;
 use crate::types::{entry_of, intern};
 use ep_base::{List, NoMemory};
 use ep_frames::Stack;
+use ep_memory::Memory;
 use ep_object::{Kind, RecordPart, RecordParts, TypeEntry, limit};
 use ep_typed::run_error;
 use std::alloc::{AllocError, Global};
@@ -94,14 +95,15 @@ pub fn rec(
     limit: u64,
     ticks: &mut u64,
     types: &mut Vec<TypeEntry>,
-    live: &mut u64,
+    memory: &mut Memory,
     stack: &mut Stack,
 ) -> Step
     requires { ticks.old < limit }
     ensures within { ticks.new < limit }
-    ensures done { IsDone limit (rec_row (pos count) (typing stack.old types.old.items live.old))
-        result ticks.old ticks.new (typing stack.old types.old.items live.old)
-        (typing stack.new types.new.items live.new) }
+    ensures done { IsDone limit (rec_row (pos count) (typing stack.old types.old.items memory.old))
+        result ticks.old ticks.new (typing stack.old types.old.items memory.old)
+        (typing stack.new types.new.items memory.new) }
+    ensures segments { memory.new.segments ≡ memory.old.segments }
 {
     let Ok(taken) = take_words(alloc, count, stack) else {
         return Step::NoMemory;
@@ -123,5 +125,5 @@ pub fn rec(
     };
     let kind = Kind::Record(parts);
     let size = words as u32;
-    intern(TypeEntry { kind, size }, types, live, stack)
+    intern(TypeEntry { kind, size }, types, memory, stack)
 }

@@ -1,29 +1,32 @@
-//! Segments that end.
+//! Segments that end, and those that do not live.
 
-ghost use Rattle.std.specs.Prelude.{◌≡◌, ◌-◌, None, slice_get, slice_set};
-ghost use Rattle.ep_object.specs.Calls.{ended, words_in, words_of};
+ghost use Rattle.std.specs.Prelude.{◌≡◌, ◌-◌, slice_get};
+ghost use Rattle.ep_memory.specs.Stores.{live};
+ghost use Rattle.ep_object.specs.Calls.{ended, words_of};
+ghost use Rattle.ep_rows.specs.Segments.{gone_of};
 
-use ep_frames::Stored;
+use crate::step::Step;
+use ep_memory::Memory;
+use ep_typed::run_error;
 
-/// A segment ends, and its words no longer live.
-pub fn end_one(number: u64, segments: &mut [Stored], live: &mut u64)
-    ensures segments { segments.new ≡ slice_set segments.old number None }
-    ensures live { live.new ≡ live.old - words_in (slice_get segments.old number) }
+/// How a row ends on a segment that does not live: by an error where it has ended.
+#[inline(always)]
+pub fn gone(segment: u64, memory: &Memory) -> Step
+    ensures { result ≡ gone_of (slice_get memory.now.segments segment) }
 {
-    let at = number as usize;
-    if at >= segments.len() {
-        return;
+    if segment > memory.made() {
+        Step::Broken
+    } else {
+        Step::Error(run_error::DISPOSED)
     }
-    let words = segments[at].end();
-    *live = live.saturating_sub(words);
 }
 
 /// These segments end.
-pub fn end(made: &[u64], segments: &mut [Stored], live: &mut u64)
-    ensures segments { segments.new ≡ ended made.now segments.old }
-    ensures live { live.new ≡ live.old - words_of made.now segments.old }
+pub fn end(made: &[u64], memory: &mut Memory)
+    ensures segments { memory.new.segments ≡ ended made.now memory.old.segments }
+    ensures live { live memory.new ≡ live memory.old - words_of made.now memory.old.segments }
 {
     for number in made {
-        end_one(*number, segments, live);
+        memory.release(*number);
     }
 }

@@ -1,12 +1,14 @@
 //! The rows on sets.
 
-ghost use Rattle.std.specs.Prelude.{◌≡◌, ◌<◌, ◌≤◌, ◌+◌, ◌^◌, suc, ◌∷◌, List, Option, Some, None, MatchOption, length};
+ghost use Rattle.std.specs.Prelude.{◌≡◌, ◌<◌, ◌≤◌, ◌+◌, ◌^◌, suc, ◌∷◌, ℕ, ℤ, false, List, Option, Some, None, MatchOption, length};
 ghost use Rattle.ep_decode.specs.Operations.{combination_number, inclusion_number};
 ghost use Rattle.ep_frames.specs.Members.{set_of};
+ghost use Rattle.ep_memory.specs.Stores.{live};
 ghost use Rattle.ep_object.specs.Control.{dup_row};
 ghost use Rattle.ep_object.specs.Effects.{Continues, having};
 ghost use Rattle.ep_object.specs.Operands.{Operand, Place as PlaceOperand, Set};
-ghost use Rattle.ep_object.specs.Places.{load_set, set_defined, undefine_row, undefine_set};
+ghost use Rattle.ep_object.specs.Sets.{are_between};
+ghost use Rattle.ep_object.specs.Places.{load_set, store_set, set_defined, undefine_row, undefine_set};
 ghost use Rattle.ep_object.specs.SetRows.{card_row, in_row, next_row, set_add_row, set_cmp_row, set_none_row, set_op_row, set_span_row, span_added, is_ordinal as may_be_member, sets_compared};
 ghost use Rattle.ep_rows.specs.Steps.{IsDone, IsStep};
 ghost use Rattle.ep_rows.specs.Values.{set_stored_at};
@@ -14,9 +16,10 @@ ghost use Rattle.ep_rows.specs.Values.{set_stored_at};
 use crate::control::spend;
 use crate::step::Step;
 use crate::values::words_at;
-use crate::{members, words};
+use crate::{members, segments, words};
 use ep_decode::{Combination, Inclusion};
-use ep_frames::{Members, Stack, Stored};
+use ep_frames::{Members, Stack};
+use ep_memory::{Memory, Stored};
 use ep_object::{Kind, Place, SET_MEMBERS, SET_WORDS, TypeEntry};
 use ep_typed::run_error;
 
@@ -190,14 +193,11 @@ pub(crate) fn push_defined(first: Option<i64>, set: Members, stack: &mut Stack) 
 }
 
 /// The set of a variable at a place.
-pub(crate) fn load(p: Place, segments: &[Stored], stack: &mut Stack) -> Step
-    ensures { IsStep (load_set segments.now p stack.old) result stack.new }
+pub(crate) fn load(p: Place, memory: &Memory, stack: &mut Stack) -> Step
+    ensures { IsStep (load_set memory.now.segments p stack.old) result stack.new }
 {
-    let Some(segment) = segments.get(p.segment as usize) else {
-        return Step::Broken;
-    };
-    let Some(words) = segment.words() else {
-        return Step::Error(run_error::DISPOSED);
+    let Some(words) = memory.words_of(p.segment) else {
+        return segments::gone(p.segment, memory);
     };
     let Some(words) = words_at(words, p.offset as usize, SET_WORDS as usize) else {
         return Step::Broken;
@@ -205,15 +205,47 @@ pub(crate) fn load(p: Place, segments: &[Stored], stack: &mut Stack) -> Step
     push_defined(words.first().copied(), members::read(words), stack)
 }
 
+/// How the row ends where a set has a member outside of the base type.
+fn outside(p: Place, memory: &Memory) -> Step
+    ensures { (lo : ℤ) (hi : ℤ) (ms : List ℕ) (st : List Operand) → are_between lo hi ms ≡ false
+        → IsStep (store_set lo hi ms memory.now.segments p st) result (st, memory.now.segments) }
+{
+    let Some(words) = memory.words_of(p.segment) else {
+        return segments::gone(p.segment, memory);
+    };
+    match words_at(words, p.offset as usize, SET_WORDS as usize) {
+        Some(_) => Step::Error(run_error::SET_MEMBER),
+        None => Step::Broken,
+    }
+}
+
+/// A variable at a place takes a set, where its base type has these bounds.
+fn put(lo: i64, hi: i64, p: Place, set: Members, memory: &mut Memory) -> Step
+    ensures done { (st : List Operand)
+        → IsStep (store_set lo hi (set_of set) memory.old.segments p st) result
+        (st, memory.new.segments) }
+    ensures live { live memory.new ≡ live memory.old }
+{
+    if !members::is_between(lo, hi, set) {
+        return outside(p, memory);
+    }
+    match memory.store_words(p.segment, u64::from(p.offset), &members::written(set)) {
+        Stored::Done => Step::Next,
+        Stored::Outside => Step::Broken,
+        Stored::Gone => segments::gone(p.segment, memory),
+    }
+}
+
 /// A variable whose place is on top takes a set.
 pub(crate) fn store(
     set: Members,
     types: &[TypeEntry],
-    segments: &mut Vec<Stored>,
+    memory: &mut Memory,
     stack: &mut Stack,
 ) -> Step
-    ensures { IsStep (set_stored_at types.now segments.old.items (set_of set) stack.old) result
-        (stack.new, segments.new.items) }
+    ensures done { IsStep (set_stored_at types.now memory.old.segments (set_of set) stack.old) result
+        (stack.new, memory.new.segments) }
+    ensures live { live memory.new ≡ live memory.old }
 {
     let Some(p) = stack.pop_place() else {
         return Step::Broken;
@@ -224,43 +256,18 @@ pub(crate) fn store(
     let Kind::Set(lo, hi) = entry.kind else {
         return Step::Broken;
     };
-    let at = p.segment as usize;
-    if at >= segments.len() {
-        return Step::Broken;
-    }
-    let Some(words) = segments[at].words() else {
-        return Step::Error(run_error::DISPOSED);
-    };
-    if words_at(words, p.offset as usize, SET_WORDS as usize).is_none() {
-        return Step::Broken;
-    }
-    if !members::is_between(lo, hi, set) {
-        return Step::Error(run_error::SET_MEMBER);
-    }
-    if p.offset as u64 + u64::from(SET_WORDS) > u64::from(u32::MAX) {
-        return Step::NoMemory;
-    }
-    segments[at].put(p.offset, &members::written(set));
-    Step::Next
+    put(lo, hi, p, set, memory)
 }
 
 /// A variable of a set type becomes undefined, whose place is on top.
-pub(crate) fn undefine(p: Place, segments: &mut Vec<Stored>) -> Step
-    ensures { (st : List Operand) → IsStep (undefine_set segments.old.items p st) result (st, segments.new.items) }
+pub(crate) fn undefine(p: Place, memory: &mut Memory) -> Step
+    ensures done { (st : List Operand) → IsStep (undefine_set memory.old.segments p st) result
+        (st, memory.new.segments) }
+    ensures live { live memory.new ≡ live memory.old }
 {
-    let at = p.segment as usize;
-    if at >= segments.len() {
-        return Step::Broken;
+    match memory.store_words(p.segment, u64::from(p.offset), &[i64::MIN; 8]) {
+        Stored::Done => Step::Next,
+        Stored::Outside => Step::Broken,
+        Stored::Gone => segments::gone(p.segment, memory),
     }
-    let Some(words) = segments[at].words() else {
-        return Step::Error(run_error::DISPOSED);
-    };
-    if words_at(words, p.offset as usize, SET_WORDS as usize).is_none() {
-        return Step::Broken;
-    }
-    if p.offset as u64 + u64::from(SET_WORDS) > u64::from(u32::MAX) {
-        return Step::NoMemory;
-    }
-    segments[at].put(p.offset, &[i64::MIN; 8]);
-    Step::Next
 }

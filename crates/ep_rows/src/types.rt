@@ -8,6 +8,7 @@ ghost use Rattle.ep_rows.specs.Parts.{typing};
 use crate::step::Step;
 use crate::{bounds, places, sets, words};
 use ep_frames::Stack;
+use ep_memory::Memory;
 use ep_object::{Kind, RecordPart, SET_WORDS, TypeEntry, limit};
 use ep_typed::run_error;
 
@@ -69,22 +70,23 @@ fn words_of_kind(kind: &Kind) -> u64
 
 /// A new type.
 #[inline(always)]
-fn add(entry: TypeEntry, types: &mut Vec<TypeEntry>, live: &mut u64, stack: &mut Stack) -> Step
-    ensures { IsStep (added entry stack.old (typing stack.old types.old.items live.old)) result
-        (typing stack.new types.new.items live.new) }
+fn add(entry: TypeEntry, types: &mut Vec<TypeEntry>, memory: &mut Memory, stack: &mut Stack) -> Step
+    ensures done { IsStep (added entry stack.old (typing stack.old types.old.items memory.old)) result
+        (typing stack.new types.new.items memory.new) }
+    ensures segments { memory.new.segments ≡ memory.old.segments }
 {
     let number = types.len();
     if number as u64 >= limit::TYPES {
         return Step::Error(run_error::STORAGE_LIMIT);
     }
     let words = words_of_kind(&entry.kind);
-    if !places::has_room(*live, words) {
+    if memory.charge(words).is_err() {
         return Step::Error(run_error::STORAGE_LIMIT);
     }
     if types.push(entry).is_err() {
+        memory.give_back(words);
         return Step::NoMemory;
     }
-    *live += words;
     words::push_word(stack, number as i64)
 }
 
@@ -93,16 +95,17 @@ fn add(entry: TypeEntry, types: &mut Vec<TypeEntry>, live: &mut u64, stack: &mut
 pub(crate) fn intern(
     entry: TypeEntry,
     types: &mut Vec<TypeEntry>,
-    live: &mut u64,
+    memory: &mut Memory,
     stack: &mut Stack,
 ) -> Step
-    ensures { IsStep (interned entry stack.old (typing stack.old types.old.items live.old)) result
-        (typing stack.new types.new.items live.new) }
+    ensures done { IsStep (interned entry stack.old (typing stack.old types.old.items memory.old)) result
+        (typing stack.new types.new.items memory.new) }
+    ensures segments { memory.new.segments ≡ memory.old.segments }
 {
     if let Some(number) = kind_number(&entry.kind, types) {
         return words::push_word(stack, number as i64);
     }
-    add(entry, types, live, stack)
+    add(entry, types, memory, stack)
 }
 
 /// The ordinal type with these bounds.
@@ -117,16 +120,17 @@ fn ordinal_entry(lo: i64, hi: i64) -> TypeEntry
 
 /// The ordinal type with two bounds.
 #[inline(always)]
-pub fn ord(types: &mut Vec<TypeEntry>, live: &mut u64, stack: &mut Stack) -> Step
-    ensures { IsStep (ord_row (typing stack.old types.old.items live.old)) result
-        (typing stack.new types.new.items live.new) }
+pub fn ord(types: &mut Vec<TypeEntry>, memory: &mut Memory, stack: &mut Stack) -> Step
+    ensures done { IsStep (ord_row (typing stack.old types.old.items memory.old)) result
+        (typing stack.new types.new.items memory.new) }
+    ensures segments { memory.new.segments ≡ memory.old.segments }
 {
     match words::pop_two_words(stack) {
         Some((lo, hi)) => {
             if lo > hi {
                 return Step::Error(run_error::OUTSIDE_DOMAIN);
             }
-            intern(ordinal_entry(lo, hi), types, live, stack)
+            intern(ordinal_entry(lo, hi), types, memory, stack)
         }
         None => Step::Broken,
     }
@@ -164,9 +168,10 @@ fn set_entry(lo: i64, hi: i64) -> TypeEntry
 }
 
 /// The set type whose base type has the number on top.
-pub fn set(types: &mut Vec<TypeEntry>, live: &mut u64, stack: &mut Stack) -> Step
-    ensures { IsStep (set_row (typing stack.old types.old.items live.old)) result
-        (typing stack.new types.new.items live.new) }
+pub fn set(types: &mut Vec<TypeEntry>, memory: &mut Memory, stack: &mut Stack) -> Step
+    ensures done { IsStep (set_row (typing stack.old types.old.items memory.old)) result
+        (typing stack.new types.new.items memory.new) }
+    ensures segments { memory.new.segments ≡ memory.old.segments }
 {
     let Some(base) = stack.pop_word() else {
         return Step::Broken;
@@ -180,13 +185,14 @@ pub fn set(types: &mut Vec<TypeEntry>, live: &mut u64, stack: &mut Stack) -> Ste
     if !sets::is_ordinal(lo) || !sets::is_ordinal(hi) {
         return Step::Error(run_error::OUTSIDE_DOMAIN);
     }
-    intern(set_entry(lo, hi), types, live, stack)
+    intern(set_entry(lo, hi), types, memory, stack)
 }
 
 /// The array type with the index type and the component type of these numbers.
-pub fn arr(types: &mut Vec<TypeEntry>, live: &mut u64, stack: &mut Stack) -> Step
-    ensures { IsStep (arr_row (typing stack.old types.old.items live.old)) result
-        (typing stack.new types.new.items live.new) }
+pub fn arr(types: &mut Vec<TypeEntry>, memory: &mut Memory, stack: &mut Stack) -> Step
+    ensures done { IsStep (arr_row (typing stack.old types.old.items memory.old)) result
+        (typing stack.new types.new.items memory.new) }
+    ensures segments { memory.new.segments ≡ memory.old.segments }
 {
     let Some((index, component)) = words::pop_two_words(stack) else {
         return Step::Broken;
@@ -207,5 +213,5 @@ pub fn arr(types: &mut Vec<TypeEntry>, live: &mut u64, stack: &mut Stack) -> Ste
         return Step::NoMemory;
     };
     let kind = Kind::Array(lo, hi, number);
-    intern(TypeEntry { kind, size }, types, live, stack)
+    intern(TypeEntry { kind, size }, types, memory, stack)
 }

@@ -1,19 +1,22 @@
 //! The rows on variables of any number of words.
 
-ghost use Rattle.std.specs.Prelude.{◌≡◌, ◌<◌, ◌∷◌, List, Some, None, option_map};
+ghost use Rattle.std.specs.Prelude.{◌≡◌, ◌<◌, ◌∷◌, List, Some, None, option_map, slice_get};
+ghost use Rattle.ep_memory.specs.Stores.{live, segment_at};
 ghost use Rattle.ep_frames.specs.Stacks.{value_top, word_top};
 ghost use Rattle.ep_object.specs.Control.{dup_row};
 ghost use Rattle.ep_object.specs.Effects.{Continues};
 ghost use Rattle.ep_object.specs.Operands.{Operand, Place as PlaceOperand, Value, set};
 ghost use Rattle.ep_object.specs.Places.{load_by, load_row, load_value, living, store_row, words_at};
+ghost use Rattle.ep_rows.specs.Segments.{gone_of, other_type_at};
 ghost use Rattle.ep_rows.specs.Steps.{IsDone, IsStep};
-ghost use Rattle.ep_rows.specs.Values.{has_many_words, value_loaded, words_stored_in};
+ghost use Rattle.ep_rows.specs.Values.{has_many_words, words_stored_in};
 
 use crate::control::spend;
 use crate::places::{load_word, store_word};
-use crate::sets;
 use crate::step::Step;
-use ep_frames::{Stack, Stored};
+use crate::{segments, sets};
+use ep_frames::Stack;
+use ep_memory::{Memory, Stored};
 use ep_object::{Kind, Place, TypeEntry};
 use ep_typed::run_error;
 
@@ -35,22 +38,6 @@ pub(crate) fn words_at(words: &[i64], offset: usize, size: usize) -> Option<&[i6
         return None;
     }
     Some(&words[offset..offset + size])
-}
-
-/// All words of a variable, or the error in their place, or none where the code is broken.
-fn value_at<'a>(p: Place, size: u32, segments: &'a [Stored]) -> Result<&'a [i64], Option<u8>>
-    ensures { (st : List Operand) → load_value segments.now p size st ≡ value_loaded p result st }
-{
-    let Some(segment) = segments.get(p.segment as usize) else {
-        return Err(None);
-    };
-    let Some(words) = segment.words() else {
-        return Err(Some(run_error::DISPOSED));
-    };
-    match words_at(words, p.offset as usize, size as usize) {
-        Some(value) => Ok(value),
-        None => Err(None),
-    }
 }
 
 /// One more value, if there is memory.
@@ -92,18 +79,19 @@ fn load_value(
     ticks: &mut u64,
     p: Place,
     size: u32,
-    segments: &[Stored],
+    memory: &Memory,
     stack: &mut Stack,
 ) -> Step
     requires { ticks.old < limit }
     ensures within { ticks.new < limit }
     ensures done { (st : List Operand) → stack.old ≡ PlaceOperand p ∷ st
-        → IsDone limit (load_value segments.now p size st) result ticks.old ticks.new stack.old stack.new }
+        → IsDone limit (load_value memory.now.segments p size st) result ticks.old ticks.new stack.old stack.new }
 {
-    let value = match value_at(p, size, segments) {
-        Ok(value) => value,
-        Err(Some(number)) => return Step::Error(number),
-        Err(None) => return Step::Broken,
+    let Some(words) = memory.words_of(p.segment) else {
+        return segments::gone(p.segment, memory);
+    };
+    let Some(value) = words_at(words, p.offset as usize, size as usize) else {
+        return Step::Broken;
     };
     if !spend(limit, ticks, value.len() as u64) {
         return Step::Full;
@@ -118,27 +106,27 @@ fn load_typed(
     ticks: &mut u64,
     p: Place,
     entry: &TypeEntry,
-    segments: &[Stored],
+    memory: &Memory,
     stack: &mut Stack,
 ) -> Step
     requires { ticks.old < limit }
     ensures within { ticks.new < limit }
     ensures done { (st : List Operand) → stack.old ≡ PlaceOperand p ∷ st
-        → IsDone limit (load_by entry.now.kind entry.now.size segments.now p st) result ticks.old ticks.new
+        → IsDone limit (load_by entry.now.kind entry.now.size memory.now.segments p st) result ticks.old ticks.new
         stack.old stack.new }
 {
     match &entry.kind {
         Kind::Text => Step::Broken,
         Kind::Ord(_, _) | Kind::Pointer => {
             stack.pop();
-            load_word(p, segments, stack)
+            load_word(p, memory, stack)
         }
         Kind::Set(_, _) => {
             stack.pop();
-            sets::load(p, segments, stack)
+            sets::load(p, memory, stack)
         }
         Kind::Array(_, _, _) | Kind::Record(_) => {
-            load_value(limit, ticks, p, entry.size, segments, stack)
+            load_value(limit, ticks, p, entry.size, memory, stack)
         }
     }
 }
@@ -148,12 +136,12 @@ pub fn load(
     limit: u64,
     ticks: &mut u64,
     types: &[TypeEntry],
-    segments: &[Stored],
+    memory: &Memory,
     stack: &mut Stack,
 ) -> Step
     requires { ticks.old < limit }
     ensures within { ticks.new < limit }
-    ensures done { IsDone limit (load_row types.now segments.now stack.old) result ticks.old ticks.new
+    ensures done { IsDone limit (load_row types.now memory.now.segments stack.old) result ticks.old ticks.new
         stack.old stack.new }
 {
     let Some(p) = stack.place_top() else {
@@ -162,33 +150,36 @@ pub fn load(
     let Some(entry) = types.get(p.type_number as usize) else {
         return Step::Broken;
     };
-    load_typed(limit, ticks, p, entry, segments, stack)
+    load_typed(limit, ticks, p, entry, memory, stack)
+}
+
+/// How the row ends where a value of another type is to take the place of a variable's.
+#[cold]
+fn other_type(p: Place, memory: &Memory) -> Step
+    ensures { result ≡ other_type_at (segment_at memory.now p.segment)
+        (gone_of (slice_get memory.now.segments p.segment)) }
+{
+    if memory.type_of(p.segment).is_none() {
+        return segments::gone(p.segment, memory);
+    }
+    Step::Error(run_error::TUPLES_DIFFER)
 }
 
 /// The words of a value take the place of those of a variable, which has to be of the same type.
-fn put_value(p: Place, type_number: u32, words: &[i64], segments: &mut Vec<Stored>) -> Step
-    ensures { (st : List Operand) → IsStep
-        (living segments.old.items p.segment (words_stored_in segments.old.items p type_number words.now st))
-        result (st, segments.new.items) }
+fn put_value(p: Place, type_number: u32, words: &[i64], memory: &mut Memory) -> Step
+    ensures done { (st : List Operand) → IsStep
+        (living memory.old.segments p.segment (words_stored_in memory.old.segments p type_number words.now st))
+        result (st, memory.new.segments) }
+    ensures live { live memory.new ≡ live memory.old }
 {
-    let at = p.segment as usize;
-    if at >= segments.len() {
-        return Step::Broken;
-    }
-    let Some(old) = segments[at].words() else {
-        return Step::Error(run_error::DISPOSED);
-    };
     if type_number != p.type_number {
-        return Step::Error(run_error::TUPLES_DIFFER);
+        return other_type(p, memory);
     }
-    if words_at(old, p.offset as usize, words.len()).is_none() {
-        return Step::Broken;
+    match memory.store_words(p.segment, u64::from(p.offset), words) {
+        Stored::Done => Step::Next,
+        Stored::Outside => Step::Broken,
+        Stored::Gone => segments::gone(p.segment, memory),
     }
-    if p.offset as u64 + words.len() as u64 > u64::from(u32::MAX) {
-        return Step::NoMemory;
-    }
-    segments[at].put(p.offset, words);
-    Step::Next
 }
 
 /// A variable of a structured type takes a value.
@@ -196,15 +187,16 @@ fn store_value(
     limit: u64,
     ticks: &mut u64,
     types: &[TypeEntry],
-    segments: &mut Vec<Stored>,
+    memory: &mut Memory,
     stack: &mut Stack,
 ) -> Step
     requires room { ticks.old < limit }
     requires no_word { word_top stack.old ≡ None }
     requires no_set { set stack.old ≡ None }
     ensures within { ticks.new < limit }
-    ensures done { IsDone limit (store_row types.now segments.old.items stack.old) result ticks.old ticks.new
-        (stack.old, segments.old.items) (stack.new, segments.new.items) }
+    ensures done { IsDone limit (store_row types.now memory.old.segments stack.old) result ticks.old ticks.new
+        (stack.old, memory.old.segments) (stack.new, memory.new.segments) }
+    ensures live { live memory.new ≡ live memory.old }
 {
     let Some(p) = stack.place_under_value() else {
         return Step::Broken;
@@ -221,7 +213,7 @@ fn store_value(
     if !spend(limit, ticks, words.len() as u64) {
         return Step::Full;
     }
-    let step = put_value(p, type_number, words, segments);
+    let step = put_value(p, type_number, words, memory);
     stack.pop();
     stack.pop();
     step
@@ -233,20 +225,21 @@ pub fn store(
     limit: u64,
     ticks: &mut u64,
     types: &[TypeEntry],
-    segments: &mut Vec<Stored>,
+    memory: &mut Memory,
     stack: &mut Stack,
 ) -> Step
     requires { ticks.old < limit }
     ensures within { ticks.new < limit }
-    ensures done { IsDone limit (store_row types.now segments.old.items stack.old) result ticks.old ticks.new
-        (stack.old, segments.old.items) (stack.new, segments.new.items) }
+    ensures done { IsDone limit (store_row types.now memory.old.segments stack.old) result ticks.old ticks.new
+        (stack.old, memory.old.segments) (stack.new, memory.new.segments) }
+    ensures live { live memory.new ≡ live memory.old }
 {
     if let Some(w) = stack.word_top() {
         stack.pop();
-        return store_word(w, types, segments, stack);
+        return store_word(w, types, memory, stack);
     }
     if let Some(set) = stack.pop_set() {
-        return sets::store(set, types, segments, stack);
+        return sets::store(set, types, memory, stack);
     }
-    store_value(limit, ticks, types, segments, stack)
+    store_value(limit, ticks, types, memory, stack)
 }

@@ -1,5 +1,5 @@
 //! What is tried across the crates and no words and answers say: the tokens of texts, which of two trees a text has and
-//! how deep it nests, what is answered of an expression on its own, and the objects in memory. What words and answers say
+//! how deep it nests, what is answered of an expression on its own, the objects in memory, and the memory of a machine. What words and answers say
 //! is tried by ep_cases.
 #![tactic(auto)]
 
@@ -7,6 +7,8 @@
 mod choices;
 #[cfg(test)]
 mod expressions;
+#[cfg(test)]
+mod memory;
 #[cfg(test)]
 mod nesting;
 #[cfg(test)]

@@ -12,8 +12,8 @@ returns-in-Broken-clause-done c =
     let top : Some index ≡ word_top c.args.stack.now = search rules in
     let under = under_word c.args.stack.now index c.in-Some.array c.in-Some.words.now is top in
     let told : value_element c.args.types.now index c.in-Some.array c.in-Some.words.now under.0 ≡ element_told c.in-Some.words.now c.element_found.result under.0 = search rules in
-    let row : index_any_row c.args.types.now c.args.segments.now c.args.stack.now ≡ element_told c.in-Some.words.now c.element_found.result under.0 =
-    ap (index_any_row c.args.types.now c.args.segments.now) under.1 ∙ told in
+    let row : index_any_row c.args.types.now c.args.memory.now.segments c.args.stack.now ≡ element_told c.in-Some.words.now c.element_found.result under.0 =
+    ap (index_any_row c.args.types.now c.args.memory.now.segments) under.1 ∙ told in
     let broken = rw c.in-Broken.is at row in
     rw broken (search (rules, c.requires))
 
@@ -24,8 +24,8 @@ returns-in-Outside-clause-done c =
     let top : Some index ≡ word_top c.args.stack.now = search rules in
     let under = under_word c.args.stack.now index c.in-Some.array c.in-Some.words.now is top in
     let told : value_element c.args.types.now index c.in-Some.array c.in-Some.words.now under.0 ≡ element_told c.in-Some.words.now c.element_found.result under.0 = search rules in
-    let row : index_any_row c.args.types.now c.args.segments.now c.args.stack.now ≡ element_told c.in-Some.words.now c.element_found.result under.0 =
-    ap (index_any_row c.args.types.now c.args.segments.now) under.1 ∙ told in
+    let row : index_any_row c.args.types.now c.args.memory.now.segments c.args.stack.now ≡ element_told c.in-Some.words.now c.element_found.result under.0 =
+    ap (index_any_row c.args.types.now c.args.memory.now.segments) under.1 ∙ told in
     let outside = rw c.in-Outside.is at row in
     rw outside (c.outside.ensures.done c.in-Some.words.now c.args.stack.now refl)
 
@@ -36,8 +36,8 @@ returns-in-There-clause-done c =
     let top : Some index ≡ word_top c.args.stack.now = search rules in
     let under = under_word c.args.stack.now index c.in-Some.array c.in-Some.words.now is top in
     let told : value_element c.args.types.now index c.in-Some.array c.in-Some.words.now under.0 ≡ element_told c.in-Some.words.now c.element_found.result under.0 = search rules in
-    let row : index_any_row c.args.types.now c.args.segments.now c.args.stack.now ≡ element_told c.in-Some.words.now c.element_found.result under.0 =
-    ap (index_any_row c.args.types.now c.args.segments.now) under.1 ∙ told in
+    let row : index_any_row c.args.types.now c.args.memory.now.segments c.args.stack.now ≡ element_told c.in-Some.words.now c.element_found.result under.0 =
+    ap (index_any_row c.args.types.now c.args.memory.now.segments) under.1 ∙ told in
     let found = rw c.in-There.is at row in
     let there = rw c.in-There.is at c.element_found.ensures.there in
     rw found (c.leave_indexed.ensures.done index c.in-Some.array c.in-Some.words.now under.0 under.1 refl there)

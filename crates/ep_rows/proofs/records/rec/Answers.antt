@@ -14,4 +14,4 @@ returns-then-not-spend-clause-done c =
     let full : leb (a.ticks.now + suc a.count) a.limit ≡ false = search rules in
     let spent : c.spend.new.ticks ≡ a.ticks.now = search rules in
     let back : IsPutBack c.put_back.result ws rest c.put_back.new.stack = rw c.deref-then-not-spend.ensures.value at c.put_back.ensures in
-    nothing_done a.limit a.ticks.now c.spend.new.ticks a.types.now.items a.live.now a.count c.in-Some-words_of_all.words a.stack.now rest c.put_back.new.stack ws c.put_back.result taken all full spent back
+    nothing_done a.limit a.ticks.now c.spend.new.ticks a.types.now.items a.memory.now a.count c.in-Some-words_of_all.words a.stack.now rest c.put_back.new.stack ws c.put_back.result taken all full spent back
